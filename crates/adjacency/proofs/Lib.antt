@@ -11,3 +11,5 @@ pub mod Sets
 pub mod Sends
 pub mod Lists
 pub mod Timers
+-- what crates above name of those below
+pub use Rattle.lsdb.proofs as lsdb

@@ -19,3 +19,5 @@ pub use saved::Saved;
 pub use standing::{ReceivedDescription, Standing};
 pub use state::State;
 pub use verdict::{Mismatch, Verdict};
+// What crates above name of those below.
+pub use lsdb::{DatabaseCopy, Lsdb, age_at, compare, newer};

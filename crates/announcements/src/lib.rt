@@ -2,7 +2,7 @@
 #![tactic(auto)]
 
 ghost use Rattle.std.specs.Prelude.{◌≡◌, ◌<◌, ◌^◌, OnOk, length, option_copied};
-ghost use Rattle.events.specs.Commands.{
+ghost use Rattle.self_originated.specs.events.Commands.{
   after_redistribute,
   after_withdraw,
   announce_as,
@@ -14,11 +14,10 @@ ghost use Rattle.events.specs.Commands.{
   same_kind,
   same_network,
 };
-ghost use Rattle.events.specs.Originations.{external_key};
+ghost use Rattle.self_originated.specs.events.Originations.{external_key};
 ghost use Rattle.self_originated.specs.Making.{Makes};
 
-use adjacency::Draft;
-use self_originated::{Router, originate_anyway};
+use self_originated::{Draft, Router, originate_anyway};
 use std::alloc::{AllocError, Global};
 use words::{External, ExternalType, Key, LinkStateId, Prefix, RouterId, Second};
 

@@ -1,10 +1,10 @@
 -- The addresses of a router's links.
 use Rattle.std.proofs.Common.{◌≡◌, ℕ, ◌+◌, ◌<◌, List, [], ◌∷◌, ◌++◌, length, get_or, take, map, refl, sym, ◌∙◌, ap}
 use Rattle.std.proofs.lemmas.List.{take_more}
-use Rattle.adjacency.specs.Kept.{Kept}
-use Rattle.received.specs.Links.{Link}
+use Rattle.flooding.specs.adjacency.Kept.{Kept}
+use Rattle.flooding.specs.received.Links.{Link}
 use Rattle.flooding.specs.Links.{present}
-use Rattle.routes.specs.declared.root.Root.{Root}
+use Rattle.tables.specs.routes.declared.root.Root.{Root}
 use Rattle.area_routes.specs.Offers.{root_by}
 
 module _ {A B : Type 0} (f : A → B) where

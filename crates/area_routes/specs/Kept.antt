@@ -5,23 +5,23 @@ use Rattle.std.specs.Global.{Vec}
 use Rattle.words.specs.Numbers.{Moment, RouterNumber}
 use Rattle.words.specs.declared.key.Key.{Key}
 use Rattle.words.specs.declared.route.Route.{Route}
-use Rattle.received.specs.Links.{Area}
+use Rattle.flooding.specs.received.Links.{Area}
 use Rattle.area_routes.specs.Offers.{root_by}
-use Rattle.candidates.specs.Inner.{AreInner, AreSearchable}
-use Rattle.candidates.specs.declared.inner.InnerRoutes.{InnerRoutes}
+use Rattle.kept_routes.specs.candidates.Inner.{AreInner, AreSearchable}
+use Rattle.kept_routes.specs.candidates.declared.inner.InnerRoutes.{InnerRoutes}
 use Rattle.external_updates.specs.Placing.{AreAllAmong, HasAnother}
 use Rattle.kept_routes.specs.Externals.{LeaveCandidates}
 use Rattle.kept_routes.specs.Kept.{IsWalkOf, KeptWalk}
 use Rattle.kept_routes.specs.Sameness.{AreLeft}
-use Rattle.offers.specs.Externals.{AreExternals}
-use Rattle.offers.specs.declared.externals.External.{External}
-use Rattle.routes.specs.Candidates.{AreCandidates}
-use Rattle.routes.specs.Said.{Said, said_at}
-use Rattle.routes.specs.Tables.{Answers, IsStale}
-use Rattle.routes.specs.declared.root.Root.{Root}
-use Rattle.shortest_paths.specs.AreaGraphs.{IsAreaGraph}
-use Rattle.shortest_paths.specs.Reached.{way_in}
-use Rattle.shortest_paths.specs.declared.graph.AreaGraph.{AreaGraph}
+use Rattle.kept_routes.specs.offers.Externals.{AreExternals}
+use Rattle.kept_routes.specs.offers.declared.externals.External.{External}
+use Rattle.tables.specs.routes.Candidates.{AreCandidates}
+use Rattle.tables.specs.routes.Said.{Said, said_at}
+use Rattle.tables.specs.routes.Tables.{Answers, IsStale}
+use Rattle.tables.specs.routes.declared.root.Root.{Root}
+use Rattle.graph_updates.specs.shortest_paths.AreaGraphs.{IsAreaGraph}
+use Rattle.graph_updates.specs.shortest_paths.Reached.{way_in}
+use Rattle.graph_updates.specs.shortest_paths.declared.graph.AreaGraph.{AreaGraph}
 
 pub record KeptRoutes : Type 0 where
   -- the walk

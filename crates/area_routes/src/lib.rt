@@ -8,3 +8,5 @@ mod kept;
 mod root;
 
 pub use kept::{AreaRoutes, Offered};
+// What crates above name of those below.
+pub use flooding::Link;

@@ -7,3 +7,6 @@ pub mod Bytes
 pub mod Replay
 pub mod Refusals
 pub mod Numbers
+-- what crates above name of those below
+pub use Rattle.flood.specs.area_routes as area_routes
+pub use Rattle.events.specs as events

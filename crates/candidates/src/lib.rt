@@ -25,6 +25,10 @@ use routes::Root;
 use shortest_paths::walk;
 use std::alloc::{AllocError, Global};
 use words::{Route, Second};
+// What crates above name of those below.
+pub use candidate_laws::every_offer_has_a_candidate;
+pub use offers::{Inner, Ways, external_offer, network_of, push_offer, routes_of_offers};
+pub use shortest_paths::{Reached, copy_of, walk};
 
 /// The candidates of a database at a moment: for each prefix that anything offers one route, and no
 /// others, in the order of the prefixes (RFC 2328, section 16). The database has at most 16,384

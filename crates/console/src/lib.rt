@@ -11,3 +11,5 @@ mod reading;
 pub use answers::{counters_text, neighbors_text, table_text, totals_text};
 pub use command::{Command, read_command};
 pub use configuration::{ConfigurationError, Configured, ConfiguredInterface, read_configuration};
+// What crates above name of those below.
+pub use events::{Config, Interface};

@@ -8,8 +8,9 @@ use crate::crew::side_by_side;
 use crate::error::RouteError;
 use crate::labor::Workers;
 use crate::talk::Console;
-use console::{Configured, ConfiguredInterface, read_configuration, totals_text};
-use events::{Config, Interface};
+use console::{
+    Config, Configured, ConfiguredInterface, Interface, read_configuration, totals_text,
+};
 use hooks::Loader;
 use links::Seconds;
 use log::Log;

@@ -1,11 +1,11 @@
 -- The parts of an event's end: `end_event` is one after the other.
 use Rattle.std.specs.Prelude.{List}
 use Rattle.words.specs.Numbers.{Moment}
-use Rattle.received.specs.Links.{Link}
-use Rattle.events.specs.Endings.{describe_router, describe_router_later, loading_done}
-use Rattle.events.specs.Endings.{remove_aged, request_all}
-use Rattle.events.specs.EventState.{EventState, on_area}
-use Rattle.events.specs.Routers.{Router}
+use Rattle.self_originated.specs.received.Links.{Link}
+use Rattle.self_originated.specs.events.Endings.{describe_router, describe_router_later, loading_done}
+use Rattle.self_originated.specs.events.Endings.{remove_aged, request_all}
+use Rattle.self_originated.specs.events.EventState.{EventState, on_area}
+use Rattle.self_originated.specs.events.Routers.{Router}
 
 -- Loading becomes Full, and the router-LSA tells what has changed since the links were `before`
 abbrev pub fill : List Link → Moment → EventState → EventState

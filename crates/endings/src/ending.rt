@@ -1,15 +1,14 @@
 //! The end of an event, part by part.
 ghost use Rattle.std.specs.Prelude.{◌≡◌, List, OnOk, length};
-ghost use Rattle.adjacency.specs.Drafts.{Drafted};
-ghost use Rattle.received.specs.Links.{Link};
-ghost use Rattle.events.specs.Endings.{describe_router, describe_router_later, end_event};
+ghost use Rattle.self_originated.specs.adjacency.Drafts.{Drafted};
+ghost use Rattle.self_originated.specs.received.Links.{Link};
+ghost use Rattle.self_originated.specs.events.Endings.{describe_router, describe_router_later, end_event};
 ghost use Rattle.endings.specs.Full.{full_routers};
 ghost use Rattle.endings.specs.Parts.{fill, refill, request_and_remove};
 ghost use Rattle.self_originated.specs.Making.{Makes, interfaces_of};
 
 use crate::telling::{full_routers, has_changed, is_untold, router_key};
-use adjacency::Draft;
-use self_originated::{Router, originate_or_wait};
+use self_originated::{Draft, Router, originate_or_wait};
 use std::alloc::{AllocError, Global};
 use words::{RouterId, Second};
 

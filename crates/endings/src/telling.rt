@@ -1,8 +1,8 @@
 //! Whether the router-LSA is to tell of a change (RFC 2328, section 12.4.1).
 ghost use Rattle.std.specs.Prelude.{◌≡◌, ◌&&◌, List, IfOk, length, not};
-ghost use Rattle.received.specs.Links.{Link};
-ghost use Rattle.events.specs.Endings.{is_at, is_current, links_differ};
-ghost use Rattle.events.specs.Originations.{router_key};
+ghost use Rattle.self_originated.specs.received.Links.{Link};
+ghost use Rattle.self_originated.specs.events.Endings.{is_at, is_current, links_differ};
+ghost use Rattle.self_originated.specs.events.Originations.{router_key};
 ghost use Rattle.endings.specs.Full.{full_routers};
 ghost use Rattle.self_originated.specs.Making.{interfaces_of};
 
@@ -17,7 +17,7 @@ use words::{Key, LinkStateId, RouterId, Second};
 pub fn full_routers(router: &Router, alloc: Global) -> Result<Vec<Option<RouterId>>, AllocError>
     ensures { IfOk result (λ full. full.items ≡ full_routers router.now.present.area.links) }
 {
-    originations::full_routers(alloc, router.area().links())
+    self_originated::full_routers(alloc, router.area().links())
 }
 
 // What names the router-LSA of this router.
@@ -51,7 +51,7 @@ fn is_current(router: &Router, alloc: Global, moment: Second) -> Result<bool, Al
     }
     let area = router.area();
     let copy = area.database().get(&key);
-    originations::tells(alloc, area.links(), copy)
+    self_originated::tells(alloc, area.links(), copy)
 }
 
 /// Tells whether the content of the router-LSA differs from what it was when just the neighbors
@@ -70,7 +70,7 @@ pub fn has_changed(
         → differ ≡ links_differ old router.now.present.area.links) }
 {
     let area = router.area();
-    originations::links_differ(alloc, area.links(), before)
+    self_originated::links_differ(alloc, area.links(), before)
 }
 
 /// Tells whether the content of the router-LSA differs from what it was when just the neighbors

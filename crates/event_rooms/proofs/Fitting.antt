@@ -18,20 +18,20 @@ use Rattle.lsa.specs.Headers.{header_at, header_text}
 use Rattle.lsa.specs.Origination.{sealed_lsa}
 use Rattle.lsa.specs.Reading.{attached_at, body_fills, body_of, external_fills, external_of, external_tos_at, fault_of, faults, first_of, is_external_bit, is_link_kind, link_at, link_size, link_tos_at, links_at, links_fill, lsa_in, lsa_of, network_fills, network_of, router_fills, router_of, summary_fills, summary_of, summary_tos_at}
 use Rattle.lsa.specs.Text.{IsAttached, IsExternalTos, IsLinkTos, IsSummaryTos, attached_text, body_text, external_fields, external_tos_text, link_fields, link_text, link_tos_text, router_fields, summary_fields, summary_text, summary_tos_text, text}
-use Rattle.lsdb.specs.Copies.{DatabaseCopy}
-use Rattle.lsdb.specs.Headers.{Lsa}
-use Rattle.lsdb.specs.Keys.{same_key}
+use Rattle.events.specs.lsdb.Copies.{DatabaseCopy}
+use Rattle.events.specs.lsdb.Headers.{Lsa}
+use Rattle.events.specs.lsdb.Keys.{same_key}
 use Rattle.packet.specs.declared.model.Body.{Body as PacketBody}
 use Rattle.packet.specs.declared.model.Body.TheVariants as packets
 use Rattle.packet.specs.declared.model.Packet.{Packet}
 use Rattle.packet.specs.Checksum.{packet_checksum}
 use Rattle.packet.specs.Text as packet_text
 use Rattle.packet.specs.Text.{Open, PacketText}
-use Rattle.adjacency.specs.Neighbors.{Neighbor, is_full}
-use Rattle.adjacency.specs.declared.interface.Interface.{Interface}
-use Rattle.adjacency.specs.Rooms.{Fits}
-use Rattle.adjacency.proofs.Kept.{chosen}
-use Rattle.received.specs.Links.{Link}
+use Rattle.events.specs.adjacency.Neighbors.{Neighbor, is_full}
+use Rattle.events.specs.adjacency.declared.interface.Interface.{Interface}
+use Rattle.events.specs.adjacency.Rooms.{Fits}
+use Rattle.events.proofs.adjacency.Kept.{chosen}
+use Rattle.events.specs.received.Links.{Link}
 use Rattle.events.specs.Originations.{announced_body, links_of, new_instance, point_to_point, router_body, router_key, stub, wanted_body}
 use Rattle.events.specs.Routers.{Router}
 

@@ -8,12 +8,12 @@ use Rattle.std.specs.Ordering.{is_eq, is_gt, ordering_reverse}
 use Rattle.std.specs.declared.cmp.Ordering.{Ordering}
 use Rattle.std.specs.declared.cmp.Ordering.TheVariants.{Less, Equal, Greater}
 use Rattle.words.specs.declared.key.Key.{Key}
-use Rattle.lsdb.specs.Headers.{Header}
-use Rattle.lsdb.specs.Keys.{key_cmp, same_key}
-use Rattle.lsdb.proofs.Keys.{keys_exact, keys_total}
+use Rattle.events.specs.lsdb.Headers.{Header}
+use Rattle.events.specs.lsdb.Keys.{key_cmp, same_key}
+use Rattle.events.proofs.lsdb.Keys.{keys_exact, keys_total}
 use Rattle.packet.specs.declared.model.Body.{Body}
-use Rattle.received.specs.Links.{Link}
-use Rattle.received.specs.Outcomes.{Send}
+use Rattle.events.specs.received.Links.{Link}
+use Rattle.events.specs.received.Outcomes.{Send}
 use Rattle.events.specs.declared.model.Out.{Out}
 use Rattle.events.specs.Packing.{at_interface, bodies, fill_on, header_size, in_key_order, is_after, out_of, outs_at, outs_of, packed_groups, insert_by_key}
 use Rattle.event_rooms.specs.PackingLaws.{AreByInterface, AreFull, IsAscending, IsFull, IsInKeyOrder, IsPacking, sizes, total}

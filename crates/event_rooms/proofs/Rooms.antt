@@ -8,7 +8,7 @@ use Rattle.words.proofs.Records.{length-records_text}
 use Rattle.lsa.specs.Headers.{IsHeader, header_at, header_text}
 use Rattle.lsa.specs.Text as lsa_text
 use Rattle.lsa.proofs.Headers.{header-wide}
-use Rattle.lsdb.specs.Headers.{Header, Lsa, key_of, lsa_key}
+use Rattle.events.specs.lsdb.Headers.{Header, Lsa, key_of, lsa_key}
 use Rattle.packet.specs.declared.model.Body.{Body}
 use Rattle.packet.specs.declared.model.Body.TheVariants as body
 use Rattle.packet.specs.declared.model.Packet.{Packet}
@@ -16,9 +16,9 @@ use Rattle.packet.specs.Checksum.{packet_checksum}
 use Rattle.packet.specs.Reading.{key_at, router_at}
 use Rattle.packet.specs.Text.{IsKey, IsRouter, body_text, canonical, closed_fields, description, header, hello, key_text, router_text, text, type_of}
 use Rattle.packet.proofs.Records.{key-wide, router-wide}
-use Rattle.adjacency.specs.Contents.{Content}
-use Rattle.received.specs.Links.{Link}
-use Rattle.received.specs.Outcomes.{Send}
+use Rattle.events.specs.adjacency.Contents.{Content}
+use Rattle.events.specs.received.Links.{Link}
+use Rattle.events.specs.received.Outcomes.{Send}
 use Rattle.events.specs.declared.model.Out.{Out}
 use Rattle.events.specs.Packing.{acknowledgments, at_interface, bodies, descriptions, fill_on, first_key, header_size, hellos, in_key_order, lsa_size, out_of, outs_at, packed_groups, packet_of, requests, sent_lsa, update_of, updates}
 use Rattle.event_rooms.specs.PackingLaws.{HasPacketRoom, HasRoom, OutsAreOrderedAndPacked, sizes, total}

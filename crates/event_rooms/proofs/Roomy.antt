@@ -15,28 +15,28 @@ use Rattle.std.proofs.lemmas.List.{length-map}
 use Rattle.words.specs.declared.key.Key.{Key}
 use Rattle.lsa.specs.Reading.{lsa_in}
 use Rattle.lsa.specs.declared.body.Body.{Body as LsaBody}
-use Rattle.lsdb.specs.Copies.{Database, DatabaseCopy, age_out, has_just_aged_out, install_originated, lsa_now}
-use Rattle.lsdb.specs.Headers.{Header, Lsa, lsa_aged, lsa_key}
-use Rattle.lsdb.specs.Keys.{key_cmp}
-use Rattle.lsdb.proofs.Keys.{keys_exact, keys_total}
+use Rattle.events.specs.lsdb.Copies.{Database, DatabaseCopy, age_out, has_just_aged_out, install_originated, lsa_now}
+use Rattle.events.specs.lsdb.Headers.{Header, Lsa, lsa_aged, lsa_key}
+use Rattle.events.specs.lsdb.Keys.{key_cmp}
+use Rattle.events.proofs.lsdb.Keys.{keys_exact, keys_total}
 use Rattle.packet.specs.declared.model.Body.{Body}
 use Rattle.packet.specs.declared.model.Body.TheVariants as body
 use Rattle.packet.specs.declared.model.Hello.{Hello}
-use Rattle.adjacency.specs.Adjacencies as adjacencies
-use Rattle.adjacency.specs.Contents.{Content, Step as NeighborStep, no_sends}
-use Rattle.adjacency.specs.Descriptions.{after_description}
-use Rattle.adjacency.specs.Neighbors.{Neighbor}
-use Rattle.adjacency.specs.declared.interface.Interface.{Interface}
-use Rattle.adjacency.specs.Requests.{request_next}
-use Rattle.adjacency.specs.Retransmissions.{after_acknowledgment}
-use Rattle.adjacency.specs.Rooms.{AllFit, Fits, HasRoom, HasRoomyLists, IsRoomyStep}
-use Rattle.adjacency.proofs.Kept.{chosen}
-use Rattle.adjacency.proofs.Roomy.{acknowledgment_roomy, again_roomy, aged_fits, copies_fit, description_roomy, filled_roomy, hello_roomy, mismatched_roomy, now_fits, old_description_roomy, quiet_roomy, request_roomy, still_heard_roomy, updates_room}
-use Rattle.received.specs.Holds.{Holds, HoldsOfEach}
-use Rattle.received.specs.Links.{Link, link_at, neighbor_on}
-use Rattle.received.specs.Outcomes.{Outcome, sends_at, on_database, on_links}
-use Rattle.received.proofs.Holding.{each_link_keeps, one_holds}
-use Rattle.received.proofs.Roomy.{FitsIfThere, HasRoomFor, IsRoomyOutcome, SendHasRoom, all_fit, case_roomy, changed_fit, changed_roomy, each_roomy, fits_at, flood_roomy, inserted_fit, joined, numbered_roomy, on_database_roomy, on_links_roomy, one_roomy, sending_roomy}
+use Rattle.events.specs.adjacency.Adjacencies as adjacencies
+use Rattle.events.specs.adjacency.Contents.{Content, Step as NeighborStep, no_sends}
+use Rattle.events.specs.adjacency.Descriptions.{after_description}
+use Rattle.events.specs.adjacency.Neighbors.{Neighbor}
+use Rattle.events.specs.adjacency.declared.interface.Interface.{Interface}
+use Rattle.events.specs.adjacency.Requests.{request_next}
+use Rattle.events.specs.adjacency.Retransmissions.{after_acknowledgment}
+use Rattle.events.specs.adjacency.Rooms.{AllFit, Fits, HasRoom, HasRoomyLists, IsRoomyStep}
+use Rattle.events.proofs.adjacency.Kept.{chosen}
+use Rattle.events.proofs.adjacency.Roomy.{acknowledgment_roomy, again_roomy, aged_fits, copies_fit, description_roomy, filled_roomy, hello_roomy, mismatched_roomy, now_fits, old_description_roomy, quiet_roomy, request_roomy, still_heard_roomy, updates_room}
+use Rattle.events.specs.received.Holds.{Holds, HoldsOfEach}
+use Rattle.events.specs.received.Links.{Link, link_at, neighbor_on}
+use Rattle.events.specs.received.Outcomes.{Outcome, sends_at, on_database, on_links}
+use Rattle.events.proofs.received.Holding.{each_link_keeps, one_holds}
+use Rattle.events.proofs.received.Roomy.{FitsIfThere, HasRoomFor, IsRoomyOutcome, SendHasRoom, all_fit, case_roomy, changed_fit, changed_roomy, each_roomy, fits_at, flood_roomy, inserted_fit, joined, numbered_roomy, on_database_roomy, on_links_roomy, one_roomy, sending_roomy}
 use Rattle.events.specs.declared.model.Config.{Config}
 use Rattle.events.specs.declared.model.Out.{Out}
 use Rattle.events.specs.Commands.{taken_down}

@@ -10,23 +10,23 @@ use Rattle.words.specs.declared.key.Key.{Key}
 use Rattle.words.specs.declared.route.External.{External}
 use Rattle.lsa.specs.Reading.{lsa_in}
 use Rattle.lsa.specs.declared.body.Body.{Body as LsaBody}
-use Rattle.lsdb.specs.Copies.{DatabaseCopy, age_out, is_aged_out}
-use Rattle.lsdb.specs.Headers.{Header, Lsa, lsa_aged, lsa_key}
-use Rattle.lsdb.specs.Keys.{ByKey}
+use Rattle.events.specs.lsdb.Copies.{DatabaseCopy, age_out, is_aged_out}
+use Rattle.events.specs.lsdb.Headers.{Header, Lsa, lsa_aged, lsa_key}
+use Rattle.events.specs.lsdb.Keys.{ByKey}
 use Rattle.packet.specs.declared.model.Body.{Body}
 use Rattle.packet.specs.declared.model.Body.TheVariants as body
 use Rattle.packet.specs.declared.model.Description.{Description}
 use Rattle.packet.specs.declared.model.Hello.{Hello}
 use Rattle.packet.specs.declared.model.Packet.{Packet}
 use Rattle.packet.specs.Text.{PacketText}
-use Rattle.adjacency.specs.Adjacencies as adjacencies
-use Rattle.adjacency.specs.Contents.{Content}
-use Rattle.adjacency.specs.Neighbors.{Neighbor}
-use Rattle.adjacency.proofs.Kept.{chosen}
-use Rattle.received.specs.Cases.{Case}
-use Rattle.received.specs.Links.{Area, Link, any_exchange_or_loading, change_link, link_at, neighbor_on}
-use Rattle.received.specs.Outcomes.{Outcome, Send, sends_at, on_database, on_links, one_neighbor, sending}
-use Rattle.received.specs.Updates.{after_case, case_at, goes_on}
+use Rattle.events.specs.adjacency.Adjacencies as adjacencies
+use Rattle.events.specs.adjacency.Contents.{Content}
+use Rattle.events.specs.adjacency.Neighbors.{Neighbor}
+use Rattle.events.proofs.adjacency.Kept.{chosen}
+use Rattle.events.specs.received.Cases.{Case}
+use Rattle.events.specs.received.Links.{Area, Link, any_exchange_or_loading, change_link, link_at, neighbor_on}
+use Rattle.events.specs.received.Outcomes.{Outcome, Send, sends_at, on_database, on_links, one_neighbor, sending}
+use Rattle.events.specs.received.Updates.{after_case, case_at, goes_on}
 use Rattle.events.specs.Commands.{after_redistribute, after_withdraw, announce, announce_as, answered_external, end_want, ls_infinity, is_announced_as, is_for, taken_down, unannounce}
 use Rattle.events.specs.Endings.{start_event, describe_router, describe_router_later, link_loading_done, loading_done, end_event, is_current, links_differ, remove_aged, request_all, stays, with_ages}
 use Rattle.events.specs.Events.{OwnPart}

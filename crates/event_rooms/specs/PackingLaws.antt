@@ -2,14 +2,14 @@
 use Rattle.std.specs.Prelude.{◌≡◌, ◌≤◌, ◌<◌, ℕ, ◌+◌, false, List, [], ◌∷◌, length}
 use Rattle.std.specs.List.{AllByRecursion, filter, flat_map}
 use Rattle.words.specs.declared.key.Key.{Key}
-use Rattle.lsdb.specs.Headers.{Header, Lsa, key_of, lsa_key}
-use Rattle.lsdb.specs.Keys.{same_key}
+use Rattle.events.specs.lsdb.Headers.{Header, Lsa, key_of, lsa_key}
+use Rattle.events.specs.lsdb.Keys.{same_key}
 use Rattle.packet.specs.declared.model.Body.{Body}
 use Rattle.packet.specs.Text.{body_text, closed_fields, lsa_count}
-use Rattle.adjacency.specs.Contents.{Content}
-pub use Rattle.adjacency.specs.Rooms.{HasRoom}
-use Rattle.received.specs.Links.{Link}
-use Rattle.received.specs.Outcomes.{Send}
+use Rattle.events.specs.adjacency.Contents.{Content}
+pub use Rattle.events.specs.adjacency.Rooms.{HasRoom}
+use Rattle.events.specs.received.Links.{Link}
+use Rattle.events.specs.received.Outcomes.{Send}
 use Rattle.events.specs.declared.model.Out.{Out}
 use Rattle.events.specs.Packing.{bodies, header_size, in_key_order, is_after, lsa_size, outs_of}
 use Rattle.events.specs.Packing.{packed_groups}

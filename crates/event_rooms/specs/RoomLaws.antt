@@ -2,10 +2,10 @@
 -- and bounds what an event sends.
 use Rattle.std.specs.Prelude.{◌≡◌, ◌≤◌, ℕ, true, List, length}
 use Rattle.std.specs.List.{AllByRecursion}
-use Rattle.adjacency.specs.Neighbors.{Neighbor}
-use Rattle.adjacency.specs.Rooms.{AllFit, HasRoom, HasRoomyLists}
-use Rattle.received.specs.Holds.{HoldsOfEach}
-use Rattle.received.specs.Outcomes.{Send}
+use Rattle.events.specs.adjacency.Neighbors.{Neighbor}
+use Rattle.events.specs.adjacency.Rooms.{AllFit, HasRoom, HasRoomyLists}
+use Rattle.events.specs.received.Holds.{HoldsOfEach}
+use Rattle.events.specs.received.Outcomes.{Send}
 use Rattle.events.specs.declared.model.Config.{Config}
 use Rattle.events.specs.declared.model.Out.{Out}
 use Rattle.events.specs.Endings.{end_event}

@@ -2,7 +2,7 @@
 -- arose.
 use Rattle.std.specs.Prelude.{List, None}
 use Rattle.words.specs.Numbers.{Moment}
-use Rattle.lsdb.specs.Headers.{Lsa}
+use Rattle.received.specs.lsdb.Headers.{Lsa}
 use Rattle.received.specs.Flooding.{flood}
 use Rattle.received.specs.Outcomes.{Outcome, Send}
 use Rattle.events.specs.Routers.{Router}

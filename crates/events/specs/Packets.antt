@@ -6,18 +6,18 @@ use Rattle.std.specs.FinMap as finite
 use Rattle.words.specs.Numbers.{InterfaceNumber, Moment, RouterNumber}
 use Rattle.words.specs.declared.key.Key.{Key}
 use Rattle.lsa.specs.Reading.{lsa_in}
-use Rattle.lsdb.specs.Copies.{Database}
-use Rattle.lsdb.specs.Headers.{Header, Lsa}
+use Rattle.received.specs.lsdb.Copies.{Database}
+use Rattle.received.specs.lsdb.Headers.{Header, Lsa}
 use Rattle.packet.specs.declared.model.Body.{Body}
 use Rattle.packet.specs.declared.model.Body.TheVariants as body
 use Rattle.packet.specs.declared.model.Description.{Description}
 use Rattle.packet.specs.declared.model.Hello.{Hello}
 use Rattle.packet.specs.declared.model.Packet.{Packet}
-use Rattle.adjacency.specs.Adjacencies as adjacencies
-use Rattle.adjacency.specs.Contents.{Content, Step, no_sends}
-use Rattle.adjacency.specs.Descriptions.{after_description}
-use Rattle.adjacency.specs.Neighbors.{Neighbor, is_exchange_or_later}
-use Rattle.adjacency.specs.Retransmissions.{after_acknowledgment, lsa_of}
+use Rattle.received.specs.adjacency.Adjacencies as adjacencies
+use Rattle.received.specs.adjacency.Contents.{Content, Step, no_sends}
+use Rattle.received.specs.adjacency.Descriptions.{after_description}
+use Rattle.received.specs.adjacency.Neighbors.{Neighbor, is_exchange_or_later}
+use Rattle.received.specs.adjacency.Retransmissions.{after_acknowledgment, lsa_of}
 use Rattle.received.specs.Cases.{Case}
 use Rattle.received.specs.Links.{Link, change_link, link_at, neighbor_at}
 use Rattle.received.specs.Outcomes.{Outcome, sends_at, on_links, one_neighbor, sending}

@@ -8,13 +8,13 @@ use Rattle.words.specs.Constants.{largest_packet, max_age}
 use Rattle.words.specs.Numbers.{InterfaceNumber, RouterNumber, Seconds}
 use Rattle.words.specs.declared.key.Key.{Key}
 use Rattle.lsa.specs.Text.{text}
-use Rattle.lsdb.specs.Headers.{Header, Lsa, key_of, lsa_aged, lsa_key}
-use Rattle.lsdb.specs.Keys.{key_cmp}
+use Rattle.received.specs.lsdb.Headers.{Header, Lsa, key_of, lsa_aged, lsa_key}
+use Rattle.received.specs.lsdb.Keys.{key_cmp}
 use Rattle.packet.specs.declared.model.Body.{Body}
 use Rattle.packet.specs.declared.model.Body.TheVariants as body
 use Rattle.packet.specs.declared.model.Packet.{Packet}
 use Rattle.packet.specs.Text.{canonical}
-use Rattle.adjacency.specs.Contents.{Content}
+use Rattle.received.specs.adjacency.Contents.{Content}
 use Rattle.received.specs.Links.{Link}
 use Rattle.received.specs.Outcomes.{Send}
 use Rattle.events.specs.declared.model.Out.{Out}

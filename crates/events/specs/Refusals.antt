@@ -13,7 +13,7 @@ use Rattle.events.specs.declared.model.CoreError.TheVariants as error
 use Rattle.events.specs.declared.model.Out.{Out}
 use Rattle.events.specs.Commands.{is_for, same_external}
 use Rattle.events.specs.Events.{Happens}
-use Rattle.lsdb.specs.Limits.{exceeds as database_exceeds}
+use Rattle.received.specs.lsdb.Limits.{exceeds as database_exceeds}
 use Rattle.events.specs.Originations.{external_key}
 use Rattle.events.specs.Routers.{Occurrence, Router}
 

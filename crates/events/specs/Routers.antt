@@ -9,10 +9,10 @@ use Rattle.words.specs.Numbers.{InterfaceNumber, Moment, RouterNumber}
 use Rattle.words.specs.Prefixes.{Network}
 use Rattle.words.specs.declared.route.External.{External}
 use Rattle.words.specs.declared.route.Route.{Route}
-use Rattle.lsdb.specs.Keys.{ByKey, KeySet}
-use Rattle.adjacency.specs.declared.interface.Interface.{Interface}
-use Rattle.adjacency.specs.declared.state.State.{State}
-use Rattle.adjacency.specs.Neighbors.{Neighbor}
+use Rattle.received.specs.lsdb.Keys.{ByKey, KeySet}
+use Rattle.received.specs.adjacency.declared.interface.Interface.{Interface}
+use Rattle.received.specs.adjacency.declared.state.State.{State}
+use Rattle.received.specs.adjacency.Neighbors.{Neighbor}
 use Rattle.received.specs.Links.{Area, Link, neighbor_at}
 use Rattle.events.specs.declared.model.Config.{Config}
 

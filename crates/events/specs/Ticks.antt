@@ -3,11 +3,11 @@ use Rattle.std.specs.Prelude.{ℕ, if◌then◌else◌, List, [], ◌∷◌, map
 use Rattle.std.specs.List.{enumerate_from, flat_map}
 use Rattle.std.specs.FinMap as finite
 use Rattle.words.specs.Numbers.{Moment, Seconds}
-use Rattle.adjacency.specs.Adjacencies.{after_inactivity_timer}
-use Rattle.adjacency.specs.Contents.{Content}
-use Rattle.adjacency.specs.Descriptions.{without_old_description}
-use Rattle.adjacency.specs.Neighbors.{Neighbor}
-use Rattle.adjacency.specs.Retransmissions.{send_again}
+use Rattle.received.specs.adjacency.Adjacencies.{after_inactivity_timer}
+use Rattle.received.specs.adjacency.Contents.{Content}
+use Rattle.received.specs.adjacency.Descriptions.{without_old_description}
+use Rattle.received.specs.adjacency.Neighbors.{Neighbor}
+use Rattle.received.specs.adjacency.Retransmissions.{send_again}
 use Rattle.received.specs.Links.{Link}
 use Rattle.received.specs.Outcomes.{Outcome, Send, Stepping, each_neighbor, sends_at, on_links}
 use Rattle.received.specs.Outcomes.{sending}

@@ -8,5 +8,5 @@
 pub mod laws;
 mod model;
 
-pub use adjacency::{Interface, State};
 pub use model::{Config, ConfigError, CoreError, Out};
+pub use received::{Interface, State};

@@ -2,8 +2,8 @@
 ghost use Rattle.std.specs.Prelude.{◌≡◌, IfOk};
 ghost use Rattle.events.specs.Numbers.{config_error_number, core_error_number, core_error_of};
 
-use adjacency::Interface;
 use packet::{Fault, ReadError};
+use received::Interface;
 use std::alloc::{AllocError, AllocFailed};
 use thiserror::Error;
 use words::{RouterId, Second, Sequence};

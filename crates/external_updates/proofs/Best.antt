@@ -5,7 +5,7 @@ use Rattle.std.specs.List.{Contains}
 use Rattle.std.specs.Prelude.{IfSome, slice_get}
 use Rattle.std.proofs.lemmas.Option.{same_Some}
 use Rattle.lsa.specs.declared.body.Body.{Body}
-use Rattle.lsdb.specs.Copies.{Database, DatabaseCopy, said_by}
+use Rattle.routes.specs.lsdb.Copies.{Database, DatabaseCopy, said_by}
 use Rattle.words.specs.Prefixes.{Network}
 use Rattle.words.specs.declared.key.Key.{Key}
 use Rattle.words.specs.declared.route.Route.{Route}
@@ -18,11 +18,11 @@ use Rattle.routes.specs.declared.offer.Offer.{Offer}
 use Rattle.routes.specs.declared.root.Root.{Root}
 use Rattle.routes.proofs.Lists.{first_is, of_cons, of_empty}
 use Rattle.routes.proofs.OneMore.{never_itself, same_offers}
-use Rattle.offers.specs.Bodies.{OfSaid}
-use Rattle.offers.specs.Gathering.{Adds, IsJust, OfEach}
-use Rattle.offers.specs.Sources.{OfExternal}
-use Rattle.offers.proofs.Outward.{external_back, external_forth}
-use Rattle.candidates.specs.declared.inner.InnerRoutes.{InnerRoutes}
+use Rattle.kept_routes.specs.offers.Bodies.{OfSaid}
+use Rattle.kept_routes.specs.offers.Gathering.{Adds, IsJust, OfEach}
+use Rattle.kept_routes.specs.offers.Sources.{OfExternal}
+use Rattle.kept_routes.proofs.offers.Outward.{external_back, external_forth}
+use Rattle.kept_routes.specs.candidates.declared.inner.InnerRoutes.{InnerRoutes}
 use Rattle.external_updates.specs.Destinations.{HaveAllUnder, IsBestTo, IsTo, Knows, LiesUnder, OffersTo, SaysTo}
 use Rattle.external_updates.proofs.Staying.{its_prefix}
 

@@ -19,12 +19,12 @@ use Rattle.routes.specs.declared.offer.Offer.{Offer}
 use Rattle.routes.specs.declared.root.Root.{Root}
 use Rattle.routes.proofs.Listed.{routes_among}
 use Rattle.routes.proofs.OneMore.{same_offers}
-use Rattle.offers.specs.Bodies.{OfSaid}
-use Rattle.offers.specs.Borders.{IsFlagged, Tells}
-use Rattle.offers.specs.Ways.{Ways}
-use Rattle.offers.specs.declared.flagged.Flagged.{Flagged}
-use Rattle.candidates.specs.Inner.{AreInner}
-use Rattle.candidates.specs.declared.inner.InnerRoutes.{InnerRoutes}
+use Rattle.kept_routes.specs.offers.Bodies.{OfSaid}
+use Rattle.kept_routes.specs.offers.Borders.{IsFlagged, Tells}
+use Rattle.kept_routes.specs.offers.Ways.{Ways}
+use Rattle.kept_routes.specs.offers.declared.flagged.Flagged.{Flagged}
+use Rattle.kept_routes.specs.candidates.Inner.{AreInner}
+use Rattle.kept_routes.specs.candidates.declared.inner.InnerRoutes.{InnerRoutes}
 use Rattle.kept_routes.proofs.Inner.{AgreeInside, external_way, inside, turned}
 use Rattle.external_updates.specs.Changes.{IsUntouched, TellsOf}
 use Rattle.external_updates.specs.Laws.{InnerRoutesAreKept, UntouchedCandidatesAreKept}

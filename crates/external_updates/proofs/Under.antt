@@ -21,7 +21,7 @@ use Rattle.words.specs.declared.key.Key.{Key}
 use Rattle.keyed_map.specs.Keys.{ByKey, key_cmp}
 use Rattle.keyed_map.specs.Slots.{keys_from}
 use Rattle.keyed_map.proofs.Keys.{keys_exact}
-use Rattle.lsdb.specs.Copies.{Database}
+use Rattle.routes.specs.lsdb.Copies.{Database}
 use Rattle.routes.proofs.Lists.{first_is, later_is, of_cons, of_empty}
 use Rattle.routes.proofs.Listed.{other_default}
 use Rattle.external_updates.specs.Destinations.{HaveAllUnder, LiesUnder, first_key}

@@ -9,9 +9,9 @@ ghost use Rattle.routes.specs.Offers.{IsPrefix};
 ghost use Rattle.routes.specs.Said.{said_at};
 ghost use Rattle.words.specs.Prefixes.{Network};
 
+use kept_routes::network_of;
 use lsa::{Body, ExternalLsa};
-use lsdb::Lsdb;
-use offers::network_of;
+use routes::Lsdb;
 use std::alloc::{AllocError, Global};
 use words::{Key, Prefix, Second};
 

@@ -1,17 +1,15 @@
 //! The best route to one destination.
 ghost use Rattle.std.specs.Prelude.{◌≡◌, IfOk, OnOk, slice_get};
-ghost use Rattle.candidates.specs.Inner.{AreSearchable};
+ghost use Rattle.kept_routes.specs.candidates.Inner.{AreSearchable};
 ghost use Rattle.external_updates.specs.Destinations.{HaveAllUnder, IsBestTo, IsTo, Knows};
 ghost use Rattle.external_updates.specs.Destinations.{OffersTo, SaysTo};
-ghost use Rattle.offers.specs.Gathering.{Adds, IsJust, OfEach};
+ghost use Rattle.kept_routes.specs.offers.Gathering.{Adds, IsJust, OfEach};
 ghost use Rattle.routes.specs.Said.{said_at};
 
 use crate::keys::lies_under;
-use candidates::InnerRoutes;
+use kept_routes::{Inner, InnerRoutes, external_offer, push_offer, routes_of_offers};
 use lsa::Body;
-use lsdb::Lsdb;
-use offers::{Inner, external_offer, push_offer, routes_of_offers};
-use routes::{Offer, Root};
+use routes::{Lsdb, Offer, Root};
 use std::alloc::{AllocError, Global};
 use words::{Key, Prefix, Route, Second};
 

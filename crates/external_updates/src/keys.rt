@@ -3,7 +3,7 @@ ghost use Rattle.std.specs.Prelude.{◌≡◌, ◌↔◌, ◌-◌, ◌<◌, IfOk
 ghost use Rattle.external_updates.specs.Destinations.{HaveAllUnder, LiesUnder, first_key};
 ghost use Rattle.words.specs.declared.key.Key.{Key as KeyValue};
 
-use lsdb::Lsdb;
+use routes::Lsdb;
 use std::alloc::{AllocError, Global};
 use words::{Address, Key, LinkStateId, Prefix, RouterId};
 

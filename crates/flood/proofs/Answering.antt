@@ -8,15 +8,15 @@ use Rattle.words.specs.declared.route.External.{External}
 use Rattle.words.specs.declared.route.Route.{Route}
 use Rattle.lsa.specs.Reading.{lsa_in}
 use Rattle.lsa.specs.declared.body.Body.{Body as LsaBody}
-use Rattle.lsdb.specs.Headers.{Lsa, lsa_key}
+use Rattle.flood_laws.specs.lsdb.Headers.{Lsa, lsa_key}
 use Rattle.packet.specs.declared.model.Body.{Body}
 use Rattle.packet.specs.declared.model.Body.TheVariants as body
 use Rattle.packet.specs.declared.model.Packet.{Packet}
-use Rattle.adjacency.specs.Neighbors.{Neighbor}
-use Rattle.received.specs.Cases.{Case}
-use Rattle.received.specs.Links.{Link, neighbor_at}
-use Rattle.received.specs.Outcomes.{on_links}
-use Rattle.received.specs.Updates.{case_at, goes_on}
+use Rattle.flood_laws.specs.adjacency.Neighbors.{Neighbor}
+use Rattle.events.specs.received.Cases.{Case}
+use Rattle.events.specs.received.Links.{Link, neighbor_at}
+use Rattle.events.specs.received.Outcomes.{on_links}
+use Rattle.events.specs.received.Updates.{case_at, goes_on}
 use Rattle.events.specs.declared.model.CoreError.{CoreError}
 use Rattle.events.specs.declared.model.CoreError.TheVariants as error
 use Rattle.events.specs.declared.model.Out.{Out}

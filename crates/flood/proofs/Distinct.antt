@@ -2,7 +2,7 @@
 use Rattle.std.proofs.Common.{◌≡◌, ℕ, ◌+◌, ◌<◌, true, false, not, ◌&&◌, eqb, List, ◌∷◌, length, get_or, drop, sym, ap, ◌∙◌}
 use Rattle.std.specs.List.{list_any}
 use Rattle.std.proofs.lemmas.List.{at_drop_more}
-use Rattle.adjacency.specs.declared.interface.Interface.{Interface}
+use Rattle.flood_laws.specs.adjacency.declared.interface.Interface.{Interface}
 use Rattle.events.specs.Routers.{are_distinct}
 
 distinct_here : (xs : List Interface) (i : ℕ) (x : Interface) → i < length xs → x ≡ get_or xs i x

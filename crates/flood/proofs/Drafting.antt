@@ -1,16 +1,16 @@
 -- The drafts of an event are those of what it sends.
 use Rattle.std.proofs.Common.{◌≡◌, ℕ, suc, ◌+◌, List, [], ◌∷◌, ◌++◌, length, map, refl, sym, ap, ◌∙◌, subst, append_assoc, append-nil}
 use Rattle.std.specs.List.{AllByRecursion, enumerate_from, flat_map}
-use Rattle.adjacency.specs.Drafts.{Drafted}
-use Rattle.adjacency.specs.Kept.{Kept}
-use Rattle.adjacency.specs.Rooms.{HasRoom}
-use Rattle.received.specs.Links.{Link}
-use Rattle.received.specs.Outcomes.{Send}
+use Rattle.flood_laws.specs.adjacency.Drafts.{Drafted}
+use Rattle.flood_laws.specs.adjacency.Kept.{Kept}
+use Rattle.flood_laws.specs.adjacency.Rooms.{HasRoom}
+use Rattle.events.specs.received.Links.{Link}
+use Rattle.events.specs.received.Outcomes.{Send}
 use Rattle.events.specs.declared.model.Out.{Out}
 use Rattle.events.specs.Packing.{outs_at}
 use Rattle.flood_laws.specs.Keeping.{AreTextsAt}
-use Rattle.flooding.specs.Drafted.{drafts_with, drafted_from}
-use Rattle.flooding.specs.Links.{present}
+use Rattle.area_routes.specs.flooding.Drafted.{drafts_with, drafted_from}
+use Rattle.area_routes.specs.flooding.Links.{present}
 use Rattle.packing.specs.Drafts.{IsDraftAt, nothing_drafted}
 use Rattle.self_originated.specs.Making.{interfaces_of}
 use Rattle.self_originated.proofs.Drafts.{drafted_same}

@@ -6,9 +6,9 @@ use Rattle.area_routes.proofs.AfterExternals.{unanswered}
 use Rattle.events.specs.declared.model.CoreError.{CoreError}
 use Rattle.events.specs.Refusals.{MayRunOut}
 use Rattle.events.specs.Routers.{Router}
-use Rattle.received.specs.Links.{Area}
-use Rattle.routes.specs.Said.{said_at}
-use Rattle.routes.specs.Tables.{Answers}
+use Rattle.events.specs.received.Links.{Area}
+use Rattle.area_routes.specs.routes.Said.{said_at}
+use Rattle.area_routes.specs.routes.Tables.{Answers}
 use Rattle.flood.specs.Offers.{AreKeptNow}
 
 pub are_kept : (r : Router) (id : ℕ) (area : Area) (moment : ℕ) (answers : Answers) (kept : KeptRoutes)

@@ -1,9 +1,9 @@
 -- What is left once a whole event is made: the router, and the drafts of what was sent.
 use Rattle.std.proofs.Common.{◌≡◌, ℕ, List, [], Result, Ok, Err, OnOk, IfOk, sym, ap, subst, ◌∙◌}
 use Rattle.std.specs.List.{AllByRecursion}
-use Rattle.adjacency.specs.Drafts.{Drafted}
-use Rattle.adjacency.specs.Rooms.{HasRoom}
-use Rattle.received.specs.Outcomes.{Send}
+use Rattle.flood_laws.specs.adjacency.Drafts.{Drafted}
+use Rattle.flood_laws.specs.adjacency.Rooms.{HasRoom}
+use Rattle.events.specs.received.Outcomes.{Send}
 use Rattle.events.specs.Endings.{end_event, with_ages}
 use Rattle.events.specs.EventState.{EventState, on_area}
 use Rattle.events.specs.Routers.{Router}

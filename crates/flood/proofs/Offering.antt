@@ -1,8 +1,8 @@
 -- What holds of a router's parts holds of the router, and the other way round.
 use Rattle.std.proofs.Common.{◌≡◌, ℕ, subst, sym}
 use Rattle.events.specs.Routers.{Router}
-use Rattle.received.specs.Links.{Area}
-use Rattle.routes.specs.Tables.{Answers}
+use Rattle.events.specs.received.Links.{Area}
+use Rattle.area_routes.specs.routes.Tables.{Answers}
 
 module _ (P : ℕ → Area → ℕ → Answers → Type 0) (r : Router) (id : ℕ) (area : Area) (moment : ℕ) (answers : Answers) (a : id ≡ r.id) (b : area ≡ r.area) (c : moment ≡ r.moment) (d : answers ≡ r.answers) where
   pub of_router : P id area moment answers → P r.id r.area r.moment r.answers

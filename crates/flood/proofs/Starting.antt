@@ -2,14 +2,14 @@
 use Rattle.std.proofs.Common.{◌≡◌, ◌≤◌, Bool, true, false, ◌&&◌, length, List, map, [], ◌∷◌, refl, sym, ap, ◌∙◌, arith}
 use Rattle.std.proofs.lemmas.Bool.{leb-true}
 use Rattle.std.proofs.lemmas.List.{length-map}
-use Rattle.adjacency.specs.Drafts.{Drafted}
-use Rattle.adjacency.specs.Kept.{Kept}
-use Rattle.adjacency.specs.declared.interface.Interface.{Interface}
-use Rattle.received.specs.Links.{Link}
+use Rattle.flood_laws.specs.adjacency.Drafts.{Drafted}
+use Rattle.flood_laws.specs.adjacency.Kept.{Kept}
+use Rattle.flood_laws.specs.adjacency.declared.interface.Interface.{Interface}
+use Rattle.events.specs.received.Links.{Link}
 use Rattle.events.specs.declared.model.Config.{Config}
 use Rattle.events.specs.EventState.{EventState}
 use Rattle.events.specs.Routers.{Router, fresh_link, in_profile}
-use Rattle.flooding.specs.Links.{present}
+use Rattle.area_routes.specs.flooding.Links.{present}
 use Rattle.self_originated.specs.Making.{Makes}
 use Rattle.self_originated.proofs.Making.{making_starts}
 use Rattle.flood.specs.Starts.{fresh_kept}

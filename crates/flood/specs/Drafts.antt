@@ -1,8 +1,8 @@
 -- The drafts of an event, one for each interface.
 use Rattle.std.specs.Prelude.{ℕ, ◌+◌, List, [], ◌∷◌, map}
-use Rattle.adjacency.specs.Drafts.{Drafted}
-use Rattle.received.specs.Links.{Link}
-use Rattle.received.specs.Outcomes.{Send}
+use Rattle.flood_laws.specs.adjacency.Drafts.{Drafted}
+use Rattle.events.specs.received.Links.{Link}
+use Rattle.events.specs.received.Outcomes.{Send}
 use Rattle.packing.specs.Drafts.{IsDraftAt, nothing_drafted}
 
 -- nothing was sent yet at any of these links

@@ -4,3 +4,5 @@ pub mod Parts
 pub mod Drafts
 pub mod Starts
 pub mod Offers
+-- what crates above name of those below
+pub use Rattle.area_routes.specs as area_routes

@@ -1,7 +1,7 @@
 -- Links at the start.
-use Rattle.adjacency.specs.Kept.{Kept}
-use Rattle.adjacency.specs.declared.interface.Interface.{Interface}
-use Rattle.received.specs.Links.{Link}
+use Rattle.flood_laws.specs.adjacency.Kept.{Kept}
+use Rattle.flood_laws.specs.adjacency.declared.interface.Interface.{Interface}
+use Rattle.events.specs.received.Links.{Link}
 use Rattle.events.specs.Routers.{fresh_link}
 
 -- a link on which nothing was heard or sent, and that was never another one

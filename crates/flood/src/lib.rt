@@ -17,8 +17,8 @@ mod sending;
 mod start;
 mod taking;
 
-pub use adjacency::{Interface, State};
 pub use area_routes::Offered;
 pub use event::Event;
 pub use events::{Config, ConfigError, CoreError, Out};
+pub use flood_laws::{Interface, State};
 pub use router_core::Core;

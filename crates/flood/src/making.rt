@@ -1,14 +1,14 @@
 //! What an event makes of the router and of the drafts of its interfaces.
 ghost use Rattle.std.specs.Prelude.{◌≡◌, List, OnOk, length};
-ghost use Rattle.adjacency.specs.Drafts.{Drafted};
+ghost use Rattle.flood_laws.specs.adjacency.Drafts.{Drafted};
 ghost use Rattle.events.specs.Commands.{after_install, after_link_down};
 ghost use Rattle.self_originated.specs.Making.{Makes};
 ghost use Rattle.flood.specs.Parts.{HasInterface, after_event, after_part};
 
 use crate::part::Part;
-use adjacency::Draft;
 use announcements::{redistribute, withdraw};
 use endings::{end_event, full_routers};
+use flood_laws::Draft;
 use received_packets::receive_packet;
 use self_originated::Router;
 use std::alloc::{AllocError, Global};

@@ -1,15 +1,15 @@
 //! From the drafts of an event to what is sent.
 ghost use Rattle.std.specs.Prelude.{◌≡◌, ◌≤◌, List, IfOk, OnOk, length, map};
-ghost use Rattle.received.specs.Links.{Link as LinkOfArea};
-ghost use Rattle.received.specs.Outcomes.{Send};
+ghost use Rattle.events.specs.received.Links.{Link as LinkOfArea};
+ghost use Rattle.events.specs.received.Outcomes.{Send};
 ghost use Rattle.events.specs.Packing.{outs_of};
 ghost use Rattle.flood_laws.specs.Keeping.{AreTexts};
 ghost use Rattle.packing.specs.Drafts.{nothing_drafted};
 ghost use Rattle.flood.specs.Drafts.{AreDrafts, nothing_at};
 
-use adjacency::Draft;
+use area_routes::Link;
 use events::Out;
-use flooding::Link;
+use flood_laws::Draft;
 use packing::put_outs;
 use self_originated::Router;
 use std::alloc::{AllocError, Global};

@@ -6,9 +6,9 @@ ghost use Rattle.events.specs.Routers.{in_profile, unannounced_router};
 ghost use Rattle.flood.specs.Starts.{fresh_kept};
 
 use crate::sending::drafts_for;
-use adjacency::Interface;
+use area_routes::Link;
 use events::Config;
-use flooding::Link;
+use flood_laws::Interface;
 use self_originated::{Router, originate_or_wait};
 use std::alloc::{AllocError, Global};
 use words::{Key, LinkStateId, RouterId};

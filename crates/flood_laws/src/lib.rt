@@ -127,3 +127,6 @@ pub fn another_acknowledgment_takes_nothing_off()
 pub fn acknowledged_was_received()
     ensures { AcknowledgedWasReceived }
 {}
+// What crates above name of those below.
+pub use adjacency::{Draft, Interface, State};
+pub use lsdb::Lsdb;

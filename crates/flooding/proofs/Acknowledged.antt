@@ -4,8 +4,8 @@ use Rattle.std.specs.List.{AllByRecursion, cons_option, filter_map, fold}
 use Rattle.std.specs.Prelude.{Option, None, Some}
 use Rattle.std.specs.FinMap as finite
 use Rattle.words.specs.declared.key.Key.{Key}
-use Rattle.lsdb.specs.Headers.{Header}
-use Rattle.lsdb.specs.Keys.{ByKey}
+use Rattle.adjacency.specs.lsdb.Headers.{Header}
+use Rattle.adjacency.specs.lsdb.Keys.{ByKey}
 use Rattle.adjacency.specs.Contents.{Acknowledges, Content}
 use Rattle.adjacency.specs.Drafts.{Drafted, drafting}
 use Rattle.adjacency.proofs.Floods.{drafting-none}

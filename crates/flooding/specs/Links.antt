@@ -4,9 +4,9 @@ use Rattle.std.specs.FinMap as finite
 use Rattle.words.specs.Numbers.{InterfaceNumber, Moment}
 use Rattle.words.specs.declared.key.Key.{Key}
 use Rattle.words.specs.Constants.{max_age}
-use Rattle.lsdb.specs.Copies.{Database, DatabaseCopy, age_out, install_flooded}
-use Rattle.lsdb.specs.Copies.{has_just_aged_out, install_originated, is_aged_out, lsa_now}
-use Rattle.lsdb.specs.Headers.{Lsa, lsa_aged}
+use Rattle.adjacency.specs.lsdb.Copies.{Database, DatabaseCopy, age_out, install_flooded}
+use Rattle.adjacency.specs.lsdb.Copies.{has_just_aged_out, install_originated, is_aged_out, lsa_now}
+use Rattle.adjacency.specs.lsdb.Headers.{Lsa, lsa_aged}
 use Rattle.adjacency.specs.Kept.{Kept}
 use Rattle.adjacency.specs.Neighbors.{Neighbor}
 use Rattle.adjacency.specs.declared.interface.Interface.{Interface}

@@ -15,9 +15,8 @@ use crate::cases::Case;
 use crate::flood::{come_of_age, flood, flush, originate, roll_back_links, settle_links};
 use crate::link::Link;
 use crate::receiving::receive;
-use adjacency::Draft;
+use adjacency::{Draft, Lsdb};
 use lsa::Lsa;
-use lsdb::Lsdb;
 use std::alloc::{AllocError, Global};
 use std::marker::Model;
 use words::{Key, RouterId, Second};
@@ -33,8 +32,8 @@ impl Model for Area {
     ghost use Rattle.std.specs.Prelude.{map};
     ghost use Rattle.std.specs.Coded.{codes};
     ghost use Rattle.std.specs.FinMap as finite;
-    ghost use Rattle.lsdb.specs.Copies.{DatabaseCopy};
-    ghost use Rattle.lsdb.specs.Keys.{coded_key, key_cmp};
+    ghost use Rattle.adjacency.specs.lsdb.Copies.{DatabaseCopy};
+    ghost use Rattle.adjacency.specs.lsdb.Keys.{coded_key, key_cmp};
     ghost use Rattle.adjacency.specs.Codes.{coded_headers, coded_keys, coded_lists};
     ghost use Rattle.flooding.specs.Kept.{RouterArea, coded_area};
 

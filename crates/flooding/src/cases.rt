@@ -1,15 +1,14 @@
 //! Which case an LSA of a received Update is (RFC 2328, section 13).
 ghost use Rattle.std.specs.Prelude.{◌≡◌, ◌&&◌, not};
-ghost use Rattle.lsdb.specs.Copies.{in_this_second, installed_just_now, newer_than_copy};
-ghost use Rattle.lsdb.specs.Copies.{same_as_copy, sent_just_now};
-ghost use Rattle.lsdb.specs.Order.{is_max_age};
+ghost use Rattle.adjacency.specs.lsdb.Copies.{in_this_second, installed_just_now, newer_than_copy};
+ghost use Rattle.adjacency.specs.lsdb.Copies.{same_as_copy, sent_just_now};
+ghost use Rattle.adjacency.specs.lsdb.Order.{is_max_age};
 ghost use Rattle.received.specs.Cases.{Case as Row, case_tests, first_case, is_wrapping};
 ghost use Rattle.flooding.specs.Cases.{case_of, tests_of};
 
 use crate::link::Link;
-use adjacency::instance_of;
+use adjacency::{DatabaseCopy, compare, instance_of, newer};
 use lsa::{Header, Lsa};
-use lsdb::{DatabaseCopy, compare, newer};
 use std::cmp::Ordering;
 use words::{MAX_AGE, Second, SequenceNumber};
 

@@ -1,6 +1,6 @@
 //! Flooding over links and database, as parts that the caller holds apart.
 ghost use Rattle.std.specs.Prelude.{◌≡◌, ◌||◌, IfOk, OnOk, length, map};
-ghost use Rattle.lsdb.specs.Copies.{has_just_aged_out, lsa_now};
+ghost use Rattle.adjacency.specs.lsdb.Copies.{has_just_aged_out, lsa_now};
 ghost use Rattle.adjacency.specs.Floods.{is_any};
 ghost use Rattle.received.specs.Flooding.{flood_to, is_sender};
 ghost use Rattle.received.specs.Outcomes.{stepped_links, stepping_sends};
@@ -10,9 +10,8 @@ ghost use Rattle.flooding.specs.Links.{install_outcome};
 ghost use Rattle.flooding.specs.Links.{originate_outcome, present, settled_link};
 
 use crate::link::Link;
-use adjacency::Draft;
+use adjacency::{DatabaseCopy, Draft, Lsdb};
 use lsa::Lsa;
-use lsdb::{DatabaseCopy, Lsdb};
 use std::alloc::{AllocError, Global};
 use words::{Key, Second};
 

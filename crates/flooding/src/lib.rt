@@ -14,3 +14,5 @@ pub use area::Area;
 pub use cases::Case;
 pub use link::Link;
 pub use steps::{LinkChange, LinkStep};
+// What crates above name of those below.
+pub use adjacency::{DatabaseCopy, Draft, Interface, Lsdb, Saved, State, Update};

@@ -1,7 +1,7 @@
 //! Interfaces with what is kept of each.
 ghost use Rattle.std.specs.Prelude.{◌≡◌, ℕ, IfOk, OnOk};
 ghost use Rattle.lsa.specs.Headers.{key_of};
-ghost use Rattle.lsdb.specs.Copies.{lsa_now};
+ghost use Rattle.adjacency.specs.lsdb.Copies.{lsa_now};
 ghost use Rattle.adjacency.specs.Adjacencies.{mismatch_step};
 ghost use Rattle.adjacency.specs.Contents.{no_sends, sent_on, step_on};
 ghost use Rattle.adjacency.specs.Drafts.{drafting};
@@ -19,10 +19,9 @@ mod hellos;
 mod packets;
 mod timers;
 
-use adjacency::{Draft, Interface, Saved, State};
+use adjacency::{DatabaseCopy, Draft, Interface, Saved, State};
 use keyed_map::KeyedMap;
 use lsa::Header;
-use lsdb::DatabaseCopy;
 use neighbor_places::Place;
 use std::alloc::{AllocError, Global};
 use std::marker::Model;

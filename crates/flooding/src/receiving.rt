@@ -13,9 +13,8 @@ use crate::link::Link;
 use crate::rows::{
     acknowledge, acknowledge_later, any_exchange_or_loading, mismatch, release, update,
 };
-use adjacency::Draft;
+use adjacency::{Draft, Lsdb};
 use lsa::Lsa;
-use lsdb::Lsdb;
 use std::alloc::{AllocError, Global};
 use words::{Key, Second};
 

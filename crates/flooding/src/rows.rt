@@ -2,7 +2,7 @@
 ghost use Rattle.std.specs.Prelude.{◌≡◌, ◌≤◌, OnOk, [], ◌∷◌, length, map};
 ghost use Rattle.std.specs.List.{list_any};
 ghost use Rattle.lsa.specs.Headers.{key_of};
-ghost use Rattle.lsdb.specs.Copies.{lsa_now};
+ghost use Rattle.adjacency.specs.lsdb.Copies.{lsa_now};
 ghost use Rattle.adjacency.specs.Adjacencies.{mismatch_step};
 ghost use Rattle.adjacency.specs.Contents.{Acknowledges, Updates, no_sends};
 ghost use Rattle.adjacency.specs.Asked.{any_exchange_or_loading as is_in_exchange};
@@ -15,9 +15,8 @@ ghost use Rattle.flooding.specs.Drafted.{drafts_with};
 ghost use Rattle.flooding.specs.Links.{present, settled_link};
 
 use crate::link::Link;
-use adjacency::Draft;
+use adjacency::{DatabaseCopy, Draft};
 use lsa::Header;
-use lsdb::DatabaseCopy;
 use std::alloc::{AllocError, Global};
 use words::Second;
 

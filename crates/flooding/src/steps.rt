@@ -6,8 +6,7 @@ ghost use Rattle.flooding.specs.Links.{area_of, present, settled_link, start, wi
 ghost use Rattle.flooding.specs.Steps.{key_of_update, mark_each, one_link, sends_of};
 
 use crate::link::Link;
-use adjacency::{Draft, Update};
-use lsdb::Lsdb;
+use adjacency::{Draft, Lsdb, Update};
 use std::alloc::{AllocError, Global};
 use words::Second;
 
@@ -24,7 +23,7 @@ pub trait LinkChange {
 /// A step of a link that may read the database, and may send.
 pub trait LinkStep {
     ghost use Rattle.std.specs.Prelude.{List};
-    ghost use Rattle.lsdb.specs.Copies.{Database};
+    ghost use Rattle.adjacency.specs.lsdb.Copies.{Database};
     ghost use Rattle.adjacency.specs.Contents.{Content};
     ghost use Rattle.adjacency.specs.Drafts.{drafting};
     ghost use Rattle.received.specs.Links.{Link as Shown};

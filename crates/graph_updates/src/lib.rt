@@ -7,3 +7,5 @@ mod follow;
 mod links;
 
 pub use follow::follow_graph;
+// What crates above name of those below.
+pub use shortest_paths::{AreaGraph, Reached, has_no_way_out, walk};

@@ -10,8 +10,7 @@ ghost use Rattle.routes.specs.declared.node.Node.TheVariants.{ARouter};
 
 use area_graph::{Slots, add_exits};
 use lsa::{Body, Link as ToldLink, LinkKind, RouterLsa};
-use lsdb::Lsdb;
-use routes::{Link, Node, Root};
+use routes::{Link, Lsdb, Node, Root};
 use shortest_paths::find;
 use std::alloc::{AllocError, Global};
 use words::{Key, LinkStateId, RouterId, Second};

@@ -8,3 +8,5 @@ pub mod Laws
 pub mod Refusals
 pub mod Answered
 pub mod Vacant
+-- what crates above name of those below
+pub use Rattle.machine.specs as machine

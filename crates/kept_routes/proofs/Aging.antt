@@ -9,8 +9,8 @@ use Rattle.std.proofs.lemmas.Bool.{cases_eq}
 use mathlib.Core.Bool.{false≢true}
 use Rattle.keyed_map.specs.Keys.{key_cmp}
 use Rattle.keyed_map.proofs.Keys.{keys_exact}
-use Rattle.lsdb.specs.Changes.{HaveNoMaxAge, HaveOneAge, IsUpTo, SaysTheSame}
-use Rattle.lsdb.specs.Copies.{Database, DatabaseCopy, aged_keys, is_aged_out}
+use Rattle.routes.specs.lsdb.Changes.{HaveNoMaxAge, HaveOneAge, IsUpTo, SaysTheSame}
+use Rattle.routes.specs.lsdb.Copies.{Database, DatabaseCopy, aged_keys, is_aged_out}
 use Rattle.routes.specs.Said.{said_at, said_by}
 use Rattle.kept_routes.specs.Ages.{AreOld}
 use Rattle.kept_routes.specs.Sameness.{AreLeft, SayTheSame}

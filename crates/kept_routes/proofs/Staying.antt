@@ -5,7 +5,7 @@ use Rattle.std.specs.FinMap as finite
 use Rattle.lsa.specs.declared.body.Body.{Body}
 use Rattle.words.specs.declared.key.Key.{Key}
 use Rattle.words.specs.declared.route.Route.{Route}
-use Rattle.lsdb.specs.Copies.{Database, DatabaseCopy, aged_keys, said_by}
+use Rattle.routes.specs.lsdb.Copies.{Database, DatabaseCopy, aged_keys, said_by}
 use Rattle.routes.specs.Candidates.{AreCandidates, Offers, OffersExternal}
 use Rattle.routes.specs.Candidates.Offers.{Between, External, Within}
 use Rattle.routes.specs.Paths.{Way}
@@ -21,11 +21,11 @@ use Rattle.routes.specs.Answers.{IsNodeAnswer}
 use Rattle.routes.specs.Offers.{ReachesBoundaryRouter}
 use Rattle.routes.specs.declared.graph.Way.{Way as WayTo}
 use Rattle.routes.specs.declared.node.Node.TheVariants.{ARouter}
-use Rattle.offers.specs.Borders.{IsFlagged}
-use Rattle.offers.specs.Ways.{AreWays, Ways}
-use Rattle.shortest_paths.specs.Reached.{way_in}
-use Rattle.lsdb.specs.Changes.{SaysTheSame}
-use Rattle.lsdb.specs.Silence.{SaysNoMore}
+use Rattle.candidates.specs.offers.Borders.{IsFlagged}
+use Rattle.candidates.specs.offers.Ways.{AreWays, Ways}
+use Rattle.candidates.specs.shortest_paths.Reached.{way_in}
+use Rattle.routes.specs.lsdb.Changes.{SaysTheSame}
+use Rattle.routes.specs.lsdb.Silence.{SaysNoMore}
 use Rattle.kept_routes.specs.Externals.{AreOldOrLeftOut, IsUnreached, LeaveCandidates, OfferTheSame, OffersNothing}
 use Rattle.kept_routes.specs.Laws.{CandidatesAreKept}
 use Rattle.kept_routes.specs.Kept.{IsWalkOf, KeptWalk}

@@ -1,8 +1,8 @@
 -- What the LSAs say stays as it was (RFC 2328, section 16).
 use Rattle.std.specs.Prelude.{◌≡◌, ℕ, Option, Some}
 use Rattle.std.specs.FinMap as finite
-use Rattle.lsdb.specs.Changes.{IsUpTo, SaysTheSame}
-use Rattle.lsdb.specs.Copies.{Database, DatabaseCopy}
+use Rattle.routes.specs.lsdb.Changes.{IsUpTo, SaysTheSame}
+use Rattle.routes.specs.lsdb.Copies.{Database, DatabaseCopy}
 use Rattle.kept_routes.specs.Ages.{IsOldCopy}
 use Rattle.routes.specs.Said.{Said}
 use Rattle.words.specs.Numbers.{Moment}

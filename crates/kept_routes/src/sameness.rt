@@ -2,14 +2,14 @@
 ghost use Rattle.std.specs.Prelude.{◌≡◌, ◌≤◌, ◌↔◌, IfOk, IsTrue};
 ghost use Rattle.std.specs.FinMap as finite;
 ghost use Rattle.std.specs.List.{Contains};
-ghost use Rattle.lsdb.specs.Changes.{IsUpTo};
-ghost use Rattle.lsdb.specs.Copies.{DatabaseCopy as CopyValue, is_aged_out};
+ghost use Rattle.routes.specs.lsdb.Changes.{IsUpTo};
+ghost use Rattle.routes.specs.lsdb.Copies.{DatabaseCopy as CopyValue, is_aged_out};
 ghost use Rattle.routes.specs.Said.{said_at};
 ghost use Rattle.words.specs.declared.key.Key.{Key as KeyValue};
 ghost use Rattle.kept_routes.specs.Ages.{AreOld, IsOld};
 ghost use Rattle.kept_routes.specs.Sameness.{AreLeft, SayTheSame};
 
-use lsdb::Lsdb;
+use routes::Lsdb;
 use std::alloc::{AllocError, Global};
 use words::{Key, Second};
 

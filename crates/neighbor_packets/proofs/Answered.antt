@@ -3,14 +3,14 @@ use Rattle.std.proofs.Common.{◌≡◌, ℕ, ◌≤◌, Bool, true, false, cond
 use Rattle.std.specs.List.{list_all}
 use Rattle.std.specs.Prelude.{Option, None, Some}
 use Rattle.words.specs.declared.key.Key.{Key}
-use Rattle.lsdb.specs.Copies.{Database}
-use Rattle.adjacency.specs.Adjacencies.{mismatch_step}
-use Rattle.adjacency.specs.Contents.{Step, Updates}
-use Rattle.adjacency.specs.Contents as neighbor
-use Rattle.adjacency.specs.Neighbors.{Neighbor, is_exchange_or_later}
-use Rattle.adjacency.specs.Steps.{after_request, answer_to_request, lsas_of}
-use Rattle.received.specs.Links.{Area, Link, neighbor_at, neighbor_on}
-use Rattle.received.specs.Outcomes.{sends_at, one_neighbor, sending}
+use Rattle.flooding.specs.lsdb.Copies.{Database}
+use Rattle.flooding.specs.adjacency.Adjacencies.{mismatch_step}
+use Rattle.flooding.specs.adjacency.Contents.{Step, Updates}
+use Rattle.flooding.specs.adjacency.Contents as neighbor
+use Rattle.flooding.specs.adjacency.Neighbors.{Neighbor, is_exchange_or_later}
+use Rattle.flooding.specs.adjacency.Steps.{after_request, answer_to_request, lsas_of}
+use Rattle.flooding.specs.received.Links.{Area, Link, neighbor_at, neighbor_on}
+use Rattle.flooding.specs.received.Outcomes.{sends_at, one_neighbor, sending}
 use Rattle.events.specs.Packets.{is_in_exchange, is_there, requested_from}
 use Rattle.flooding.specs.Links.{start, with_neighbor}
 use Rattle.neighbor_packets.proofs.OneLink.{leaves, link, link_is, one_neighbor_is, stays}

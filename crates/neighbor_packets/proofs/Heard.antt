@@ -1,14 +1,14 @@
 -- A Hello on one link.
 use Rattle.std.proofs.Common.{◌≡◌, ℕ, ◌≤◌, Bool, true, false, cond, List, [], length, refl, sym, ap, ◌∙◌}
 use Rattle.std.specs.Prelude.{Option, None, Some}
-use Rattle.lsdb.specs.Copies.{Database}
+use Rattle.flooding.specs.lsdb.Copies.{Database}
 use Rattle.packet.specs.declared.model.Hello.{Hello}
-use Rattle.adjacency.specs.Contents.{Content, Step}
-use Rattle.adjacency.specs.Drafts.{Drafted, drafting}
-use Rattle.adjacency.specs.Neighbors.{Neighbor}
-use Rattle.adjacency.specs.Steps.{named_neighbor}
-use Rattle.adjacency.proofs.Floods.{drafting-none}
-use Rattle.received.specs.Links.{Area, Link}
+use Rattle.flooding.specs.adjacency.Contents.{Content, Step}
+use Rattle.flooding.specs.adjacency.Drafts.{Drafted, drafting}
+use Rattle.flooding.specs.adjacency.Neighbors.{Neighbor}
+use Rattle.flooding.specs.adjacency.Steps.{named_neighbor}
+use Rattle.flooding.proofs.adjacency.Floods.{drafting-none}
+use Rattle.flooding.specs.received.Links.{Area, Link}
 use Rattle.events.specs.Hellos.{accepts, may_be}
 use Rattle.events.specs.Packets.{after_hello, hear, heard_on}
 use Rattle.flooding.specs.Links.{start, with_neighbor}

@@ -3,12 +3,12 @@ use Rattle.std.proofs.Common.{◌≡◌, ◌≢◌, ℕ, zero, suc, ◌-◌, ◌
 use Rattle.std.proofs.lemmas.List.{set-get_or}
 use Rattle.std.specs.List.{slice_get}
 use Rattle.std.specs.Prelude.{Option, None, Some}
-use Rattle.lsdb.specs.Copies.{Database}
-use Rattle.adjacency.specs.Contents.{Content, Step, no_sends}
-use Rattle.adjacency.specs.Contents as neighbor
-use Rattle.adjacency.specs.Neighbors.{Neighbor}
-use Rattle.received.specs.Links.{Area, Link, change_link, link_at}
-use Rattle.received.specs.Outcomes.{Outcome, sends_at, one_neighbor, only_at, sending, sent_on, step_on, stepped_links, stepping_sends}
+use Rattle.flooding.specs.lsdb.Copies.{Database}
+use Rattle.flooding.specs.adjacency.Contents.{Content, Step, no_sends}
+use Rattle.flooding.specs.adjacency.Contents as neighbor
+use Rattle.flooding.specs.adjacency.Neighbors.{Neighbor}
+use Rattle.flooding.specs.received.Links.{Area, Link, change_link, link_at}
+use Rattle.flooding.specs.received.Outcomes.{Outcome, sends_at, one_neighbor, only_at, sending, sent_on, step_on, stepped_links, stepping_sends}
 use Rattle.flooding.specs.Links.{start, with_neighbor}
 use Rattle.flooding.specs.Steps.{one_link, sent_by}
 use Rattle.flooding.proofs.Only.{sends_only, set_only}

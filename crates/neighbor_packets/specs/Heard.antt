@@ -3,10 +3,10 @@ use Rattle.std.specs.Prelude.{Bool, true, ◌==◌, if◌then◌else◌, List, [
 use Rattle.std.specs.Prelude.{None, Some}
 use Rattle.words.specs.Numbers.{Moment, RouterNumber}
 use Rattle.packet.specs.declared.model.Hello.{Hello}
-use Rattle.adjacency.specs.Adjacencies.{after_hello}
-use Rattle.adjacency.specs.Contents.{Content, Step}
-use Rattle.adjacency.specs.declared.state.State.{State}
-use Rattle.received.specs.Links.{Link}
+use Rattle.flooding.specs.adjacency.Adjacencies.{after_hello}
+use Rattle.flooding.specs.adjacency.Contents.{Content, Step}
+use Rattle.flooding.specs.adjacency.declared.state.State.{State}
+use Rattle.flooding.specs.received.Links.{Link}
 use Rattle.events.specs.Hellos.{accepts, names}
 use Rattle.flooding.specs.Links.{with_neighbor}
 

@@ -4,10 +4,8 @@ ghost use Rattle.events.specs.Packets.{acknowledged_by};
 ghost use Rattle.flooding.specs.Drafted.{drafts_with};
 ghost use Rattle.flooding.specs.Links.{start};
 
-use adjacency::Draft;
-use flooding::{Area, Link, LinkStep};
+use flooding::{Area, Draft, Link, LinkStep, Lsdb};
 use lsa::Header;
-use lsdb::Lsdb;
 use std::alloc::{AllocError, Global};
 use words::Second;
 
@@ -18,8 +16,8 @@ struct Acknowledging<'a> {
 }
 
 impl<'a> LinkStep for Acknowledging<'a> {
-    ghost use Rattle.adjacency.specs.Contents.{no_sends, sent_on, step_on};
-    ghost use Rattle.adjacency.specs.Retransmissions.{after_acknowledgment};
+    ghost use Rattle.flooding.specs.adjacency.Contents.{no_sends, sent_on, step_on};
+    ghost use Rattle.flooding.specs.adjacency.Retransmissions.{after_acknowledgment};
     ghost use Rattle.flooding.specs.Links.{with_neighbor};
 
     ghost after = { λ a database link. with_neighbor

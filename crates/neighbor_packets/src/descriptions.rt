@@ -4,9 +4,7 @@ ghost use Rattle.events.specs.Packets.{describe_to};
 ghost use Rattle.flooding.specs.Drafted.{drafts_with};
 ghost use Rattle.flooding.specs.Links.{start};
 
-use adjacency::Draft;
-use flooding::{Area, Link, LinkStep};
-use lsdb::Lsdb;
+use flooding::{Area, Draft, Link, LinkStep, Lsdb};
 use packet::Description;
 use std::alloc::{AllocError, Global};
 use words::{RouterId, Second};
@@ -19,8 +17,8 @@ struct Describing<'a> {
 }
 
 impl<'a> LinkStep for Describing<'a> {
-    ghost use Rattle.adjacency.specs.Contents.{sent_on, step_on};
-    ghost use Rattle.adjacency.specs.Descriptions.{after_description};
+    ghost use Rattle.flooding.specs.adjacency.Contents.{sent_on, step_on};
+    ghost use Rattle.flooding.specs.adjacency.Descriptions.{after_description};
     ghost use Rattle.flooding.specs.Links.{with_neighbor};
 
     ghost after = { λ a database link. with_neighbor

@@ -7,9 +7,7 @@ ghost use Rattle.flooding.specs.Drafted.{drafts_with};
 ghost use Rattle.flooding.specs.Links.{start};
 ghost use Rattle.neighbor_packets.specs.Heard.{may_be_named};
 
-use adjacency::{Draft, Interface, State};
-use flooding::{Area, Link, LinkStep};
-use lsdb::Lsdb;
+use flooding::{Area, Draft, Interface, Link, LinkStep, Lsdb, State};
 use packet::Hello;
 use std::alloc::{AllocError, Global};
 use words::{E_BIT, RouterId, Second};

@@ -1,13 +1,11 @@
 //! Received Link State Requests (RFC 2328, section 10.7).
 ghost use Rattle.std.specs.Prelude.{◌≡◌, ◌≤◌, OnOk, length, true};
-ghost use Rattle.received.specs.Links.{neighbor_at};
+ghost use Rattle.flooding.specs.received.Links.{neighbor_at};
 ghost use Rattle.events.specs.Packets.{is_in_exchange, requested_from};
 ghost use Rattle.flooding.specs.Drafted.{drafts_with};
 ghost use Rattle.flooding.specs.Links.{start};
 
-use adjacency::Draft;
-use flooding::{Area, Link, LinkStep};
-use lsdb::Lsdb;
+use flooding::{Area, Draft, Link, LinkStep, Lsdb};
 use std::alloc::{AllocError, Global};
 use words::{Key, Second};
 
@@ -18,8 +16,8 @@ struct Answering<'a> {
 }
 
 impl<'a> LinkStep for Answering<'a> {
-    ghost use Rattle.adjacency.specs.Contents.{sent_on, step_on};
-    ghost use Rattle.adjacency.specs.Steps.{after_request};
+    ghost use Rattle.flooding.specs.adjacency.Contents.{sent_on, step_on};
+    ghost use Rattle.flooding.specs.adjacency.Steps.{after_request};
     ghost use Rattle.flooding.specs.Links.{with_neighbor};
 
     ghost after = { λ a database link. with_neighbor

@@ -1,7 +1,7 @@
 -- What a Description comes to, by its verdict.
 use Rattle.std.proofs.Common.{◌≡◌, ℕ, Bool, true, false, cond, not, nat_lt, List, [], ◌++◌, Option, None, Some, refl, sym, ap, ◌∙◌}
 use mathlib.Core.Bool.{false≢true}
-use Rattle.lsdb.specs.Copies.{Database}
+use Rattle.adjacency.specs.lsdb.Copies.{Database}
 use Rattle.packet.specs.declared.model.Description.{Description}
 use Rattle.adjacency.specs.declared.state.State.{State}
 use Rattle.adjacency.specs.declared.state.State.TheVariants.{Init, ExStart, Exchange, Loading, Full}

@@ -1,6 +1,6 @@
 //! The place of a neighbor on a link.
 ghost use Rattle.std.specs.Prelude.{◌≡◌, ℕ, IfOk, OnOk, None, Some};
-ghost use Rattle.lsdb.specs.Copies.{lsa_now};
+ghost use Rattle.adjacency.specs.lsdb.Copies.{lsa_now};
 ghost use Rattle.adjacency.specs.Adjacencies.{after_hello, enter_exstart};
 ghost use Rattle.adjacency.specs.Contents.{no_sends, sent_on, step_on};
 ghost use Rattle.adjacency.specs.Drafts.{drafting};
@@ -15,9 +15,8 @@ mod requests;
 mod timers;
 mod updates;
 
-use adjacency::{Draft, State};
+use adjacency::{DatabaseCopy, Draft, State};
 use lsa::Header;
-use lsdb::DatabaseCopy;
 use neighbors::{Neighbor, initial_description, next_dd_sequence_start};
 use std::alloc::{AllocError, Global};
 use std::marker::Model;

@@ -3,10 +3,10 @@ use Rattle.std.proofs.Common.{◌≡◌, Result, Ok, Err, OnOk, ℕ, ◌==◌, B
 use Rattle.std.specs.FinMap as finite
 use Rattle.std.specs.List.{fold}
 use Rattle.words.specs.declared.key.Key.{Key}
-use Rattle.lsdb.specs.Copies.{Database}
-use Rattle.lsdb.specs.Headers.{Header}
-use Rattle.lsdb.specs.Instances.{ListEntry, aged_header}
-use Rattle.lsdb.specs.Keys.{ByKey}
+use Rattle.adjacency.specs.lsdb.Copies.{Database}
+use Rattle.adjacency.specs.lsdb.Headers.{Header}
+use Rattle.adjacency.specs.lsdb.Instances.{ListEntry, aged_header}
+use Rattle.adjacency.specs.lsdb.Keys.{ByKey}
 use Rattle.packet.specs.declared.model.Description.{Description}
 use Rattle.adjacency.specs.declared.standing.Standing.{Standing}
 use Rattle.adjacency.specs.declared.state.State.{State}

@@ -2,7 +2,7 @@
 ghost use Rattle.std.specs.Prelude.{◌≡◌, ℕ, not, ◌&&◌, if◌then◌else◌, [], ◌∷◌, IfOk, OnOk};
 ghost use Rattle.std.specs.FinMap as finite;
 ghost use Rattle.lsa.specs.Headers.{key_of};
-ghost use Rattle.lsdb.specs.Copies.{lsa_now};
+ghost use Rattle.adjacency.specs.lsdb.Copies.{lsa_now};
 ghost use Rattle.adjacency.specs.Adjacencies.{next_dd_sequence_start, initial_description};
 ghost use Rattle.adjacency.specs.Adjacencies.{enter_exstart};
 ghost use Rattle.adjacency.specs.Contents.{Step};
@@ -24,10 +24,11 @@ mod timers;
 mod updates;
 mod verdicts;
 
-use adjacency::{Draft, ListEntry, Saved, Standing, State, instance_of};
+use adjacency::{
+    DatabaseCopy, Draft, ListEntry, Saved, Standing, State, compare, instance_of, newer,
+};
 use keyed_map::KeyedMap;
 use lsa::Header;
-use lsdb::{DatabaseCopy, compare, newer};
 use packet::Description;
 use std::alloc::{AllocError, Global};
 use std::cmp::Ordering;

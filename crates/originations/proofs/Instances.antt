@@ -3,9 +3,9 @@ use Rattle.std.proofs.Common.{◌≡◌, ℤ, Bool, true, false, cond, Option, N
 use Rattle.words.specs.declared.key.Key.{Key}
 use Rattle.lsa.specs.Origination.{sealed_lsa}
 use Rattle.lsa.specs.declared.body.Body.{Body}
-use Rattle.lsdb.specs.Copies.{DatabaseCopy}
-use Rattle.lsdb.specs.Headers.{Lsa}
-use Rattle.events.specs.Originations.{has_max_sequence, new_instance, next_sequence}
+use Rattle.flooding.specs.lsdb.Copies.{DatabaseCopy}
+use Rattle.flooding.specs.lsdb.Headers.{Lsa}
+use Rattle.event_rooms.specs.events.Originations.{has_max_sequence, new_instance, next_sequence}
 use Rattle.originations.specs.Instances.{next_instance, next_number}
 
 made : Key → ℤ → Body → Lsa

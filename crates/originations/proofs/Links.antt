@@ -8,10 +8,10 @@ use Rattle.lsa.specs.Text.{body_text}
 use Rattle.lsa.specs.declared.body.Body.{Body}
 use Rattle.lsa.specs.declared.body.Link.{Link as RouterLink}
 use Rattle.lsa.specs.declared.body.LinkKind.TheVariants.{PointToPoint}
-use Rattle.adjacency.specs.Kept.{Kept}
-use Rattle.adjacency.specs.Neighbors.{Neighbor, is_full}
-use Rattle.received.specs.Links.{Link}
-use Rattle.events.specs.Originations.{links_of, point_to_point, router_body, stub}
+use Rattle.flooding.specs.adjacency.Kept.{Kept}
+use Rattle.flooding.specs.adjacency.Neighbors.{Neighbor, is_full}
+use Rattle.flooding.specs.received.Links.{Link}
+use Rattle.event_rooms.specs.events.Originations.{links_of, point_to_point, router_body, stub}
 use Rattle.event_rooms.proofs.Fitting.{router_few}
 use Rattle.event_rooms.proofs.Rooms.{both}
 use Rattle.flooding.specs.Links.{present}

@@ -5,11 +5,11 @@ use Rattle.lsa.specs.declared.body.Body.{Body}
 use Rattle.lsa.specs.declared.body.Body.TheVariants as body
 use Rattle.lsa.specs.declared.body.Link.{Link as RouterLink}
 use Rattle.lsa.specs.declared.body.LinkKind.TheVariants.{PointToPoint}
-use Rattle.adjacency.specs.Neighbors.{Neighbor, is_full}
-use Rattle.adjacency.specs.declared.interface.Interface.{Interface}
-use Rattle.adjacency.specs.declared.state.State.{State}
-use Rattle.received.specs.Links.{Link}
-use Rattle.events.specs.Originations.{stub}
+use Rattle.flooding.specs.adjacency.Neighbors.{Neighbor, is_full}
+use Rattle.flooding.specs.adjacency.declared.interface.Interface.{Interface}
+use Rattle.flooding.specs.adjacency.declared.state.State.{State}
+use Rattle.flooding.specs.received.Links.{Link}
+use Rattle.event_rooms.specs.events.Originations.{stub}
 
 abbrev pub full_router : Option (RouterNumber × State) → Option RouterNumber
 full_router None = None

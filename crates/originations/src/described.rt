@@ -3,9 +3,9 @@
 ghost use Rattle.std.specs.Prelude.{◌≡◌, ◌≤◌, List, length, map, IfOk, IsTrue};
 ghost use Rattle.lsa.specs.Ranges.{BodyFits};
 ghost use Rattle.lsa.specs.Text.{body_text};
-ghost use Rattle.received.specs.Links.{Link as OnLink};
-ghost use Rattle.events.specs.Endings.{copy_has_body, links_differ, same_body};
-ghost use Rattle.events.specs.Originations.{router_body};
+ghost use Rattle.flooding.specs.received.Links.{Link as OnLink};
+ghost use Rattle.event_rooms.specs.events.Endings.{copy_has_body, links_differ, same_body};
+ghost use Rattle.event_rooms.specs.events.Originations.{router_body};
 ghost use Rattle.flooding.specs.Links.{present};
 ghost use Rattle.originations.specs.Described.{
   described_body,
@@ -15,9 +15,8 @@ ghost use Rattle.originations.specs.Described.{
 };
 
 use crate::router::{full_router, put_described};
-use flooding::Link;
+use flooding::{DatabaseCopy, Link};
 use lsa::{Body, Header, Lsa, RouterLsa};
-use lsdb::DatabaseCopy;
 use std::alloc::{AllocError, Global};
 use std::cmp::Ordering;
 use words::{E_BIT, LinkStateId, RouterId, Sequence, SequenceNumber};

@@ -6,8 +6,8 @@ ghost use Rattle.lsa.specs.Text.{body_text};
 ghost use Rattle.originations.specs.Instances.{next_instance};
 
 use crate::sequence::next_number;
+use flooding::Lsdb;
 use lsa::{Body, Header, Lsa};
-use lsdb::Lsdb;
 use std::alloc::{AllocError, Global};
 use words::{E_BIT, Key};
 

@@ -13,3 +13,5 @@ pub use described::{full_routers, links_differ, tells};
 pub use external::external_instance;
 pub use origination::{Origination, interval_is_over, originate_external, originate_router};
 pub use router::router_instance;
+// What crates above name of those below.
+pub use flooding::{DatabaseCopy, Draft};

@@ -1,7 +1,7 @@
 //! When an own LSA goes out (RFC 2328, sections 12.1.6 and 12.4).
 ghost use Rattle.std.specs.Prelude.{◌≡◌, ◌≤◌, ◌<◌, ◌^◌, ◌&&◌, length, map, IfOk};
 ghost use Rattle.std.specs.FinMap as finite;
-ghost use Rattle.events.specs.Originations.{
+ghost use Rattle.event_rooms.specs.events.Originations.{
   external_body,
   external_key,
   interval_is_over,
@@ -14,9 +14,8 @@ ghost use Rattle.originations.specs.Decisions.{of_instance, origination, unless_
 use crate::external::{external_instance, external_key};
 use crate::router::{router_instance, router_key};
 use crate::sequence::next_number;
-use flooding::Link;
+use flooding::{DatabaseCopy, Link, Lsdb};
 use lsa::Lsa;
-use lsdb::{DatabaseCopy, Lsdb};
 use std::alloc::{AllocError, Global};
 use words::{External, RouterId, Second};
 

@@ -2,16 +2,14 @@
 ghost use Rattle.std.specs.Prelude.{◌≡◌, ◌≤◌, ◌++◌, length, map, IfOk, OnOk};
 ghost use Rattle.std.specs.FinMap as finite;
 ghost use Rattle.words.specs.Prefixes.{mask_of, network_address};
-ghost use Rattle.events.specs.Originations.{links_of, router_body, router_key, stub};
+ghost use Rattle.event_rooms.specs.events.Originations.{links_of, router_body, router_key, stub};
 ghost use Rattle.flooding.specs.Links.{present};
 ghost use Rattle.originations.specs.Instances.{next_instance};
 ghost use Rattle.originations.specs.Described.{interface_links, full_router};
 
 use crate::instance::next_instance;
-use adjacency::{Interface, State};
-use flooding::Link;
+use flooding::{Interface, Link, Lsdb, State};
 use lsa::{Body, Link as RouterLink, LinkKind, Lsa, RouterLsa};
-use lsdb::Lsdb;
 use std::alloc::{AllocError, Global};
 use words::{Key, LinkStateId, Prefix, RouterId, Sequence};
 

@@ -3,7 +3,7 @@ ghost use Rattle.std.specs.Prelude.{◌≡◌, ◌≢◌, IfSome};
 ghost use Rattle.lsa.specs.Text.{reserved_sequence};
 ghost use Rattle.originations.specs.Instances.{next_number, number_after};
 
-use lsdb::DatabaseCopy;
+use flooding::DatabaseCopy;
 use words::SequenceNumber;
 
 // The number after this one, or None after MaxSequenceNumber.

@@ -5,3 +5,6 @@ pub mod Roomy
 pub mod Told
 pub mod Examined
 pub mod Marks
+-- what crates above name of those below
+pub use Rattle.adjacency.proofs as adjacency
+pub use Rattle.adjacency.proofs.lsdb as lsdb

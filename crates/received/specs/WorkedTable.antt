@@ -4,8 +4,8 @@ use Rattle.std.specs.Prelude.{◌≡◌, ℤ, pos, Bool, true, false, Option, So
 use Rattle.words.specs.Constants.{max_age, max_sequence_number}
 use Rattle.words.specs.Numbers.{Moment, Seconds}
 use Rattle.lsa.specs.declared.body.Body.{Body}
-use Rattle.lsdb.specs.Copies.{DatabaseCopy}
-use Rattle.lsdb.specs.Headers.{Lsa}
+use Rattle.adjacency.specs.lsdb.Copies.{DatabaseCopy}
+use Rattle.adjacency.specs.lsdb.Headers.{Lsa}
 use Rattle.adjacency.specs.Neighbors.{Neighbor}
 use Rattle.received.specs.Cases.{Case, case_of_readable, is_on_senders_list, was_requested}
 

@@ -2,3 +2,5 @@
 #![tactic(auto)]
 
 pub mod laws;
+// What crates above name of those below.
+pub use adjacency::{Interface, State};

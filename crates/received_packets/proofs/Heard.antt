@@ -1,18 +1,18 @@
 -- A packet by the Router ID and the state of the neighbor at its interface.
 use Rattle.std.proofs.Common.{◌≡◌, ℕ, Bool, true, false, List, refl, sym, ap, ◌∙◌}
 use Rattle.std.specs.Prelude.{Option, None, Some}
-use Rattle.lsdb.specs.Headers.{Header}
+use Rattle.neighbor_packets.specs.lsdb.Headers.{Header}
 use Rattle.packet.specs.declared.model.Body.{Body}
 use Rattle.packet.specs.declared.model.Body.TheVariants as body
 use Rattle.packet.specs.declared.model.Description.{Description}
 use Rattle.packet.specs.declared.model.Packet.{Packet}
-use Rattle.adjacency.specs.Drafts.{Drafted}
-use Rattle.adjacency.specs.Neighbors.{Neighbor}
-use Rattle.adjacency.specs.Steps.{named_neighbor}
-use Rattle.received.specs.Links.{neighbor_at}
-use Rattle.events.specs.EventState.{EventState, on_area}
-use Rattle.events.specs.Packets.{acknowledged_by, after_packet, describe_to, from_neighbor, is_from, is_heard, is_in_exchange}
-use Rattle.events.specs.Routers.{Router}
+use Rattle.neighbor_packets.specs.adjacency.Drafts.{Drafted}
+use Rattle.neighbor_packets.specs.adjacency.Neighbors.{Neighbor}
+use Rattle.neighbor_packets.specs.adjacency.Steps.{named_neighbor}
+use Rattle.neighbor_packets.specs.received.Links.{neighbor_at}
+use Rattle.neighbor_packets.specs.events.EventState.{EventState, on_area}
+use Rattle.neighbor_packets.specs.events.Packets.{acknowledged_by, after_packet, describe_to, from_neighbor, is_from, is_heard, is_in_exchange}
+use Rattle.neighbor_packets.specs.events.Routers.{Router}
 use Rattle.self_originated.specs.Making.{Makes}
 use Rattle.self_originated.proofs.Making.{makes_if_false, makes_if_true, makes_nothing, makes_same}
 use Rattle.received_packets.specs.Received.{is_from_named, is_in_exchange_named}

@@ -6,15 +6,15 @@ use Rattle.lsa.specs.declared.fault.Fault.{Fault}
 use Rattle.lsa.specs.declared.fault.ReadError.TheVariants as errors
 use Rattle.lsa.specs.Outcome.{Reads}
 use Rattle.lsa.specs.Reading.{lsa_in, lsa_of}
-use Rattle.lsdb.specs.Headers.{Lsa}
-use Rattle.adjacency.specs.Drafts.{Drafted}
-use Rattle.received.specs.Cases.{Case}
-use Rattle.received.specs.Updates.{after_case, case_at, goes_on}
-use Rattle.events.specs.EventState.{EventState, on_area}
-use Rattle.events.specs.Originations.{receive_self_originated}
-use Rattle.events.specs.Packets.{after_lsa, after_lsas, after_self_originated, after_unread, case_in}
-use Rattle.events.specs.Routers.{Router}
-use Rattle.flooding.proofs.Updates.{drop_end}
+use Rattle.neighbor_packets.specs.lsdb.Headers.{Lsa}
+use Rattle.neighbor_packets.specs.adjacency.Drafts.{Drafted}
+use Rattle.neighbor_packets.specs.received.Cases.{Case}
+use Rattle.neighbor_packets.specs.received.Updates.{after_case, case_at, goes_on}
+use Rattle.neighbor_packets.specs.events.EventState.{EventState, on_area}
+use Rattle.neighbor_packets.specs.events.Originations.{receive_self_originated}
+use Rattle.neighbor_packets.specs.events.Packets.{after_lsa, after_lsas, after_self_originated, after_unread, case_in}
+use Rattle.neighbor_packets.specs.events.Routers.{Router}
+use Rattle.neighbor_packets.proofs.flooding.Updates.{drop_end}
 use Rattle.self_originated.specs.Making.{Makes}
 use Rattle.self_originated.proofs.Making.{makes_nothing, makes_same, makes_then}
 use Rattle.received_packets.specs.Received.{goes_on_at, is_newer}

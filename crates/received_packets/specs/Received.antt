@@ -1,13 +1,13 @@
 -- What is asked of a packet and of the LSAs of an Update.
 use Rattle.std.specs.Prelude.{Bool, true, false, ◌==◌, [], Option, None, Some}
 use Rattle.words.specs.Numbers.{InterfaceNumber, Moment, RouterNumber}
-use Rattle.lsdb.specs.Headers.{Lsa}
-use Rattle.adjacency.specs.Neighbors.{is_exchange_or_later}
-use Rattle.adjacency.specs.declared.state.State.{State}
-use Rattle.received.specs.Cases.{Case}
-use Rattle.received.specs.Updates.{goes_on}
-use Rattle.events.specs.Packets.{case_in}
-use Rattle.events.specs.Routers.{Router}
+use Rattle.neighbor_packets.specs.lsdb.Headers.{Lsa}
+use Rattle.neighbor_packets.specs.adjacency.Neighbors.{is_exchange_or_later}
+use Rattle.neighbor_packets.specs.adjacency.declared.state.State.{State}
+use Rattle.neighbor_packets.specs.received.Cases.{Case}
+use Rattle.neighbor_packets.specs.received.Updates.{goes_on}
+use Rattle.neighbor_packets.specs.events.Packets.{case_in}
+use Rattle.neighbor_packets.specs.events.Routers.{Router}
 
 -- ---- by the neighbor's Router ID and state
 

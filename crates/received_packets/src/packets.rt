@@ -1,15 +1,14 @@
 //! Packets by their types.
 ghost use Rattle.std.specs.Prelude.{◌≡◌, ◌≤◌, OnOk, false, length, true};
-ghost use Rattle.adjacency.specs.Steps.{named_neighbor};
-ghost use Rattle.received.specs.Links.{neighbor_at};
-ghost use Rattle.events.specs.Packets.{after_packet, from_neighbor, is_from, is_heard, is_hello};
-ghost use Rattle.events.specs.Packets.{is_in_exchange};
+ghost use Rattle.neighbor_packets.specs.adjacency.Steps.{named_neighbor};
+ghost use Rattle.neighbor_packets.specs.received.Links.{neighbor_at};
+ghost use Rattle.neighbor_packets.specs.events.Packets.{after_packet, from_neighbor, is_from, is_heard, is_hello};
+ghost use Rattle.neighbor_packets.specs.events.Packets.{is_in_exchange};
 ghost use Rattle.self_originated.specs.Making.{Makes};
 ghost use Rattle.received_packets.specs.Received.{is_from_named, is_in_exchange_named};
 
 use crate::updates::receive_lsas;
-use adjacency::{Draft, State};
-use neighbor_packets::is_foreign;
+use neighbor_packets::{Draft, State, is_foreign};
 use packet::{Body, Packet};
 use self_originated::Router;
 use std::alloc::{AllocError, Global};

@@ -1,15 +1,14 @@
 //! The LSAs of an Update, one after the other (RFC 2328, section 13).
 ghost use Rattle.std.specs.Prelude.{◌≡◌, ◌≤◌, IfOk, OnOk, length};
 ghost use Rattle.lsa.specs.Reading.{lsa_in};
-ghost use Rattle.received.specs.Updates.{case_at, goes_on};
-ghost use Rattle.events.specs.Packets.{after_lsa, after_lsas, after_unread};
-ghost use Rattle.flooding.specs.Cases.{case_of};
+ghost use Rattle.neighbor_packets.specs.received.Updates.{case_at, goes_on};
+ghost use Rattle.neighbor_packets.specs.events.Packets.{after_lsa, after_lsas, after_unread};
+ghost use Rattle.neighbor_packets.specs.flooding.Cases.{case_of};
 ghost use Rattle.self_originated.specs.Making.{Makes};
 ghost use Rattle.received_packets.specs.Received.{goes_on_at, is_newer};
 
-use adjacency::Draft;
-use flooding::Case;
 use lsa::{Lsa, ReadError, read};
+use neighbor_packets::{Case, Draft};
 use self_originated::{Router, receive_self_originated};
 use std::alloc::{AllocError, Global};
 use words::{Second, Sequence};

@@ -10,10 +10,10 @@ use Rattle.std.specs.declared.cmp.Ordering.TheVariants.{Less, Equal, Greater}
 use Rattle.words.specs.Numbers.{RouterNumber}
 use Rattle.words.specs.declared.key.Key.{Key}
 use Rattle.words.specs.declared.route.External.{External}
-use Rattle.lsdb.specs.Keys.{ByKey, key_cmp}
-use Rattle.lsdb.proofs.Keys.{keys_exact, keys_total}
-use Rattle.adjacency.specs.Views.{keys_of}
-use Rattle.adjacency.proofs.Neighbors.{contains_key_of}
+use Rattle.timers.specs.lsdb.Keys.{ByKey, key_cmp}
+use Rattle.timers.proofs.lsdb.Keys.{keys_exact, keys_total}
+use Rattle.timers.specs.adjacency.Views.{keys_of}
+use Rattle.timers.proofs.adjacency.Neighbors.{contains_key_of}
 use Rattle.router_state.specs.Owned.{AreOwn, IsOwn}
 
 equal : (r : Ordering) → is_eq r ≡ true → r ≡ Equal

@@ -1,11 +1,11 @@
 -- Changes of links and database that look at nothing that was sent, and leave the interfaces.
 use Rattle.std.proofs.Common.{◌≡◌, ℕ, ◌+◌, ◌==◌, Bool, true, false, cond, List, [], ◌∷◌, map, Option, None, Some, refl, sym, ap, ◌∙◌, append_assoc}
 use Rattle.std.specs.List.{enumerate_from}
-use Rattle.lsdb.specs.Copies.{Database}
-use Rattle.received.specs.Links.{Area, Link, change_link}
-use Rattle.received.specs.Outcomes.{Outcome, Send, Stepping, each_neighbor, on_database, on_links, sending, step_on}
-use Rattle.flooding.specs.Links.{start}
-use Rattle.flooding.proofs.Sends.{append_none}
+use Rattle.timers.specs.lsdb.Copies.{Database}
+use Rattle.timers.specs.received.Links.{Area, Link, change_link}
+use Rattle.timers.specs.received.Outcomes.{Outcome, Send, Stepping, each_neighbor, on_database, on_links, sending, step_on}
+use Rattle.timers.specs.flooding.Links.{start}
+use Rattle.timers.proofs.flooding.Sends.{append_none}
 use Rattle.timers.specs.Aging.{outcomes_in_turn}
 use Rattle.router_state.specs.Making.{interfaces_of}
 use Rattle.router_state.proofs.Making.{Appends, KeepsInterfaces}

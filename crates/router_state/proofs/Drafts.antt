@@ -1,12 +1,12 @@
 -- What is sent after something else is drafted after it, and of a link drafts read the interface alone.
 use Rattle.std.proofs.Common.{◌≡◌, ℕ, ◌+◌, ◌==◌, Bool, true, false, cond, List, [], ◌∷◌, ◌++◌, None, Some, refl, sym, ap, ◌∙◌}
 use Rattle.std.specs.List.{cons_option, filter_map}
-use Rattle.adjacency.specs.Contents.{Content}
-use Rattle.adjacency.specs.Drafts.{Drafted, adds, drafting}
-use Rattle.adjacency.specs.declared.interface.Interface.{Interface}
-use Rattle.received.specs.Links.{Link}
-use Rattle.received.specs.Outcomes.{Send}
-use Rattle.flooding.specs.Drafted.{at_interface, drafts_with, drafted_from}
+use Rattle.timers.specs.adjacency.Contents.{Content}
+use Rattle.timers.specs.adjacency.Drafts.{Drafted, adds, drafting}
+use Rattle.timers.specs.adjacency.declared.interface.Interface.{Interface}
+use Rattle.timers.specs.received.Links.{Link}
+use Rattle.timers.specs.received.Outcomes.{Send}
+use Rattle.timers.specs.flooding.Drafted.{at_interface, drafts_with, drafted_from}
 use Rattle.router_state.specs.Making.{interfaces_of}
 
 by_number : (k : ℕ) (x : Send) (b : Bool) (whole front back : List Content) → whole ≡ front ++ back → cons_option (cond b (Some x.content) None) whole ≡ cons_option (cond b (Some x.content) None) front ++ back

@@ -1,11 +1,11 @@
 -- An event in the making, as a router and one draft for each of its interfaces.
 use Rattle.std.specs.Prelude.{◌≡◌, List, map}
-use Rattle.adjacency.specs.Drafts.{Drafted}
-use Rattle.adjacency.specs.declared.interface.Interface.{Interface}
-use Rattle.received.specs.Links.{Link}
-use Rattle.flooding.specs.Drafted.{drafts_with}
-use Rattle.events.specs.EventState.{EventState}
-use Rattle.events.specs.Routers.{Router}
+use Rattle.timers.specs.adjacency.Drafts.{Drafted}
+use Rattle.timers.specs.adjacency.declared.interface.Interface.{Interface}
+use Rattle.timers.specs.received.Links.{Link}
+use Rattle.timers.specs.flooding.Drafted.{drafts_with}
+use Rattle.timers.specs.events.EventState.{EventState}
+use Rattle.timers.specs.events.Routers.{Router}
 
 -- the router is that of the event as it is by now, and the drafts, which began as `first`, have
 -- what was sent

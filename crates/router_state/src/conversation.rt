@@ -1,18 +1,18 @@
 //! What packets of a neighbor make of the conversation with it (RFC 2328, sections 10.5 to 10.7 and
 //! 13.7).
 ghost use Rattle.std.specs.Prelude.{◌≡◌, ◌≤◌, OnOk, length, true};
-ghost use Rattle.received.specs.Links.{neighbor_at};
-ghost use Rattle.events.specs.EventState.{on_area};
-ghost use Rattle.events.specs.Packets.{acknowledged_by, after_hello, describe_to, is_in_exchange};
-ghost use Rattle.events.specs.Packets.{requested_from};
+ghost use Rattle.timers.specs.received.Links.{neighbor_at};
+ghost use Rattle.timers.specs.events.EventState.{on_area};
+ghost use Rattle.timers.specs.events.Packets.{acknowledged_by, after_hello, describe_to, is_in_exchange};
+ghost use Rattle.timers.specs.events.Packets.{requested_from};
 ghost use Rattle.router_state.specs.Making.{Makes};
 
 use crate::router::Router;
-use adjacency::Draft;
 use lsa::Header;
 use neighbor_packets::{acknowledged, answer, describe, hear};
 use packet::{Description, Hello};
 use std::alloc::{AllocError, Global};
+use timers::Draft;
 use words::{Key, RouterId, Second};
 
 impl Router {

@@ -1,17 +1,17 @@
 //! What runs out, what is requested and what is sent again (RFC 2328, sections 9.5, 10.3, 10.8,
 //! 10.9, 13.5, 13.6 and 14).
 ghost use Rattle.std.specs.Prelude.{◌≡◌, List, OnOk, length, map};
-ghost use Rattle.adjacency.specs.Drafts.{Drafted};
-ghost use Rattle.received.specs.Outcomes.{on_links};
-ghost use Rattle.events.specs.Commands.{after_link_down};
-ghost use Rattle.events.specs.EventState.{on_area};
-ghost use Rattle.events.specs.Endings.{loading_done, remove_aged, request_all, with_ages};
-ghost use Rattle.events.specs.Ticks.{acknowledge_all, run_out, send_all_again, send_hellos};
+ghost use Rattle.timers.specs.adjacency.Drafts.{Drafted};
+ghost use Rattle.timers.specs.received.Outcomes.{on_links};
+ghost use Rattle.timers.specs.events.Commands.{after_link_down};
+ghost use Rattle.timers.specs.events.EventState.{on_area};
+ghost use Rattle.timers.specs.events.Endings.{loading_done, remove_aged, request_all, with_ages};
+ghost use Rattle.timers.specs.events.Ticks.{acknowledge_all, run_out, send_all_again, send_hellos};
 ghost use Rattle.router_state.specs.Making.{Makes};
 
 use crate::router::Router;
-use adjacency::Draft;
 use std::alloc::{AllocError, Global};
+use timers::Draft;
 use words::Second;
 
 impl Router {

@@ -11,3 +11,5 @@ pub mod Laws
 pub mod Graphs
 pub mod Search
 pub mod Answers
+-- what crates above name of those below
+pub use Rattle.lsdb.specs as lsdb

@@ -16,3 +16,5 @@ pub use node::Node;
 pub use offer::Offer;
 pub use root::Root;
 pub use search::least_ways;
+// What crates above name of those below.
+pub use lsdb::{KeyRule, Lsdb};

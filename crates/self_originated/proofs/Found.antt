@@ -5,11 +5,11 @@ use Rattle.words.specs.declared.key.Key.{Key}
 use Rattle.words.specs.declared.route.External.{External}
 use Rattle.keyed_map.specs.Keys.{same_key}
 use Rattle.lsa.specs.declared.body.Body.{Body}
-use Rattle.lsdb.specs.Copies.{Database}
-use Rattle.received.specs.Links.{Link}
-use Rattle.events.specs.EventState.{EventState}
-use Rattle.events.specs.Originations.{announced_body, external_body, external_key, originate_body, router_body, router_key, wanted_body}
-use Rattle.events.specs.Routers.{Router}
+use Rattle.originations.specs.lsdb.Copies.{Database}
+use Rattle.originations.specs.received.Links.{Link}
+use Rattle.originations.specs.events.EventState.{EventState}
+use Rattle.originations.specs.events.Originations.{announced_body, external_body, external_key, originate_body, router_body, router_key, wanted_body}
+use Rattle.originations.specs.events.Routers.{Router}
 use Rattle.originations.proofs.Decided.{are_the_rules}
 use Rattle.originations.specs.Decisions.{after_origination, origination}
 use Rattle.originations.specs.declared.origination.Origination.{Origination}

@@ -1,12 +1,11 @@
 //! The own LSAs that a Tick originates.
 ghost use Rattle.std.specs.Prelude.{◌≡◌, ◌++◌, [], ◌∷◌, IfOk, OnOk, if◌then◌else◌, length};
-ghost use Rattle.events.specs.Originations.{due_keys, is_due, is_stale, originate_due};
+ghost use Rattle.originations.specs.events.Originations.{due_keys, is_due, is_stale, originate_due};
 ghost use Rattle.router_state.specs.Making.{Makes};
 
 use crate::origination::originate_or_wait;
 use crate::wanted::router_key;
-use adjacency::Draft;
-use lsdb::DatabaseCopy;
+use originations::{DatabaseCopy, Draft};
 use router_state::Router;
 use std::alloc::{AllocError, Global};
 use words::{Key, Second};

@@ -10,3 +10,5 @@ pub use due::{due_keys, originate_due};
 pub use origination::{originate_anyway, originate_or_wait, receive_self_originated};
 // What each of these calls changes.
 pub use router_state::Router;
+// What crates above name of those below.
+pub use originations::{Draft, full_routers, links_differ, tells};

@@ -1,19 +1,18 @@
 //! New instances of own LSAs.
 ghost use Rattle.std.specs.Prelude.{◌≡◌, OnOk, length};
-ghost use Rattle.events.specs.Originations.{
+ghost use Rattle.originations.specs.events.Originations.{
   originate_anyway,
   originate_or_wait,
   receive_self_originated,
 };
-ghost use Rattle.lsdb.specs.Headers.{Lsa};
+ghost use Rattle.originations.specs.lsdb.Headers.{Lsa};
 ghost use Rattle.originations.specs.Decisions.{after_origination};
 ghost use Rattle.router_state.specs.Making.{Makes};
 ghost use Rattle.self_originated.specs.Wanted.{originate_wanted};
 
 use crate::wanted::{is_wanted, wanted_origination};
-use adjacency::Draft;
 use lsa::{Header, Lsa};
-use originations::Origination;
+use originations::{Draft, Origination};
 use router_state::Router;
 use std::alloc::{AllocError, Global};
 use words::{Key, Second};

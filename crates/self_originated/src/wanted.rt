@@ -1,7 +1,7 @@
 //! Which own LSAs are wanted, and what becomes of them.
 ghost use Rattle.std.specs.Prelude.{◌≡◌, IfOk};
 ghost use Rattle.keyed_map.specs.Keys.{same_key};
-ghost use Rattle.events.specs.Originations.{is_wanted, router_key, wanted_body};
+ghost use Rattle.originations.specs.events.Originations.{is_wanted, router_key, wanted_body};
 ghost use Rattle.self_originated.specs.Wanted.{wanted_origination};
 
 use originations::{Origination, originate_external, originate_router};

@@ -3,3 +3,5 @@ pub mod Halving
 pub mod Adjacent
 pub mod LetIn
 pub mod InTurn
+-- what crates above name of those below
+pub use Rattle.routes.proofs as routes

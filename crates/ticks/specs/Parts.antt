@@ -1,10 +1,10 @@
 -- The three parts of a Tick: `after_tick` is one after the other.
 use Rattle.std.specs.Prelude.{map}
 use Rattle.words.specs.Numbers.{Moment}
-use Rattle.received.specs.Outcomes.{on_links}
-use Rattle.events.specs.EventState.{EventState, on_area, on_router}
-use Rattle.events.specs.Originations.{due_keys, forget_originations, originate_due}
-use Rattle.events.specs.Ticks.{acknowledge_all, run_out, send_all_again, send_hellos}
+use Rattle.self_originated.specs.received.Outcomes.{on_links}
+use Rattle.self_originated.specs.events.EventState.{EventState, on_area, on_router}
+use Rattle.self_originated.specs.events.Originations.{due_keys, forget_originations, originate_due}
+use Rattle.self_originated.specs.events.Ticks.{acknowledge_all, run_out, send_all_again, send_hellos}
 
 abbrev pub run_out_all : Moment → EventState → EventState
 run_out_all moment p =

@@ -2,13 +2,12 @@
 #![tactic(auto)]
 
 ghost use Rattle.std.specs.Prelude.{◌≡◌, OnOk, length};
-ghost use Rattle.events.specs.Originations.{due_keys};
-ghost use Rattle.events.specs.Ticks.{after_tick};
+ghost use Rattle.self_originated.specs.events.Originations.{due_keys};
+ghost use Rattle.self_originated.specs.events.Ticks.{after_tick};
 ghost use Rattle.self_originated.specs.Making.{Makes};
 ghost use Rattle.ticks.specs.Parts.{originate_what_is_due, run_out_all, send_what_is_due};
 
-use adjacency::Draft;
-use self_originated::{Router, due_keys, originate_due};
+use self_originated::{Draft, Router, due_keys, originate_due};
 use std::alloc::{AllocError, Global};
 use words::Second;
 

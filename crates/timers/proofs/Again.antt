@@ -2,13 +2,13 @@
 use Rattle.std.proofs.Common.{◌≡◌, ℕ, zero, suc, ◌+◌, ◌<◌, ◌≤◌, List, [], ◌∷◌, ◌++◌, drop, length, map, get_or, refl, sym, ap, ◌∙◌, arith, append_assoc}
 use Rattle.std.specs.List.{enumerate_from, flat_map}
 use Rattle.words.specs.declared.key.Key.{Key}
-use Rattle.lsdb.specs.Copies.{Database, mark_sent}
-use Rattle.lsdb.specs.Headers.{lsa_key}
-use Rattle.adjacency.specs.Contents.{Acknowledges, Content, Describes, Requests, SendsHello, Updates}
-use Rattle.adjacency.specs.Drafts.{Drafted, adds, drafting, update_of}
-use Rattle.adjacency.specs.declared.draft.Update.{Update}
-use Rattle.received.specs.Links.{Link}
-use Rattle.received.specs.Outcomes.{sends_at}
+use Rattle.flooding.specs.lsdb.Copies.{Database, mark_sent}
+use Rattle.flooding.specs.lsdb.Headers.{lsa_key}
+use Rattle.flooding.specs.adjacency.Contents.{Acknowledges, Content, Describes, Requests, SendsHello, Updates}
+use Rattle.flooding.specs.adjacency.Drafts.{Drafted, adds, drafting, update_of}
+use Rattle.flooding.specs.adjacency.declared.draft.Update.{Update}
+use Rattle.flooding.specs.received.Links.{Link}
+use Rattle.flooding.specs.received.Outcomes.{sends_at}
 use Rattle.flooding.proofs.Sends.{draft_from}
 use Rattle.timers.specs.Marks.{key_of_update, keys_behind, mark_each, update_count}
 use Rattle.timers.proofs.Stepped.{marks, marks-append}

@@ -7,10 +7,10 @@ use Rattle.std.specs.Ordering.{eq_by_cmp, is_eq, is_lt}
 use Rattle.std.specs.declared.cmp.Ordering.{Ordering}
 use Rattle.std.specs.declared.cmp.Ordering.TheVariants.{Less, Equal, Greater}
 use Rattle.words.specs.declared.key.Key.{Key}
-use Rattle.lsdb.specs.Copies.{Database, DatabaseCopy, aged_keys, is_aged_out}
-use Rattle.lsdb.specs.Keys.{key_cmp}
-use Rattle.lsdb.proofs.Keys.{keys_exact, keys_total}
-use Rattle.received.specs.Links.{Area, Link, any_has_retransmission}
+use Rattle.flooding.specs.lsdb.Copies.{Database, DatabaseCopy, aged_keys, is_aged_out}
+use Rattle.flooding.specs.lsdb.Keys.{key_cmp}
+use Rattle.flooding.proofs.lsdb.Keys.{keys_exact, keys_total}
+use Rattle.flooding.specs.received.Links.{Area, Link, any_has_retransmission}
 use Rattle.events.specs.Endings.{stays, stays_as}
 use Rattle.timers.specs.Aging.{without_acknowledged, without_each}
 

@@ -3,9 +3,9 @@ use Rattle.std.proofs.Common.{◌≡◌, ℕ, zero, suc, ◌+◌, ◌<◌, Bool,
 use Rattle.std.specs.List.{list_any}
 use Rattle.std.specs.Prelude.{Option, None, Some}
 use Rattle.words.specs.declared.key.Key.{Key}
-use Rattle.adjacency.specs.Asked as neighbor
-use Rattle.adjacency.specs.Neighbors.{Neighbor}
-use Rattle.received.specs.Links.{has_retransmission, neighbor_is_exchange_or_loading}
+use Rattle.flooding.specs.adjacency.Asked as neighbor
+use Rattle.flooding.specs.adjacency.Neighbors.{Neighbor}
+use Rattle.flooding.specs.received.Links.{has_retransmission, neighbor_is_exchange_or_loading}
 
 pub exchanging_is : (o : Option Neighbor) → neighbor.any_exchange_or_loading o ≡ neighbor_is_exchange_or_loading o
 exchanging_is None = refl

@@ -1,12 +1,12 @@
 -- The Hello of a link.
 use Rattle.std.proofs.Common.{◌≡◌, ℕ, true, false, cond, Bool, List, [], ◌∷◌, refl, sym, ap, ◌∙◌}
 use Rattle.std.specs.Prelude.{Option, None, Some}
-use Rattle.adjacency.specs.Contents.{Content, SendsHello}
-use Rattle.adjacency.specs.Drafts.{Drafted, drafting}
-use Rattle.adjacency.specs.Neighbors.{Neighbor}
-use Rattle.adjacency.specs.Steps.{named_neighbor}
-use Rattle.adjacency.proofs.Floods.{drafting-none}
-use Rattle.received.specs.Links.{Link}
+use Rattle.flooding.specs.adjacency.Contents.{Content, SendsHello}
+use Rattle.flooding.specs.adjacency.Drafts.{Drafted, drafting}
+use Rattle.flooding.specs.adjacency.Neighbors.{Neighbor}
+use Rattle.flooding.specs.adjacency.Steps.{named_neighbor}
+use Rattle.flooding.proofs.adjacency.Floods.{drafting-none}
+use Rattle.flooding.specs.received.Links.{Link}
 use Rattle.events.specs.Hellos.{heard_of, hello_is_due, hello_on, with_hello_sent}
 use Rattle.events.specs.Ticks.{hello_sent_on}
 use Rattle.timers.specs.Greetings.{routers_of}

@@ -3,16 +3,16 @@ use Rattle.std.proofs.Common.{◌≡◌, ℕ, suc, ◌+◌, ◌==◌, Bool, true
 use Rattle.std.specs.List.{AllByRecursion, cons_option, enumerate_from, filter, filter_map, fold}
 use Rattle.std.specs.FinMap as finite
 use Rattle.words.specs.declared.key.Key.{Key}
-use Rattle.lsdb.specs.Headers.{Lsa}
-use Rattle.lsdb.specs.Copies.{Database, DatabaseCopy, aged_keys, has_just_aged_out, is_aged_out, lsa_now}
-use Rattle.adjacency.specs.Contents.{Content}
-use Rattle.adjacency.specs.Drafts.{Drafted, adds, drafting}
-use Rattle.adjacency.specs.Neighbors.{Neighbor}
-use Rattle.adjacency.proofs.Maps.{IfThere, OfEntry, entries_in}
-use Rattle.received.specs.Flooding.{flood, flood_to}
-use Rattle.received.specs.Links.{Area, Link}
-use Rattle.received.specs.Outcomes.{Outcome, Send, step_on, stepping_sends}
-use Rattle.received.proofs.Marks.{IsStill, mark_all}
+use Rattle.flooding.specs.lsdb.Headers.{Lsa}
+use Rattle.flooding.specs.lsdb.Copies.{Database, DatabaseCopy, aged_keys, has_just_aged_out, is_aged_out, lsa_now}
+use Rattle.flooding.specs.adjacency.Contents.{Content}
+use Rattle.flooding.specs.adjacency.Drafts.{Drafted, adds, drafting}
+use Rattle.flooding.specs.adjacency.Neighbors.{Neighbor}
+use Rattle.flooding.proofs.adjacency.Maps.{IfThere, OfEntry, entries_in}
+use Rattle.flooding.specs.received.Flooding.{flood, flood_to}
+use Rattle.flooding.specs.received.Links.{Area, Link}
+use Rattle.flooding.specs.received.Outcomes.{Outcome, Send, step_on, stepping_sends}
+use Rattle.flooding.proofs.received.Marks.{IsStill, mark_all}
 use Rattle.events.specs.Endings.{with_age, with_ages}
 use Rattle.flooding.specs.Drafted.{at_interface, drafts_with, drafted_from}
 use Rattle.flooding.specs.Links.{come_of_age, come_of_age_copy, start}

@@ -3,15 +3,15 @@ use Rattle.std.proofs.Common.{◌≡◌, ℕ, Bool, true, false, cond, List, [],
 use Rattle.std.specs.FinSet as set
 use Rattle.std.specs.Prelude.{Option, None, Some}
 use Rattle.words.specs.declared.key.Key.{Key}
-use Rattle.lsdb.specs.Copies.{Database}
-use Rattle.lsdb.specs.Headers.{Header}
+use Rattle.flooding.specs.lsdb.Copies.{Database}
+use Rattle.flooding.specs.lsdb.Headers.{Header}
 use Rattle.packet.specs.declared.model.Hello.{Hello}
-use Rattle.adjacency.specs.Contents.{Acknowledges, Requests, SendsHello, no_sends}
-use Rattle.adjacency.specs.Contents as neighbor
-use Rattle.adjacency.specs.Neighbors.{Neighbor}
-use Rattle.adjacency.specs.Requests.{may_request, next_request, request_next}
-use Rattle.received.specs.Links.{Link}
-use Rattle.received.specs.Outcomes.{sends_at}
+use Rattle.flooding.specs.adjacency.Contents.{Acknowledges, Requests, SendsHello, no_sends}
+use Rattle.flooding.specs.adjacency.Contents as neighbor
+use Rattle.flooding.specs.adjacency.Neighbors.{Neighbor}
+use Rattle.flooding.specs.adjacency.Requests.{may_request, next_request, request_next}
+use Rattle.flooding.specs.received.Links.{Link}
+use Rattle.flooding.specs.received.Outcomes.{sends_at}
 use Rattle.timers.proofs.Stepped.{marks, sends}
 
 by_test : (moment n : ℕ) (d : Database) (m requested : Neighbor) (keys : List Key) (b : Bool)

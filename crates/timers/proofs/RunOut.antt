@@ -1,12 +1,12 @@
 -- What runs out on a link, and the end of Loading, as the definitions of an event say it.
 use Rattle.std.proofs.Common.{◌≡◌, ℕ, refl, ap}
 use Rattle.std.specs.Prelude.{Option, None, Some}
-use Rattle.adjacency.specs.Adjacencies.{after_inactivity_timer, loading_done}
-use Rattle.adjacency.specs.Contents.{no_sends, step_on}
-use Rattle.adjacency.specs.Descriptions.{without_old_description}
-use Rattle.adjacency.specs.Neighbors.{Neighbor}
-use Rattle.adjacency.specs.Timers as neighbor
-use Rattle.received.specs.Links.{Link}
+use Rattle.flooding.specs.adjacency.Adjacencies.{after_inactivity_timer, loading_done}
+use Rattle.flooding.specs.adjacency.Contents.{no_sends, step_on}
+use Rattle.flooding.specs.adjacency.Descriptions.{without_old_description}
+use Rattle.flooding.specs.adjacency.Neighbors.{Neighbor}
+use Rattle.flooding.specs.adjacency.Timers as neighbor
+use Rattle.flooding.specs.received.Links.{Link}
 use Rattle.flooding.specs.Links.{with_neighbor}
 use Rattle.events.specs.Endings.{link_loading_done, loading_done_on}
 use Rattle.events.specs.Ticks.{run_out, settled_exchange}

@@ -2,12 +2,12 @@
 use Rattle.std.proofs.Common.{◌≡◌, ℕ, ◌+◌, List, [], ◌∷◌, ◌++◌, map, refl, ap, ◌∙◌}
 use Rattle.std.specs.List.{enumerate_from, flat_map, fold}
 use Rattle.std.specs.Prelude.{Option, None, Some}
-use Rattle.lsdb.specs.Copies.{Database}
-use Rattle.adjacency.specs.Contents.{Content, Step}
-use Rattle.adjacency.specs.Contents as neighbor
-use Rattle.adjacency.specs.Neighbors.{Neighbor}
-use Rattle.received.specs.Links.{Area, Link}
-use Rattle.received.specs.Outcomes.{Send, marked_database, sends_at, sent_on, step_on}
+use Rattle.flooding.specs.lsdb.Copies.{Database}
+use Rattle.flooding.specs.adjacency.Contents.{Content, Step}
+use Rattle.flooding.specs.adjacency.Contents as neighbor
+use Rattle.flooding.specs.adjacency.Neighbors.{Neighbor}
+use Rattle.flooding.specs.received.Links.{Area, Link}
+use Rattle.flooding.specs.received.Outcomes.{Send, marked_database, sends_at, sent_on, step_on}
 use Rattle.flooding.specs.Links.{with_neighbor}
 
 pub step_is : (f : Neighbor → Step) (o : Option Neighbor) → neighbor.step_on f o ≡ step_on f o

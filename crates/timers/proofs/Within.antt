@@ -3,8 +3,8 @@ use Rattle.std.proofs.Common.{◌≡◌, ℕ, Bool, true, false, not, ◌&&◌, 
 use Rattle.std.specs.List.{fold}
 use Rattle.std.specs.FinMap as finite
 use Rattle.words.specs.declared.key.Key.{Key}
-use Rattle.lsdb.specs.Copies.{DatabaseCopy, is_aged_out, lsa_now}
-use Rattle.received.specs.Outcomes.{Outcome}
+use Rattle.flooding.specs.lsdb.Copies.{DatabaseCopy, is_aged_out, lsa_now}
+use Rattle.flooding.specs.received.Outcomes.{Outcome}
 use Rattle.events.specs.EventState.{flood_from_nobody}
 use Rattle.events.specs.Endings.{with_age, with_ages}
 

@@ -5,9 +5,9 @@ use Rattle.std.specs.List.{fold}
 use Rattle.std.specs.FinMap as finite
 use Rattle.words.specs.Numbers.{Moment}
 use Rattle.words.specs.declared.key.Key.{Key}
-use Rattle.lsdb.specs.Copies.{Database}
-use Rattle.received.specs.Links.{Area, Link, any_has_retransmission}
-use Rattle.received.specs.Outcomes.{Outcome}
+use Rattle.flooding.specs.lsdb.Copies.{Database}
+use Rattle.flooding.specs.received.Links.{Area, Link, any_has_retransmission}
+use Rattle.flooding.specs.received.Outcomes.{Outcome}
 use Rattle.flooding.specs.Links.{come_of_age, start}
 
 abbrev pub without_acknowledged : List Link → Database → Key → Database

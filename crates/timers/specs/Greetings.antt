@@ -1,7 +1,7 @@
 -- The routers that a Hello names.
 use Rattle.std.specs.Prelude.{List, [], ◌∷◌, Option, None, Some}
 use Rattle.words.specs.Numbers.{RouterNumber}
-use Rattle.adjacency.specs.declared.state.State.{State}
+use Rattle.flooding.specs.adjacency.declared.state.State.{State}
 
 abbrev pub routers_of : Option (RouterNumber × State) → List RouterNumber
 routers_of None = []

@@ -2,11 +2,11 @@
 use Rattle.std.specs.Prelude.{ℕ, List, [], ◌∷◌, ◌++◌, drop, length, map}
 use Rattle.words.specs.Numbers.{Moment}
 use Rattle.words.specs.declared.key.Key.{Key}
-use Rattle.lsdb.specs.Copies.{Database}
-use Rattle.adjacency.specs.Contents.{Content, sent_on, step_on}
-use Rattle.adjacency.specs.Drafts.{Drafted}
-use Rattle.adjacency.specs.Retransmissions.{send_again}
-use Rattle.received.specs.Links.{Link}
+use Rattle.flooding.specs.lsdb.Copies.{Database}
+use Rattle.flooding.specs.adjacency.Contents.{Content, sent_on, step_on}
+use Rattle.flooding.specs.adjacency.Drafts.{Drafted}
+use Rattle.flooding.specs.adjacency.Retransmissions.{send_again}
+use Rattle.flooding.specs.received.Links.{Link}
 use Rattle.flooding.specs.Links.{with_neighbor}
 pub use Rattle.flooding.specs.Steps.{key_of_update, mark_each}
 

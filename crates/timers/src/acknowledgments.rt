@@ -4,9 +4,7 @@ ghost use Rattle.flooding.specs.Drafted.{drafts_with};
 ghost use Rattle.flooding.specs.Links.{start};
 ghost use Rattle.events.specs.Ticks.{acknowledge_all};
 
-use adjacency::Draft;
-use flooding::{Area, Link, LinkStep};
-use lsdb::Lsdb;
+use flooding::{Area, Draft, Link, LinkStep, Lsdb};
 use std::alloc::{AllocError, Global};
 use words::Second;
 

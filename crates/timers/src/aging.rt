@@ -6,8 +6,7 @@ ghost use Rattle.events.specs.Endings.{remove_aged, with_ages};
 ghost use Rattle.timers.specs.Aging.{each_come_of_age, without_acknowledged, without_each};
 
 use crate::asked::{any_exchange_or_loading, any_has_retransmission};
-use adjacency::Draft;
-use flooding::Area;
+use flooding::{Area, Draft};
 use std::alloc::{AllocError, Global};
 use words::{Key, Second};
 

@@ -1,6 +1,6 @@
 //! What is asked of all links.
 ghost use Rattle.std.specs.Prelude.{◌≡◌, map};
-ghost use Rattle.received.specs.Links.{any_exchange_or_loading, any_has_retransmission};
+ghost use Rattle.flooding.specs.received.Links.{any_exchange_or_loading, any_has_retransmission};
 ghost use Rattle.flooding.specs.Links.{present};
 
 use flooding::{Area, Link};

@@ -1,6 +1,6 @@
 //! What runs out, and the end of Loading: without sends and without memory.
 ghost use Rattle.std.specs.Prelude.{◌≡◌, map};
-ghost use Rattle.received.specs.Outcomes.{on_links};
+ghost use Rattle.flooding.specs.received.Outcomes.{on_links};
 ghost use Rattle.flooding.specs.Links.{start};
 ghost use Rattle.events.specs.Endings.{link_loading_done};
 ghost use Rattle.events.specs.Ticks.{run_out};

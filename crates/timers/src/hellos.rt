@@ -1,16 +1,14 @@
 //! Hellos (RFC 2328, section 9.5).
 ghost use Rattle.std.specs.Prelude.{◌≡◌, ◌≤◌, IfOk, OnOk, length};
 ghost use Rattle.words.specs.Prefixes.{mask_of};
-ghost use Rattle.adjacency.specs.Adjacencies.{has_passed};
+ghost use Rattle.flooding.specs.adjacency.Adjacencies.{has_passed};
 ghost use Rattle.flooding.specs.Drafted.{drafts_with};
 ghost use Rattle.flooding.specs.Links.{start};
 ghost use Rattle.events.specs.Hellos.{heard_of, hello_is_due, hello_on, is_due};
 ghost use Rattle.events.specs.Ticks.{send_hellos};
 ghost use Rattle.timers.specs.Greetings.{routers_of};
 
-use adjacency::{Draft, State};
-use flooding::{Area, Link, LinkStep};
-use lsdb::Lsdb;
+use flooding::{Area, Draft, Link, LinkStep, Lsdb, State};
 use packet::Hello;
 use std::alloc::{AllocError, Global};
 use words::{E_BIT, RouterId, Second, Sequence};

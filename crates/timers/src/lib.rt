@@ -17,3 +17,5 @@ pub use expiry::{end_loading, run_out};
 pub use hellos::send_hellos;
 pub use requests::request_all;
 pub use retransmissions::send_all_again;
+// What crates above name of those below.
+pub use flooding::{Area, Case, Draft, Link, Saved};

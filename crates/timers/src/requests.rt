@@ -4,9 +4,7 @@ ghost use Rattle.flooding.specs.Drafted.{drafts_with};
 ghost use Rattle.flooding.specs.Links.{start};
 ghost use Rattle.events.specs.Endings.{request_all};
 
-use adjacency::Draft;
-use flooding::{Area, Link, LinkStep};
-use lsdb::Lsdb;
+use flooding::{Area, Draft, Link, LinkStep, Lsdb};
 use std::alloc::{AllocError, Global};
 use words::Second;
 
@@ -16,8 +14,8 @@ struct NextRequest {
 }
 
 impl LinkStep for NextRequest {
-    ghost use Rattle.adjacency.specs.Contents.{sent_on, step_on};
-    ghost use Rattle.adjacency.specs.Requests.{request_next};
+    ghost use Rattle.flooding.specs.adjacency.Contents.{sent_on, step_on};
+    ghost use Rattle.flooding.specs.adjacency.Requests.{request_next};
     ghost use Rattle.flooding.specs.Links.{with_neighbor};
 
     ghost after = { λ a database link. with_neighbor (step_on (request_next a.moment) link.neighbor)

@@ -5,9 +5,7 @@ ghost use Rattle.flooding.specs.Links.{start};
 ghost use Rattle.events.specs.Ticks.{send_all_again};
 ghost use Rattle.timers.specs.Marks.{key_of_update, keys_behind, mark_each, update_count};
 
-use adjacency::{Draft, Update};
-use flooding::{Area, Link, LinkStep};
-use lsdb::Lsdb;
+use flooding::{Area, Draft, Link, LinkStep, Lsdb, Update};
 use std::alloc::{AllocError, Global};
 use words::Second;
 

@@ -4,9 +4,9 @@ use Rattle.std.specs.Prelude.{Result, Ok, Err}
 use Rattle.words.specs.Numbers.{Moment}
 use Rattle.words.specs.declared.route.Route.{Route}
 use Rattle.words.specs.declared.route.TableRow.{TableRow}
-use Rattle.events.specs.declared.model.Out.{Out}
-use Rattle.events.specs.Events.{Happens}
-use Rattle.events.specs.Routers.{Router}
+use Rattle.book.specs.events.declared.model.Out.{Out}
+use Rattle.book.specs.events.Events.{Happens}
+use Rattle.book.specs.events.Routers.{Router}
 use Rattle.book.specs.Event.{Event}
 use Rattle.book.specs.Occurrences.{occurrence_of}
 use Rattle.book.specs.Offers.{AreCandidatesNow, IsOffered}

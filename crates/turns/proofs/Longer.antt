@@ -7,8 +7,8 @@ use Rattle.words.specs.Numbers.{Moment}
 use Rattle.words.specs.declared.route.External.{External}
 use Rattle.words.specs.declared.route.Route.{Route}
 use Rattle.words.specs.declared.route.TableRow.{TableRow}
-use Rattle.machine.specs.Given.{Given}
-use Rattle.events.specs.declared.model.Out.{Out}
+use Rattle.hooks.specs.machine.Given.{Given}
+use Rattle.book.specs.events.declared.model.Out.{Out}
 use Rattle.hooks.specs.declared.operation.Operation.{Operation}
 use Rattle.hooks.specs.Questions.{ExternalAnswer, RouteAnswer}
 use Rattle.hooks.proofs.Fronts.{prefix_trans}

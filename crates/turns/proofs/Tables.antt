@@ -6,17 +6,17 @@ use Rattle.std.proofs.lemmas.Cmp.{tied_itself}
 use Rattle.words.specs.declared.route.Route.{Route}
 use Rattle.words.specs.declared.route.RouteKind.TheVariants.{Intra}
 use Rattle.words.specs.declared.route.TableRow.{TableRow}
-use Rattle.routes.proofs.Listed.{other_default}
-use Rattle.routes.proofs.Lists.{first_is, later_is, of_cons, of_empty}
-use Rattle.routes.specs.Tables.{Answers}
+use Rattle.tables.proofs.routes.Listed.{other_default}
+use Rattle.tables.proofs.routes.Lists.{first_is, later_is, of_cons, of_empty}
+use Rattle.tables.specs.routes.Tables.{Answers}
 use Rattle.tables.proofs.LetIn.{AreLetInOf, are_table, left_out, let_in_more, none_yet, whole}
 use Rattle.tables.proofs.Ordered.{answers_exact, answers_total}
 use Rattle.tables.specs.Orders.{answer_cmp}
 use Rattle.tables.specs.Parts.{AreLetIn}
 use Rattle.tables.specs.Rows.{rows_of}
-use Rattle.area_routes.specs.Offers.{root_by}
-use Rattle.routes.specs.Said.{said_at}
-use Rattle.events.specs.Routers.{Router}
+use Rattle.book.specs.area_routes.Offers.{root_by}
+use Rattle.tables.specs.routes.Said.{said_at}
+use Rattle.book.specs.events.Routers.{Router}
 use Rattle.book.specs.Offers.{AreCandidatesNow, IsOffered}
 
 same_or_not : (a b : Route × ℕ) → (a ≡ b) ⊎ (a ≡ b → ⊥)

@@ -4,7 +4,7 @@ use Rattle.words.specs.Numbers.{InterfaceNumber, Moment}
 use Rattle.words.specs.declared.route.External.{External}
 use Rattle.words.specs.declared.route.Route.{Route}
 use Rattle.words.specs.declared.route.TableRow.{TableRow}
-use Rattle.events.specs.declared.model.Out.{Out}
+use Rattle.book.specs.events.declared.model.Out.{Out}
 use Rattle.hooks.specs.declared.operation.Operation.{Operation}
 use Rattle.hooks.specs.Questions.{ExternalAnswer}
 use Rattle.book.specs.Event.{Event}

@@ -3,3 +3,6 @@ pub use Rattle.book.specs.Offers
 pub mod Turns
 pub mod Laws
 pub mod Numbers
+-- what crates above name of those below
+pub use Rattle.book.specs as book
+pub use Rattle.book.specs.events as events

@@ -9,15 +9,15 @@ use Rattle.words.specs.Prefixes.{Network}
 use Rattle.words.specs.declared.route.External.{External}
 use Rattle.words.specs.declared.route.Route.{Route}
 use Rattle.words.specs.declared.route.TableRow.{TableRow}
-use Rattle.machine.specs.Given.{Given}
-use Rattle.machine.specs.Label.{Label}
+use Rattle.hooks.specs.machine.Given.{Given}
+use Rattle.hooks.specs.machine.Label.{Label}
 use Rattle.maps.specs.Words.{SeatView}
-use Rattle.events.specs.declared.model.CoreError.TheVariants as core_error
-use Rattle.events.specs.declared.model.Out.{Out}
-use Rattle.events.specs.Commands.{is_for}
-use Rattle.events.specs.Events.{Happens}
-use Rattle.events.specs.Originations.{external_key}
-use Rattle.events.specs.Routers.{Router}
+use Rattle.book.specs.events.declared.model.CoreError.TheVariants as core_error
+use Rattle.book.specs.events.declared.model.Out.{Out}
+use Rattle.book.specs.events.Commands.{is_for}
+use Rattle.book.specs.events.Events.{Happens}
+use Rattle.book.specs.events.Originations.{external_key}
+use Rattle.book.specs.events.Routers.{Router}
 use Rattle.hooks.specs.declared.operation.Operation.{Operation}
 use Rattle.hooks.specs.Answered.{IsAnswered}
 use Rattle.hooks.specs.Operations.{Answers}

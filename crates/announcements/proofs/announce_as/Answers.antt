@@ -1,10 +1,10 @@
 use Rattle.std.proofs.Common.{◌≡◌, false, refl, sym, ap, ◌∙◌}
 use Rattle.std.specs.FinMap as finite
 use Rattle.keyed_map.proofs.Helds.{on_ok}
-use Rattle.events.specs.Commands.{announce, is_announced_as}
-use Rattle.events.specs.EventState.{EventState, on_router}
-use Rattle.events.specs.Originations.{originate_anyway}
-use Rattle.events.specs.Routers.{Router}
+use Rattle.self_originated.specs.events.Commands.{announce, is_announced_as}
+use Rattle.self_originated.specs.events.EventState.{EventState, on_router}
+use Rattle.self_originated.specs.events.Originations.{originate_anyway}
+use Rattle.self_originated.specs.events.Routers.{Router}
 use Rattle.self_originated.proofs.Making.{makes_if_false, makes_on_router, makes_then}
 use Rattle.announcements.proofs.announce_as.Goals as goal
 

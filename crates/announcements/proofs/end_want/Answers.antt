@@ -1,5 +1,5 @@
 use Rattle.std.proofs.Common.{refl}
-use Rattle.events.specs.Commands.{unannounce}
+use Rattle.self_originated.specs.events.Commands.{unannounce}
 use Rattle.keyed_map.proofs.Helds.{on_ok}
 use Rattle.self_originated.proofs.Making.{makes_on_router, makes_then}
 use Rattle.announcements.proofs.end_want.Goals as goal

@@ -1,7 +1,7 @@
 //! What is done on each link of an area.
 ghost use Rattle.std.specs.Prelude.{◌≡◌, ◌≤◌, OnOk, length, map};
 ghost use Rattle.std.specs.FinMap as finite;
-ghost use Rattle.lsdb.specs.Copies.{mark_sent};
+ghost use Rattle.adjacency.specs.lsdb.Copies.{mark_sent};
 ghost use Rattle.received.specs.Links.{change_link};
 ghost use Rattle.flooding.specs.Drafted.{drafts_with};
 ghost use Rattle.flooding.specs.Links.{start, without_neighbor};

@@ -10,9 +10,8 @@ ghost use Rattle.adjacency.specs.Steps.{after_request};
 ghost use Rattle.flooding.specs.Links.{with_neighbor};
 
 use super::Link;
-use adjacency::Draft;
+use adjacency::{Draft, Lsdb};
 use lsa::Header;
-use lsdb::Lsdb;
 use packet::Description;
 use std::alloc::{AllocError, Global};
 use words::{Key, RouterId, Second};

@@ -10,8 +10,7 @@ ghost use Rattle.adjacency.specs.Timers.{run_out};
 ghost use Rattle.flooding.specs.Links.{with_neighbor};
 
 use super::Link;
-use adjacency::Draft;
-use lsdb::Lsdb;
+use adjacency::{Draft, Lsdb};
 use std::alloc::{AllocError, Global};
 use words::{Key, Second};
 

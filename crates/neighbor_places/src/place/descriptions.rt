@@ -9,8 +9,7 @@ ghost use Rattle.adjacency.specs.Exchanges.{verdict_of};
 
 use super::Place;
 use adjacency::descriptions::starts_over;
-use adjacency::{Draft, State, Verdict};
-use lsdb::Lsdb;
+use adjacency::{Draft, Lsdb, State, Verdict};
 use packet::Description;
 use std::alloc::{AllocError, Global};
 use words::{RouterId, Second};

@@ -6,8 +6,7 @@ ghost use Rattle.adjacency.specs.Drafts.{drafting};
 ghost use Rattle.adjacency.specs.Steps.{after_request, is_there, lsas_of};
 
 use super::Place;
-use adjacency::Draft;
-use lsdb::Lsdb;
+use adjacency::{Draft, Lsdb};
 use std::alloc::{AllocError, Global};
 use words::{Key, Second};
 

@@ -8,8 +8,7 @@ ghost use Rattle.adjacency.specs.Retransmissions.{send_again};
 ghost use Rattle.adjacency.specs.Timers.{is_any_inactive, run_out};
 
 use super::Place;
-use adjacency::Draft;
-use lsdb::Lsdb;
+use adjacency::{Draft, Lsdb};
 use std::alloc::{AllocError, Global};
 use words::Second;
 

@@ -3,7 +3,7 @@ ghost use Rattle.std.specs.Prelude.{◌≡◌, ℕ, ◌+◌, ◌%◌, ◌^◌, f
 ghost use Rattle.std.specs.Prelude.{◌∷◌, ◌++◌, take, Some, IfOk, OnOk};
 ghost use Rattle.std.specs.FinMap as finite;
 ghost use Rattle.std.specs.List.{filter_map, fold};
-ghost use Rattle.lsdb.specs.Instances.{aged_header};
+ghost use Rattle.adjacency.specs.lsdb.Instances.{aged_header};
 ghost use Rattle.adjacency.specs.Descriptions.{
   announced_more,
   as_received,
@@ -28,10 +28,9 @@ use super::Neighbor;
 use super::negotiation::remove_keys;
 use crate::connectives::either;
 use adjacency::descriptions::as_received;
-use adjacency::{Draft, ListEntry, State, Verdict, instance_of};
+use adjacency::{Draft, ListEntry, Lsdb, State, Verdict, age_at, instance_of, newer};
 use keyed_map::KeyedMap;
 use lsa::Header;
-use lsdb::{Lsdb, age_at, newer};
 use packet::Description;
 use std::alloc::{AllocError, Global};
 use words::{E_BIT, Key, Second, Sequence};

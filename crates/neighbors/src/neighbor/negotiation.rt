@@ -3,14 +3,13 @@
 ghost use Rattle.std.specs.Prelude.{◌≡◌, OnOk};
 ghost use Rattle.std.specs.FinMap as finite;
 ghost use Rattle.std.specs.List.{fold};
-ghost use Rattle.lsdb.specs.Copies.{is_aged_out};
+ghost use Rattle.adjacency.specs.lsdb.Copies.{is_aged_out};
 ghost use Rattle.adjacency.specs.Descriptions.{aged_copies, negotiated_neighbor, young_copies};
 ghost use Rattle.adjacency.specs.Exchanges.{is_young, with_key};
 
 use super::Neighbor;
-use adjacency::{ListEntry, State};
+use adjacency::{ListEntry, Lsdb, State};
 use keyed_map::KeyedMap;
-use lsdb::Lsdb;
 use std::alloc::{AllocError, Global};
 use words::{Key, Second};
 

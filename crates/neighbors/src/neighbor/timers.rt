@@ -3,8 +3,8 @@ ghost use Rattle.std.specs.Prelude.{◌≡◌, ◌==◌, ℕ, not, ◌&&◌, Lis
 ghost use Rattle.std.specs.FinMap as finite;
 ghost use Rattle.std.specs.FinSet as set;
 ghost use Rattle.words.specs.declared.key.Key.{Key};
-ghost use Rattle.lsdb.specs.Copies.{lsa_now};
-ghost use Rattle.lsdb.specs.Headers.{Lsa};
+ghost use Rattle.adjacency.specs.lsdb.Copies.{lsa_now};
+ghost use Rattle.adjacency.specs.lsdb.Headers.{Lsa};
 ghost use Rattle.adjacency.specs.Adjacencies.{has_passed, loading_done};
 ghost use Rattle.adjacency.specs.Contents.{Requests, Updates};
 ghost use Rattle.adjacency.specs.Descriptions.{is_over_for, without_old_description};
@@ -19,9 +19,8 @@ ghost use Rattle.adjacency.specs.Timers.{retransmission_is_due, that_fit_after};
 
 use super::Neighbor;
 use crate::connectives::both;
-use adjacency::{Draft, ListEntry, State};
+use adjacency::{DatabaseCopy, Draft, ListEntry, Lsdb, State};
 use keyed_map::{KeyTest, KeyedMap};
-use lsdb::{DatabaseCopy, Lsdb};
 use std::alloc::{AllocError, Global};
 use words::{Key, Second, Sequence};
 

@@ -1,6 +1,6 @@
 use Rattle.std.proofs.Common.{refl}
 use Rattle.keyed_map.proofs.Helds.{on_ok}
-use Rattle.events.specs.Originations.{forget_originations}
+use Rattle.self_originated.specs.events.Originations.{forget_originations}
 use Rattle.self_originated.proofs.Making.{makes_on_router, makes_then}
 use Rattle.ticks.proofs.run_out.Goals as goal
 

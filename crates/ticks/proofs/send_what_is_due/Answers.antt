@@ -1,6 +1,6 @@
 use Rattle.keyed_map.proofs.Helds.{on_ok}
-use Rattle.events.specs.EventState.{on_area}
-use Rattle.events.specs.Ticks.{acknowledge_all, send_all_again, send_hellos}
+use Rattle.self_originated.specs.events.EventState.{on_area}
+use Rattle.self_originated.specs.events.Ticks.{acknowledge_all, send_all_again, send_hellos}
 use Rattle.self_originated.proofs.Making.{makes_then}
 use Rattle.ticks.proofs.send_what_is_due.Goals as goal
 

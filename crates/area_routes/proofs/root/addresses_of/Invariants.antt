@@ -1,6 +1,6 @@
 use Rattle.std.proofs.Common.{◌≡◌, map, take}
-use Rattle.adjacency.specs.Kept.{Kept}
-use Rattle.received.specs.Links.{Link}
+use Rattle.flooding.specs.adjacency.Kept.{Kept}
+use Rattle.flooding.specs.received.Links.{Link}
 use Rattle.flooding.specs.Links.{present}
 use Rattle.area_routes.proofs.root.addresses_of.Given as goal
 

@@ -1,5 +1,5 @@
 use Rattle.std.proofs.Common.{ap, refl, sym}
-use Rattle.events.specs.EventState.{on_router}
+use Rattle.self_originated.specs.events.EventState.{on_router}
 use Rattle.self_originated.proofs.Making.{makes_on_router, makes_then}
 use Rattle.endings.specs.Parts.{at_moment, fill, refill, request_and_remove}
 use Rattle.endings.proofs.ending.end_event.Goals as goal

@@ -1,6 +1,6 @@
 use Rattle.std.proofs.Common.{sym, ◌∙◌}
 use Rattle.keyed_map.proofs.Helds.{on_ok}
-use Rattle.events.specs.Endings.{describe_router, loading_done}
+use Rattle.self_originated.specs.events.Endings.{describe_router, loading_done}
 use Rattle.self_originated.proofs.Making.{makes_then}
 use Rattle.endings.proofs.ending.fill.Goals as goal
 

@@ -1,7 +1,7 @@
 use Rattle.std.proofs.Common.{ap, sym, ◌∙◌}
 use Rattle.keyed_map.proofs.Helds.{on_ok}
-use Rattle.events.specs.Endings.{describe_router_later, loading_done}
-use Rattle.events.specs.Routers.{Router}
+use Rattle.self_originated.specs.events.Endings.{describe_router_later, loading_done}
+use Rattle.self_originated.specs.events.Routers.{Router}
 use Rattle.self_originated.proofs.Making.{makes_same, makes_then}
 use Rattle.endings.specs.Parts.{refill}
 use Rattle.endings.proofs.ending.refill.Goals as goal

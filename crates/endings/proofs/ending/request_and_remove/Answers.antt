@@ -1,6 +1,6 @@
 use Rattle.keyed_map.proofs.Helds.{on_ok}
-use Rattle.events.specs.Endings.{remove_aged, request_all}
-use Rattle.events.specs.EventState.{on_area}
+use Rattle.self_originated.specs.events.Endings.{remove_aged, request_all}
+use Rattle.self_originated.specs.events.EventState.{on_area}
 use Rattle.self_originated.proofs.Making.{makes_then}
 use Rattle.endings.proofs.ending.request_and_remove.Goals as goal
 

@@ -1,8 +1,8 @@
 use Rattle.std.proofs.Common.{◌≡◌, ◌++◌, length, drop, take, sym, ap, ◌∙◌, subst, arith}
 use Rattle.std.proofs.Math.Seq.{take-append_seam}
-use Rattle.lsdb.specs.Kept.{RouterDatabase}
-use Rattle.lsdb.specs.Limits.{exceeds as database_exceeds}
-use Rattle.flooding.specs.Kept.{RouterArea}
+use Rattle.flood_laws.specs.lsdb.Kept.{RouterDatabase}
+use Rattle.flood_laws.specs.lsdb.Limits.{exceeds as database_exceeds}
+use Rattle.area_routes.specs.flooding.Kept.{RouterArea}
 use Rattle.events.specs.Packing.{outs_of}
 use Rattle.events.specs.Refusals.{exceeds}
 use Rattle.flood_laws.specs.Keeping.{AreTexts}

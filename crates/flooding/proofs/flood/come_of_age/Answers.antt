@@ -1,6 +1,6 @@
 use Rattle.std.proofs.Common.{cond, sym, ap, ◌∙◌}
 use Rattle.std.specs.Prelude.{None, map}
-use Rattle.lsdb.specs.Copies.{lsa_now}
+use Rattle.adjacency.specs.lsdb.Copies.{lsa_now}
 use Rattle.received.specs.Flooding.{flood}
 use Rattle.received.specs.Outcomes.{Outcome}
 use Rattle.keyed_map.proofs.Helds.{on_ok}

@@ -1,6 +1,6 @@
 use Rattle.std.proofs.Common.{◌≡◌, List, cond, map, ap, sym, ◌∙◌}
-use Rattle.lsdb.specs.Copies.{Database, lsa_now, mark_sent}
-use Rattle.lsdb.specs.Headers.{key_of, lsa_key}
+use Rattle.adjacency.specs.lsdb.Copies.{Database, lsa_now, mark_sent}
+use Rattle.adjacency.specs.lsdb.Headers.{key_of, lsa_key}
 use Rattle.received.specs.Links.{Area, Link}
 use Rattle.keyed_map.proofs.Helds.{on_ok}
 use Rattle.flooding.specs.Drafted.{drafted_from}

@@ -1,5 +1,5 @@
 use Rattle.std.proofs.Common.{◌≡◌, map}
-use Rattle.lsdb.specs.Copies.{lsa_now}
+use Rattle.adjacency.specs.lsdb.Copies.{lsa_now}
 use Rattle.flooding.specs.Links.{present, settled_link}
 use Rattle.flooding.proofs.Flooded.{Floods}
 use Rattle.flooding.proofs.flood.flood_links.Given as goal

@@ -1,8 +1,8 @@
 use Rattle.std.proofs.Common.{cond, sym, ap, ◌∙◌}
 use Rattle.std.specs.Prelude.{None, map}
 use Rattle.std.specs.FinMap as finite
-use Rattle.lsdb.specs.Copies.{age_out}
-use Rattle.lsdb.specs.Headers.{lsa_aged}
+use Rattle.adjacency.specs.lsdb.Copies.{age_out}
+use Rattle.adjacency.specs.lsdb.Headers.{lsa_aged}
 use Rattle.received.specs.Flooding.{flood}
 use Rattle.received.specs.Outcomes.{Outcome}
 use Rattle.keyed_map.proofs.Helds.{on_ok}

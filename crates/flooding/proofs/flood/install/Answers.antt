@@ -1,8 +1,8 @@
 use Rattle.std.proofs.Common.{◌≡◌, ap, ◌∙◌}
 use Rattle.std.specs.Prelude.{Some, map}
 use Rattle.std.specs.FinMap as finite
-use Rattle.lsdb.specs.Copies.{install_flooded}
-use Rattle.lsdb.specs.Headers.{key_of}
+use Rattle.adjacency.specs.lsdb.Copies.{install_flooded}
+use Rattle.adjacency.specs.lsdb.Headers.{key_of}
 use Rattle.received.specs.Flooding.{flood}
 use Rattle.keyed_map.proofs.Helds.{on_ok}
 use Rattle.flooding.specs.Drafted.{drafted_from}

@@ -1,7 +1,7 @@
 use Rattle.std.proofs.Common.{◌-◌, map, sym, ap, ◌∙◌, arith}
 use Rattle.keyed_map.proofs.Helds.{on_ok}
 use Rattle.lsa.specs.Headers.{key_of}
-use Rattle.lsdb.specs.Headers.{Header}
+use Rattle.adjacency.specs.lsdb.Headers.{Header}
 use Rattle.adjacency.specs.Contents.{no_sends}
 use Rattle.adjacency.specs.Neighbors.{Neighbor}
 use Rattle.adjacency.specs.Retransmissions.{remove_retransmission}

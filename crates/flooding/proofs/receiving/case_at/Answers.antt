@@ -1,7 +1,7 @@
 use Rattle.std.proofs.Common.{◌-◌, get_or, map, ap, ◌∙◌, arith}
 use Rattle.std.specs.FinMap as finite
 use Rattle.lsa.specs.Headers.{key_of}
-use Rattle.lsdb.specs.Headers.{lsa_key}
+use Rattle.adjacency.specs.lsdb.Headers.{lsa_key}
 use Rattle.received.specs.Cases.{Case, case_of_readable, first_case}
 use Rattle.adjacency.specs.Kept.{Kept}
 use Rattle.received.specs.Links.{Link, any_exchange_or_loading}

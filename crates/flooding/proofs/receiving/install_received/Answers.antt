@@ -1,7 +1,7 @@
 use Rattle.std.proofs.Common.{refl, ap, ◌∙◌}
 use Rattle.std.specs.Prelude.{Some}
 use Rattle.keyed_map.proofs.Helds.{on_ok}
-use Rattle.lsdb.specs.Headers.{Header}
+use Rattle.adjacency.specs.lsdb.Headers.{Header}
 use Rattle.received.specs.Links.{Area, acknowledge_later, change_link}
 use Rattle.flooding.specs.Links.{area_of, install_outcome}
 use Rattle.flooding.proofs.Marking.{area_is}

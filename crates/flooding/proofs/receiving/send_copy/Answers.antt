@@ -1,7 +1,7 @@
 use Rattle.std.proofs.Common.{map, refl, ap, ◌∙◌}
 use Rattle.keyed_map.proofs.Helds.{on_ok}
 use Rattle.lsa.specs.Headers.{key_of}
-use Rattle.lsdb.specs.Copies.{mark_sent}
+use Rattle.adjacency.specs.lsdb.Copies.{mark_sent}
 use Rattle.received.specs.Updates.{send_copy}
 use Rattle.flooding.specs.Drafted.{drafts_with}
 use Rattle.flooding.specs.Links.{area_of, present, start}

@@ -1,10 +1,10 @@
 use Rattle.std.proofs.Common.{ap, ◌∙◌}
 use Rattle.keyed_map.proofs.Helds.{on_ok}
-use Rattle.lsdb.specs.Copies.{Database}
-use Rattle.adjacency.specs.Contents.{no_sends}
-use Rattle.adjacency.specs.Neighbors.{Neighbor}
-use Rattle.adjacency.specs.Retransmissions.{after_acknowledgment}
-use Rattle.received.specs.Outcomes.{Outcome}
+use Rattle.flooding.specs.lsdb.Copies.{Database}
+use Rattle.flooding.specs.adjacency.Contents.{no_sends}
+use Rattle.flooding.specs.adjacency.Neighbors.{Neighbor}
+use Rattle.flooding.specs.adjacency.Retransmissions.{after_acknowledgment}
+use Rattle.flooding.specs.received.Outcomes.{Outcome}
 use Rattle.flooding.specs.Drafted.{drafts_with}
 use Rattle.neighbor_packets.proofs.OneLink.{steps}
 use Rattle.neighbor_packets.proofs.acknowledgments.acknowledged.Goals as goal

@@ -1,8 +1,8 @@
 use Rattle.std.proofs.Common.{ap, ◌∙◌}
 use Rattle.keyed_map.proofs.Helds.{on_ok}
-use Rattle.lsdb.specs.Copies.{Database}
-use Rattle.adjacency.specs.Descriptions.{after_description}
-use Rattle.received.specs.Outcomes.{Outcome}
+use Rattle.flooding.specs.lsdb.Copies.{Database}
+use Rattle.flooding.specs.adjacency.Descriptions.{after_description}
+use Rattle.flooding.specs.received.Outcomes.{Outcome}
 use Rattle.flooding.specs.Drafted.{drafts_with}
 use Rattle.neighbor_packets.proofs.OneLink.{steps}
 use Rattle.neighbor_packets.proofs.descriptions.describe.Goals as goal

@@ -1,6 +1,6 @@
 use Rattle.std.proofs.Common.{ap, ◌∙◌}
 use Rattle.keyed_map.proofs.Helds.{on_ok}
-use Rattle.received.specs.Outcomes.{Outcome}
+use Rattle.flooding.specs.received.Outcomes.{Outcome}
 use Rattle.flooding.specs.Drafted.{drafts_with}
 use Rattle.neighbor_packets.proofs.Heard.{hears}
 use Rattle.neighbor_packets.proofs.hellos.hear.Goals as goal

@@ -1,5 +1,5 @@
 use Rattle.std.proofs.Common.{ap, ◌∙◌}
-use Rattle.received.specs.Links.{neighbor_at}
+use Rattle.neighbor_packets.specs.received.Links.{neighbor_at}
 use Rattle.received_packets.specs.Received.{is_in_exchange_named}
 use Rattle.received_packets.proofs.Heard.{exchange_named}
 use Rattle.received_packets.proofs.packets.is_in_exchange.Goals as goal

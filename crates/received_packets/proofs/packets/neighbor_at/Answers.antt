@@ -1,11 +1,11 @@
 use Rattle.std.proofs.Common.{◌-◌, length, ap, ◌∙◌, arith}
 use Rattle.std.proofs.lemmas.List.{length-map}
-use Rattle.adjacency.specs.Kept.{Kept}
-use Rattle.adjacency.specs.Steps.{named_neighbor}
-use Rattle.received.specs.Links.{Link, neighbor_at}
-use Rattle.flooding.specs.Kept.{RouterArea}
-use Rattle.flooding.specs.Links.{present}
-use Rattle.flooding.proofs.Synchronizing.{shown_neighbor}
+use Rattle.neighbor_packets.specs.adjacency.Kept.{Kept}
+use Rattle.neighbor_packets.specs.adjacency.Steps.{named_neighbor}
+use Rattle.neighbor_packets.specs.received.Links.{Link, neighbor_at}
+use Rattle.neighbor_packets.specs.flooding.Kept.{RouterArea}
+use Rattle.neighbor_packets.specs.flooding.Links.{present}
+use Rattle.neighbor_packets.proofs.flooding.Synchronizing.{shown_neighbor}
 use Rattle.received_packets.proofs.packets.neighbor_at.Goals as goal
 
 pub returns : goal.returns

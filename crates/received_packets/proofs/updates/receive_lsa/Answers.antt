@@ -1,5 +1,5 @@
 use Rattle.std.proofs.Common.{sym, ◌∙◌}
-use Rattle.flooding.specs.Cases.{case_of}
+use Rattle.neighbor_packets.specs.flooding.Cases.{case_of}
 use Rattle.received_packets.proofs.Texts.{lsa_settled}
 use Rattle.received_packets.proofs.updates.receive_lsa.Goals as goal
 

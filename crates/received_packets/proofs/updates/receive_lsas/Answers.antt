@@ -1,5 +1,5 @@
 use Rattle.std.proofs.Common.{◌+◌, ◌∷◌, drop, sym, ap, ◌∙◌, arith}
-use Rattle.flooding.proofs.Updates.{drop_next}
+use Rattle.neighbor_packets.proofs.flooding.Updates.{drop_next}
 use Rattle.received_packets.proofs.Texts.{goes_further, goes_no_further, goes_to_the_end}
 use Rattle.received_packets.proofs.updates.receive_lsas.Goals as goal
 

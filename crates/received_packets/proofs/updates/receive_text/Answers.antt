@@ -1,9 +1,9 @@
 use Rattle.std.proofs.Common.{sym, ap, subst, ◌∙◌}
 use Rattle.std.specs.Prelude.{Option}
-use Rattle.lsdb.specs.Headers.{Lsa}
-use Rattle.received.specs.Updates.{goes_on}
-use Rattle.events.specs.Packets.{after_unread}
-use Rattle.flooding.specs.Cases.{case_of}
+use Rattle.neighbor_packets.specs.lsdb.Headers.{Lsa}
+use Rattle.neighbor_packets.specs.received.Updates.{goes_on}
+use Rattle.neighbor_packets.specs.events.Packets.{after_unread}
+use Rattle.neighbor_packets.specs.flooding.Cases.{case_of}
 use Rattle.self_originated.specs.Making.{Makes}
 use Rattle.received_packets.specs.Received.{goes_on_at}
 use Rattle.received_packets.proofs.Texts.{text_read, text_skipped}

@@ -1,7 +1,7 @@
 use Rattle.std.proofs.Common.{[], ◌∷◌, ◌++◌, cond, ap, sym, ◌∙◌, append-nil}
 use Rattle.std.specs.FinMap as finite
 use Rattle.std.specs.List.{filter}
-use Rattle.events.specs.Originations.{is_due, router_key}
+use Rattle.originations.specs.events.Originations.{is_due, router_key}
 use Rattle.self_originated.proofs.Filtered.{next_filtered}
 use Rattle.self_originated.proofs.due.due_keys.Goals as goal
 

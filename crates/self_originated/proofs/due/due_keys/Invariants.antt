@@ -1,6 +1,6 @@
 use Rattle.std.proofs.Common.{◌≡◌, ◌++◌}
 use Rattle.std.specs.List.{filter}
-use Rattle.events.specs.Originations.{due_keys, is_due}
+use Rattle.originations.specs.events.Originations.{due_keys, is_due}
 use Rattle.self_originated.proofs.due.due_keys.Given as goal
 
 -- what was found, and of the keys that are still to come those that are due

@@ -1,5 +1,5 @@
 use Rattle.std.proofs.Common.{◌≡◌, length, take}
-use Rattle.events.specs.Originations.{originate_due}
+use Rattle.originations.specs.events.Originations.{originate_due}
 use Rattle.router_state.specs.Making.{Makes}
 use Rattle.self_originated.proofs.due.originate_due.Given as goal
 

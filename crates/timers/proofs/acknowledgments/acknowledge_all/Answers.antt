@@ -1,7 +1,7 @@
 use Rattle.std.proofs.Common.{ℕ, refl, sym, ◌∙◌}
 use Rattle.std.specs.FinMap as finite
-use Rattle.lsdb.specs.Copies.{Database}
-use Rattle.received.specs.Links.{Link}
+use Rattle.flooding.specs.lsdb.Copies.{Database}
+use Rattle.flooding.specs.received.Links.{Link}
 use Rattle.keyed_map.proofs.Helds.{on_ok}
 use Rattle.events.specs.Ticks.{acknowledgments_on}
 use Rattle.timers.proofs.Requested.{headers_mark_nothing}

@@ -1,6 +1,6 @@
 use Rattle.std.proofs.Common.{◌+◌, get_or, length, refl, sym, ap, ◌∙◌, arith}
-use Rattle.received.specs.Links.{Area}
-use Rattle.received.specs.Outcomes.{Outcome}
+use Rattle.flooding.specs.received.Links.{Area}
+use Rattle.flooding.specs.received.Outcomes.{Outcome}
 use Rattle.flooding.specs.Drafted.{drafts_with}
 use Rattle.flooding.specs.Links.{come_of_age}
 use Rattle.flooding.proofs.Acknowledged.{from, from_end, from_next}

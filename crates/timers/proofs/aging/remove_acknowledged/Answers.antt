@@ -1,7 +1,7 @@
 use Rattle.std.proofs.Common.{cond, sym, ap, ◌∙◌}
 use Rattle.std.specs.FinMap as finite
 use Rattle.keyed_map.proofs.Helds.{on_ok}
-use Rattle.received.specs.Links.{Area}
+use Rattle.flooding.specs.received.Links.{Area}
 use Rattle.timers.proofs.aging.remove_acknowledged.Goals as goal
 
 pub returns-then-listed-clause-ok : goal.returns-then-listed-clause-ok

@@ -1,10 +1,10 @@
 use Rattle.std.proofs.Common.{cond, sym, ap, ◌∙◌}
 use Rattle.std.specs.FinMap as finite
-use Rattle.lsdb.specs.Copies.{aged_keys}
+use Rattle.flooding.specs.lsdb.Copies.{aged_keys}
 use Rattle.keyed_map.proofs.Helds.{on_ok}
-use Rattle.received.specs.Links.{Area}
+use Rattle.flooding.specs.received.Links.{Area}
 use Rattle.flooding.specs.Links.{start}
-use Rattle.received.specs.Outcomes.{Outcome, on_database}
+use Rattle.flooding.specs.received.Outcomes.{Outcome, on_database}
 use Rattle.events.specs.Endings.{stays}
 use Rattle.timers.specs.Aging.{without_each}
 use Rattle.timers.proofs.Aged.{aged_leave}

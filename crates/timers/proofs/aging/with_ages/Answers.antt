@@ -1,7 +1,7 @@
 use Rattle.std.proofs.Common.{◌≡◌, ap, sym, ◌∙◌}
 use Rattle.keyed_map.proofs.Helds.{on_ok}
-use Rattle.lsdb.specs.Copies.{aged_keys}
-use Rattle.received.specs.Links.{Area}
+use Rattle.flooding.specs.lsdb.Copies.{aged_keys}
+use Rattle.flooding.specs.received.Links.{Area}
 use Rattle.flooding.specs.Drafted.{drafts_with}
 use Rattle.timers.specs.Aging.{each_come_of_age}
 use Rattle.timers.proofs.OfAge.{ages_are}

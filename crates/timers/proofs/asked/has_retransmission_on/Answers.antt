@@ -1,5 +1,5 @@
 use Rattle.std.proofs.Common.{sym, ap, ◌∙◌, arith}
-use Rattle.received.specs.Links.{has_retransmission}
+use Rattle.flooding.specs.received.Links.{has_retransmission}
 use Rattle.flooding.specs.Links.{present}
 use Rattle.timers.proofs.AnyLink.{any_begin, any_end, any_here, any_next, retransmits_is}
 use Rattle.timers.proofs.asked.has_retransmission_on.Goals as goal

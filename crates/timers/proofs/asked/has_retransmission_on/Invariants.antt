@@ -1,5 +1,5 @@
 use Rattle.std.proofs.Common.{◌≡◌, map}
-use Rattle.received.specs.Links.{any_has_retransmission, has_retransmission}
+use Rattle.flooding.specs.received.Links.{any_has_retransmission, has_retransmission}
 use Rattle.flooding.specs.Links.{present}
 use Rattle.timers.proofs.AnyLink.{any_from}
 use Rattle.timers.proofs.asked.has_retransmission_on.Given as goal

@@ -1,5 +1,5 @@
 use Rattle.std.proofs.Common.{sym, ap, ◌∙◌, arith}
-use Rattle.received.specs.Links.{neighbor_is_exchange_or_loading}
+use Rattle.flooding.specs.received.Links.{neighbor_is_exchange_or_loading}
 use Rattle.flooding.specs.Links.{present}
 use Rattle.timers.proofs.AnyLink.{any_begin, any_end, any_here, any_next, exchanging_is}
 use Rattle.timers.proofs.asked.is_exchange_or_loading_on.Goals as goal

@@ -1,5 +1,5 @@
 use Rattle.std.proofs.Common.{◌≡◌, map}
-use Rattle.received.specs.Links.{any_exchange_or_loading, neighbor_is_exchange_or_loading}
+use Rattle.flooding.specs.received.Links.{any_exchange_or_loading, neighbor_is_exchange_or_loading}
 use Rattle.flooding.specs.Links.{present}
 use Rattle.timers.proofs.AnyLink.{any_from}
 use Rattle.timers.proofs.asked.is_exchange_or_loading_on.Given as goal

@@ -1,6 +1,6 @@
 use Rattle.std.proofs.Common.{ℕ, refl, sym, ◌∙◌}
-use Rattle.lsdb.specs.Copies.{Database}
-use Rattle.received.specs.Links.{Link}
+use Rattle.flooding.specs.lsdb.Copies.{Database}
+use Rattle.flooding.specs.received.Links.{Link}
 use Rattle.keyed_map.proofs.Helds.{on_ok}
 use Rattle.events.specs.Hellos.{hello_is_due, hello_on}
 use Rattle.events.specs.Ticks.{hello_sent_on}

@@ -1,6 +1,6 @@
 use Rattle.std.proofs.Common.{sym, ap, ◌∙◌}
-use Rattle.adjacency.specs.Requests.{request_next}
-use Rattle.received.specs.Links.{Link}
+use Rattle.flooding.specs.adjacency.Requests.{request_next}
+use Rattle.flooding.specs.received.Links.{Link}
 use Rattle.flooding.specs.Drafted.{drafts_with}
 use Rattle.keyed_map.proofs.Helds.{on_ok}
 use Rattle.timers.proofs.Requested.{requests_mark_nothing}

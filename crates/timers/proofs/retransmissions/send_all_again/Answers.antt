@@ -1,7 +1,7 @@
 use Rattle.std.proofs.Common.{length, sym, ap, ◌∙◌}
 use Rattle.std.proofs.lemmas.List.{length-map}
-use Rattle.adjacency.specs.Retransmissions.{send_again}
-use Rattle.received.specs.Links.{Area, Link}
+use Rattle.flooding.specs.adjacency.Retransmissions.{send_again}
+use Rattle.flooding.specs.received.Links.{Area, Link}
 use Rattle.keyed_map.proofs.Helds.{on_ok}
 use Rattle.flooding.specs.Drafted.{drafts_with}
 use Rattle.flooding.proofs.Sends.{drafts_are}

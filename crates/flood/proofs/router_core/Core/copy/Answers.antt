@@ -1,9 +1,9 @@
 use Rattle.std.proofs.Common.{◌≤◌, length, ap, sym, subst, ◌∙◌}
 use Rattle.std.specs.FinMap as finite
 use Rattle.area_routes.proofs.Limits.{within}
-use Rattle.event_rooms.specs.RoomLaws.{IsRoomy}
+use Rattle.flood_laws.specs.event_rooms.RoomLaws.{IsRoomy}
 use Rattle.events.specs.Refusals.{exceeds}
-use Rattle.flooding.specs.Kept.{RouterArea}
+use Rattle.area_routes.specs.flooding.Kept.{RouterArea}
 use Rattle.flood.proofs.Kept.{begun}
 use Rattle.flood_laws.specs.InOrder.{IsInOrder}
 use Rattle.flood_laws.specs.Keeping.{HoldsInstances}

@@ -1,8 +1,8 @@
 use Rattle.std.proofs.Common.{◌≡◌, ◌≤◌, true, length, rules, sym, ap, ◌∙◌, subst}
 use Rattle.std.specs.FinMap as finite
 use Rattle.area_routes.proofs.Limits.{within}
-use Rattle.event_rooms.specs.RoomLaws.{IsRoomy}
-use Rattle.event_rooms.proofs.Roomy.{every_packet_has_room}
+use Rattle.flood_laws.specs.event_rooms.RoomLaws.{IsRoomy}
+use Rattle.flood_laws.proofs.event_rooms.Roomy.{every_packet_has_room}
 use Rattle.events.specs.Refusals.{exceeds}
 use Rattle.events.specs.Routers.{in_profile}
 use Rattle.flood_laws.specs.InOrder.{IsInOrder}
@@ -10,7 +10,7 @@ use Rattle.flood_laws.specs.Keeping.{HoldsInstances}
 use Rattle.flood_laws.proofs.Keeping.{instances_stay_in_range}
 use Rattle.flood_laws.proofs.Acknowledged.{routers_stay_in_order}
 use Rattle.flood_laws.proofs.Limits.{others_stay_within_limits}
-use Rattle.flooding.specs.Kept.{RouterArea}
+use Rattle.area_routes.specs.flooding.Kept.{RouterArea}
 use Rattle.flood.proofs.Kept.{begun}
 use Rattle.flood.proofs.router_core.Core.new.Goals as goal
 

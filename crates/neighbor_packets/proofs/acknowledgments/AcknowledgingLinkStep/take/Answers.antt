@@ -1,5 +1,5 @@
 use Rattle.keyed_map.proofs.Helds.{on_ok}
-use Rattle.adjacency.specs.Retransmissions.{after_acknowledgment}
+use Rattle.flooding.specs.adjacency.Retransmissions.{after_acknowledgment}
 use Rattle.neighbor_packets.proofs.Silent.{silent}
 use Rattle.neighbor_packets.proofs.acknowledgments.AcknowledgingLinkStep.take.Goals as goal
 

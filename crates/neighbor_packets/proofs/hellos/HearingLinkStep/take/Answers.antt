@@ -1,8 +1,8 @@
 use Rattle.std.proofs.Common.{Bool, sym, ap, ◌∙◌}
 use Rattle.std.specs.Prelude.{Some}
 use Rattle.keyed_map.proofs.Helds.{on_ok}
-use Rattle.adjacency.specs.Adjacencies.{after_hello}
-use Rattle.adjacency.specs.Drafts.{drafting}
+use Rattle.flooding.specs.adjacency.Adjacencies.{after_hello}
+use Rattle.flooding.specs.adjacency.Drafts.{drafting}
 use Rattle.flooding.specs.Links.{with_neighbor}
 use Rattle.neighbor_packets.proofs.Heard.{accepted, accepted_sends, ignored, ignored_sends}
 use Rattle.neighbor_packets.proofs.hellos.HearingLinkStep.take.Goals as goal

@@ -1,6 +1,6 @@
 use Rattle.std.proofs.Common.{◌≡◌, IfOk, ap, sym, subst, ◌∙◌}
 use Rattle.std.proofs.lemmas.Result.{IfOk-weaker}
-use Rattle.lsdb.specs.Copies.{lsa_now}
+use Rattle.adjacency.specs.lsdb.Copies.{lsa_now}
 use Rattle.adjacency.specs.Contents.{sent_on}
 use Rattle.adjacency.specs.Drafts.{drafting}
 use Rattle.adjacency.specs.Floods.{flood_step}

@@ -1,5 +1,5 @@
 use Rattle.std.proofs.Common.{cond, ap, sym, ◌∙◌}
-use Rattle.lsdb.specs.Headers.{key_of}
+use Rattle.adjacency.specs.lsdb.Headers.{key_of}
 use Rattle.keyed_map.proofs.Helds.{on_ok}
 use Rattle.adjacency.specs.Retransmissions.{is_entry, remove_retransmission}
 use Rattle.neighbors.proofs.neighbor.Neighbor.acknowledge.Goals as goal

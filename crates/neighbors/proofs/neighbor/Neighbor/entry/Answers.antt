@@ -1,6 +1,6 @@
 use Rattle.std.proofs.Common.{ap, ◌∙◌}
 use Rattle.std.specs.FinMap as finite
-use Rattle.lsdb.specs.Headers.{key_of}
+use Rattle.adjacency.specs.lsdb.Headers.{key_of}
 use Rattle.adjacency.proofs.Neighbors.{lists_now}
 use Rattle.neighbors.proofs.neighbor.Neighbor.entry.Goals as goal
 

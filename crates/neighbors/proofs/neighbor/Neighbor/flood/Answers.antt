@@ -1,6 +1,6 @@
 use Rattle.std.proofs.Common.{ap, sym, ◌∙◌}
 use Rattle.std.proofs.lemmas.Result.{IfOk-weaker}
-use Rattle.lsdb.specs.Copies.{lsa_now}
+use Rattle.adjacency.specs.lsdb.Copies.{lsa_now}
 use Rattle.adjacency.specs.Drafts.{drafting}
 use Rattle.adjacency.specs.Floods.{is_any}
 use Rattle.adjacency.proofs.Floods.{drafting-none, floods, rests}

@@ -1,5 +1,5 @@
 use Rattle.std.proofs.Common.{ap}
-use Rattle.events.specs.Ticks.{acknowledge_all}
+use Rattle.timers.specs.events.Ticks.{acknowledge_all}
 use Rattle.router_state.proofs.Answered.{both, makes_are}
 use Rattle.router_state.proofs.Leaves.{appends_acknowledgments, keeps_acknowledgments}
 use Rattle.router_state.proofs.router.Router.acknowledge_all.Goals as goal

@@ -1,5 +1,5 @@
 use Rattle.std.proofs.Common.{ap}
-use Rattle.events.specs.Packets.{acknowledged_by}
+use Rattle.timers.specs.events.Packets.{acknowledged_by}
 use Rattle.router_state.proofs.Answered.{both, drafts_are, makes_are}
 use Rattle.router_state.proofs.Conversed.{appends_acknowledgment, keeps_acknowledgment}
 use Rattle.router_state.proofs.router.Router.acknowledged.Goals as goal

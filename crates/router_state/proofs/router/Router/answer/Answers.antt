@@ -1,5 +1,5 @@
 use Rattle.std.proofs.Common.{ap}
-use Rattle.events.specs.Packets.{requested_from}
+use Rattle.timers.specs.events.Packets.{requested_from}
 use Rattle.router_state.proofs.Answered.{both, drafts_are, makes_are}
 use Rattle.router_state.proofs.Conversed.{appends_request, keeps_request}
 use Rattle.router_state.proofs.router.Router.answer.Goals as goal

@@ -1,6 +1,6 @@
 use Rattle.std.proofs.Common.{map, refl, ap}
-use Rattle.received.specs.Outcomes.{on_links}
-use Rattle.events.specs.Endings.{link_loading_done}
+use Rattle.timers.specs.received.Outcomes.{on_links}
+use Rattle.timers.specs.events.Endings.{link_loading_done}
 use Rattle.router_state.proofs.Answered.{makes_alone}
 use Rattle.router_state.proofs.Leaves.{appends_loading, keeps_loading}
 use Rattle.router_state.proofs.router.Router.end_loading.Goals as goal

@@ -1,7 +1,7 @@
 use Rattle.std.proofs.Common.{ℕ, ap}
-use Rattle.events.specs.EventState.{on_area}
-use Rattle.events.specs.Packets.{after_hello}
-use Rattle.events.specs.Routers.{Router}
+use Rattle.timers.specs.events.EventState.{on_area}
+use Rattle.timers.specs.events.Packets.{after_hello}
+use Rattle.timers.specs.events.Routers.{Router}
 use Rattle.router_state.proofs.Answered.{both, drafts_are, makes_are}
 use Rattle.router_state.proofs.Conversed.{appends_hello, keeps_hello}
 use Rattle.router_state.proofs.Making.{makes_same}

@@ -1,5 +1,5 @@
 use Rattle.std.proofs.Common.{ap}
-use Rattle.events.specs.Endings.{request_all}
+use Rattle.timers.specs.events.Endings.{request_all}
 use Rattle.router_state.proofs.Answered.{both, drafts_are, makes_are}
 use Rattle.router_state.proofs.Leaves.{appends_requests, keeps_requests}
 use Rattle.router_state.proofs.router.Router.request_all.Goals as goal

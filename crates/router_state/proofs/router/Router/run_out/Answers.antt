@@ -1,6 +1,6 @@
 use Rattle.std.proofs.Common.{map, refl, ap}
-use Rattle.received.specs.Outcomes.{on_links}
-use Rattle.events.specs.Ticks.{run_out}
+use Rattle.timers.specs.received.Outcomes.{on_links}
+use Rattle.timers.specs.events.Ticks.{run_out}
 use Rattle.router_state.proofs.Answered.{makes_alone}
 use Rattle.router_state.proofs.Leaves.{appends_expiry, keeps_expiry}
 use Rattle.router_state.proofs.router.Router.run_out.Goals as goal

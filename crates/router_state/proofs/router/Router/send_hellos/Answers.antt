@@ -1,5 +1,5 @@
 use Rattle.std.proofs.Common.{ap}
-use Rattle.events.specs.Ticks.{send_hellos}
+use Rattle.timers.specs.events.Ticks.{send_hellos}
 use Rattle.router_state.proofs.Answered.{both, makes_are}
 use Rattle.router_state.proofs.Leaves.{appends_hellos, keeps_hellos}
 use Rattle.router_state.proofs.router.Router.send_hellos.Goals as goal

@@ -1,6 +1,6 @@
 use Rattle.std.proofs.Common.{[], ◌∷◌, sym, ap, ◌∙◌}
-use Rattle.adjacency.specs.Contents.{SendsHello}
-use Rattle.adjacency.specs.Drafts.{drafting}
+use Rattle.flooding.specs.adjacency.Contents.{SendsHello}
+use Rattle.flooding.specs.adjacency.Drafts.{drafting}
 use Rattle.keyed_map.proofs.Helds.{on_ok}
 use Rattle.timers.proofs.Greeted.{greeted, greeting_sent, nothing_sent, silent}
 use Rattle.timers.proofs.hellos.GreetingLinkStep.take.Goals as goal

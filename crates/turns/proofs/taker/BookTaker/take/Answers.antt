@@ -1,5 +1,5 @@
 use Rattle.std.proofs.Common.{ap, ◌∙◌}
-use Rattle.events.specs.Routers.{Router}
+use Rattle.book.specs.events.Routers.{Router}
 use Rattle.turns.specs.Turns.{taken_at}
 use Rattle.turns.proofs.FromSome.{sent_by_some}
 use Rattle.turns.proofs.taker.BookTaker.take.Goals as goal
