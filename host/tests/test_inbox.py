@@ -53,6 +53,19 @@ class Merging(unittest.TestCase):
         ):
             self.assertIsNone(merged(one, other, ROUTER_MTU))
 
+    def test_updates_that_are_none(self) -> None:
+        """One whose LSAs don't fill it would take those of a good one along, and its count may be
+        any number."""
+        good, largest = update(lsa(1, 36)), Packet(
+            UPDATE.type, IPv4Address("2.2.2.2"), UPDATE.area, b"\xff" * 4
+        )
+        cut_short = Packet(
+            UPDATE.type, IPv4Address("2.2.2.2"), UPDATE.area, b"\0\0\0\1" + lsa(2, 36)[:30]
+        )
+        for bad in (largest.encode(), cut_short.encode()):
+            for one, other in ((bad, bad), (bad, good), (good, bad)):
+                self.assertIsNone(merged(one, other, ROUTER_MTU))
+
 
 class Waiting(unittest.TestCase):
     def test_all_come_out_in_order_and_hellos_first(self) -> None:
