@@ -25,6 +25,8 @@ LONGEST_OBJECT = 16 << 20
 MOST_INTERFACES = 63
 MOST_EXTERNALS = 4096
 LEAST_MTU, MOST_MTU = 576, 65535
+ALONE = 32
+"""The length of a prefix that has one address alone."""
 LONGEST_SECRET = 256
 LARGEST_METRIC = 16_777_214
 BOX_NAME = re.compile(r"[A-Za-z0-9][A-Za-z0-9._-]{0,63}")
@@ -51,6 +53,10 @@ class InterfaceSettings:
     transmit_delay: int
     passive: bool
     keys: tuple[Key, ...]
+    network: IPv4Network | None = None
+    """What the neighbor's address is in; None on an unnumbered link, where it may be any."""
+    peer: IPv4Address | None = None
+    """The neighbor's address, where it's configured."""
 
 
 @dataclass(frozen=True)
@@ -173,6 +179,14 @@ def read_configuration(
     if mistakes or read is None:
         raise Mistaken(mistakes)
     return read
+
+
+def peer_of(text: str) -> IPv4Address:
+    """The address of a neighbor: one of a host, not of a group or of nobody."""
+    address = IPv4Address(text)
+    if address.is_multicast or address.is_unspecified or address.is_loopback:
+        raise ValueError(text)
+    return address
 
 
 def router_id_of(text: str) -> IPv4Address:
@@ -366,6 +380,7 @@ class _Reader:
         retransmit = table.whole("retransmit_interval", 1, 65535, 5)
         delay = table.whole("transmit_delay", 1, 3600, 1)
         chosen = self._chosen_keys(table, keys, passive)
+        peer = self._peer(table, address, passive)
         if dead <= hello and not table.is_wrong("hello_interval"):
             table.note("dead_interval", str(dead), f"more than hello_interval, which is {hello}")
         if inside and not passive and not LEAST_MTU <= inside.mtu <= MOST_MTU:
@@ -378,8 +393,46 @@ class _Reader:
         if not table.is_sound or inside is None or address is None or chosen is None:
             return None
         return InterfaceSettings(
-            inside.name, address, inside.mtu, cost, hello, dead, retransmit, delay, passive, chosen
+            inside.name,
+            address,
+            inside.mtu,
+            cost,
+            hello,
+            dead,
+            retransmit,
+            delay,
+            passive,
+            chosen,
+            self._network(inside, address, passive or peer is not None),
+            peer,
         )
+
+    @staticmethod
+    def _peer(table: Table, address: IPv4Interface | None, passive: bool) -> IPv4Address | None:
+        """The neighbor's address, where it's given."""
+        if not table.has("peer"):
+            table.text("peer", "", "none")
+            return None
+        peer = table.parsed("peer", "the neighbor's address, A.B.C.D in quotes", peer_of)
+        if peer is not None and passive:
+            table.note("peer", shown(str(peer)), "none where passive = true: nobody is heard there")
+        elif peer is not None and address and peer == address.ip:
+            table.note("peer", f"{shown(str(peer))}, this interface's own", "the neighbor's address")
+        return peer
+
+    def _network(
+        self, inside: KernelInterface, address: IPv4Interface, is_settled: bool
+    ) -> IPv4Network | None:
+        """The network of the link: where the kernel has a peer for the address, the peer's."""
+        network = dict(inside.peers).get(address, address.network)
+        if network.prefixlen < ALONE or address.ip not in network:
+            return network
+        if not is_settled:
+            self._advice.append(
+                f"{inside.name}: no network has its address {address}, so OSPF packets count from "
+                "any address of the link; `peer` may name the neighbor's"
+            )
+        return None
 
     def _kernel_interface(self, table: Table) -> KernelInterface | None:
         """The kernel's interface of this name."""

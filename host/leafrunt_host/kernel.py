@@ -28,6 +28,8 @@ class KernelInterface:
     mtu: int
     addresses: tuple[IPv4Interface, ...]
     secondary: tuple[IPv4Interface, ...] = ()
+    peers: tuple[tuple[IPv4Interface, IPv4Network], ...] = ()
+    """The addresses that have a peer (ip-address(8)), each with the network that the peer is in."""
 
 
 @dataclass(frozen=True)
@@ -77,13 +79,19 @@ def interface_of(said: Json) -> KernelInterface:
     """An interface from what `ip -json address show` says of it."""
     main: list[IPv4Interface] = []
     secondary: list[IPv4Interface] = []
+    peers: list[tuple[IPv4Interface, IPv4Network]] = []
     for each in said.get("addr_info", []):
         if each.get("family") != "inet":
             continue
         address = IPv4Interface(f"{each['local']}/{each['prefixlen']}")
         if not address.ip.is_loopback:
             (secondary if each.get("secondary") else main).append(address)
-    return KernelInterface(said["ifname"], said["mtu"], tuple(main), tuple(secondary))
+            if "address" in each:
+                there = IPv4Interface(f"{each['address']}/{each['prefixlen']}")
+                peers.append((address, there.network))
+    return KernelInterface(
+        said["ifname"], said["mtu"], tuple(main), tuple(secondary), tuple(peers)
+    )
 
 
 def kernel_interfaces() -> dict[str, KernelInterface]:

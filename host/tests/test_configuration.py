@@ -5,7 +5,7 @@ import subprocess
 import tempfile
 import tomllib
 import unittest
-from ipaddress import IPv4Interface
+from ipaddress import IPv4Interface, IPv4Network
 from pathlib import Path
 
 from leafrunt_host.configuration import (
@@ -69,12 +69,13 @@ secret = "sixteen bytes ok"
 """
 NUMBERS = "a whole number from {} to {}"
 DOTTED = "an address of four numbers that isn't 0.0.0.0, in quotes"
+PEER = "the neighbor's address, A.B.C.D in quotes"
 PREFIX = "A.B.C.D/L whose bits after the first L are 0"
 OBJECT = "the path of an object file that `routerd verify` accepts, without a space in it"
 TABLES = "tables, each begun with [[{}]]"
 TOML = "TOML 1.0, as toml.io describes it"
 TOP_KEYS = "router_id, routerd, kernel, interface, announce, program"
-INTERFACE_KEYS = "name, passive, address, cost, hello_interval, dead_interval, retransmit_interval, transmit_delay, keys"
+INTERFACE_KEYS = "name, passive, address, cost, hello_interval, dead_interval, retransmit_interval, transmit_delay, keys, peer"
 OF_ETH1 = "interface 1 (eth1), "
 KERNEL_NAMES = f"the name of an interface of the kernel: {NAMES}"
 KNOWN_KEYS = "names of keys: new, old"
@@ -280,6 +281,28 @@ MISTAKES = [
                 OF_ETH1 + "address",
                 "10",
                 "an address of the interface with its prefix length: 10.0.1.1/24",
+            ),
+        ),
+    ),
+    (TOP + INTERFACE + 'peer = "224.0.0.5"\n', ((OF_ETH1 + "peer", '"224.0.0.5"', PEER),)),
+    (TOP + INTERFACE + 'peer = "10.0.1.2/24"\n', ((OF_ETH1 + "peer", '"10.0.1.2/24"', PEER),)),
+    (
+        TOP + INTERFACE + 'peer = "10.0.1.1"\n',
+        (
+            (
+                OF_ETH1 + "peer",
+                '"10.0.1.1", this interface\'s own',
+                "the neighbor's address",
+            ),
+        ),
+    ),
+    (
+        TOP + INTERFACE + 'passive = true\npeer = "10.0.1.2"\n',
+        (
+            (
+                OF_ETH1 + "peer",
+                '"10.0.1.2"',
+                "none where passive = true: nobody is heard there",
             ),
         ),
     ),
@@ -600,6 +623,39 @@ class Reading(Files):
             "interface 1 10.0.1.1/24 cost 10 hello 10 dead 40 rxmt 5 delay 1 port 7001 peer 7002\n",
         )
 
+    def test_whose_packets_count(self) -> None:
+        """Those from the network of the address, of the kernel's peer, or of the `peer` given; an
+        address alone has no network, and that is told."""
+        alone, there = IPv4Interface("192.0.2.1/32"), IPv4Network("198.51.100.7/32")
+        for inside, more, wanted, is_told in (
+            (KernelInterface("eth1", 1500, (ONE,)), "", (ONE.network, None), False),
+            (
+                KernelInterface("eth1", 1500, (ONE,)),
+                'peer = "198.51.100.7"\n',
+                (ONE.network, there.network_address),
+                False,
+            ),
+            (
+                KernelInterface("eth1", 1500, (alone,), (), ((alone, there),)),
+                "",
+                (there, None),
+                False,
+            ),
+            (KernelInterface("eth1", 1500, (alone,)), "", (None, None), True),
+            (
+                KernelInterface("eth1", 1500, (alone,)),
+                'peer = "198.51.100.7"\n',
+                (None, there.network_address),
+                False,
+            ),
+        ):
+            with self.subTest((inside, more)):
+                path = self.write("one.toml", (TOP + INTERFACE + more).encode())
+                read = read_configuration(path, {"eth1": inside}, judge)
+                (one,) = read.interfaces
+                self.assertEqual((one.network, one.peer), wanted)
+                self.assertEqual(any("no network has its" in each for each in read.advice), is_told)
+
     def test_each_mistake(self) -> None:
         for text, wanted in MISTAKES:
             with self.subTest(text[-60:]):
@@ -744,6 +800,15 @@ class Kernel(unittest.TestCase):
             interface_of(said),
             KernelInterface("eth1", 1500, (ONE,), (IPv4Interface("10.0.1.9/24"),)),
         )
+
+    def test_a_peer(self) -> None:
+        said = json.loads(
+            '{"ifname": "eth1", "mtu": 1500, "addr_info": [{"family": "inet", "local": "192.0.2.1",'
+            '"address": "198.51.100.7", "prefixlen": 30}]}'
+        )
+        alone = IPv4Interface("192.0.2.1/30")
+        peers = ((alone, IPv4Network("198.51.100.4/30")),)
+        self.assertEqual(interface_of(said), KernelInterface("eth1", 1500, (alone,), (), peers))
 
 
 class Unit(unittest.TestCase):
