@@ -14,16 +14,20 @@ import threading
 import time
 import unittest
 from collections.abc import Callable
+from ipaddress import IPv4Address
 from pathlib import Path
+from types import SimpleNamespace
 from typing import IO
 
-from leafrunt_host.box import SIGNALS, Box
+from leafrunt_host.box import SIGNALS, Box, Keeper
 from leafrunt_host.client import Client
 from leafrunt_host.commands import main
 from leafrunt_host.configuration import read_configuration
 from leafrunt_host.console import completions
+from leafrunt_host.forwarding import Hop
 from leafrunt_host.journal import Kept as KeptLog
 from leafrunt_host.rooms import Room, running, socket_path
+from leafrunt_host.status import neighbors_of
 from leafrunt_host.statuses import Status, Stopped
 from leafrunt_host.words import help_lines
 from tests.run_box import KERNEL
@@ -601,6 +605,27 @@ class Starts(Boxes):
             check=False,
         )
         return ran.returncode, ran.stderr
+
+
+class Hops(unittest.TestCase):
+    def test_links_that_are_down(self) -> None:
+        """The kernel takes no next hop at one, and would refuse the route with all of its hops."""
+        links = {
+            number: SimpleNamespace(
+                is_usable=number != 2,
+                interface=SimpleNamespace(name=f"eth{number}"),
+                next_hop=lambda router_id: router_id,
+            )
+            for number in (1, 2, 3)
+        }
+        lines = ["neighbor 1 2.2.2.2 Full", "neighbor 2 3.3.3.3 Full", "neighbor 3 4.4.4.4 Init"]
+        known = SimpleNamespace(
+            neighbors=neighbors_of(lines),
+            links=links,
+            configuration=SimpleNamespace(announcements=()),
+        )
+        keeper = Keeper(SimpleNamespace(known=known), None, None)
+        self.assertEqual(keeper._hops(), {1: Hop(IPv4Address("2.2.2.2"), "eth1")})
 
 
 class Typing(unittest.TestCase):
