@@ -1,35 +1,17 @@
 //! Runs of programs.
-mod accesses;
-mod arithmetic;
-mod calls;
-mod jumps;
-mod pointers;
 mod runs;
 
 use crate::seats::{one_seat, two_seats};
 use interp::{Run, Trap, run_checked};
 use isa::{Code, decode};
-use machine::{Hook, Input, TableRow};
+use machine::{Hook, Input};
 use maps::{Seat, Shared};
 use std::alloc::Global;
-use std::fmt;
 use std::process::Abort;
-use words::{Address, Prefix};
 
 // A slot is written as a number whose lowest byte is its first: the immediate, the offset, the
 // registers (source and target) and the opcode.
 const EXIT: u64 = 0x95;
-
-// r0 = r1
-const ANSWER: u64 = 0x10bf;
-
-// The two slots of a wide number into a register.
-fn wide(register: u64, number: u64) -> [u64; 2] {
-    [
-        number << 32 | (register & 15) << 8 | 0x18,
-        number & 0xffff_ffff_0000_0000,
-    ]
-}
 
 fn bytes_of(slots: &[u64]) -> [u8; 128] {
     let mut bytes = [0; 128];
@@ -51,30 +33,14 @@ fn code(alloc: Global, slots: &[u64]) -> Option<Code> {
     }
 }
 
-// The routes 192.0.2.0/24 of cost 20 and 192.0.2.0/26 of cost 30.
-fn rows() -> Option<[TableRow; 2]> {
-    let address = Address::new(0xc000_0200);
-    let (shorter, longer) = (Prefix::new(address, 24)?, Prefix::new(address, 26)?);
-    Some([
-        TableRow {
-            prefix: shorter,
-            cost: 20,
-        },
-        TableRow {
-            prefix: longer,
-            cost: 30,
-        },
-    ])
-}
-
 // A Hello of 44 bytes.
 static HELLO: &[u8] = &[
     2, 1, 0, 0x2c, 2, 2, 2, 2, 0, 0, 0, 0, 0xf8, 0x9a, 0, 0, 0, 0, 0, 0, 0, 0, 0, 0, 0xff, 0xff,
     0xff, 0, 0, 0x0a, 2, 1, 0, 0, 0, 0x28, 0, 0, 0, 0, 0, 0, 0, 0,
 ];
 
-// A Hello and these routes. Byte k of the context is 128 + k.
-fn input(rows: &[TableRow]) -> Input<'_> {
+// A Hello and no routes. Byte k of the context is 128 + k.
+fn input() -> Input<'static> {
     let mut context = [0u8; 64];
     for (index, byte) in context.iter_mut().enumerate() {
         *byte = 128 + (index % 64) as u8;
@@ -82,7 +48,7 @@ fn input(rows: &[TableRow]) -> Input<'_> {
     Input {
         context,
         packet: HELLO,
-        rows,
+        rows: &[],
     }
 }
 
@@ -94,36 +60,16 @@ fn shown(outcome: Result<Run, Trap>) -> (u64, u64) {
     }
 }
 
-// A program as its slots are written.
-struct Slots<'a>(&'a [u64]);
-
-impl fmt::Debug for Slots<'_> {
-    fn fmt<W: fmt::Write>(&self, f: &mut fmt::Formatter<W>) -> fmt::Result {
-        for slot in self.0 {
-            write!(f, "{slot:#x} ")?;
-        }
-        Ok(())
-    }
-}
-
 // What a run of the code comes to, on a new table.
-fn outcome_of(
-    alloc: Global,
-    hook: Hook,
-    limit: u64,
-    code: &Code,
-    rows: &[TableRow],
-) -> Option<(u64, u64)> {
+fn outcome_of(alloc: Global, hook: Hook, limit: u64, code: &Code) -> Option<(u64, u64)> {
     let (words, mut seat) = one_seat(alloc)?;
-    let input = input(rows);
-    Some(shown(run_checked(code, hook, limit, &input, &words, &mut seat)))
+    Some(shown(run_checked(code, hook, limit, &input(), &words, &mut seat)))
 }
 
 // What a run of at most so many instructions comes to, at a hook.
 fn outcome(alloc: Global, hook: Hook, limit: u64, slots: &[u64]) -> Option<(u64, u64)> {
-    let rows = rows()?;
     let code = code(alloc, slots)?;
-    outcome_of(alloc, hook, limit, &code, &rows)
+    outcome_of(alloc, hook, limit, &code)
 }
 
 // A run of at most so many instructions at the hook comes to this.
@@ -135,19 +81,5 @@ fn comes_to_at<R: AllocGlobal + Abort>(
     want: (u64, u64),
 ) {
     let found = outcome(rt.alloc(), hook, limit, slots);
-    assert!(rt; found == Some(want), "{:?}: {found:?}", Slots(slots));
-}
-
-fn comes_to<R: AllocGlobal + Abort>(rt: &R, slots: &[u64], want: (u64, u64)) {
-    comes_to_at(rt, Hook::Count, 1000, slots, want);
-}
-
-// A program, and its answer and how many instructions it takes, or its trap's number and 0.
-type Row<'a> = (&'a [u64], (u64, u64));
-
-fn come_to<R: AllocGlobal + Abort>(rt: &R, programs: &[Row<'_>]) {
-    for row in programs {
-        let (slots, want) = *row;
-        comes_to(rt, slots, want);
-    }
+    assert!(rt; found == Some(want), "{slots:?}: {found:?}");
 }

@@ -145,3 +145,21 @@ fn names_have_their_numbers(rt: HostRuntime) {
     }
     assert!(rt; hooks_are_numbered() && maps_are_numbered());
 }
+
+const NUMBERS: &[(DecodeFault, u8)] = &[
+    (DecodeFault::Length, 1),
+    (DecodeFault::Opcode, 2),
+    (DecodeFault::Register, 3),
+    (DecodeFault::Reserved, 4),
+    (DecodeFault::HalfWide, 5),
+    (DecodeFault::TooLong, 6),
+    (DecodeFault::Memory, 7),
+];
+
+#[test]
+fn refusals_have_their_numbers(rt: HostRuntime) {
+    for row in NUMBERS {
+        let (kind, number) = *row;
+        assert!(rt; kind.number() == number, "{row:?}");
+    }
+}

@@ -33,7 +33,7 @@ fn both_add(alloc: Global, code: &Code, input: &Input) -> Option<[(u64, u64); 3]
 #[test]
 fn two_seats_add_to_one_counter(rt: HostRuntime) {
     let code = code(rt.alloc(), ADDING).expect(&rt, "code");
-    let found = both_add(rt.alloc(), &code, &input(&[]));
+    let found = both_add(rt.alloc(), &code, &input());
     assert!(rt; found == Some([(0, 4), (0, 4), (6, 0)]), "{found:?}");
 }
 
@@ -58,37 +58,11 @@ fn both_count(alloc: Global, code: &Code, input: &Input) -> Option<[(u64, u64); 
 #[test]
 fn a_cell_is_the_seats_own(rt: HostRuntime) {
     let code = code(rt.alloc(), COUNTING).expect(&rt, "code");
-    let found = both_count(rt.alloc(), &code, &input(&[]));
+    let found = both_count(rt.alloc(), &code, &input());
     assert!(rt;
         found == Some([(1, 5), (2, 5), (3, 5), (1, 5)]),
         "{found:?}"
     );
-}
-
-// OFFSET, MASK and SHIFT, and what this comes to: r1 = *u64 r1 OFFSET; r1 &= MASK; r1 <<= SHIFT; r2
-// = map 0 0; r2 += r1; r0 = *u64 r2 0; exit.
-const NAMED: &[(u64, u64, u64, (u64, u64))] = &[
-    (8, 0xff, 3, (0, 7)),
-    (8, 0x3ff, 3, (5, 0)),
-    (9, 0xff, 2, (6, 0)),
-];
-
-#[test]
-fn a_counter_named_by_the_context(rt: HostRuntime) {
-    for row in NAMED {
-        let (offset, mask, shift, want) = *row;
-        let slots = [
-            0x1179 | offset << 16,
-            0x157 | mask << 32,
-            0x167 | shift << 32,
-            0x6218,
-            0,
-            0x120f,
-            0x2079,
-            EXIT,
-        ];
-        comes_to(&rt, &slots, want);
-    }
 }
 
 // r1 = 10; r0 = 0; r0 += r1; r1 += -1; if r1 != 0 goto -3; exit
