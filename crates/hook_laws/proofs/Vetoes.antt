@@ -17,27 +17,27 @@ use Rattle.hook_laws.specs.Vetoes.{VetoesAreNotHeard, without_answers}
 
 -- ---- a part that doesn't look at the answers does the same without them
 
-abbrev without : EventState → EventState
+abbrev pub without : EventState → EventState
 without p = on_router without_answers p
 
-abbrev Overlooks : (EventState → EventState) → Type 0
+abbrev pub Overlooks : (EventState → EventState) → Type 0
 Overlooks f = (p : EventState) → without (f p) ≡ f (without p)
 
-one_of : (b : Bool) (x y : EventState) → without (cond b x y) ≡ cond b (without x) (without y)
+pub one_of : (b : Bool) (x y : EventState) → without (cond b x y) ≡ cond b (without x) (without y)
 one_of true x y = refl
 one_of false x y = refl
 
-one_of_three : (b c : Bool) (x y z : EventState) → without (cond b x (cond c y z)) ≡ cond b (without x) (cond c (without y) (without z))
+pub one_of_three : (b c : Bool) (x y z : EventState) → without (cond b x (cond c y z)) ≡ cond b (without x) (cond c (without y) (without z))
 one_of_three true c x y z = refl
 one_of_three false c x y z = one_of c y z
 
-by_body : (may_now : Bool) (moment : Moment) (key : Key) (says : Option Body) → Overlooks (originate_body may_now moment key says)
+pub by_body : (may_now : Bool) (moment : Moment) (key : Key) (says : Option Body) → Overlooks (originate_body may_now moment key says)
 by_body may_now moment key None p = refl
 by_body may_now moment key (Some says) p =
     one_of_three (has_max_sequence (finite.get p.router.area.database key)) (may_now && may_originate moment key p.router)
     (flush moment key p) (originate moment key says p) (on_router (wait key) p)
 
-described : (before : List Link) (moment : Moment) → Overlooks (describe_router before moment)
+pub described : (before : List Link) (moment : Moment) → Overlooks (describe_router before moment)
 described before moment p =
     let b : Bool = links_differ before p.router.area.links && not (is_current moment p.router) in
     let key : Key = router_key p.router.id in
@@ -58,7 +58,7 @@ rested moment p =
     let last : EventState → EventState = λ q. on_router (λ (r : Router). record r { moment = moment }) (on_area (λ o. remove_aged moment (request_all moment o)) q) in
     ap last (one_of b (on_router (wait (router_key loaded.router.id)) loaded) loaded)
 
-ended : (old : Router) (moment : Moment) → Overlooks (end_event old moment)
+pub ended : (old : Router) (moment : Moment) → Overlooks (end_event old moment)
 ended old moment p =
     rested moment (describe_router old.area.links moment (loading_done p))
     ∙ ap (rest moment) (described old.area.links moment (loading_done p))

@@ -2,3 +2,4 @@ pub mod Announced
 pub mod Destinations
 pub mod Tables
 pub mod Vetoes
+pub mod Unheard

@@ -5,6 +5,7 @@
 ghost use Rattle.hook_laws.specs.Announced.{WhatIsAnnouncedWasAskedFor};
 ghost use Rattle.hook_laws.specs.Destinations.{AnswersReachOneDestination};
 ghost use Rattle.hook_laws.specs.Tables.{VetoesOnlyKeepRoutesOut};
+ghost use Rattle.hook_laws.specs.Unheard.{VetoesAreNeverHeard};
 ghost use Rattle.hook_laws.specs.Vetoes.{VetoesAreNotHeard};
 
 /// Other routers notice nothing of what a program answers at `veto`: of two Installs of one router
@@ -12,6 +13,13 @@ ghost use Rattle.hook_laws.specs.Vetoes.{VetoesAreNotHeard};
 /// all that the router is afterwards but the answers themselves.
 pub fn vetoes_are_not_heard()
     ensures { VetoesAreNotHeard }
+{}
+
+/// Nobody notices, ever, what a program answers at `veto`: two runs of a router, and two histories
+/// of a network, in which the same happens but for the answers of Installs send the same datagrams
+/// in the same order, and leave the same routers but for the answers that they keep.
+pub fn vetoes_are_never_heard()
+    ensures { VetoesAreNeverHeard }
 {}
 
 /// Whatever programs answer at `veto`, the table has candidates alone, and lacks those alone that
