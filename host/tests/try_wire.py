@@ -1,0 +1,210 @@
+"""What comes in from the wire and from beyond it, and interfaces that come and go. See
+`try-network`."""
+from __future__ import annotations
+
+import subprocess
+import sys
+import time
+from collections.abc import Callable
+
+from tests.network import (
+    COMES_UP,
+    HOST,
+    NOT_FULL,
+    Announce,
+    Bird,
+    Box,
+    End,
+    Looks,
+    Network,
+    Secret,
+    Side,
+    Try,
+    is_full,
+    output,
+    run,
+    within,
+)
+
+EXTERNAL = "203.0.113.0/24"
+"""What the neighbor announces."""
+ROUTER_IDS = ("1.1.1.1", "2.2.2.2")
+SENT_EACH = 20
+"""Packets a second of an attack that isn't a flood."""
+
+
+class Pair:
+    """1.1.1.1 at 10.0.1.1 and its neighbor 2.2.2.2, by eth1 each; behind the neighbor is a host,
+    10.9.9.9."""
+
+    def __init__(self, given: Try, is_box: bool = True, keys: tuple[Secret, ...] = ()) -> None:
+        self.network = network = given.network
+        self.own, self.next, self.far = (network.namespace(each) for each in ("own", "next", "far"))
+        self.ends = End(self.own, "eth1", "10.0.1.1/24"), End(self.next, "eth1", "10.0.1.2/24")
+        network.link(*self.ends)
+        network.link(End(self.next, "eth2", "10.9.9.1/24"), End(self.far, "eth1", "10.9.9.9/24"))
+        run("ip", "-n", self.far, "route", "add", "default", "via", "10.9.9.1")
+        run("ip", "-n", self.own, "route", "add", "10.9.9.9/32", "via", "10.0.1.2")
+        side, behind = Side("eth1", keys), Side("eth2", is_passive=True)
+        names = (self.own, self.next)
+        sides = ([side], [side, behind])
+        routers = [
+            Box(network, given.routerd, names[at], f"box{at + 1}", ROUTER_IDS[at], sides[at])
+            if (at == 0) == is_box
+            else Bird(network, names[at], ROUTER_IDS[at], sides[at])
+            for at in (0, 1)
+        ]
+        self.tried, self.neighbor = routers
+        if isinstance(self.neighbor, Bird):
+            self.neighbor.externals = [EXTERNAL]
+        else:
+            self.neighbor.announced = [Announce(EXTERNAL)]
+
+    def start(self) -> None:
+        self.tried.start()
+        self.neighbor.start()
+
+    def stop(self) -> None:
+        self.tried.stop()
+        self.neighbor.stop()
+
+    def is_up(self) -> bool:
+        return is_full(self.tried, ROUTER_IDS[1]) and is_full(self.neighbor, ROUTER_IDS[0])
+
+    def routes(self) -> str:
+        """The kernel's routes at 1.1.1.1 that came by OSPF."""
+        lines = output("ip", "-n", self.own, "-4", "route", "show").splitlines()
+        return "; ".join(each.strip() for each in lines if "proto 89" in each or "proto bird" in each)
+
+    def attack(
+        self, kind: str, source: str, destination: str, seconds: float, rate: float = SENT_EACH
+    ) -> subprocess.Popen[str]:
+        """Somebody in a namespace begins to send: see attack.py."""
+        words = [sys.executable, str(HOST / "tests" / "attack.py"), kind, destination]
+        words += [f"{seconds}", f"{rate}"]
+        return self.network.start(source, words, self.network.work / "attack", stdout=subprocess.PIPE)
+
+
+def anew(given: Try, part: Callable[[], None]) -> None:
+    """A part of a part in a network of its own."""
+    given.network = Network()
+    try:
+        part()
+    finally:
+        given.network.close()
+
+
+def far(given: Try) -> None:
+    """Packets that aren't the neighbor's, from two hops away and from the neighbor's machine, sent
+    to the router itself: at a box, and at BIRD."""
+    for is_box in (True, False):
+        anew(given, lambda: attacked_from_afar(given, is_box))
+
+
+def attacked_from_afar(given: Try, is_box: bool) -> None:
+    it, looks = Pair(given, is_box), given.looks
+    who = "a box" if is_box else "BIRD"
+    it.start()
+    looks.timed(f"{who} and its neighbor: Full", COMES_UP, it.is_up)
+    looks.timed("with the neighbor's routes", 20, lambda: EXTERNAL in it.routes())
+    routes = it.routes()
+    for kind, what in (
+        ("hello", "Hellos of the neighbor's Router ID"),
+        ("silent", "its Hellos that name nobody"),
+        ("update", "Updates with an LSA of its own"),
+    ):
+        for source, where in ((it.far, "two hops away"), (it.next, "the link, by unicast")):
+            if source == it.next and not is_box:
+                continue  # (BIRD takes those of the link, by whatever address)
+            attack = it.attack(kind, source, "10.0.1.1", 4)
+            seen = []
+            while attack.poll() is None:
+                seen += [it.routes() != routes or not is_full(it.tried, ROUTER_IDS[1])]
+                time.sleep(0.2)
+            sent = attack.communicate()[0].strip()
+            is_same = bool(seen) and not any(seen)
+            looks.look(f"{who}: {what} from {where} change nothing", is_same, sent)
+            it.network.stop(attack)
+            within(COMES_UP, lambda: it.is_up() and it.routes() == routes)
+    if isinstance(it.tried, Box):
+        told = [each.strip() for each in it.tried.status().splitlines() if "strange" in each]
+        looks.look("`leafrunt status` tells of them", told, "; ".join(told))
+    it.stop()
+
+
+def comeback(given: Try) -> None:
+    """An interface that is made again with its index, that was in another namespace, that was
+    renamed; a link that is lost twice within a HelloInterval."""
+    it, looks = Pair(given), given.looks
+    it.network.namespace("away")
+    it.start()
+    looks.timed("Full", COMES_UP, it.is_up)
+    index = index_of(it)
+    for what, away, back in (
+        ("made again with its index", lambda: deleted(it), lambda: made_again(it, index)),
+        ("moved to another namespace and back", lambda: moved(it), lambda: moved_back(it)),
+        ("renamed, and again", lambda: renamed(it, "eth1", "gone"), lambda: renamed(it, "gone", "eth1")),
+    ):
+        for pause in (0.0, 3.0):
+            away()
+            time.sleep(pause)
+            back()
+            same = "the same index" if index_of(it) == index else f"index {index_of(it)}"
+            within(12, lambda: not it.is_up(), 0.1)
+            what_then = f"an interface is {what} after {pause:g} s ({same}): Full"
+            looks.timed(what_then, COMES_UP, it.is_up)
+    it.stop()
+    lost_again(given, looks)
+
+
+def index_of(it: Pair) -> int:
+    return int(output("ip", "-n", it.own, "-o", "link", "show", "eth1").split(":")[0] or 0)
+
+
+def deleted(it: Pair) -> None:
+    run("ip", "-n", it.own, "link", "del", "eth1")
+
+
+def made_again(it: Pair, index: int) -> None:
+    words = ("link", "add", "eth1", "index", index, "type", "veth", "peer", "name", "eth1")
+    run("ip", "-n", it.own, *words, "netns", it.next)
+    for end in it.ends:
+        addressed(end)
+
+
+def addressed(end: End) -> None:
+    run("ip", "-n", end.namespace, "addr", "replace", end.address, "dev", end.interface)
+    run("ip", "-n", end.namespace, "link", "set", end.interface, "up")
+
+
+def moved(it: Pair) -> None:
+    run("ip", "-n", it.own, "link", "set", "eth1", "netns", it.network.name("away"))
+
+
+def moved_back(it: Pair) -> None:
+    run("ip", "-n", it.network.name("away"), "link", "set", "eth1", "netns", it.own)
+    addressed(it.ends[0])
+
+
+def renamed(it: Pair, name: str, other: str) -> None:
+    run("ip", "-n", it.own, "link", "set", name, "down")
+    run("ip", "-n", it.own, "link", "set", name, "name", other)
+    run("ip", "-n", it.own, "link", "set", other, "up")
+
+
+def lost_again(given: Try, looks: Looks) -> None:
+    """With HelloInterval 10: it's lost again before the neighbor's next Hello."""
+    given.network.close()
+    given.network = Network()
+    it = Pair(given)
+    for each in (it.tried, it.neighbor):
+        each.sides[0] = Side("eth1", hello=10, dead=40)
+    it.start()
+    looks.timed("HelloInterval 10: Full", 60, it.is_up)
+    for _ in range(4):
+        run("ip", "-n", it.next, "link", "set", "eth1", "down")
+        what = "a link is lost: told within 1 s"
+        looks.timed(what, 1, lambda: it.tried.neighbors().get("2.2.2.2") in NOT_FULL, 0.1)
+        run("ip", "-n", it.next, "link", "set", "eth1", "up")
+        within(60, lambda: is_full(it.tried, "2.2.2.2"), 0.1)
+    it.stop()
