@@ -5,22 +5,91 @@ an address of the link's network, with the interface's AuType. So nobody who isn
 heard: no router passes on what is sent to AllSPFRouters. Where the neighbor's address is
 configured, packets count from that alone, and those too that it sent to this interface's own
 address.
+
+The same rule stands here twice: as a classic BPF program for the kernel (socket(7),
+SO_ATTACH_FILTER), which drops the rest before it costs this process anything, and in Python, for
+what comes through.
 """
 from __future__ import annotations
 
 import struct
+from collections.abc import Iterable
 from dataclasses import dataclass
+from enum import Enum
 from functools import cached_property
 from ipaddress import IPv4Address, IPv4Network
 
 from leafrunt_host.authentication import Refusal, Refused
-from leafrunt_host.packets import IP_HEADER_LENGTH, AuType
+from leafrunt_host.packets import IP_HEADER_LENGTH, VERSION, AuType
 
 OSPF = 89
 ALL_SPF_ROUTERS = IPv4Address("224.0.0.5")
 IP_HEADER = struct.Struct(">B8xB2xII")
 """Of an IPv4 header (RFC 791, 3.1): version and length, protocol, source, destination."""
-NO_MASK = 0xFFFFFFFF
+
+
+NONE = "none"
+"""The return of packets that nobody wants."""
+
+
+class Queue(Enum):
+    """The kinds of packets that wait in a socket each, so that a flood of one kind keeps no other
+    waiting."""
+
+    NEIGHBOR = "neighbor"
+    """What counts, with the neighbor's Router ID."""
+    OTHERS = "others"
+    """What counts, with any other Router ID."""
+    STRAYS = "strays"
+    """What doesn't count: a few are looked at, to tell why nobody is heard."""
+
+
+class Bpf:
+    """Classic BPF (<linux/filter.h>): the codes that are needed here, and a program's bytes. A load
+    from beyond the packet's end drops the packet."""
+
+    LOAD_WORD, LOAD_BYTE = 0x20, 0x30
+    """Into the accumulator, from a place in the packet."""
+    LOAD_HALF_AT, LOAD_BYTE_AT, LOAD_WORD_AT = 0x48, 0x50, 0x40
+    """The same, from a place after that in the index register."""
+    INDEX_IP_HEADER = 0xB1
+    """The length of the IP header whose first byte is at a place, into the index register."""
+    AND, EQUALS, RETURN = 0x54, 0x15, 0x06
+    INSTRUCTION = struct.Struct("=HBBI")
+    ALL = 0x40000
+    """How many bytes of a packet that is taken are kept: more than it can have."""
+
+
+@dataclass(frozen=True)
+class Compare:
+    """A comparison of the accumulator in a filter: where it goes on if it holds, and if it doesn't:
+    at the return of that name, or after so many further steps."""
+
+    number: int
+    then: str | int = 0
+    otherwise: str | int = 0
+
+
+Step = tuple[int, int] | Compare
+
+
+def assembled(steps: list[Step], returns: dict[str, int]) -> bytes:
+    """The program: the steps, and below them a return for each name, of so many bytes."""
+    names = list(returns)
+
+    def skipped(at: int, to: str | int) -> int:
+        return to if isinstance(to, int) else len(steps) + names.index(to) - at - 1
+
+    text = b""
+    for at, step in enumerate(steps):
+        if isinstance(step, Compare):
+            ways = skipped(at, step.then), skipped(at, step.otherwise)
+            text += Bpf.INSTRUCTION.pack(Bpf.EQUALS, *ways, step.number)
+        else:
+            text += Bpf.INSTRUCTION.pack(step[0], 0, 0, step[1])
+    return text + b"".join(
+        Bpf.INSTRUCTION.pack(Bpf.RETURN, 0, 0, count) for count in returns.values()
+    )
 
 
 @dataclass(frozen=True)
@@ -73,6 +142,34 @@ class PacketFilter:
     def is_own(self, came: Arrived) -> bool:
         """Whether this router sent it (RFC 2328, 8.2)."""
         return came.source == self._own
+
+    def program(self, queue: Queue, neighbors: Iterable[int] = ()) -> bytes:
+        """The filter of the socket of that kind, where the neighbor has one of these Router IDs."""
+        (mask, network), stray = self.sources, Queue.STRAYS.value
+        steps: list[Step] = [
+            (Bpf.LOAD_BYTE, 0),
+            (Bpf.AND, 0xF0),
+            Compare(0x40, otherwise=NONE),
+            (Bpf.LOAD_BYTE, 9),
+            Compare(OSPF, otherwise=NONE),
+            (Bpf.LOAD_WORD, 12),
+            Compare(self._own, then=NONE),
+            (Bpf.AND, mask),
+            Compare(network, otherwise=stray),
+            (Bpf.LOAD_WORD, 16),
+            *(Compare(each, then=1) for each in self.destinations[1:]),
+            Compare(self.destinations[0], otherwise=stray),
+            (Bpf.INDEX_IP_HEADER, 0),
+            (Bpf.LOAD_BYTE_AT, 0),
+            Compare(VERSION, otherwise=stray),
+            (Bpf.LOAD_HALF_AT, 14),
+            Compare(self.autype, otherwise=stray),
+            (Bpf.LOAD_WORD_AT, 4),
+            *(Compare(each, then=Queue.NEIGHBOR.value) for each in neighbors),
+        ]
+        ends = (Queue.OTHERS, Queue.NEIGHBOR, Queue.STRAYS)
+        returns = {each.value: Bpf.ALL if each is queue else 0 for each in ends}
+        return assembled(steps, {**returns, NONE: 0})
 
     def refusal(self, came: Arrived) -> Refused | None:
         """Why a packet doesn't count by its addresses; None where it does. AuType is looked at
