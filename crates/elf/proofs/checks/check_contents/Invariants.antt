@@ -1,0 +1,6 @@
+use Rattle.std.proofs.Common.{ℕ, ◌<◌}
+use Rattle.elf.specs.Files.{InFile, section_at}
+use Rattle.elf.proofs.checks.check_contents.Given as goal
+
+abbrev pub invariant-loop-section : goal.invariant-loop-section
+invariant-loop-section l = (k : ℕ) → k < l.section → InFile l.bytes (section_at l.bytes k)

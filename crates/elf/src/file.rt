@@ -1,0 +1,132 @@
+//! A relocatable BPF object, and what it says.
+ghost use Rattle.std.specs.Prelude.{◌≡◌, ◌<◌, ◌*◌, ◌/◌, length, IfErr, IfOk, IsOk, MatchOption};
+ghost use Rattle.std.specs.Option.{SomeIff};
+ghost use Rattle.elf.specs.Numbers.{string_at};
+ghost use Rattle.elf.specs.Files.{IsObjectFile, section_count, section_at, section_name};
+ghost use Rattle.elf.specs.Files.{contents_of};
+ghost use Rattle.elf.specs.Faults.{Breaks};
+ghost use Rattle.elf.specs.Lists.{HasSymbol, symbol_count, symbol_of, symbol_name};
+ghost use Rattle.elf.specs.Lists.{functions_of, relocations_of};
+
+use crate::checks::check;
+use crate::fault::Fault;
+use crate::lists::{LinkedRelocation, LinkedSymbol};
+use crate::number::string_at;
+use crate::section::Section;
+use crate::symbol::{Symbol, symbol_at};
+use crate::{functions, relocations, tables};
+use std::alloc::{AllocError, Global};
+use std::marker::Model;
+
+/// The bytes of a relocatable BPF object. Clauses see them as they are, and say by the definitions
+/// of specs/ what they mean.
+#[derive(Drop)]
+pub struct ObjectFile<'a> {
+    bytes: &'a [u8],
+}
+
+impl<'a> Model for ObjectFile<'a> {
+    ghost use Rattle.std.specs.Prelude.{ℕ, List};
+    ghost use Rattle.elf.specs.Files.{IsObjectFile};
+
+    ghost Value = { List ℕ };
+
+    ghost view = { λ file. file.bytes.now };
+
+    ghost invariant = { λ file. IsObjectFile file.bytes.now };
+}
+
+/// The object that these bytes are. It takes no memory beside them.
+pub fn read(bytes: &[u8]) -> Result<ObjectFile<'_>, Fault>
+    ensures found { IfOk result (λ file. (file ≡ bytes.now) × IsObjectFile bytes.now) }
+    // What is such an object is read.
+    ensures only { IsObjectFile bytes.now → IsOk result }
+    // What isn't has the fault that is told.
+    ensures why { IfErr result (λ fault. Breaks bytes.now fault) }
+{
+    check(bytes)?;
+    Ok(ObjectFile { bytes })
+}
+
+impl<'a> ObjectFile<'a> {
+    /// How many section headers the file has.
+    pub fn section_count(&self) -> usize
+        ensures { result ≡ section_count self.now }
+    {
+        tables::section_count(self.bytes)
+    }
+
+    /// The section header at an index.
+    pub fn section(&self, index: usize) -> Section
+        requires { index < section_count self.now }
+        ensures { result ≡ section_at self.now index }
+    {
+        tables::section_at(self.bytes, index)
+    }
+
+    /// The section's name.
+    pub fn section_name(&self, index: usize) -> &'a [u8]
+        requires { index < section_count self.now }
+        ensures { result.now ≡ section_name self.now index }
+    {
+        let name = tables::section_at(self.bytes, index).name as usize;
+        string_at(tables::section_names(self.bytes), name)
+    }
+
+    /// The section's bytes: none where it has none in the file.
+    pub fn contents(&self, index: usize) -> &'a [u8]
+        requires { index < section_count self.now }
+        ensures { result.now ≡ contents_of self.now index }
+    {
+        tables::contents_of(self.bytes, index)
+    }
+
+    /// A symbol of the symbol table that is section `table`, if there is one.
+    pub fn symbol(&self, table: usize, index: usize) -> Option<Symbol>
+        ensures { SomeIff result (HasSymbol self.now table index) (symbol_of self.now table index) }
+    {
+        if table >= tables::section_count(self.bytes) {
+            return None;
+        }
+        if index >= functions::symbol_count(self.bytes, table) {
+            return None;
+        }
+        Some(symbol_at(tables::contents_of(self.bytes, table), index))
+    }
+
+    /// The symbol's name, if there is such a symbol.
+    pub fn symbol_name(&self, table: usize, index: usize) -> Option<&'a [u8]>
+        ensures { MatchOption result (HasSymbol self.now table index → ⊥)
+            (λ name. HasSymbol self.now table index
+            × (name.now ≡ symbol_name self.now table index)) }
+    {
+        if table >= tables::section_count(self.bytes) {
+            return None;
+        }
+        if index >= functions::symbol_count(self.bytes, table) {
+            return None;
+        }
+        let symbol = symbol_at(tables::contents_of(self.bytes, table), index);
+        let link = tables::section_at(self.bytes, table).link as usize;
+        Some(string_at(tables::contents_of(self.bytes, link), symbol.name as usize))
+    }
+
+    /// The functions that are in the section, in the order of the file.
+    pub fn functions(&self, alloc: Global, section: usize) -> Result<Vec<LinkedSymbol>, AllocError>
+        ensures { IfOk result (λ functions. functions.items ≡ functions_of self.now section) }
+    {
+        functions::functions_of(alloc, self.bytes, section)
+    }
+
+    /// The places of the section that a linker would change, in the order of the file: all of them.
+    pub fn relocations(
+        &self,
+        alloc: Global,
+        section: usize,
+    ) -> Result<Vec<LinkedRelocation>, AllocError>
+        ensures { IfOk result (λ relocations.
+            relocations.items ≡ relocations_of self.now section) }
+    {
+        relocations::relocations_of(alloc, self.bytes, section)
+    }
+}
