@@ -4,10 +4,10 @@ use mathlib.Core.Bool.{false≢true}
 use Rattle.std.specs.Prelude.{List, Some}
 use Rattle.words.specs.declared.route.Route.{Route}
 use Rattle.kept_routes.specs.Kept.{IsWalkOf}
-use Rattle.tables.specs.routes.Candidates.{AreCandidates}
-use Rattle.tables.specs.routes.Said.{Said}
-use Rattle.tables.specs.routes.Tables.{Answers, IsStale}
-use Rattle.tables.specs.routes.declared.root.Root.{Root}
+use Rattle.routes.specs.Candidates.{AreCandidates}
+use Rattle.routes.specs.Said.{Said}
+use Rattle.routes.specs.Tables.{Answers, IsStale}
+use Rattle.routes.specs.declared.root.Root.{Root}
 use Rattle.area_routes.specs.Kept.{KeptRoutes, KnowsAnswered, KnowsCandidates, KnowsInner, KnowsWalk}
 use Rattle.area_routes.proofs.Candidates.{carried, inner_carried}
 use Rattle.external_updates.specs.Laws.{InnerRoutesAreKept}

@@ -4,15 +4,15 @@ use Rattle.std.specs.Prelude.{IfSome}
 use Rattle.std.specs.Global.{Vec}
 use Rattle.words.specs.declared.route.Route.{Route}
 use Rattle.area_routes.specs.Kept.{AreInnerBy, StayAnswered}
-use Rattle.kept_routes.specs.candidates.declared.inner.InnerRoutes.{InnerRoutes}
+use Rattle.candidates.specs.declared.inner.InnerRoutes.{InnerRoutes}
 use Rattle.kept_routes.specs.Kept.{KeptWalk}
 use Rattle.kept_routes.specs.Sameness.{SayTheSame}
 use Rattle.external_updates.specs.Laws.{InnerRoutesAreKept}
 use Rattle.external_updates.specs.Placing.{AreAllAmong, HasAnother}
-use Rattle.tables.specs.routes.Candidates.{AreCandidates}
-use Rattle.tables.specs.routes.Said.{Said}
-use Rattle.tables.specs.routes.declared.root.Root.{Root}
-use Rattle.graph_updates.specs.shortest_paths.Reached.{way_in}
+use Rattle.routes.specs.Candidates.{AreCandidates}
+use Rattle.routes.specs.Said.{Said}
+use Rattle.routes.specs.declared.root.Root.{Root}
+use Rattle.candidates.specs.Reached.{way_in}
 
 -- what holds of routes that are kept goes on to hold of them
 pub carried : (P Q : List Route → Type 0) → ((routes : List Route) → P routes → Q routes) → (kept : Option (Vec Route)) → IfSome kept (λ routes. P routes.items)

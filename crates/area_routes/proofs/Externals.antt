@@ -4,10 +4,10 @@ use Rattle.std.specs.Prelude.{IfSome, IsTrue}
 use Rattle.std.specs.Global.{Vec}
 use Rattle.words.specs.Numbers.{Moment, RouterNumber}
 use Rattle.flooding.specs.received.Links.{Area}
-use Rattle.kept_routes.specs.offers.Externals.{AreExternals}
-use Rattle.kept_routes.specs.offers.declared.externals.External.{External}
-use Rattle.tables.specs.routes.Said.{Said}
-use Rattle.graph_updates.specs.shortest_paths.declared.graph.AreaGraph.{AreaGraph}
+use Rattle.candidates.specs.Externals.{AreExternals}
+use Rattle.candidates.specs.declared.externals.External.{External}
+use Rattle.routes.specs.Said.{Said}
+use Rattle.candidates.specs.declared.graph.AreaGraph.{AreaGraph}
 use Rattle.area_routes.specs.Kept.{AreOffersOf, ExternalsSayTheSame, KeptRoutes, KnowsExternals}
 
 -- it stays while they say the same

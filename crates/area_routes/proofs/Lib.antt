@@ -1,3 +1,7 @@
+pub mod Fronts
+pub mod Keys
+pub mod Neighbors
+pub mod Stay
 pub mod Roots
 pub mod Limits
 pub mod Candidates

@@ -4,7 +4,7 @@ use Rattle.std.proofs.lemmas.List.{take_more}
 use Rattle.flooding.specs.adjacency.Kept.{Kept}
 use Rattle.flooding.specs.received.Links.{Link}
 use Rattle.flooding.specs.Links.{present}
-use Rattle.tables.specs.routes.declared.root.Root.{Root}
+use Rattle.routes.specs.declared.root.Root.{Root}
 use Rattle.area_routes.specs.Offers.{root_by}
 
 module _ {A B : Type 0} (f : A → B) where

@@ -7,21 +7,21 @@ use Rattle.words.specs.declared.key.Key.{Key}
 use Rattle.words.specs.declared.route.Route.{Route}
 use Rattle.flooding.specs.received.Links.{Area}
 use Rattle.area_routes.specs.Offers.{root_by}
-use Rattle.kept_routes.specs.candidates.Inner.{AreInner, AreSearchable}
-use Rattle.kept_routes.specs.candidates.declared.inner.InnerRoutes.{InnerRoutes}
+use Rattle.candidates.specs.Inner.{AreInner, AreSearchable}
+use Rattle.candidates.specs.declared.inner.InnerRoutes.{InnerRoutes}
 use Rattle.external_updates.specs.Placing.{AreAllAmong, HasAnother}
 use Rattle.kept_routes.specs.Externals.{LeaveCandidates}
 use Rattle.kept_routes.specs.Kept.{IsWalkOf, KeptWalk}
 use Rattle.kept_routes.specs.Sameness.{AreLeft}
-use Rattle.kept_routes.specs.offers.Externals.{AreExternals}
-use Rattle.kept_routes.specs.offers.declared.externals.External.{External}
-use Rattle.tables.specs.routes.Candidates.{AreCandidates}
-use Rattle.tables.specs.routes.Said.{Said, said_at}
-use Rattle.tables.specs.routes.Tables.{Answers, IsStale}
-use Rattle.tables.specs.routes.declared.root.Root.{Root}
-use Rattle.graph_updates.specs.shortest_paths.AreaGraphs.{IsAreaGraph}
-use Rattle.graph_updates.specs.shortest_paths.Reached.{way_in}
-use Rattle.graph_updates.specs.shortest_paths.declared.graph.AreaGraph.{AreaGraph}
+use Rattle.candidates.specs.Externals.{AreExternals}
+use Rattle.candidates.specs.declared.externals.External.{External}
+use Rattle.routes.specs.Candidates.{AreCandidates}
+use Rattle.routes.specs.Said.{Said, said_at}
+use Rattle.routes.specs.Tables.{Answers, IsStale}
+use Rattle.routes.specs.declared.root.Root.{Root}
+use Rattle.candidates.specs.AreaGraphs.{IsAreaGraph}
+use Rattle.candidates.specs.Reached.{way_in}
+use Rattle.candidates.specs.declared.graph.AreaGraph.{AreaGraph}
 
 pub record KeptRoutes : Type 0 where
   -- the walk

@@ -4,10 +4,10 @@ use Rattle.words.specs.Numbers.{Moment, RouterNumber}
 use Rattle.words.specs.declared.route.Route.{Route}
 use Rattle.words.specs.declared.route.TableRow.{TableRow}
 use Rattle.flooding.specs.received.Links.{Area, Link}
-use Rattle.tables.specs.routes.Candidates.{AreCandidates}
-use Rattle.tables.specs.routes.Said.{Said, said_at}
-use Rattle.tables.specs.routes.Tables.{Answers, IsStale, IsTable}
-use Rattle.tables.specs.routes.declared.root.Root.{Root}
+use Rattle.routes.specs.Candidates.{AreCandidates}
+use Rattle.routes.specs.Said.{Said, said_at}
+use Rattle.routes.specs.Tables.{Answers, IsStale, IsTable}
+use Rattle.routes.specs.declared.root.Root.{Root}
 use Rattle.tables.specs.Rows.{rows_of}
 
 -- where the router's walks begin

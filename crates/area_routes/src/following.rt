@@ -4,12 +4,13 @@ ghost use Rattle.area_routes.specs.Kept.{AreInnerBy, HaveAnother, StayAnswered};
 ghost use Rattle.external_updates.specs.Placing.{HasAnother};
 ghost use Rattle.kept_routes.specs.Kept.{IsWalkOf};
 ghost use Rattle.kept_routes.specs.Sameness.{SayTheSame};
-ghost use Rattle.tables.specs.routes.Candidates.{AreCandidates};
-ghost use Rattle.tables.specs.routes.Said.{said_at};
+ghost use Rattle.routes.specs.Candidates.{AreCandidates};
+ghost use Rattle.routes.specs.Said.{said_at};
 
+use candidates::InnerRoutes;
 use external_updates::{Followed, follow_externals};
 use flooding::Area;
-use kept_routes::{InnerRoutes, Routes};
+use kept_routes::Routes;
 use std::alloc::Global;
 use words::{Route, Second};
 

@@ -3,16 +3,17 @@ ghost use Rattle.std.specs.Prelude.{◌≡◌, ◌≤◌, length, IfOk, IfSome};
 ghost use Rattle.std.specs.FinMap as finite;
 ghost use Rattle.area_routes.specs.Kept.{IsGraphFrom};
 ghost use Rattle.area_routes.specs.Offers.{root_by};
-ghost use Rattle.kept_routes.specs.offers.Ways.{AreNear, AreWays};
-ghost use Rattle.tables.specs.routes.Said.{said_at};
-ghost use Rattle.graph_updates.specs.shortest_paths.AreaGraphs.{IsAreaGraph};
-ghost use Rattle.graph_updates.specs.shortest_paths.Reached.{way_in};
+ghost use Rattle.candidates.specs.Ways.{AreNear, AreWays};
+ghost use Rattle.routes.specs.Said.{said_at};
+ghost use Rattle.candidates.specs.AreaGraphs.{IsAreaGraph};
+ghost use Rattle.candidates.specs.Reached.{way_in};
 
+use crate::graph_updates::follow_graph;
 use crate::root::is_root_of;
+use candidates::{AreaGraph, Reached, has_no_way_out, walk};
 use flooding::Area;
-use graph_updates::{AreaGraph, Reached, follow_graph, has_no_way_out, walk};
+use routes::Root;
 use std::alloc::{AllocError, Global};
-use tables::Root;
 use words::{RouterId, Second};
 
 /// The graph of the area at a moment, from this root. None where the root has no way out, and is

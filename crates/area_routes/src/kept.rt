@@ -6,30 +6,29 @@ ghost use Rattle.area_routes.specs.Kept.{AreKept, AreRoutesOf, HaveStayed, Knows
 ghost use Rattle.area_routes.specs.Kept.{KnowsCandidates, KnowsInner, KnowsWalk, ServesOnlyThen};
 ghost use Rattle.area_routes.specs.Kept.{AreInnerBy, AreOffersOf, AreOfOthers, BringsNoneNew};
 ghost use Rattle.area_routes.specs.Kept.{ExternalsSayTheSame, KnowsExternals, KnowsGraph};
-ghost use Rattle.kept_routes.specs.offers.Externals.{AreExternals};
+ghost use Rattle.candidates.specs.Externals.{AreExternals};
 ghost use Rattle.area_routes.specs.Offers.{AreCandidatesOf, AreOffered, IsStaleOf, IsTableOf};
 ghost use Rattle.area_routes.specs.Offers.{root_by};
 ghost use Rattle.kept_routes.specs.Externals.{LeaveCandidates, OfferTheSame};
 ghost use Rattle.kept_routes.specs.Kept.{IsWalkOf};
 ghost use Rattle.kept_routes.specs.Sameness.{AreLeft, SayTheSame};
-ghost use Rattle.tables.specs.routes.Candidates.{AreCandidates};
-ghost use Rattle.tables.specs.routes.Said.{Said, said_at};
-ghost use Rattle.tables.specs.routes.Tables.{Answers};
+ghost use Rattle.routes.specs.Candidates.{AreCandidates};
+ghost use Rattle.routes.specs.Said.{Said, said_at};
+ghost use Rattle.routes.specs.Tables.{Answers};
 
 use crate::following::followed;
 use crate::graphs::{graph_after, graph_at, walk_by};
 use crate::root::{is_root_of, root_of};
+use candidates::{AreaGraph, Calculated, External, InnerRoutes, externals_at};
 use external_updates::changed_keys;
 use external_updates::laws::inner_routes_are_kept;
 use flooding::Area;
-use graph_updates::AreaGraph;
 use kept_routes::laws::{candidates_are_kept, walks_are_kept};
-use kept_routes::{
-    Calculated, External, InnerRoutes, Routes, externals_at, leave_candidates, say_the_same,
-};
+use kept_routes::{Routes, leave_candidates, say_the_same};
+use routes::Root;
 use std::alloc::{AllocError, Global};
 use std::marker::Model;
-use tables::{Root, is_stale, rows_of, table};
+use tables::{is_stale, rows_of, table};
 use words::{Key, Route, RouterId, Second, TableRow};
 
 /// The candidates of a router, and the rows of its table, of one moment.

@@ -4,8 +4,8 @@ ghost use Rattle.flooding.specs.Links.{present};
 ghost use Rattle.area_routes.specs.Offers.{root_by};
 
 use flooding::{Area, Link};
+use routes::Root;
 use std::alloc::{AllocError, Global};
-use tables::Root;
 use words::{Address, RouterId, Sequence};
 
 fn address_of(link: &Link) -> Address

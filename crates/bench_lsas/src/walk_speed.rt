@@ -5,7 +5,7 @@ use bench_figures::nanoseconds_since;
 use candidates::routes_of;
 use lsdb::Lsdb;
 use routes::Root;
-use shortest_paths::AreaGraph;
+use candidates::AreaGraph;
 use std::alloc::Global;
 use std::rt::Clock;
 use std::time::Instant;

@@ -13,18 +13,18 @@ use Rattle.routes.specs.Summaries.{OffersInside}
 use Rattle.routes.specs.declared.offer.Offer.{Offer}
 use Rattle.routes.specs.declared.root.Root.{Root}
 use Rattle.routes.proofs.Listed.{routes_among}
-use Rattle.offers.specs.Bodies.{HaveAll, OfSaid}
-use Rattle.offers.specs.Borders.{AreFlagged, Tells}
-use Rattle.offers.specs.Externals.{AreExternals, OfTold}
-use Rattle.offers.specs.Gathering.{Adds, OfEach}
-use Rattle.offers.specs.Sources.{IsInner, OfExternal}
-use Rattle.offers.specs.Ways.{AreWays, Ways}
-use Rattle.offers.specs.declared.externals.External.{External as ExternalTold}
-use Rattle.offers.specs.declared.flagged.Flagged.{Flagged}
-use Rattle.offers.proofs.Gathered.{all_such, such}
-use Rattle.offers.proofs.Carried.{inner_back, inner_forth}
-use Rattle.offers.proofs.Outward.{external_back, external_forth}
-use Rattle.offers.proofs.Told.{of_told_one, told_of}
+use Rattle.candidates.specs.Bodies.{HaveAll, OfSaid}
+use Rattle.candidates.specs.Borders.{AreFlagged, Tells}
+use Rattle.candidates.specs.Externals.{AreExternals, OfTold}
+use Rattle.candidates.specs.Gathering.{Adds, OfEach}
+use Rattle.candidates.specs.Sources.{IsInner, OfExternal}
+use Rattle.candidates.specs.Ways.{AreWays, Ways}
+use Rattle.candidates.specs.declared.externals.External.{External as ExternalTold}
+use Rattle.candidates.specs.declared.flagged.Flagged.{Flagged}
+use Rattle.candidates.proofs.Gathered.{all_such, such}
+use Rattle.candidates.proofs.Carried.{inner_back, inner_forth}
+use Rattle.candidates.proofs.Outward.{external_back, external_forth}
+use Rattle.candidates.proofs.Told.{of_told_one, told_of}
 use Rattle.candidates.proofs.Each.{inner_up_to, of_each, of_said, told_up_to}
 
 module _ (said : Said) (root : Root) (ways : Ways) (are : AreWays said root ways) (routers : List Flagged) (flagged : AreFlagged said ways routers) where

@@ -6,15 +6,15 @@ use Rattle.lsdb.specs.Bodies.{AreBodies}
 use Rattle.routes.specs.Said.{Said}
 use Rattle.routes.specs.declared.offer.Offer.{Offer}
 use Rattle.routes.specs.declared.root.Root.{Root}
-use Rattle.offers.specs.Bodies.{HaveAll, OfSaid}
-use Rattle.offers.specs.Borders.{Tells}
-use Rattle.offers.specs.Externals.{AreExternals, AreToldBy}
-use Rattle.offers.specs.Gathering.{OfEach}
-use Rattle.offers.specs.Sources.{IsInner}
-use Rattle.offers.specs.Sources.IsInner.{ByNetwork, ByRouter, BySummary}
-use Rattle.offers.specs.Ways.{Ways}
-use Rattle.offers.specs.declared.externals.External.{External}
-use Rattle.offers.specs.declared.flagged.Flagged.{Flagged}
+use Rattle.candidates.specs.Bodies.{HaveAll, OfSaid}
+use Rattle.candidates.specs.Borders.{Tells}
+use Rattle.candidates.specs.Externals.{AreExternals, AreToldBy}
+use Rattle.candidates.specs.Gathering.{OfEach}
+use Rattle.candidates.specs.Sources.{IsInner}
+use Rattle.candidates.specs.Sources.IsInner.{ByNetwork, ByRouter, BySummary}
+use Rattle.candidates.specs.Ways.{Ways}
+use Rattle.candidates.specs.declared.externals.External.{External}
+use Rattle.candidates.specs.declared.flagged.Flagged.{Flagged}
 
 -- ---- which types offer
 

@@ -3,10 +3,10 @@
 use Rattle.std.specs.Prelude.{◌↔◌}
 use Rattle.std.specs.List.{Contains}
 use Rattle.candidates.specs.declared.inner.InnerRoutes.{InnerRoutes}
-use Rattle.offers.specs.Bodies.{OfSaid}
-use Rattle.offers.specs.Borders.{AreBelow, AreCloseBy, AreFlagged, Ascend, AscendByRouter}
-use Rattle.offers.specs.Borders.{HasLengths, Tells}
-use Rattle.offers.specs.Ways.{Ways}
+use Rattle.candidates.specs.Bodies.{OfSaid}
+use Rattle.candidates.specs.Borders.{AreBelow, AreCloseBy, AreFlagged, Ascend, AscendByRouter}
+use Rattle.candidates.specs.Borders.{HasLengths, Tells}
+use Rattle.candidates.specs.Ways.{Ways}
 use Rattle.routes.specs.Routes.{AreRoutesAmong}
 use Rattle.routes.specs.Said.{Said}
 use Rattle.routes.specs.Summaries.{OffersInside}

@@ -1,4 +1,11 @@
+pub mod Laws
+pub mod Gathering
+pub mod Bodies
+pub mod Sources
+pub mod Borders
+pub mod Externals
+pub mod Ways
+pub mod Alone
+pub mod AreaGraphs
+pub mod Reached
 pub mod Inner
--- what crates above name of those below
-pub use Rattle.offers.specs as offers
-pub use Rattle.shortest_paths.specs as shortest_paths

@@ -3,14 +3,16 @@
 ghost use Rattle.std.specs.Prelude.{◌≡◌, IfOk};
 ghost use Rattle.candidates.specs.Inner.{AreInner, AreSearchable};
 ghost use Rattle.lsdb.specs.Bodies.{InOrder};
-ghost use Rattle.offers.specs.Bodies.{HaveAll};
-ghost use Rattle.offers.specs.Ways.{AreNear, AreWays};
+ghost use Rattle.candidates.specs.Bodies.{HaveAll};
+ghost use Rattle.candidates.specs.Ways.{AreNear, AreWays};
 ghost use Rattle.routes.specs.Said.{Said};
 
+use crate::flagged::{Flagged, flagged_routers};
+use crate::order::routes_of_offers;
+use crate::passes::{inner_offers, told_routes};
+use crate::search::lengths_of;
+use crate::ways::Ways;
 use lsdb::KeyedBody;
-use offers::{
-    Flagged, Ways, flagged_routers, inner_offers, lengths_of, routes_of_offers, told_routes,
-};
 use routes::{Offer, Root};
 use std::alloc::{AllocError, Global};
 use words::Route;

@@ -17,9 +17,9 @@ use Rattle.packet.specs.declared.model.Description.{Description}
 use Rattle.packet.specs.declared.model.Hello.{Hello}
 use Rattle.adjacency.specs.Contents.{Content}
 use Rattle.events.specs.Packing.{acknowledgments, bodies, descriptions, first_key, header_size, hellos, in_key_order, is_after, lsa_size, packed_groups, requests, sent_lsa, update_of, updates}
-use Rattle.event_rooms.specs.PackingLaws.{IsAscending}
-use Rattle.event_rooms.proofs.Packings.{headers_fit, ordered, packs}
-use Rattle.event_rooms.proofs.Rooms.{order_all}
+use Rattle.events.specs.PackingLaws.{IsAscending}
+use Rattle.events.proofs.Packings.{headers_fit, ordered, packs}
+use Rattle.events.proofs.Rooms.{order_all}
 use Rattle.conversations.specs.SentInOrder.{AreAscending, AreInOrder, IsNoLater, WhatIsSentStandsInOrder, arising, headers_told, lsa_of, lsas_told, key_named, told_in_order}
 use Rattle.conversations.specs.SentInOrder.IsNoLater.{ByType, ById, ByRouter}
 

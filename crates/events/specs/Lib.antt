@@ -12,7 +12,7 @@ pub mod Refusals
 pub mod LsaInstances
 pub mod Laws
 pub mod Numbers
+pub mod PackingLaws
+pub mod RoomLaws
 -- what crates above name of those below
-pub use Rattle.received.specs.adjacency as adjacency
-pub use Rattle.received.specs.lsdb as lsdb
 pub use Rattle.received.specs as received

@@ -18,7 +18,8 @@ use Rattle.lsa.specs.declared.body.Body.TheVariants as body
 use Rattle.lsa.specs.declared.body.Link.{Link as RouterLink}
 use Rattle.lsa.specs.declared.body.LinkKind.TheVariants.{PointToPoint, Stub}
 use Rattle.lsa.specs.Origination.{sealed_lsa}
-use Rattle.received.specs.lsdb.Copies.{DatabaseCopy, age_now, age_out, install_originated, is_aged_out}
+use Rattle.received.specs.lsdb.Copies.{DatabaseCopy, age_now, age_out, install_originated}
+use Rattle.received.specs.lsdb.Copies.{is_aged_out}
 use Rattle.received.specs.lsdb.Headers.{Lsa, lsa_aged, lsa_key}
 use Rattle.received.specs.lsdb.Keys.{same_key}
 pub use Rattle.received.specs.lsdb.Limits.{is_own_external, own_externals}

@@ -18,11 +18,11 @@ use Rattle.routes.specs.declared.offer.Offer.{Offer}
 use Rattle.routes.specs.declared.root.Root.{Root}
 use Rattle.routes.proofs.Lists.{first_is, of_cons, of_empty}
 use Rattle.routes.proofs.OneMore.{never_itself, same_offers}
-use Rattle.kept_routes.specs.offers.Bodies.{OfSaid}
-use Rattle.kept_routes.specs.offers.Gathering.{Adds, IsJust, OfEach}
-use Rattle.kept_routes.specs.offers.Sources.{OfExternal}
-use Rattle.kept_routes.proofs.offers.Outward.{external_back, external_forth}
-use Rattle.kept_routes.specs.candidates.declared.inner.InnerRoutes.{InnerRoutes}
+use Rattle.candidates.specs.Bodies.{OfSaid}
+use Rattle.candidates.specs.Gathering.{Adds, IsJust, OfEach}
+use Rattle.candidates.specs.Sources.{OfExternal}
+use Rattle.candidates.proofs.Outward.{external_back, external_forth}
+use Rattle.candidates.specs.declared.inner.InnerRoutes.{InnerRoutes}
 use Rattle.external_updates.specs.Destinations.{HaveAllUnder, IsBestTo, IsTo, Knows, LiesUnder, OffersTo, SaysTo}
 use Rattle.external_updates.proofs.Staying.{its_prefix}
 

@@ -11,7 +11,7 @@ use Rattle.words.specs.Prefixes.{Network}
 use Rattle.words.specs.declared.route.Route.{Route}
 use Rattle.routes.specs.Routes.{IsBefore}
 use Rattle.routes.proofs.OneMore.{never_itself}
-use Rattle.kept_routes.specs.offers.Borders.{Ascend}
+use Rattle.candidates.specs.Borders.{Ascend}
 use Rattle.external_updates.specs.Placing.{IsGap, IsPlaced, IsThere}
 
 abbrev Before : Route → Route → Type 0

@@ -19,12 +19,12 @@ use Rattle.routes.specs.declared.offer.Offer.{Offer}
 use Rattle.routes.specs.declared.root.Root.{Root}
 use Rattle.routes.proofs.Listed.{routes_among}
 use Rattle.routes.proofs.OneMore.{same_offers}
-use Rattle.kept_routes.specs.offers.Bodies.{OfSaid}
-use Rattle.kept_routes.specs.offers.Borders.{IsFlagged, Tells}
-use Rattle.kept_routes.specs.offers.Ways.{Ways}
-use Rattle.kept_routes.specs.offers.declared.flagged.Flagged.{Flagged}
-use Rattle.kept_routes.specs.candidates.Inner.{AreInner}
-use Rattle.kept_routes.specs.candidates.declared.inner.InnerRoutes.{InnerRoutes}
+use Rattle.candidates.specs.Bodies.{OfSaid}
+use Rattle.candidates.specs.Borders.{IsFlagged, Tells}
+use Rattle.candidates.specs.Ways.{Ways}
+use Rattle.candidates.specs.declared.flagged.Flagged.{Flagged}
+use Rattle.candidates.specs.Inner.{AreInner}
+use Rattle.candidates.specs.declared.inner.InnerRoutes.{InnerRoutes}
 use Rattle.kept_routes.proofs.Inner.{AgreeInside, external_way, inside, turned}
 use Rattle.external_updates.specs.Changes.{IsUntouched, TellsOf}
 use Rattle.external_updates.specs.Laws.{InnerRoutesAreKept, UntouchedCandidatesAreKept}

@@ -3,7 +3,7 @@ use Rattle.std.proofs.Common.{◌≡◌, Option, None, Some, ap, sym}
 use Rattle.lsa.specs.declared.body.Body.{Body}
 use Rattle.lsa.specs.declared.body.Body.TheVariants as body
 use Rattle.lsa.specs.declared.body.ExternalLsa.{ExternalLsa}
-use Rattle.kept_routes.specs.offers.Gathering.{IsJust}
+use Rattle.candidates.specs.Gathering.{IsJust}
 
 pub just_is : {X : Type 0} (P : X → Type 0) (o : Option X) (x : X) → IsJust P o → P x → o ≡ Some x
 just_is P None x none p = absurd (none x p)

@@ -2,12 +2,12 @@
 use Rattle.std.specs.Prelude.{◌≡◌, ◌↔◌, true, List, Option, Some}
 use Rattle.std.specs.FinMap as finite
 use Rattle.std.specs.List.{Contains}
-use Rattle.kept_routes.specs.candidates.Inner.{AreInner, AreSearchable}
-use Rattle.kept_routes.specs.candidates.declared.inner.InnerRoutes.{InnerRoutes}
+use Rattle.candidates.specs.Inner.{AreInner, AreSearchable}
+use Rattle.candidates.specs.declared.inner.InnerRoutes.{InnerRoutes}
 use Rattle.lsa.specs.declared.body.Body.{Body}
 use Rattle.routes.specs.lsdb.Copies.{Database}
-use Rattle.kept_routes.specs.offers.Sources.{OfExternal}
-use Rattle.kept_routes.specs.offers.Ways.{AreWays, Ways}
+use Rattle.candidates.specs.Sources.{OfExternal}
+use Rattle.candidates.specs.Ways.{AreWays, Ways}
 use Rattle.routes.specs.Candidates.{IsCandidate}
 use Rattle.routes.specs.Said.{Said}
 use Rattle.routes.specs.declared.offer.Offer.{Offer}

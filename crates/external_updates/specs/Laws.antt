@@ -1,10 +1,10 @@
 -- What stays where AS-external-LSAs alone say something else (RFC 2328, section 16.6).
 use Rattle.std.specs.Prelude.{◌≡◌, Some, ◌↔◌}
-use Rattle.kept_routes.specs.candidates.Inner.{AreInner}
-use Rattle.kept_routes.specs.candidates.declared.inner.InnerRoutes.{InnerRoutes}
+use Rattle.candidates.specs.Inner.{AreInner}
+use Rattle.candidates.specs.declared.inner.InnerRoutes.{InnerRoutes}
 use Rattle.external_updates.specs.Changes.{IsUntouched}
 use Rattle.kept_routes.specs.Sameness.{SayTheSame}
-use Rattle.kept_routes.specs.offers.Ways.{Ways}
+use Rattle.candidates.specs.Ways.{Ways}
 use Rattle.routes.specs.Candidates.{IsCandidate}
 use Rattle.routes.specs.Said.{Said}
 use Rattle.routes.specs.declared.root.Root.{Root}

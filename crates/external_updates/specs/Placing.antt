@@ -2,7 +2,7 @@
 use Rattle.std.specs.Prelude.{◌≡◌, ◌↔◌, ◌⊎◌, ℕ, ◌<◌, ◌≤◌, List, Option, Some, length}
 use Rattle.std.specs.Prelude.{slice_index_or}
 use Rattle.std.specs.List.{Contains}
-use Rattle.kept_routes.specs.offers.Borders.{Ascend}
+use Rattle.candidates.specs.Borders.{Ascend}
 use Rattle.routes.specs.Candidates.{IsCandidate}
 use Rattle.routes.specs.Routes.{IsBefore}
 use Rattle.routes.specs.Said.{Said}

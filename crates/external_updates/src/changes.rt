@@ -9,7 +9,7 @@ ghost use Rattle.routes.specs.Offers.{IsPrefix};
 ghost use Rattle.routes.specs.Said.{said_at};
 ghost use Rattle.words.specs.Prefixes.{Network};
 
-use kept_routes::network_of;
+use candidates::network_of;
 use lsa::{Body, ExternalLsa};
 use routes::Lsdb;
 use std::alloc::{AllocError, Global};

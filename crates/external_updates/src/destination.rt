@@ -1,13 +1,13 @@
 //! The best route to one destination.
 ghost use Rattle.std.specs.Prelude.{◌≡◌, IfOk, OnOk, slice_get};
-ghost use Rattle.kept_routes.specs.candidates.Inner.{AreSearchable};
+ghost use Rattle.candidates.specs.Inner.{AreSearchable};
 ghost use Rattle.external_updates.specs.Destinations.{HaveAllUnder, IsBestTo, IsTo, Knows};
 ghost use Rattle.external_updates.specs.Destinations.{OffersTo, SaysTo};
-ghost use Rattle.kept_routes.specs.offers.Gathering.{Adds, IsJust, OfEach};
+ghost use Rattle.candidates.specs.Gathering.{Adds, IsJust, OfEach};
 ghost use Rattle.routes.specs.Said.{said_at};
 
 use crate::keys::lies_under;
-use kept_routes::{Inner, InnerRoutes, external_offer, push_offer, routes_of_offers};
+use candidates::{Inner, InnerRoutes, external_offer, push_offer, routes_of_offers};
 use lsa::Body;
 use routes::{Lsdb, Offer, Root};
 use std::alloc::{AllocError, Global};

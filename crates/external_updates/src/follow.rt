@@ -5,7 +5,7 @@ ghost use Rattle.external_updates.specs.Following.{HaveFollowed};
 ghost use Rattle.external_updates.specs.Placing.{AreAllAmong, AreHalfway, HasAnother, HasAnotherTo};
 ghost use Rattle.external_updates.specs.Placing.{IsRenewed};
 ghost use Rattle.kept_routes.specs.Sameness.{SayTheSame};
-ghost use Rattle.kept_routes.specs.offers.Borders.{Ascend};
+ghost use Rattle.candidates.specs.Borders.{Ascend};
 ghost use Rattle.routes.specs.Candidates.{AreCandidates};
 ghost use Rattle.routes.specs.Said.{Said, said_at};
 
@@ -13,7 +13,7 @@ use crate::changes::{changed_keys, networks_told};
 use crate::destination::best_to;
 use crate::keys::keys_under;
 use crate::placing::place;
-use kept_routes::InnerRoutes;
+use candidates::InnerRoutes;
 use routes::{Lsdb, Root};
 use std::alloc::{AllocError, Global};
 use words::{Key, Prefix, Route, Second};

@@ -1,5 +1,6 @@
 //! The keys of the AS-external-LSAs that may tell of a network.
-ghost use Rattle.std.specs.Prelude.{◌≡◌, ◌↔◌, ◌-◌, ◌<◌, IfOk, IfSome, IsTrue, Some, false, slice_get};
+ghost use Rattle.std.specs.Prelude.{◌≡◌, ◌↔◌, ◌-◌, ◌<◌, IfOk, IfSome, IsTrue, Some, false};
+ghost use Rattle.std.specs.Prelude.{slice_get};
 ghost use Rattle.external_updates.specs.Destinations.{HaveAllUnder, LiesUnder, first_key};
 ghost use Rattle.words.specs.declared.key.Key.{Key as KeyValue};
 

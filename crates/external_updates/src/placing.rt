@@ -3,7 +3,7 @@ ghost use Rattle.std.specs.Prelude.{◌≡◌, ◌↔◌, ◌<◌, ◌≤◌, If
 ghost use Rattle.std.specs.Prelude.{Some, false, length, slice_get, slice_set};
 ghost use Rattle.std.specs.List.{insert, remove};
 ghost use Rattle.external_updates.specs.Placing.{HasStood, IsAnother, IsGap, IsPlaced, IsThere};
-ghost use Rattle.kept_routes.specs.offers.Borders.{Ascend};
+ghost use Rattle.candidates.specs.Borders.{Ascend};
 
 use std::alloc::AllocError;
 use words::{Prefix, Route};

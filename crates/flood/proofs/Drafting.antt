@@ -12,8 +12,8 @@ use Rattle.flood_laws.specs.Keeping.{AreTextsAt}
 use Rattle.area_routes.specs.flooding.Drafted.{drafts_with, drafted_from}
 use Rattle.area_routes.specs.flooding.Links.{present}
 use Rattle.packing.specs.Drafts.{IsDraftAt, nothing_drafted}
-use Rattle.self_originated.specs.Making.{interfaces_of}
-use Rattle.self_originated.proofs.Drafts.{drafted_same}
+use Rattle.procedures.specs.Making.{interfaces_of}
+use Rattle.procedures.proofs.Drafts.{drafted_same}
 use Rattle.flood.specs.Drafts.{AreDrafts, AreDraftsFrom, nothing_at}
 
 module _ (sends : List Send) (room : AllByRecursion (λ (s : Send). HasRoom s.content) sends) where

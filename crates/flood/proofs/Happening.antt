@@ -3,8 +3,8 @@ use Rattle.std.proofs.Common.{◌≡◌, ℕ, true, false, List, None, refl, sym
 use Rattle.std.specs.List.{AllByRecursion}
 use Rattle.flood_laws.specs.adjacency.Rooms.{HasRoom}
 use Rattle.events.specs.received.Outcomes.{Send}
-use Rattle.flood_laws.specs.event_rooms.RoomLaws.{IsRoomy}
-use Rattle.flood_laws.proofs.event_rooms.Roomy.{every_packet_has_room}
+use Rattle.events.specs.RoomLaws.{IsRoomy}
+use Rattle.events.proofs.Roomy.{every_packet_has_room}
 use Rattle.events.specs.declared.model.Out.{Out}
 use Rattle.flood_laws.specs.InOrder.{IsInOrder}
 use Rattle.flood_laws.specs.Keeping.{AnnouncesAddress, AreTexts, HoldsInstances, KeepsWhatIsKnown}

@@ -7,8 +7,8 @@ use Rattle.events.specs.received.Outcomes.{Send}
 use Rattle.events.specs.Endings.{end_event, with_ages}
 use Rattle.events.specs.EventState.{EventState, on_area}
 use Rattle.events.specs.Routers.{Router}
-use Rattle.self_originated.specs.Making.{IsMaking, Makes, interfaces_of}
-use Rattle.self_originated.proofs.Making.{makes_then, making_starts}
+use Rattle.procedures.specs.Making.{IsMaking, Makes, interfaces_of}
+use Rattle.procedures.proofs.Making.{makes_then, making_starts}
 use Rattle.flood.specs.declared.part.Part.{Part}
 use Rattle.flood.specs.Drafts.{AreDrafts, nothing_at}
 use Rattle.flood.specs.Parts.{after_event, after_part, made_state}

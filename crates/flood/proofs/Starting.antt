@@ -10,8 +10,8 @@ use Rattle.events.specs.declared.model.Config.{Config}
 use Rattle.events.specs.EventState.{EventState}
 use Rattle.events.specs.Routers.{Router, fresh_link, in_profile}
 use Rattle.area_routes.specs.flooding.Links.{present}
-use Rattle.self_originated.specs.Making.{Makes}
-use Rattle.self_originated.proofs.Making.{making_starts}
+use Rattle.procedures.specs.Making.{Makes}
+use Rattle.procedures.proofs.Making.{making_starts}
 use Rattle.flood.specs.Starts.{fresh_kept}
 
 and_parts : (a b : Bool) → (a && b) ≡ true → (a ≡ true) × (b ≡ true)

@@ -5,8 +5,7 @@ ghost use Rattle.events.specs.Commands.{is_for};
 ghost use Rattle.events.specs.Originations.{external_key};
 ghost use Rattle.events.specs.Refusals.{clashes, is_taken};
 
-use announcements::{external_key, same_external, same_network};
-use self_originated::Router;
+use procedures::{Router, external_key, same_external, same_network};
 use words::{External, Prefix};
 
 /// Tells whether an external destination of this prefix is announced.

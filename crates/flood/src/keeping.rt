@@ -1,7 +1,7 @@
 //! What is kept for routes from one event to the next.
 ghost use Rattle.std.specs.Prelude.{◌≡◌, ◌≤◌, IfOk, OnErr, OnOk, false};
 ghost use Rattle.area_routes.specs.Kept.{AreKept, ServesOnlyThen};
-ghost use Rattle.flood_laws.specs.event_rooms.RoomLaws.{IsRoomy};
+ghost use Rattle.events.specs.RoomLaws.{IsRoomy};
 ghost use Rattle.events.specs.Events.{Happens};
 ghost use Rattle.events.specs.Refusals.{Answers, exceeds};
 ghost use Rattle.flood_laws.specs.InOrder.{IsInOrder};
@@ -13,7 +13,7 @@ use crate::event::Event;
 use crate::taking::take;
 use area_routes::AreaRoutes;
 use events::{CoreError, Out};
-use self_originated::Router;
+use procedures::Router;
 use std::alloc::{AllocError, Global};
 use words::Second;
 

@@ -2,17 +2,13 @@
 ghost use Rattle.std.specs.Prelude.{◌≡◌, List, OnOk, length};
 ghost use Rattle.flood_laws.specs.adjacency.Drafts.{Drafted};
 ghost use Rattle.events.specs.Commands.{after_install, after_link_down};
-ghost use Rattle.self_originated.specs.Making.{Makes};
+ghost use Rattle.procedures.specs.Making.{Makes};
 ghost use Rattle.flood.specs.Parts.{HasInterface, after_event, after_part};
 
 use crate::part::Part;
-use announcements::{redistribute, withdraw};
-use endings::{end_event, full_routers};
 use flood_laws::Draft;
-use received_packets::receive_packet;
-use self_originated::Router;
+use procedures::{Router, end_event, full_routers, receive_packet, redistribute, tick, withdraw};
 use std::alloc::{AllocError, Global};
-use ticks::tick;
 use words::{Route, Second, Sequence};
 
 fn install(router: &mut Router, answers: Sequence<(Route, u64)>)

@@ -13,7 +13,7 @@ use crate::event::{Event, check_address};
 use events::CoreError;
 use hooks::{PriceAnswer, TagAnswer, VetoAnswer};
 use packet::{Packet, read};
-use self_originated::Router;
+use procedures::Router;
 use std::alloc::{AllocError, Global};
 use words::{External, Prefix, Route, Sequence};
 

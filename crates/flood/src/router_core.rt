@@ -20,7 +20,7 @@ use crate::taking::refuses;
 use area_routes::{AreaRoutes, Offered};
 use events::{Config, ConfigError, CoreError, Out};
 use flood_laws::{Lsdb, State};
-use self_originated::Router;
+use procedures::Router;
 use std::alloc::{AllocError, Global};
 use std::marker::Model;
 use words::{Prefix, Route, RouterId, Second};
@@ -43,7 +43,7 @@ impl Model for Core {
     ghost use Rattle.flood_laws.specs.lsdb.Copies.{DatabaseCopy};
     ghost use Rattle.flood_laws.specs.lsdb.Keys.{coded_key, key_cmp};
     ghost use Rattle.flood_laws.specs.adjacency.Codes.{coded_headers, coded_keys, coded_lists};
-    ghost use Rattle.flood_laws.specs.event_rooms.RoomLaws.{IsRoomy};
+    ghost use Rattle.events.specs.RoomLaws.{IsRoomy};
     ghost use Rattle.events.specs.Refusals.{exceeds};
     ghost use Rattle.events.specs.Routers.{Router as Shown};
     ghost use Rattle.flood.specs.Offers.{AreKeptNow};

@@ -11,7 +11,7 @@ use area_routes::Link;
 use events::Out;
 use flood_laws::Draft;
 use packing::put_outs;
-use self_originated::Router;
+use procedures::Router;
 use std::alloc::{AllocError, Global};
 use words::RouterId;
 

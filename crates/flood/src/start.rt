@@ -9,7 +9,7 @@ use crate::sending::drafts_for;
 use area_routes::Link;
 use events::Config;
 use flood_laws::Interface;
-use self_originated::{Router, originate_or_wait};
+use procedures::{Router, originate_or_wait};
 use std::alloc::{AllocError, Global};
 use words::{Key, LinkStateId, RouterId};
 

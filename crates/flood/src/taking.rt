@@ -1,6 +1,6 @@
 //! One event, up to where it is made final or taken back.
 ghost use Rattle.std.specs.Prelude.{◌≡◌, IfOk, OnOk, None, false, length};
-ghost use Rattle.flood_laws.specs.event_rooms.RoomLaws.{IsRoomy};
+ghost use Rattle.events.specs.RoomLaws.{IsRoomy};
 ghost use Rattle.events.specs.Events.{Happens};
 ghost use Rattle.events.specs.Refusals.{Answers, exceeds, is_interface, no_interface};
 ghost use Rattle.events.specs.Routers.{Occurrence};
@@ -15,7 +15,7 @@ use crate::making::make_event;
 use crate::part::{Part, read_part};
 use crate::sending::{drafts_for, outs};
 use events::{CoreError, Out};
-use self_originated::Router;
+use procedures::Router;
 use std::alloc::Global;
 use words::Second;
 

@@ -16,7 +16,7 @@ use Rattle.adjacency.proofs.Maps.{AllIn, IfThere, OfEntry, entries_in, inserted_
 use Rattle.received.specs.Holds.{Holds}
 use Rattle.received.specs.Links.{neighbor_at}
 use Rattle.received.proofs.Holding.{one_holds}
-use Rattle.event_rooms.proofs.Walk.{Brings, Invariant, IfRead, IsKeptByParts, MayGrow, OfBrought, OfBytes, OfEvent}
+use Rattle.events.proofs.Walk.{Brings, Invariant, IfRead, IsKeptByParts, MayGrow, OfBrought, OfBytes, OfEvent}
 use Rattle.events.specs.declared.model.Config.{Config}
 use Rattle.events.specs.declared.model.Out.{Out}
 use Rattle.events.specs.Endings.{end_event, start_event}

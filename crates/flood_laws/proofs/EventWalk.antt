@@ -35,7 +35,7 @@ use Rattle.events.specs.Packets.{acknowledged_by, after_hello, after_lsa, after_
 use Rattle.events.specs.EventState.{EventState, flood_from_nobody, on_area, on_router}
 use Rattle.events.specs.Routers.{Occurrence, Router}
 use Rattle.events.specs.Ticks.{acknowledge_all, after_tick, send_hellos, run_out, send_all_again}
-use Rattle.event_rooms.proofs.Walk.{Brings, IfRead, Invariant, IsKeptByParts, MayGrow, OfBrought, OfBytes, OfEvent, OfOutcome, outcome}
+use Rattle.events.proofs.Walk.{Brings, IfRead, Invariant, IsKeptByParts, MayGrow, OfBrought, OfBytes, OfEvent, OfOutcome, outcome}
 use Rattle.flood_laws.specs.NewInstances.{lsas_brought}
 use Rattle.flood_laws.proofs.Lists.{later_is}
 use Rattle.flood_laws.proofs.Taken.{named_first}

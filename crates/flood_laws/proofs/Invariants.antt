@@ -34,8 +34,8 @@ use Rattle.events.specs.Originations.{due_keys, new_instance, router_key}
 use Rattle.events.specs.Packets.{hear, heard_on, with_neighbor}
 use Rattle.events.specs.Routers.{Occurrence, Router, fresh_link, unannounced_router}
 use Rattle.events.specs.Ticks.{again, with_hello_sent, run_out, settled_exchange, without_acknowledgments}
-use Rattle.event_rooms.proofs.Walk.{Brings, Invariant, IsKeptByParts, OfBrought, OfBytes, originate_or_wait_kept}
-use Rattle.event_rooms.proofs.Walk as walk
+use Rattle.events.proofs.Walk.{Brings, Invariant, IsKeptByParts, OfBrought, OfBytes, originate_or_wait_kept}
+use Rattle.events.proofs.Walk as walk
 
 -- ---- one link
 

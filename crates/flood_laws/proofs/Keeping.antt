@@ -28,8 +28,8 @@ use Rattle.adjacency.proofs.Maps.{IfThere, none_in}
 use Rattle.adjacency.proofs.Told.{OfCopy, Telling}
 use Rattle.received.specs.Links.{Link}
 use Rattle.received.specs.Outcomes.{Send}
-use Rattle.event_rooms.proofs.Rooms.{both, mapped_all}
-use Rattle.event_rooms.proofs.Walk.{OfEvent}
+use Rattle.events.proofs.Rooms.{both, mapped_all}
+use Rattle.events.proofs.Walk.{OfEvent}
 use Rattle.events.specs.declared.model.Config.{Config}
 use Rattle.events.specs.declared.model.Out.{Out}
 use Rattle.events.specs.Endings.{end_event}

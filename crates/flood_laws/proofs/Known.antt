@@ -34,7 +34,7 @@ use Rattle.events.specs.EventState.{EventState}
 use Rattle.events.specs.Routers.{Occurrence, Router, fresh_link, unannounced_router}
 use Rattle.flood_laws.specs.Worlds.{IsKnown, instances_stored, instances_on_link, instances_on_list}
 use Rattle.flood_laws.proofs.Told.{IsOwn, event_told, first_told, told}
-use Rattle.event_rooms.proofs.Walk.{IfRead, OfBrought, OfBytes, OfEvent}
+use Rattle.events.proofs.Walk.{IfRead, OfBrought, OfBytes, OfEvent}
 use Rattle.flood_laws.proofs.Worlds.{one_more}
 
 -- ---- lists

@@ -49,7 +49,7 @@ use Rattle.events.specs.Routers.{Occurrence, Router}
 use Rattle.events.specs.Ticks.{acknowledge_all, acknowledgments_on, again, hello_sent_on, run_out, send_hellos, sends_of, settled_exchange, with_hello_sent, without_acknowledgments}
 use Rattle.flood_laws.specs.NewInstances.{lsas_brought}
 use Rattle.flood_laws.specs.TakenOff.{BringsNewer, IsAsked, IsTold, comes_to_max_age, is_gone_or_aged, is_gone_or_stored, owes}
-use Rattle.event_rooms.proofs.Walk.{Invariant, outcome}
+use Rattle.events.proofs.Walk.{Invariant, outcome}
 use Rattle.flood_laws.proofs.EventWalk.{IsHeard, IsKeptToo}
 use Rattle.flood_laws.proofs.Limits.{AreExternal, new_key, tied_key, wanted_type}
 use Rattle.flood_laws.proofs.Lists.{of_empty}

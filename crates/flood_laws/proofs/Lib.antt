@@ -19,5 +19,3 @@ pub mod Leaving
 pub mod Acknowledged
 pub mod News
 pub mod WrongSteps
--- what crates above name of those below
-pub use Rattle.event_rooms.proofs as event_rooms

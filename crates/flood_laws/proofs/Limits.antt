@@ -43,7 +43,7 @@ use Rattle.events.specs.Packets.{hear, heard_on, requested_lsas, with_neighbor}
 use Rattle.events.specs.Refusals.{exceeds}
 use Rattle.events.specs.Routers.{Occurrence, Router, unannounced_router}
 use Rattle.events.specs.Ticks.{acknowledgments_on, again, hello_sent_on, sends_of, with_hello_sent, without_acknowledgments}
-use Rattle.event_rooms.proofs.Walk.{Brings, IfRead, Invariant, IsKeptByParts, MayGrow, OfBrought, OfBytes, OfEvent, event_kept, originate_or_wait_kept, outcome}
+use Rattle.events.proofs.Walk.{Brings, IfRead, Invariant, IsKeptByParts, MayGrow, OfBrought, OfBytes, OfEvent, event_kept, originate_or_wait_kept, outcome}
 use Rattle.flood_laws.specs.LimitLaws.{AnnouncesExternals, OthersStayWithinLimits, may_exceed}
 
 -- ---- keys and options

@@ -41,7 +41,7 @@ use Rattle.events.specs.Originations.{forget_originations, install_and_flood, in
 use Rattle.events.specs.Packets.{hear, heard_on, requested_lsas}
 use Rattle.events.specs.Routers.{Occurrence, Router}
 use Rattle.events.specs.Ticks.{acknowledgments_on, again, hello_sent_on, run_out, sends_of, with_hello_sent, without_acknowledgments}
-use Rattle.event_rooms.proofs.Walk.{outcome}
+use Rattle.events.proofs.Walk.{outcome}
 use Rattle.flood_laws.specs.InOrder.{IsInOrder}
 use Rattle.flood_laws.specs.Known.{instances_in_sends}
 use Rattle.flood_laws.specs.NewInstances.{BringsLsa, IsLastCopy, IsNewInstance, installed_copy, lsas_brought}

@@ -11,7 +11,7 @@ use Rattle.received.specs.Outcomes.{Send}
 use Rattle.flood_laws.specs.Known.{Bears, IsOutOf, IsTextOf, instances_in_content}
 use Rattle.events.specs.LsaInstances.{LsaInstance, instance_of_lsa, instance_of_header}
 use Rattle.events.specs.Packing.{acknowledgments, at_interface, bodies, descriptions, first_key, header_size, hellos, in_key_order, lsa_size, out_of, outs_at, packed_groups, requests, sent_lsa, update_of, updates}
-use Rattle.event_rooms.proofs.Rooms.{both, mapped_all, order_all, packed_all}
+use Rattle.events.proofs.Rooms.{both, mapped_all, order_all, packed_all}
 
 -- what an option gives of each content
 chosen_of : {Y : Type 0} (f : Content → Option Y) (R : Content → Type 0) (P : Y → Type 0) → ((c : Content) → R c → AllByRecursion P (cons_option (f c) []))

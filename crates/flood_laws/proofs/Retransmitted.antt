@@ -47,8 +47,8 @@ use Rattle.events.specs.Originations.{due_keys, new_instance, router_key}
 use Rattle.events.specs.Packets.{hear, heard_on, requested_lsas, with_neighbor}
 use Rattle.events.specs.Routers.{Occurrence, Router, fresh_link, unannounced_router}
 use Rattle.events.specs.Ticks.{acknowledgments_on, again, hello_sent_on, run_out, sends_of, with_hello_sent, without_acknowledgments}
-use Rattle.event_rooms.proofs.Walk.{Brings, Invariant, IsKeptByParts, OfBrought, OfBytes, originate_or_wait_kept}
-use Rattle.event_rooms.proofs.Walk as walk
+use Rattle.events.proofs.Walk.{Brings, Invariant, IsKeptByParts, OfBrought, OfBytes, originate_or_wait_kept}
+use Rattle.events.proofs.Walk as walk
 use Rattle.flood_laws.specs.Retransmissions.{AreOfTheDatabase, HasItsRetransmissions, IsOfCopy, RetransmissionsAreOfTheDatabase}
 use Rattle.flood_laws.proofs.Always.{each_so}
 use Rattle.flood_laws.proofs.Invariants.{exchange_settled, filled_on_kept, still_heard_kept}

@@ -31,7 +31,7 @@ use Rattle.events.specs.Packets.{hear, heard_on, requested_lsas, with_neighbor}
 use Rattle.events.specs.EventState.{EventState, flood_from_nobody}
 use Rattle.events.specs.Routers.{Occurrence, Router}
 use Rattle.events.specs.Ticks.{acknowledgments_on, again, with_hello_sent, hello_sent_on, run_out, sends_of, settled_exchange, without_acknowledgments}
-use Rattle.event_rooms.proofs.Walk.{Brings, Invariant, IsKeptByParts, OfEvent, event_kept, originate_or_wait_kept, outcome}
+use Rattle.events.proofs.Walk.{Brings, Invariant, IsKeptByParts, OfEvent, event_kept, originate_or_wait_kept, outcome}
 
 abbrev pub IsOwnKey : Telling → ℕ → Key → Type 0
 IsOwnKey t id key = (key.advertising_router ≡ id) × t.of_key key

@@ -12,5 +12,4 @@ pub mod OwnLsas
 pub mod WrongSteps
 -- what crates above name of those below
 pub use Rattle.adjacency.specs as adjacency
-pub use Rattle.event_rooms.specs as event_rooms
 pub use Rattle.lsdb.specs as lsdb

@@ -11,7 +11,7 @@ use Rattle.events.specs.declared.model.Config.{Config}
 use Rattle.events.specs.declared.model.Out.{Out}
 use Rattle.events.specs.Events.{Happens, Run, Step, initial}
 use Rattle.events.specs.Routers.{Occurrence, Router}
-use Rattle.event_rooms.specs.RoomLaws.{OfEachNeighbor}
+use Rattle.events.specs.RoomLaws.{OfEachNeighbor}
 
 pub record IsAlwaysSo (P : Neighbor → Type 0) : Type 0 where
   -- at the start

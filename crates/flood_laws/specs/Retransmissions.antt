@@ -13,7 +13,7 @@ use Rattle.events.specs.declared.model.Config.{Config}
 use Rattle.events.specs.declared.model.Out.{Out}
 use Rattle.events.specs.Events.{Happens, Run, Step, initial}
 use Rattle.events.specs.Routers.{Occurrence, Router}
-use Rattle.event_rooms.specs.RoomLaws.{OfEachNeighbor}
+use Rattle.events.specs.RoomLaws.{OfEachNeighbor}
 
 -- the database has a copy of the key, and at each moment from when the entry was made on the
 -- entry's header is the copy's

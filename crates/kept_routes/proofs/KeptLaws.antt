@@ -11,7 +11,7 @@ use Rattle.routes.specs.declared.node.Node.{Node}
 use Rattle.routes.specs.declared.node.Node.TheVariants.{ARouter}
 use Rattle.routes.specs.declared.root.Root.{Root}
 use Rattle.routes.proofs.Carried.{carried, leads}
-use Rattle.candidates.specs.shortest_paths.Reached.{way_in}
+use Rattle.candidates.specs.Reached.{way_in}
 use Rattle.kept_routes.specs.Laws.{RoutesAreKept, WalksAreKept}
 use Rattle.kept_routes.specs.Sameness.{SayTheSame}
 

@@ -21,9 +21,9 @@ use Rattle.routes.specs.Answers.{IsNodeAnswer}
 use Rattle.routes.specs.Offers.{ReachesBoundaryRouter}
 use Rattle.routes.specs.declared.graph.Way.{Way as WayTo}
 use Rattle.routes.specs.declared.node.Node.TheVariants.{ARouter}
-use Rattle.candidates.specs.offers.Borders.{IsFlagged}
-use Rattle.candidates.specs.offers.Ways.{AreWays, Ways}
-use Rattle.candidates.specs.shortest_paths.Reached.{way_in}
+use Rattle.candidates.specs.Borders.{IsFlagged}
+use Rattle.candidates.specs.Ways.{AreWays, Ways}
+use Rattle.candidates.specs.Reached.{way_in}
 use Rattle.routes.specs.lsdb.Changes.{SaysTheSame}
 use Rattle.routes.specs.lsdb.Silence.{SaysNoMore}
 use Rattle.kept_routes.specs.Externals.{AreOldOrLeftOut, IsUnreached, LeaveCandidates, OfferTheSame, OffersNothing}

@@ -4,13 +4,13 @@ use Rattle.std.specs.Prelude.{◌≡◌, ◌≢◌, ◌⊎◌, ◌≤◌, true, 
 use Rattle.std.specs.FinMap as finite
 use Rattle.std.specs.List.{Contains}
 use Rattle.routes.specs.lsdb.Copies.{Database}
-use Rattle.candidates.specs.offers.Borders.{IsFlagged}
+use Rattle.candidates.specs.Borders.{IsFlagged}
 use Rattle.routes.specs.Said.{Said, said_at}
 use Rattle.routes.specs.Summaries.{IsBoundaryWay}
 use Rattle.routes.specs.declared.graph.Way.{Way}
 use Rattle.routes.specs.Paths.{Way as WalkWay}
 use Rattle.routes.specs.declared.root.Root.{Root}
-use Rattle.candidates.specs.shortest_paths.Reached.{way_in}
+use Rattle.candidates.specs.Reached.{way_in}
 use Rattle.words.specs.Numbers.{Moment, RouterNumber}
 use Rattle.words.specs.declared.key.Key.{Key}
 use Rattle.kept_routes.specs.Ages.{IsOld}

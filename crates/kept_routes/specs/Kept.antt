@@ -1,9 +1,9 @@
 -- A walk that is kept (RFC 2328, section 16.1).
 use Rattle.std.specs.Prelude.{ℕ}
-use Rattle.candidates.specs.offers.Ways.{AreNear, AreWays}
+use Rattle.candidates.specs.Ways.{AreNear, AreWays}
 use Rattle.routes.specs.Said.{Said}
 use Rattle.routes.specs.declared.root.Root.{Root}
-use Rattle.candidates.specs.shortest_paths.Reached.{NodeWays, way_in}
+use Rattle.candidates.specs.Reached.{NodeWays, way_in}
 
 pub record KeptWalk : Type 0 where
   -- where it began

@@ -3,11 +3,11 @@
 ghost use Rattle.std.specs.Prelude.{◌≡◌, ◌≤◌, ◌↔◌, IfOk, IsTrue, MatchOption, Some, bit_and};
 ghost use Rattle.lsa.specs.declared.body.Body.TheVariants as body;
 ghost use Rattle.lsa.specs.declared.body.RouterLsa.{RouterLsa as RouterValue};
-ghost use Rattle.candidates.specs.offers.Borders.{IsFlagged};
+ghost use Rattle.candidates.specs.Borders.{IsFlagged};
 ghost use Rattle.routes.specs.Links.{router_key};
 ghost use Rattle.routes.specs.Said.{said_at};
 ghost use Rattle.routes.specs.declared.graph.Way.{Way as WayTo};
-ghost use Rattle.candidates.specs.shortest_paths.Reached.{way_in};
+ghost use Rattle.candidates.specs.Reached.{way_in};
 ghost use Rattle.kept_routes.specs.Externals.{AreOldOrLeftOut, IsNamed, IsOldOrLeftOut};
 ghost use Rattle.kept_routes.specs.Externals.{IsUnreached, LeaveCandidates, NamesIt};
 ghost use Rattle.kept_routes.specs.Externals.{OfferTheSame, OffersNothing, first_named};

@@ -10,8 +10,3 @@ mod walks;
 pub use externals::leave_candidates;
 pub use sameness::say_the_same;
 pub use walks::Routes;
-// What crates above name of those below.
-pub use candidates::{
-    Calculated, External, Inner, InnerRoutes, external_offer, externals_at, network_of, push_offer,
-    routes_of_offers,
-};

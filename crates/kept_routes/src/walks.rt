@@ -6,15 +6,13 @@ ghost use Rattle.words.specs.declared.route.Route.{Route as RouteValue};
 ghost use Rattle.routes.specs.Candidates.{AreCandidates, Offers};
 ghost use Rattle.routes.specs.Said.{said_at};
 ghost use Rattle.routes.specs.declared.offer.Offer.{Offer};
-ghost use Rattle.candidates.specs.shortest_paths.Reached.{way_in};
+ghost use Rattle.candidates.specs.Reached.{way_in};
 ghost use Rattle.candidates.specs.Inner.{AreInner, AreSearchable};
 ghost use Rattle.kept_routes.specs.Kept.{IsWalkOf};
-ghost use Rattle.candidates.specs.offers.Externals.{AreExternals};
+ghost use Rattle.candidates.specs.Externals.{AreExternals};
 
-use candidates::{
-    Calculated, External, Reached, Ways, calculate, copy_of, every_offer_has_a_candidate,
-    routes_of, walk,
-};
+use candidates::laws::every_offer_has_a_candidate;
+use candidates::{Calculated, External, Reached, Ways, calculate, copy_of, routes_of, walk};
 use routes::{Lsdb, Node, Root, Way};
 use std::alloc::{AllocError, Global};
 use std::marker::Model;

@@ -12,5 +12,3 @@ pub use acknowledgments::acknowledged;
 pub use descriptions::describe;
 pub use hellos::{hear, is_foreign};
 pub use requests::answer;
-// What crates above name of those below.
-pub use flooding::{Case, Draft, State};

@@ -4,8 +4,8 @@ use Rattle.std.specs.FinMap as finite
 use Rattle.words.specs.declared.key.Key.{Key}
 use Rattle.flooding.specs.lsdb.Copies.{DatabaseCopy}
 use Rattle.flooding.specs.lsdb.Headers.{Lsa}
-use Rattle.event_rooms.specs.events.EventState.{EventState, on_router}
-use Rattle.event_rooms.specs.events.Originations.{flush, has_max_sequence, may_originate, new_instance, wait}
+use Rattle.events.specs.EventState.{EventState, on_router}
+use Rattle.events.specs.Originations.{flush, has_max_sequence, may_originate, new_instance, wait}
 use Rattle.originations.specs.Decisions.{after_origination}
 use Rattle.originations.specs.Laws.{OriginationsAreTheRules}
 use Rattle.originations.specs.declared.origination.Origination.TheVariants.{Flushes, Waits, Originates}

@@ -5,7 +5,7 @@ use Rattle.lsa.specs.Origination.{sealed_lsa}
 use Rattle.lsa.specs.declared.body.Body.{Body}
 use Rattle.flooding.specs.lsdb.Copies.{DatabaseCopy}
 use Rattle.flooding.specs.lsdb.Headers.{Lsa}
-use Rattle.event_rooms.specs.events.Originations.{has_max_sequence, new_instance, next_sequence}
+use Rattle.events.specs.Originations.{has_max_sequence, new_instance, next_sequence}
 use Rattle.originations.specs.Instances.{next_instance, next_number}
 
 made : Key → ℤ → Body → Lsa

@@ -11,9 +11,9 @@ use Rattle.lsa.specs.declared.body.LinkKind.TheVariants.{PointToPoint}
 use Rattle.flooding.specs.adjacency.Kept.{Kept}
 use Rattle.flooding.specs.adjacency.Neighbors.{Neighbor, is_full}
 use Rattle.flooding.specs.received.Links.{Link}
-use Rattle.event_rooms.specs.events.Originations.{links_of, point_to_point, router_body, stub}
-use Rattle.event_rooms.proofs.Fitting.{router_few}
-use Rattle.event_rooms.proofs.Rooms.{both}
+use Rattle.events.specs.Originations.{links_of, point_to_point, router_body, stub}
+use Rattle.events.proofs.Fitting.{router_few}
+use Rattle.events.proofs.Rooms.{both}
 use Rattle.flooding.specs.Links.{present}
 
 -- ---- one interface more

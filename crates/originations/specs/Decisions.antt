@@ -5,9 +5,9 @@ use Rattle.words.specs.declared.key.Key.{Key}
 use Rattle.lsa.specs.declared.body.Body.{Body}
 use Rattle.flooding.specs.lsdb.Copies.{DatabaseCopy}
 use Rattle.flooding.specs.lsdb.Headers.{Lsa}
-use Rattle.event_rooms.specs.events.EventState.{EventState, on_area, on_router}
-use Rattle.event_rooms.specs.events.Originations.{as_originated, flush, has_max_sequence, install_and_flood}
-use Rattle.event_rooms.specs.events.Originations.{interval_is_over, new_instance, wait}
+use Rattle.events.specs.EventState.{EventState, on_area, on_router}
+use Rattle.events.specs.Originations.{as_originated, flush, has_max_sequence, install_and_flood}
+use Rattle.events.specs.Originations.{interval_is_over, new_instance, wait}
 use Rattle.originations.specs.declared.origination.Origination.{Origination}
 use Rattle.originations.specs.declared.origination.Origination.TheVariants.{Flushes, Waits}
 use Rattle.originations.specs.declared.origination.Origination.TheVariants.{Originates}

@@ -9,7 +9,7 @@ use Rattle.flooding.specs.adjacency.Neighbors.{Neighbor, is_full}
 use Rattle.flooding.specs.adjacency.declared.interface.Interface.{Interface}
 use Rattle.flooding.specs.adjacency.declared.state.State.{State}
 use Rattle.flooding.specs.received.Links.{Link}
-use Rattle.event_rooms.specs.events.Originations.{stub}
+use Rattle.events.specs.Originations.{stub}
 
 abbrev pub full_router : Option (RouterNumber × State) → Option RouterNumber
 full_router None = None

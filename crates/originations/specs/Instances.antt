@@ -6,7 +6,7 @@ use Rattle.words.specs.declared.key.Key.{Key}
 use Rattle.lsa.specs.declared.body.Body.{Body}
 use Rattle.flooding.specs.lsdb.Copies.{DatabaseCopy}
 use Rattle.flooding.specs.lsdb.Headers.{Lsa}
-use Rattle.event_rooms.specs.events.Originations.{has_max_sequence, new_instance, next_sequence}
+use Rattle.events.specs.Originations.{has_max_sequence, new_instance, next_sequence}
 
 abbrev pub number_after : ℤ → Option ℤ
 number_after n = if is_eq (int_cmp n max_sequence_number) then None else Some (n +ℤ pos 1)

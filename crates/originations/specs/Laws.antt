@@ -3,8 +3,8 @@ use Rattle.std.specs.Prelude.{◌≡◌, ℕ, Bool, Some}
 use Rattle.std.specs.FinMap as finite
 use Rattle.words.specs.declared.key.Key.{Key}
 use Rattle.lsa.specs.declared.body.Body.{Body}
-use Rattle.event_rooms.specs.events.EventState.{EventState}
-use Rattle.event_rooms.specs.events.Originations.{originate_body}
+use Rattle.events.specs.EventState.{EventState}
+use Rattle.events.specs.Originations.{originate_body}
 use Rattle.originations.specs.Decisions.{after_origination, origination}
 
 abbrev pub OriginationsAreTheRules : Type 0

@@ -14,4 +14,4 @@ pub use external::external_instance;
 pub use origination::{Origination, interval_is_over, originate_external, originate_router};
 pub use router::router_instance;
 // What crates above name of those below.
-pub use flooding::{DatabaseCopy, Draft};
+pub use flooding::Case;

@@ -15,8 +15,8 @@ use Rattle.adjacency.specs.declared.draft.Update.{Update}
 use Rattle.received.specs.Links.{Link}
 use Rattle.received.specs.Outcomes.{Send}
 use Rattle.events.specs.Packing.{acknowledgments, at_interface, bodies, descriptions, first_key, header_size, hellos, in_key_order, is_after, lsa_size, packed_groups, insert_by_key, requests, sent_lsa, update_of, updates}
-use Rattle.event_rooms.specs.PackingLaws.{HasPacketRoom}
-use Rattle.event_rooms.proofs.Rooms.{order_all, ordered_and_packed, there}
+use Rattle.events.specs.PackingLaws.{HasPacketRoom}
+use Rattle.events.proofs.Rooms.{order_all, ordered_and_packed, there}
 use Rattle.packing.specs.Bodies.{IsShort, drafted_bodies, text_size, texts, update_bodies, update_key}
 use Rattle.packing.specs.Drafts.{IsDraftAt, nothing_drafted}
 use Rattle.packing.proofs.Packs.{packed_map}

@@ -11,8 +11,8 @@ use Rattle.words.specs.declared.key.Key.{Key}
 use Rattle.lsdb.specs.Keys.{key_cmp, same_key}
 use Rattle.lsdb.proofs.Keys.{keys_exact, keys_total}
 use Rattle.events.specs.Packing.{in_key_order, is_after}
-use Rattle.event_rooms.specs.PackingLaws.{IsAscending}
-use Rattle.event_rooms.proofs.Packings.{ordered}
+use Rattle.events.specs.PackingLaws.{IsAscending}
+use Rattle.events.proofs.Packings.{ordered}
 
 -- ---- keys
 

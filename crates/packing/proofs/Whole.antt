@@ -16,8 +16,8 @@ use Rattle.adjacency.specs.Rooms.{HasRoom}
 use Rattle.received.specs.Links.{Link}
 use Rattle.received.specs.Outcomes.{Send}
 use Rattle.events.specs.Packing.{acknowledgments, at_interface, bodies, descriptions, first_key, header_size, hellos, in_key_order, lsa_size, packed_groups, requests, sent_lsa, update_of, updates}
-use Rattle.event_rooms.specs.PackingLaws.{HasPacketRoom}
-use Rattle.event_rooms.proofs.Rooms.{both, mapped_all, order_all, packed_all, there}
+use Rattle.events.specs.PackingLaws.{HasPacketRoom}
+use Rattle.events.proofs.Rooms.{both, mapped_all, order_all, packed_all, there}
 use Rattle.packing.specs.Bodies.{drafted_bodies}
 use Rattle.packing.specs.Drafts.{IsDraftAt}
 use Rattle.packing.specs.Texts.{CanBeSent}

@@ -4,7 +4,7 @@ use Rattle.packet.specs.declared.model.Body.{Body}
 use Rattle.packet.specs.Ranges.{LsasAreWhole}
 use Rattle.packet.specs.Text.{PacketText, canonical}
 use Rattle.events.specs.Packing.{packet_of}
-use Rattle.event_rooms.specs.PackingLaws.{HasPacketRoom}
+use Rattle.events.specs.PackingLaws.{HasPacketRoom}
 
 -- it has room in a packet, and each LSA of an Update has the length that it says
 abbrev pub CanBeSent : Body → Type 0

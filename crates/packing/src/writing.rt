@@ -5,7 +5,7 @@ ghost use Rattle.received.specs.Outcomes.{Send};
 ghost use Rattle.std.specs.List.{AllByRecursion, filter_map};
 ghost use Rattle.packet.specs.Ranges.{LsasAreWhole};
 ghost use Rattle.events.specs.Packing.{at_interface, bodies, out_of, outs_at};
-ghost use Rattle.event_rooms.specs.PackingLaws.{HasPacketRoom};
+ghost use Rattle.events.specs.PackingLaws.{HasPacketRoom};
 ghost use Rattle.packing.specs.Drafts.{IsDraftAt};
 ghost use Rattle.packing.specs.Texts.{IsSentText};
 

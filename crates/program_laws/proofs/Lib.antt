@@ -2,3 +2,9 @@ pub mod SeatLaws
 pub mod RefusalLaws
 pub mod RunLaws
 pub mod AnswerLaws
+pub mod Announced
+pub mod Apart
+pub mod Destinations
+pub mod OneDestination
+pub mod Unheard
+pub mod Vetoes

@@ -2,3 +2,8 @@ pub mod Seats
 pub mod Refusals
 pub mod Runs
 pub mod Answers
+pub mod Announced
+pub mod Destinations
+pub mod Tables
+pub mod Vetoes
+pub mod Unheard

@@ -10,6 +10,8 @@ ghost use Rattle.program_laws.specs.Runs.{LaterSlotsAreAsStated, LoadsAreOfTheCo
 ghost use Rattle.program_laws.specs.Runs.{LoadsAreOfTheirMap, StartsAsStated, StoresAreOfTheStack};
 ghost use Rattle.program_laws.specs.Seats.{AdditionsAreRefusedLast, SeatsGrow, SeatsStayLawful};
 
+pub mod routers;
+
 use absdom::Domain;
 
 /// What a seat's list of accesses says is so after any steps that it may make, if it was before:

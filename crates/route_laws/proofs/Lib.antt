@@ -14,3 +14,4 @@ mod Networks
 mod Transit
 mod Uncounted
 mod Summaries
+mod Left

@@ -5,3 +5,4 @@ pub mod WorkedTransit
 pub mod WorkedUncounted
 pub mod WorkedOffers
 pub mod WorkedSummaries
+pub mod WorkedCopies

@@ -3,7 +3,8 @@
 ghost use Rattle.std.specs.Prelude.{◌≡◌, ◌≤◌, OnOk, length, true};
 ghost use Rattle.timers.specs.received.Links.{neighbor_at};
 ghost use Rattle.timers.specs.events.EventState.{on_area};
-ghost use Rattle.timers.specs.events.Packets.{acknowledged_by, after_hello, describe_to, is_in_exchange};
+ghost use Rattle.timers.specs.events.Packets.{acknowledged_by, after_hello, describe_to};
+ghost use Rattle.timers.specs.events.Packets.{is_in_exchange};
 ghost use Rattle.timers.specs.events.Packets.{requested_from};
 ghost use Rattle.router_state.specs.Making.{Makes};
 

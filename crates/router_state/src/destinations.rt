@@ -3,7 +3,8 @@ ghost use Rattle.std.specs.Prelude.{◌≡◌, ◌<◌, ◌^◌, OnOk};
 ghost use Rattle.std.specs.List.{fold};
 ghost use Rattle.std.specs.FinMap as finite;
 ghost use Rattle.timers.specs.events.Commands.{announce, unannounce};
-ghost use Rattle.timers.specs.events.Originations.{as_originated, external_key, forget_originations, wait};
+ghost use Rattle.timers.specs.events.Originations.{as_originated, external_key};
+ghost use Rattle.timers.specs.events.Originations.{forget_originations, wait};
 
 use crate::router::Router;
 use keyed_map::{KeyTest, KeyedMap};

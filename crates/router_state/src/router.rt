@@ -35,7 +35,8 @@ impl Model for Router {
     ghost use Rattle.words.specs.declared.route.External.{External as Destination};
     ghost use Rattle.timers.specs.lsdb.Copies.{DatabaseCopy};
     ghost use Rattle.timers.specs.lsdb.Keys.{coded_key, key_cmp};
-    ghost use Rattle.timers.specs.adjacency.Codes.{coded_headers, coded_kept, coded_keys, coded_lists};
+    ghost use Rattle.timers.specs.adjacency.Codes.{coded_headers, coded_kept, coded_keys};
+    ghost use Rattle.timers.specs.adjacency.Codes.{coded_lists};
     ghost use Rattle.timers.specs.adjacency.Kept.{Kept};
     ghost use Rattle.timers.specs.adjacency.Views.{keys_of};
     ghost use Rattle.timers.specs.events.Routers.{Router as Shown};

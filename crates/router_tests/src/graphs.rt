@@ -8,11 +8,11 @@ use crate::lines::install_lines;
 use crate::outcomes::none_is_wrong;
 use crate::texts::{LinkText, Name, router};
 use crate::worked::{TWO, TWO_ADDRESSES};
-use graph_updates::follow_graph;
+use area_routes::follow_graph;
 use lsa::Lsa;
 use lsdb::Lsdb;
 use routes::{Root, Vertex};
-use shortest_paths::AreaGraph;
+use candidates::AreaGraph;
 use std::alloc::Global;
 use std::test::Fail;
 

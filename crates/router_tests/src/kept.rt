@@ -12,7 +12,7 @@ use kept_routes::{Routes, say_the_same};
 use lsa::{Body, Lsa};
 use lsdb::Lsdb;
 use routes::Root;
-use shortest_paths::{copy_of, walk};
+use candidates::{copy_of, walk};
 use std::alloc::{AllocError, Global};
 use std::test::Fail;
 use words::{Key, LinkStateId, Route, RouterId, Second};

@@ -1,5 +1,5 @@
 //! Tests of a router's parts by their public calls: `keyed_map`, `lsdb`, `neighbor_places`,
-//! `routes`, `shortest_paths`, `candidates`, `tables`, `kept_routes`, `graph_updates` and
+//! `routes`, `candidates`, `tables`, `kept_routes`, `area_routes` and
 //! `forwarding_loops`; and of `words`, `lsa`, `packet` and `console`. They stand above, since a
 //! crate is proved once more for its tests.
 #![tactic(auto)]

@@ -9,5 +9,3 @@ mod rows;
 
 pub use answered::{is_stale, table};
 pub use rows::rows_of;
-// What crates above name of those below.
-pub use routes::Root;

@@ -5,11 +5,11 @@ use Rattle.external_updates.specs.Destinations.{Knows}
 use Rattle.external_updates.specs.Following.{HaveFollowed}
 use Rattle.external_updates.specs.declared.follow.Followed.{Followed}
 use Rattle.kept_routes.specs.Sameness.{SayTheSame}
-use Rattle.flooding.specs.lsdb.Kept.{RouterDatabase}
-use Rattle.tables.specs.routes.Candidates.{AreCandidates}
-use Rattle.tables.specs.routes.Said.{said_at}
-use Rattle.tables.specs.routes.declared.root.Root.{Root}
-use Rattle.graph_updates.specs.shortest_paths.Reached.{way_in}
+use Rattle.routes.specs.lsdb.Kept.{RouterDatabase}
+use Rattle.routes.specs.Candidates.{AreCandidates}
+use Rattle.routes.specs.Said.{said_at}
+use Rattle.routes.specs.declared.root.Root.{Root}
+use Rattle.candidates.specs.Reached.{way_in}
 use Rattle.area_routes.proofs.Candidates.{stay_answered}
 use Rattle.area_routes.proofs.following.follow_from.Goals as goal
 

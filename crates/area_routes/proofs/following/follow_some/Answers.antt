@@ -2,8 +2,8 @@ use Rattle.std.proofs.Common.{◌≡◌, false, Vec, Global, Option, subst, sym}
 use Rattle.std.specs.Prelude.{IfSome}
 use Rattle.words.specs.declared.route.Route.{Route}
 use Rattle.area_routes.specs.Kept.{HaveAnother}
-use Rattle.tables.specs.routes.Candidates.{AreCandidates}
-use Rattle.tables.specs.routes.Said.{said_at}
+use Rattle.routes.specs.Candidates.{AreCandidates}
+use Rattle.routes.specs.Said.{said_at}
 use Rattle.area_routes.proofs.following.follow_some.Goals as goal
 
 pub follow_from-requires-clause-routes : goal.follow_from-requires-clause-routes

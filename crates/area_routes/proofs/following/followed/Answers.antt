@@ -1,8 +1,8 @@
 use Rattle.std.proofs.Common.{Option, subst}
 use Rattle.std.specs.Prelude.{IfSome}
 use Rattle.area_routes.specs.Kept.{AreInnerBy}
-use Rattle.kept_routes.specs.candidates.declared.inner.InnerRoutes.{InnerRoutes}
-use Rattle.tables.specs.routes.Said.{said_at}
+use Rattle.candidates.specs.declared.inner.InnerRoutes.{InnerRoutes}
+use Rattle.routes.specs.Said.{said_at}
 use Rattle.area_routes.proofs.following.followed.Goals as goal
 
 pub follow_some-requires-clause-inner : goal.follow_some-requires-clause-inner

@@ -1,11 +1,11 @@
 use Rattle.std.proofs.Common.{Option, subst}
 use Rattle.std.specs.Prelude.{IfSome}
-use Rattle.flooding.specs.lsdb.Kept.{RouterDatabase}
-use Rattle.kept_routes.specs.offers.Ways.{AreWays}
-use Rattle.tables.specs.routes.Said.{said_at}
-use Rattle.tables.specs.routes.declared.root.Root.{Root}
-use Rattle.graph_updates.specs.shortest_paths.Reached.{way_in}
-use Rattle.graph_updates.specs.shortest_paths.declared.graph.AreaGraph.{AreaGraph}
+use Rattle.routes.specs.lsdb.Kept.{RouterDatabase}
+use Rattle.candidates.specs.Ways.{AreWays}
+use Rattle.routes.specs.Said.{said_at}
+use Rattle.routes.specs.declared.root.Root.{Root}
+use Rattle.candidates.specs.Reached.{way_in}
+use Rattle.candidates.specs.declared.graph.AreaGraph.{AreaGraph}
 use Rattle.area_routes.specs.Kept.{IsGraphFrom}
 use Rattle.area_routes.proofs.graphs.walk_by.Goals as goal
 

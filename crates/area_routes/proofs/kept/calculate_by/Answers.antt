@@ -1,11 +1,11 @@
 use Rattle.std.proofs.Common.{subst, sym}
-use Rattle.kept_routes.specs.candidates.Inner.{AreInner}
+use Rattle.candidates.specs.Inner.{AreInner}
 use Rattle.kept_routes.specs.Kept.{IsWalkOf}
-use Rattle.flooding.specs.lsdb.Kept.{RouterDatabase}
-use Rattle.kept_routes.specs.offers.Externals.{AreExternals}
-use Rattle.tables.specs.routes.Candidates.{AreCandidates}
-use Rattle.tables.specs.routes.Said.{said_at}
-use Rattle.graph_updates.specs.shortest_paths.Reached.{way_in}
+use Rattle.routes.specs.lsdb.Kept.{RouterDatabase}
+use Rattle.candidates.specs.Externals.{AreExternals}
+use Rattle.routes.specs.Candidates.{AreCandidates}
+use Rattle.routes.specs.Said.{said_at}
+use Rattle.candidates.specs.Reached.{way_in}
 use Rattle.area_routes.proofs.kept.calculate_by.Goals as goal
 
 pub calculate-requires-clause-walk : goal.calculate-requires-clause-walk

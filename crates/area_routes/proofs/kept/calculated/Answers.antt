@@ -1,9 +1,9 @@
 use Rattle.std.proofs.Common.{List, Option, subst, sym}
 use Rattle.std.specs.Prelude.{IfSome}
 use Rattle.std.specs.Global.{Vec}
-use Rattle.kept_routes.specs.offers.Externals.{AreExternals}
-use Rattle.kept_routes.specs.offers.declared.externals.External.{External}
-use Rattle.tables.specs.routes.Said.{said_at}
+use Rattle.candidates.specs.Externals.{AreExternals}
+use Rattle.candidates.specs.declared.externals.External.{External}
+use Rattle.routes.specs.Said.{said_at}
 use Rattle.area_routes.proofs.kept.calculated.Goals as goal
 
 pub calculate_by-requires-clause-externals : goal.calculate_by-requires-clause-externals

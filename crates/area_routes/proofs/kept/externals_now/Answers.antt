@@ -1,7 +1,7 @@
 use Rattle.std.proofs.Common.{subst}
-use Rattle.flooding.specs.lsdb.Kept.{RouterDatabase}
-use Rattle.kept_routes.specs.offers.Externals.{AreExternals}
-use Rattle.tables.specs.routes.Said.{said_at}
+use Rattle.routes.specs.lsdb.Kept.{RouterDatabase}
+use Rattle.candidates.specs.Externals.{AreExternals}
+use Rattle.routes.specs.Said.{said_at}
 use Rattle.area_routes.proofs.kept.externals_now.Goals as goal
 
 pub returns : goal.returns

@@ -1,7 +1,7 @@
 use Rattle.std.proofs.Common.{◌≡◌, subst, sym}
 use Rattle.std.specs.List.{Contains}
-use Rattle.flooding.specs.lsdb.Kept.{RouterDatabase}
-use Rattle.tables.specs.routes.Said.{said_at}
+use Rattle.routes.specs.lsdb.Kept.{RouterDatabase}
+use Rattle.routes.specs.Said.{said_at}
 use Rattle.area_routes.proofs.kept.externals_stay.Goals as goal
 
 pub returns-in-Ok : goal.returns-in-Ok

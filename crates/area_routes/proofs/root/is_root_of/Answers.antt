@@ -1,5 +1,5 @@
 use Rattle.std.proofs.Common.{◌≡◌, ◌∙◌, ap, sym}
-use Rattle.tables.specs.routes.declared.root.Root.{Root}
+use Rattle.routes.specs.declared.root.Root.{Root}
 use Rattle.area_routes.proofs.Roots.{begins_here, root_is, root_was}
 use Rattle.area_routes.proofs.root.is_root_of.Goals as goal
 

@@ -2,10 +2,10 @@ use Rattle.std.proofs.Common.{◌≡◌, List, [], arith, sym, subst}
 use Rattle.std.specs.List.{Contains}
 use Rattle.std.specs.Prelude.{◌↔◌}
 use Rattle.words.specs.declared.route.Route.{Route}
-use Rattle.offers.specs.Borders.{AreCloseBy, HasLengths, Tells}
-use Rattle.offers.specs.Gathering.{Adds, OfEach}
-use Rattle.offers.specs.Sources.{IsInner}
-use Rattle.offers.specs.declared.flagged.Flagged.{Flagged}
+use Rattle.candidates.specs.Borders.{AreCloseBy, HasLengths, Tells}
+use Rattle.candidates.specs.Gathering.{Adds, OfEach}
+use Rattle.candidates.specs.Sources.{IsInner}
+use Rattle.candidates.specs.declared.flagged.Flagged.{Flagged}
 use Rattle.routes.specs.Routes.{AreRoutesAmong}
 use Rattle.candidates.proofs.All.{of_inside, of_networks, of_told}
 use Rattle.candidates.proofs.Each.{fewer}

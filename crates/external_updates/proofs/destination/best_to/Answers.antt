@@ -1,6 +1,6 @@
 use Rattle.std.proofs.Common.{[], List, ap, subst, sym, ◌∙◌}
 use Rattle.std.specs.Prelude.{slice_get}
-use Rattle.kept_routes.specs.offers.Gathering.{Adds, OfEach}
+use Rattle.candidates.specs.Gathering.{Adds, OfEach}
 use Rattle.routes.specs.Said.{said_at}
 use Rattle.routes.specs.declared.offer.Offer.{Offer}
 use Rattle.external_updates.specs.Destinations.{IsBestTo, IsTo}

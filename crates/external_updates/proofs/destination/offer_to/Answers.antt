@@ -2,10 +2,10 @@ use Rattle.std.proofs.Common.{List, sym, subst}
 use Rattle.words.specs.declared.key.Key.{Key}
 use Rattle.words.specs.declared.route.Route.{Route}
 use Rattle.lsa.specs.declared.body.Body.{Body}
-use Rattle.kept_routes.specs.offers.Borders.{AreBelow, AreCloseBy, Ascend, AscendByRouter, HasLengths}
-use Rattle.kept_routes.specs.offers.declared.flagged.Flagged.{Flagged}
-use Rattle.kept_routes.specs.offers.Gathering.{IsJust}
-use Rattle.kept_routes.specs.offers.Sources.{OfExternal}
+use Rattle.candidates.specs.Borders.{AreBelow, AreCloseBy, Ascend, AscendByRouter, HasLengths}
+use Rattle.candidates.specs.declared.flagged.Flagged.{Flagged}
+use Rattle.candidates.specs.Gathering.{IsJust}
+use Rattle.candidates.specs.Sources.{OfExternal}
 use Rattle.external_updates.proofs.Best.{just_to}
 use Rattle.external_updates.proofs.destination.offer_to.Goals as goal
 

@@ -1,5 +1,5 @@
 use Rattle.std.proofs.Common.{arith}
-use Rattle.kept_routes.proofs.offers.Gathered.{adds_just, all_of_them, none_yet, one_more}
+use Rattle.candidates.proofs.Gathered.{adds_just, all_of_them, none_yet, one_more}
 use Rattle.external_updates.specs.Destinations.{IsTo}
 use Rattle.external_updates.proofs.destination.push_inner_to.Goals as goal
 

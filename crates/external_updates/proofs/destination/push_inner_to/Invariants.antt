@@ -1,5 +1,5 @@
 use Rattle.std.proofs.Common.{take}
-use Rattle.kept_routes.specs.offers.Gathering.{Adds, OfEach}
+use Rattle.candidates.specs.Gathering.{Adds, OfEach}
 use Rattle.external_updates.specs.Destinations.{IsTo}
 use Rattle.external_updates.proofs.destination.push_inner_to.Given as goal
 

@@ -1,5 +1,5 @@
 use Rattle.std.proofs.Common.{◌≡◌, true, false, take}
-use Rattle.kept_routes.specs.offers.Borders.{Ascend}
+use Rattle.candidates.specs.Borders.{Ascend}
 use Rattle.routes.specs.Candidates.{AreCandidates}
 use Rattle.routes.specs.Said.{Said, said_at}
 use Rattle.external_updates.specs.Placing.{AreAllAmong, AreHalfway}

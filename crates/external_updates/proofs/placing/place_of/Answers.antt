@@ -2,7 +2,7 @@ use Rattle.std.proofs.Common.{◌≡◌, rules}
 use Rattle.std.proofs.lemmas.Fn.{always_returns_same}
 use Rattle.words.specs.Orders.{network_cmp}
 use Rattle.words.specs.declared.route.Route.{Route}
-use Rattle.kept_routes.proofs.offers.Ordered.{searchable}
+use Rattle.candidates.proofs.Ordered.{searchable}
 use Rattle.external_updates.proofs.Networks.{is_gap, is_there}
 use Rattle.external_updates.proofs.placing.place_of.Goals as goal
 

@@ -1,7 +1,7 @@
 use Rattle.std.proofs.Common.{◌≡◌, length, sym, ap, ◌∙◌, subst, arith}
 use Rattle.events.specs.Routers.{Router}
-use Rattle.endings.specs.Full.{full_routers}
-use Rattle.self_originated.specs.Making.{interfaces_of}
+use Rattle.procedures.specs.Full.{full_routers}
+use Rattle.procedures.specs.Making.{interfaces_of}
 use Rattle.flood.specs.Parts.{HasInterface}
 use Rattle.flood.proofs.Made.{made_of_parts, on_ok}
 use Rattle.flood.proofs.making.make_event.Goals as goal

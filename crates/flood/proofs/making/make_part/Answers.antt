@@ -1,5 +1,5 @@
 use Rattle.std.proofs.Common.{sym, subst}
-use Rattle.self_originated.specs.Making.{Makes}
+use Rattle.procedures.specs.Making.{Makes}
 use Rattle.flood.specs.declared.part.Part.{Part}
 use Rattle.flood.specs.Parts.{after_part}
 use Rattle.flood.proofs.making.make_part.Goals as goal

@@ -2,7 +2,7 @@ use Rattle.std.proofs.Common.{sym, ◌∙◌, ap}
 use Rattle.std.specs.Prelude.{is_some}
 use Rattle.routes.specs.Said.{said_at}
 use Rattle.routes.specs.declared.node.Node.TheVariants.{ARouter}
-use Rattle.candidates.specs.shortest_paths.Reached.{way_in}
+use Rattle.candidates.specs.Reached.{way_in}
 use Rattle.kept_routes.proofs.Named.{the_some}
 use Rattle.kept_routes.proofs.externals.is_boundary.Goals as goal
 

@@ -2,7 +2,7 @@ use Rattle.std.proofs.Common.{◌≡◌, take}
 use Rattle.std.specs.List.{flat_map}
 use Rattle.flooding.specs.adjacency.Kept.{Kept}
 use Rattle.flooding.specs.received.Links.{Link}
-use Rattle.event_rooms.specs.events.Originations.{links_of}
+use Rattle.events.specs.Originations.{links_of}
 use Rattle.originations.proofs.router.router_body.Given as goal
 
 abbrev pub invariant-loop-link : goal.invariant-loop-link

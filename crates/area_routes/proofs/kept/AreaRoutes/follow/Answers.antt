@@ -1,12 +1,12 @@
 use Rattle.std.proofs.Common.{Option, ap, subst, sym, ◌∙◌}
 use Rattle.std.specs.Prelude.{IfSome}
 use Rattle.std.specs.Global.{Vec}
-use Rattle.kept_routes.specs.offers.Externals.{AreExternals}
-use Rattle.kept_routes.specs.offers.declared.externals.External.{External}
+use Rattle.candidates.specs.Externals.{AreExternals}
+use Rattle.candidates.specs.declared.externals.External.{External}
 use Rattle.area_routes.specs.Kept.{AreOffersOf, KeptRoutes, KnowsAnswered, ServesOnlyThen}
 use Rattle.area_routes.specs.Offers.{root_by}
 use Rattle.area_routes.proofs.Externals.{both_else, externals_after, same_but}
-use Rattle.tables.specs.routes.Said.{said_at}
+use Rattle.routes.specs.Said.{said_at}
 use Rattle.area_routes.proofs.kept.AreaRoutes.follow.Goals as goal
 
 pub follow_routes-requires-clause-routes : goal.follow_routes-requires-clause-routes

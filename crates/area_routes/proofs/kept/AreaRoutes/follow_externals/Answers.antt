@@ -9,9 +9,9 @@ use Rattle.area_routes.specs.declared.following.Next.{Next}
 use Rattle.area_routes.proofs.Candidates.{and_true, none_another}
 use Rattle.external_updates.specs.Placing.{HasAnother}
 use Rattle.kept_routes.specs.Kept.{IsWalkOf}
-use Rattle.tables.specs.routes.Candidates.{AreCandidates}
-use Rattle.tables.specs.routes.Said.{said_at}
-use Rattle.tables.specs.routes.declared.root.Root.{Root}
+use Rattle.routes.specs.Candidates.{AreCandidates}
+use Rattle.routes.specs.Said.{said_at}
+use Rattle.routes.specs.declared.root.Root.{Root}
 use Rattle.area_routes.proofs.kept.AreaRoutes.follow_externals.Goals as goal
 
 pub followed-next-requires-clause-walk : goal.followed-next-requires-clause-walk

@@ -1,5 +1,5 @@
 use mathlib.Core.Bool.{false≢true}
-use Rattle.tables.specs.routes.Said.{said_at}
+use Rattle.routes.specs.Said.{said_at}
 use Rattle.area_routes.proofs.Candidates.{inner_carried}
 use Rattle.area_routes.proofs.kept.AreaRoutes.follow_offers.Goals as goal
 

@@ -5,8 +5,8 @@ use Rattle.area_routes.specs.Offers.{root_by}
 use Rattle.area_routes.proofs.AfterExternals.{still_answered, still_inner, still_offers, still_walks}
 use Rattle.kept_routes.specs.Externals.{LeaveCandidates, OfferTheSame}
 use Rattle.kept_routes.specs.Kept.{IsWalkOf, KeptWalk}
-use Rattle.tables.specs.routes.Said.{said_at}
-use Rattle.tables.specs.routes.declared.root.Root.{Root}
+use Rattle.routes.specs.Said.{said_at}
+use Rattle.routes.specs.declared.root.Root.{Root}
 use Rattle.area_routes.proofs.kept.AreaRoutes.follow_routes.Goals as goal
 
 pub leaves_candidates-requires-clause-walk : goal.leaves_candidates-requires-clause-walk

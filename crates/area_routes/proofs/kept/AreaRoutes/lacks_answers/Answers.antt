@@ -5,11 +5,11 @@ use Rattle.words.specs.declared.route.Route.{Route}
 use Rattle.area_routes.specs.Kept.{AreInnerBy, KeptRoutes, KnowsExternals}
 use Rattle.area_routes.specs.Offers.{root_by}
 use Rattle.kept_routes.specs.Kept.{IsWalkOf}
-use Rattle.kept_routes.specs.offers.Externals.{AreExternals}
-use Rattle.kept_routes.specs.offers.declared.externals.External.{External}
-use Rattle.tables.specs.routes.Candidates.{AreCandidates}
-use Rattle.tables.specs.routes.Said.{said_at}
-use Rattle.tables.specs.routes.declared.root.Root.{Root}
+use Rattle.candidates.specs.Externals.{AreExternals}
+use Rattle.candidates.specs.declared.externals.External.{External}
+use Rattle.routes.specs.Candidates.{AreCandidates}
+use Rattle.routes.specs.Said.{said_at}
+use Rattle.routes.specs.declared.root.Root.{Root}
 use Rattle.area_routes.proofs.kept.AreaRoutes.lacks_answers.Goals as goal
 
 pub returns-in-Some-clause-lacks : goal.returns-in-Some-clause-lacks

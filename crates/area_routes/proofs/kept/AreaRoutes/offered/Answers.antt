@@ -2,8 +2,8 @@ use Rattle.std.proofs.Common.{◌∙◌, ap, subst, sym}
 use Rattle.std.specs.Prelude.{List}
 use Rattle.words.specs.declared.route.Route.{Route}
 use Rattle.area_routes.specs.Offers.{root_by}
-use Rattle.tables.specs.routes.Candidates.{AreCandidates}
-use Rattle.tables.specs.routes.Said.{said_at}
+use Rattle.routes.specs.Candidates.{AreCandidates}
+use Rattle.routes.specs.Said.{said_at}
 use Rattle.tables.specs.Rows.{rows_of}
 use Rattle.area_routes.proofs.kept.AreaRoutes.offered.Goals as goal
 

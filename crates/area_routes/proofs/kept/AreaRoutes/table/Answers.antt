@@ -2,8 +2,8 @@ use Rattle.std.proofs.Common.{subst, sym}
 use Rattle.std.specs.Prelude.{List}
 use Rattle.words.specs.declared.route.Route.{Route}
 use Rattle.area_routes.specs.Offers.{root_by}
-use Rattle.tables.specs.routes.Candidates.{AreCandidates}
-use Rattle.tables.specs.routes.Said.{said_at}
+use Rattle.routes.specs.Candidates.{AreCandidates}
+use Rattle.routes.specs.Said.{said_at}
 use Rattle.area_routes.proofs.kept.AreaRoutes.table.Goals as goal
 
 pub returns : goal.returns

@@ -1,7 +1,7 @@
 use Rattle.std.proofs.Common.{◌≤◌, length, ap, sym, subst, ◌∙◌}
 use Rattle.std.specs.FinMap as finite
 use Rattle.area_routes.proofs.Limits.{within}
-use Rattle.flood_laws.specs.event_rooms.RoomLaws.{IsRoomy}
+use Rattle.events.specs.RoomLaws.{IsRoomy}
 use Rattle.events.specs.Refusals.{exceeds}
 use Rattle.area_routes.specs.flooding.Kept.{RouterArea}
 use Rattle.flood.proofs.Kept.{begun}

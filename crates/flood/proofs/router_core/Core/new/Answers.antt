@@ -1,8 +1,8 @@
 use Rattle.std.proofs.Common.{◌≡◌, ◌≤◌, true, length, rules, sym, ap, ◌∙◌, subst}
 use Rattle.std.specs.FinMap as finite
 use Rattle.area_routes.proofs.Limits.{within}
-use Rattle.flood_laws.specs.event_rooms.RoomLaws.{IsRoomy}
-use Rattle.flood_laws.proofs.event_rooms.Roomy.{every_packet_has_room}
+use Rattle.events.specs.RoomLaws.{IsRoomy}
+use Rattle.events.proofs.Roomy.{every_packet_has_room}
 use Rattle.events.specs.Refusals.{exceeds}
 use Rattle.events.specs.Routers.{in_profile}
 use Rattle.flood_laws.specs.InOrder.{IsInOrder}

@@ -1,5 +1,5 @@
 use Rattle.std.proofs.Common.{sym, ap, ◌∙◌, subst}
-use Rattle.flood_laws.specs.event_rooms.RoomLaws.{IsRoomy}
+use Rattle.events.specs.RoomLaws.{IsRoomy}
 use Rattle.events.specs.Refusals.{exceeds}
 use Rattle.events.specs.Routers.{Router}
 use Rattle.flood_laws.specs.InOrder.{IsInOrder}

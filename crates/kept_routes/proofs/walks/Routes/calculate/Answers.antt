@@ -1,8 +1,8 @@
 use Rattle.std.proofs.Common.{subst, sym}
 use Rattle.candidates.specs.Inner.{AreInner}
-use Rattle.candidates.specs.offers.Ways.{AreWays}
+use Rattle.candidates.specs.Ways.{AreWays}
 use Rattle.routes.specs.Said.{said_at}
-use Rattle.candidates.specs.shortest_paths.Reached.{way_in}
+use Rattle.candidates.specs.Reached.{way_in}
 use Rattle.kept_routes.specs.Kept.{KeptWalk}
 use Rattle.kept_routes.proofs.walks.Routes.calculate.Goals as goal
 

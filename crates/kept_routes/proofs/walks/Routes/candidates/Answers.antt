@@ -1,9 +1,9 @@
 use Rattle.std.proofs.Common.{ap, subst, sym}
-use Rattle.candidates.specs.offers.Ways.{AreWays}
+use Rattle.candidates.specs.Ways.{AreWays}
 use Rattle.routes.specs.Candidates.{Offers}
 use Rattle.routes.specs.Said.{said_at}
 use Rattle.routes.specs.declared.root.Root.{Root}
-use Rattle.candidates.specs.shortest_paths.Reached.{way_in}
+use Rattle.candidates.specs.Reached.{way_in}
 use Rattle.kept_routes.specs.Kept.{KeptWalk}
 use Rattle.kept_routes.proofs.walks.Routes.candidates.Goals as goal
 

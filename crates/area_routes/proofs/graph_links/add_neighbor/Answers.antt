@@ -1,0 +1,24 @@
+use Rattle.std.proofs.Common.{◌≡◌, Some, Option, ℕ, subst}
+use Rattle.area_graph.proofs.Steps.{on_ok}
+use Rattle.area_graph.specs.Graphs.{Adds}
+use Rattle.area_graph.specs.Links.{IsExitTo}
+use Rattle.routes.specs.Said.{said_at}
+use Rattle.area_routes.specs.GraphLinks.{IsNeighbor, IsToNeighbor}
+use Rattle.area_routes.proofs.Neighbors.{to_neighbor}
+use Rattle.area_routes.proofs.graph_links.add_neighbor.Goals as goal
+
+pub returns-in-Some-clause-adds : goal.returns-in-Some-clause-adds
+returns-in-Some-clause-adds c =
+    let said = said_at c.args.at.now.moment c.args.at.now.db.now.present in
+    let root = c.args.root.now in
+    let nodes = c.args.at.now.nodes.now in
+    let router = c.args.router in
+    let told = c.args.told.now in
+    let to = c.in-Some.to in
+    let old = c.args.links.now.items in
+    let new = c.add_exits.new.links.items in
+    let F : ℕ → Type 0 = λ far. IsNeighbor said nodes far router (Some to) in
+    let O : Option ℕ → Type 0 = λ o. IsNeighbor said nodes c.new-far.result router o in
+    let at : IsNeighbor said nodes told.link_id router (Some to) = subst F c.new-far.ensures (subst O c.in-Some.is c.neighbor_at.ensures) in
+    on_ok c.add_exits.result (Adds (IsExitTo root router to told.metric told.link_data) old new) (Adds (IsToNeighbor said root nodes router told) old new)
+    (to_neighbor said root nodes router told to old new c.requires.nodes.ascend c.requires.is_kind c.requires.counts at) c.add_exits.ensures.adds

@@ -1,3 +1,0 @@
-mod Least
-mod Reached
-mod Offered

@@ -1,9 +1,0 @@
-use Rattle.std.proofs.Common.{List, sym, subst}
-use Rattle.offers.specs.Externals.{AreExternals}
-use Rattle.offers.specs.declared.externals.External.{External}
-use Rattle.routes.specs.Said.{said_at}
-use Rattle.candidates.proofs.routes_of.Goals as goal
-
-pub calculate-requires-clause-externals : goal.calculate-requires-clause-externals
-calculate-requires-clause-externals g c =
-    subst (λ (told : List External). AreExternals (said_at c.args.moment c.args.db.now.present) told) (sym c.deref.ensures.value) c.in_ok-externals.ensures

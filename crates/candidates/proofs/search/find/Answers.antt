@@ -1,0 +1,18 @@
+use Rattle.std.proofs.Common.{◌≡◌, rules}
+use Rattle.std.proofs.lemmas.Fn.{always_returns_same}
+use Rattle.words.specs.Orders.{network_cmp}
+use Rattle.words.specs.declared.route.Route.{Route}
+use Rattle.candidates.proofs.Ordered.{found_at, not_found, searchable}
+use Rattle.candidates.proofs.search.find.Goals as goal
+
+pub returns-in-Ok : goal.returns-in-Ok
+returns-in-Ok c =
+    let at = c.in-Ok.ensures.position (λ (y : Route). network_cmp y.prefix c.args.prefix)
+    (always_returns_same _ (λ a r. r ≡ network_cmp a.0.now.prefix c.args.prefix) _ (λ a r q k. search rules)) in
+    found_at c.args.routes.now c.args.prefix c.requires c.in-Ok.at c.index-routes-at.result c.in-Ok.ensures.bound at c.index-routes-at.is
+
+pub returns-in-Err : goal.returns-in-Err
+returns-in-Err c =
+    let at = c.in-Err.ensures.position (λ (y : Route). network_cmp y.prefix c.args.prefix)
+    (always_returns_same _ (λ a r. r ≡ network_cmp a.0.now.prefix c.args.prefix) _ (λ a r q k. search rules)) in
+    not_found c.args.routes.now c.args.prefix c.in-Err.field-0 (at (searchable c.args.routes.now c.args.prefix c.requires))

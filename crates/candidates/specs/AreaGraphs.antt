@@ -1,0 +1,22 @@
+-- The graph of an area with its nodes (RFC 2328, section 16.1).
+use Rattle.std.specs.Prelude.{◌≡◌, ◌≤◌, length}
+use Rattle.area_graph.specs.Graphs.{AreVertices}
+use Rattle.area_graph.specs.Nodes.{AreNodes, Ascend}
+use Rattle.routes.specs.Graphs.{IsGraph}
+use Rattle.routes.specs.Said.{Said}
+use Rattle.candidates.specs.declared.graph.AreaGraph.{AreaGraph}
+
+-- shortest paths can be searched for: the nodes stand in their order, each with a vertex, there are
+-- at most 16,384 of them, and each link leads to one
+pub record IsWalkable (graph : AreaGraph) : Type 0 where
+  pub interfaces : length graph.root.addresses ≤ 63
+  pub ascend : Ascend graph.nodes.items
+  pub count : length graph.vertices.items ≡ length graph.nodes.items
+  pub few : length graph.vertices.items ≤ 16384
+  pub lawful : IsGraph graph.vertices.items
+
+-- the nodes of a database, and the links between them that count from the graph's root
+pub record IsAreaGraph (said : Said) (graph : AreaGraph) : Type 0 where
+  pub nodes : AreNodes said graph.nodes.items
+  pub vertices : AreVertices said graph.root graph.nodes.items graph.vertices.items
+  pub walkable : IsWalkable graph

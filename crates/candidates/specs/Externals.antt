@@ -1,0 +1,65 @@
+-- What AS-external-LSAs tell of external destinations, apart from their keys (RFC 2328, sections
+-- 16.4 and A.4.5).
+use Rattle.std.specs.Prelude.{◌≡◌, ◌≢◌, ◌↔◌, ◌<◌, List, [], Some}
+use Rattle.std.specs.List.{Contains}
+use Rattle.words.specs.declared.key.Key.{Key}
+use Rattle.words.specs.declared.route.Route.{Route}
+use Rattle.lsa.specs.declared.body.Body.{Body}
+use Rattle.lsa.specs.declared.body.Body.TheVariants as body
+use Rattle.lsa.specs.declared.body.ExternalLsa.{ExternalLsa}
+use Rattle.routes.specs.Candidates.{external_offer}
+use Rattle.routes.specs.Offers.{IsPrefix}
+use Rattle.routes.specs.Said.{Said}
+use Rattle.routes.specs.declared.graph.Way.{Way}
+use Rattle.routes.specs.declared.offer.Offer.{Offer}
+use Rattle.routes.specs.declared.root.Root.{Root}
+use Rattle.candidates.specs.Borders.{IsOutwardBy}
+use Rattle.candidates.specs.declared.externals.External.{External}
+use Rattle.candidates.specs.declared.flagged.Flagged.{Flagged}
+
+-- the AS-external-LSA of this key tells it
+pub record TellsExternal (one : Key × Body) (e : External) : Type 0 where
+  pub is_type : one.0.ls_type ≡ 5
+  pub lsa : ExternalLsa
+  pub its : one.1 ≡ body.External lsa
+  pub is_prefix : IsPrefix one.0.link_state_id lsa.mask e.prefix
+  pub originator : e.originator ≡ one.0.advertising_router
+  pub kind : e.kind ≡ lsa.kind
+  pub metric : e.metric ≡ lsa.metric
+  pub forwarding : e.forwarding ≡ lsa.forwarding
+  pub tag : e.tag ≡ lsa.tag
+
+-- just what these LSAs tell
+abbrev pub AreToldBy : List (Key × Body) → List External → Type 0
+AreToldBy bodies told =
+    (e : External) → Contains told e
+    ↔ ((one : Key × Body) × Contains bodies one × TellsExternal one e)
+
+-- just what the LSAs that say something tell
+abbrev pub AreExternals : Said → List External → Type 0
+AreExternals said told =
+    (e : External) → Contains told e
+    ↔ ((one : Key × Body) × (said one.0 ≡ Some one.1) × TellsExternal one e)
+
+-- what is offered where this way leads out
+abbrev pub offer_by : External → Way → Offer
+offer_by e way =
+    external_offer e.kind e.prefix
+    (record {
+      mask = 0;
+      kind = e.kind;
+      metric = e.metric;
+      forwarding = e.forwarding;
+      tag = e.tag;
+      tos = [];
+    })
+    e.originator (record { distance = way.distance; hops = way.hops })
+
+-- what is offered by what is told: by another router, of a metric below LSInfinity
+pub record OfTold (root : Root) (routers : List Flagged) (told inner : List Route) (e : External)
+    (o : Offer) : Type 0 where
+  pub reachable : e.metric < 16777215
+  pub of_another : e.originator ≢ root.router
+  pub way : Way
+  pub is_way : IsOutwardBy routers told inner e.originator e.forwarding way
+  pub is : o ≡ offer_by e way

@@ -1,0 +1,86 @@
+//! Area border routers, AS boundary routers, and what summaries tell of these (RFC 2328, sections
+//! 16.2 and 16.4).
+ghost use Rattle.std.specs.Prelude.{◌≡◌, ◌<◌, IfSome};
+ghost use Rattle.candidates.specs.Borders.{
+  AreBelow,
+  AreCloseBy,
+  Ascend,
+  AscendByRouter,
+  IsBoundary,
+  IsCounted,
+  Tells,
+};
+ghost use Rattle.candidates.specs.Gathering.{IsJust};
+
+use crate::flagged::{BORDER, BOUNDARY, Flagged, flagged_way};
+use crate::offer::{host, inter, way_by};
+use crate::search::find;
+use lsa::{Body, SummaryLsa};
+use routes::{Offer, Root, Way};
+use words::{Key, Route, RouterId};
+
+// LSInfinity (RFC 2328, appendix B): what has this metric can't be reached.
+pub const LS_INFINITY: u32 = 0xff_ffff;
+
+/// The way to the area border router of a summary that counts.
+pub fn counted_border(
+    root: &Root,
+    routers: &[Flagged],
+    originator: RouterId,
+    lsa: &SummaryLsa,
+) -> Option<Way>
+    requires ascend { AscendByRouter routers.now }
+    requires close { AreCloseBy routers.now }
+    ensures just { IsJust (IsCounted root.now routers.now originator lsa.now) result }
+    ensures near { IfSome result (λ border. border.distance < 1073741824) }
+    ensures metric { IfSome result (λ _. lsa.now.metric < 16777215) }
+{
+    if lsa.metric >= LS_INFINITY || originator == root.router {
+        return None;
+    }
+    flagged_way(routers, 0, originator, BORDER)
+}
+
+/// What the summary of this key tells of an AS boundary router, as an offer of the router's name
+/// (RFC 2328, section 16.4).
+pub fn told_offer(root: &Root, routers: &[Flagged], key: &Key, body: &Body) -> Option<Offer>
+    requires ascend { AscendByRouter routers.now }
+    requires close { AreCloseBy routers.now }
+    ensures { IsJust (Tells root.now routers.now (key.now, body.now)) result }
+{
+    if key.ls_type != 4 {
+        return None;
+    }
+    let Body::RouterSummary(lsa) = body else {
+        return None;
+    };
+    let border = counted_border(root, routers, key.advertising_router, lsa)?;
+    Some(inter(
+        host(key.link_state_id.number()),
+        border.distance + lsa.metric,
+        border.hops,
+    ))
+}
+
+/// The way to an AS boundary router: within the area where there is one, else what is told. Among
+/// the routers of the area it is looked for at this place first.
+pub fn boundary_way(
+    routers: &[Flagged],
+    place: usize,
+    told: &[Route],
+    router: RouterId,
+) -> Option<Way>
+    requires routers { AscendByRouter routers.now × AreCloseBy routers.now }
+    requires ascend { Ascend told.now }
+    requires few { AreBelow told.now }
+    ensures just { IsJust (IsBoundary routers.now told.now router) result }
+    ensures near { IfSome result (λ way. way.distance < 2147483648) }
+{
+    match flagged_way(routers, place, router, BOUNDARY) {
+        Some(way) => Some(way),
+        None => {
+            let route = find(told, host(router.number()))?;
+            Some(way_by(route))
+        }
+    }
+}

@@ -1,0 +1,151 @@
+//! Of all that a database offers, the best for each prefix (RFC 2328, section 16).
+ghost use Rattle.std.specs.Prelude.{◌≡◌, ◌≤◌, IfOk, length};
+ghost use Rattle.std.specs.FinMap as finite;
+ghost use Rattle.std.specs.List.{Contains};
+ghost use Rattle.candidates.specs.Inner.{AreInner, AreSearchable};
+ghost use Rattle.words.specs.declared.route.Route.{Route as RouteValue};
+ghost use Rattle.routes.specs.Candidates.{AreCandidates, Offers};
+ghost use Rattle.routes.specs.declared.offer.Offer.{Offer};
+ghost use Rattle.routes.specs.Said.{Said, said_at};
+ghost use Rattle.candidates.specs.Externals.{AreExternals};
+ghost use Rattle.candidates.specs.Ways.{AreNear, AreWays, Ways as WaysTo};
+
+use crate::externals::{External, Inner};
+use crate::inner::{InnerRoutes, inner_of};
+use crate::laws::every_offer_has_a_candidate;
+use crate::order::routes_of_offers;
+use crate::passes::{externals_of, push_externals};
+use crate::walks::walk;
+use crate::ways::Ways;
+use lsdb::Lsdb;
+use routes::Root;
+use std::alloc::{AllocError, Global};
+use words::{Route, Second};
+
+/// The candidates of a database at a moment: for each prefix that anything offers one route, and no
+/// others, in the order of the prefixes (RFC 2328, section 16). The database has at most 16,384
+/// LSAs, the root at most 63 interfaces.
+///
+/// # Errors
+/// Where memory for the walk, the offers or the routes is refused.
+pub fn candidates(
+    alloc: Global,
+    db: &Lsdb,
+    root: &Root,
+    moment: Second,
+) -> Result<Vec<Route>, AllocError>
+    requires interfaces { length root.now.addresses ≤ 63 }
+    requires size { finite.len db.now.present ≤ 16384 }
+    ensures candidates { IfOk result (λ routes.
+        AreCandidates (said_at moment db.now.present) root.now routes.items) }
+    ensures every { IfOk result (λ routes. (o : Offer)
+        → Offers (said_at moment db.now.present) root.now o → (r : RouteValue)
+        × Contains routes.items r × (r.prefix ≡ o.prefix)) }
+{
+    let reached = walk(alloc, db, root, moment)?;
+    let routes = routes_of(alloc, db, root, moment, &reached)?;
+    every_offer_has_a_candidate();
+    Ok(routes)
+}
+
+/// The candidates of a database at a moment, where these are the ways of its links: for each prefix
+/// that anything offers one route, in the order of the prefixes (RFC 2328, section 16). The time is
+/// that of one walk over the LSAs, of a search by halving for each summary and external
+/// destination, and of two sorts of the offers.
+///
+/// # Errors
+/// Where memory for what LSAs say, the offers or the routes is refused.
+pub fn routes_of<W: Ways>(
+    alloc: Global,
+    db: &Lsdb,
+    root: &Root,
+    moment: Second,
+    ways: &W,
+) -> Result<Vec<Route>, AllocError>
+    requires near { AreNear (W.ways ways.now) }
+    requires ways { AreWays (said_at moment db.now.present) root.now (W.ways ways.now) }
+    ensures { IfOk result (λ routes. AreCandidates (said_at moment db.now.present) root.now
+        routes.items) }
+{
+    let externals = externals_at(alloc, db, moment)?;
+    let made = calculate(alloc, db, root, moment, ways, &externals)?;
+    Ok(made.routes)
+}
+
+/// Candidates, with what the LSAs of types 1 to 4 give, on which external destinations rest.
+#[derive(Drop)]
+pub struct Calculated {
+    pub inner: InnerRoutes,
+    pub routes: Vec<Route>,
+}
+
+/// What the AS-external-LSAs of a database tell of external destinations at a moment.
+///
+/// # Errors
+/// Where memory for it, or for what LSAs say, is refused.
+pub fn externals_at(alloc: Global, db: &Lsdb, moment: Second) -> Result<Vec<External>, AllocError>
+    ensures { IfOk result (λ told. AreExternals (said_at moment db.now.present) told.items) }
+{
+    let bodies = db.bodies_at(alloc, None, moment)?;
+    let told = externals_of(alloc, &bodies)?;
+    Ok(told)
+}
+
+/// The candidates of a database at a moment as `routes_of` gives them, with what those to external
+/// destinations rest on, where it is known what AS-external-LSAs tell at the moment.
+///
+/// # Errors
+/// Where memory for what LSAs say, the offers or the routes is refused.
+pub fn calculate<W: Ways>(
+    alloc: Global,
+    db: &Lsdb,
+    root: &Root,
+    moment: Second,
+    ways: &W,
+    externals: &[External],
+) -> Result<Calculated, AllocError>
+    requires near { AreNear (W.ways ways.now) }
+    requires ways { AreWays (said_at moment db.now.present) root.now (W.ways ways.now) }
+    requires externals { AreExternals (said_at moment db.now.present) externals.now }
+    ensures routes { IfOk result (λ made. AreCandidates (said_at moment db.now.present) root.now
+        made.routes.items) }
+    ensures inner { IfOk result (λ made. AreInner (said_at moment db.now.present) root.now
+        (W.ways ways.now) made.inner) }
+    ensures searchable { IfOk result (λ made. AreSearchable made.inner) }
+{
+    let bodies = db.bodies_at(alloc, Some(4), moment)?;
+    let inner = inner_of(alloc, root, ways, &bodies)?;
+    let routes = with_externals(alloc, root, &inner, externals)?;
+    Ok(Calculated { inner, routes })
+}
+
+// The routes of what these offer and of what is offered beside it by what AS-external-LSAs tell:
+// where these tell nothing, the networks.
+fn with_externals(
+    alloc: Global,
+    root: &Root,
+    inner: &InnerRoutes,
+    externals: &[External],
+) -> Result<Vec<Route>, AllocError>
+    requires { AreSearchable inner.now }
+    ensures { IfOk result (λ routes. (said : Said) (ways : WaysTo) → AreWays said root.now ways
+        → AreInner said root.now ways inner.now → AreExternals said externals.now
+        → AreCandidates said root.now routes.items) }
+{
+    if externals.is_empty() {
+        let networks = Vec::from_slice(alloc, &inner.networks)?;
+        return Ok(networks);
+    }
+    let by = Inner {
+        routers: &inner.told,
+        flagged: &inner.flagged,
+        networks: &inner.networks,
+        lengths: &inner.lengths,
+    };
+    let most = inner.offers.len().saturating_add(externals.len());
+    let mut offers = Vec::with_capacity(alloc, most)?;
+    offers.extend_from_slice(&inner.offers)?;
+    push_externals(alloc, root, &by, externals, &mut offers)?;
+    let routes = routes_of_offers(alloc, &mut offers)?;
+    Ok(routes)
+}

@@ -1,0 +1,125 @@
+//! What AS-external-LSAs offer (RFC 2328, section 16.4).
+ghost use Rattle.std.specs.Prelude.{◌≡◌, ◌<◌, IfSome};
+ghost use Rattle.candidates.specs.Borders.{
+  AreBelow,
+  AreCloseBy,
+  Ascend,
+  AscendByRouter,
+  HasLengths,
+  IsOutwardBy,
+};
+ghost use Rattle.candidates.specs.Externals.{OfTold, TellsExternal};
+ghost use Rattle.candidates.specs.Gathering.{IsJust};
+ghost use Rattle.candidates.specs.Sources.{OfExternal};
+
+use crate::borders::{LS_INFINITY, boundary_way};
+use crate::flagged::Flagged;
+use crate::gathering::network_of;
+use crate::offer::{external, way_by};
+use crate::places::expected_at;
+use crate::search::longest_match;
+use lsa::Body;
+use routes::{Offer, Root, Way};
+use words::{Address, ExternalType, Key, Prefix, Route, RouterId};
+
+/// What external destinations are reached by: AS boundary routers that summaries tell of, by their
+/// names, and the networks within and between areas, both in the order of their prefixes.
+#[derive(Drop)]
+pub struct Inner<'a> {
+    pub routers: &'a [Route],
+    /// The area border routers and AS boundary routers of the area, in the order of their Router
+    /// IDs.
+    pub flagged: &'a [Flagged],
+    pub networks: &'a [Route],
+    /// Which lengths the networks' prefixes have.
+    pub lengths: &'a [bool; 33],
+}
+
+/// What an AS-external-LSA tells of a destination (RFC 2328, section A.4.5).
+#[derive(Clone, Copy, Debug)]
+pub struct External {
+    pub prefix: Prefix,
+    pub originator: RouterId,
+    pub kind: ExternalType,
+    /// At most 0xffffff (LSInfinity), which says that it can't be reached.
+    pub metric: u32,
+    /// Where its traffic goes, or 0.0.0.0 for the originator.
+    pub forwarding: Address,
+    pub tag: u32,
+}
+
+/// What the AS-external-LSA of this key tells, if it is one whose mask gives a network.
+pub fn told_external(key: &Key, body: &Body) -> Option<External>
+    ensures { IsJust (TellsExternal (key.now, body.now)) result }
+{
+    if key.ls_type != 5 {
+        return None;
+    }
+    let Body::External(lsa) = body else {
+        return None;
+    };
+    let prefix = network_of(key, lsa.mask)?;
+    Some(External {
+        prefix,
+        originator: key.advertising_router,
+        kind: lsa.kind,
+        metric: lsa.metric,
+        forwarding: lsa.forwarding,
+        tag: lsa.tag,
+    })
+}
+
+// The way to an external destination: to its forwarding address, or to its originator where that is
+// 0.0.0.0. The originator is looked for at this place first.
+fn outward_way(
+    inner: &Inner<'_>,
+    place: usize,
+    originator: RouterId,
+    forwarding: Address,
+) -> Option<Way>
+    requires flagged { AscendByRouter inner.now.flagged.now × AreCloseBy inner.now.flagged.now }
+    requires routers { Ascend inner.now.routers.now × AreBelow inner.now.routers.now }
+    requires networks { Ascend inner.now.networks.now × AreBelow inner.now.networks.now }
+    requires lengths { HasLengths inner.now.networks.now inner.now.lengths.now }
+    ensures just { IsJust (IsOutwardBy inner.now.flagged.now inner.now.routers.now
+        inner.now.networks.now originator forwarding) result }
+    ensures near { IfSome result (λ way. way.distance < 2147483648) }
+{
+    let boundary = boundary_way(inner.flagged, place, inner.routers, originator)?;
+    if forwarding.is_unspecified() {
+        return Some(boundary);
+    }
+    let route = longest_match(inner.networks, inner.lengths, forwarding)?;
+    Some(way_by(route))
+}
+
+/// What is offered by what an AS-external-LSA tells. These are the places where its originator is
+/// looked for first.
+pub fn offer_told(root: &Root, inner: &Inner<'_>, places: &[u16], told: &External) -> Option<Offer>
+    requires flagged { AscendByRouter inner.now.flagged.now × AreCloseBy inner.now.flagged.now }
+    requires routers { Ascend inner.now.routers.now × AreBelow inner.now.routers.now }
+    requires networks { Ascend inner.now.networks.now × AreBelow inner.now.networks.now }
+    requires lengths { HasLengths inner.now.networks.now inner.now.lengths.now }
+    ensures { IsJust (OfTold root.now inner.now.flagged.now inner.now.routers.now
+        inner.now.networks.now told.now) result }
+{
+    if told.metric >= LS_INFINITY || told.originator == root.router {
+        return None;
+    }
+    let place = expected_at(places, told.originator);
+    let way = outward_way(inner, place, told.originator, told.forwarding)?;
+    Some(external(told, way))
+}
+
+/// What an AS-external-LSA offers.
+pub fn external_offer(root: &Root, inner: &Inner<'_>, key: &Key, body: &Body) -> Option<Offer>
+    requires flagged { AscendByRouter inner.now.flagged.now × AreCloseBy inner.now.flagged.now }
+    requires routers { Ascend inner.now.routers.now × AreBelow inner.now.routers.now }
+    requires networks { Ascend inner.now.networks.now × AreBelow inner.now.networks.now }
+    requires lengths { HasLengths inner.now.networks.now inner.now.lengths.now }
+    ensures { IsJust (OfExternal root.now inner.now.flagged.now inner.now.routers.now
+        inner.now.networks.now (key.now, body.now)) result }
+{
+    let told = told_external(key, body)?;
+    offer_told(root, inner, &[], &told)
+}

@@ -1,0 +1,33 @@
+//! Offers in a list, as they are found.
+ghost use Rattle.std.specs.Prelude.{◌≡◌, Some, OnOk};
+ghost use Rattle.candidates.specs.Gathering.{Adds, IsJust};
+ghost use Rattle.routes.specs.Offers.{IsPrefix};
+
+use routes::Offer;
+use std::alloc::AllocError;
+use words::{Address, Key, Prefix};
+
+/// Adds an offer, if there is one.
+pub fn push_offer(offers: &mut Vec<Offer>, offer: Option<Offer>) -> Result<(), AllocError>
+    ensures { OnOk result (Adds offers.old.items offers.new.items (λ o. offer ≡ Some o)) }
+{
+    if let Some(offer) = offer {
+        offers.push(offer)?;
+    }
+    Ok(())
+}
+
+/// The network of an address under a mask, or None where a zero bit of the mask stands before a
+/// one.
+pub fn network_under(address: Address, mask: Address) -> Option<Prefix>
+    ensures { IsJust (IsPrefix address mask) result }
+{
+    Prefix::under_mask(address, mask)
+}
+
+/// The network of a key's Link State ID under a mask.
+pub fn network_of(key: &Key, mask: Address) -> Option<Prefix>
+    ensures { IsJust (IsPrefix key.now.link_state_id mask) result }
+{
+    network_under(Address::new(key.link_state_id.number()), mask)
+}

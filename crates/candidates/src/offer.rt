@@ -1,0 +1,85 @@
+//! Offers of each kind, and routers as networks of their own.
+ghost use Rattle.std.specs.Prelude.{◌≡◌, ◌<◌};
+ghost use Rattle.routes.specs.Offers.{intra};
+ghost use Rattle.routes.specs.Summaries.{inter};
+ghost use Rattle.candidates.specs.Borders.{host, way_by};
+ghost use Rattle.candidates.specs.Externals.{offer_by};
+
+use crate::externals::External;
+use routes::{Offer, Way};
+use words::{Address, ExternalType, Hops, Prefix, Route, RouteKind, RouterId};
+
+/// An offer within the area.
+pub fn intra(prefix: Prefix, cost: u32, hops: u64) -> Offer
+    ensures { result ≡ intra prefix cost hops }
+{
+    Offer {
+        prefix,
+        kind: RouteKind::Intra,
+        cost,
+        distance: 0,
+        originator: RouterId::UNSPECIFIED,
+        tag: 0,
+        hops: Hops::from_bits(hops),
+    }
+}
+
+/// An offer of an area border router.
+pub fn inter(prefix: Prefix, cost: u32, hops: u64) -> Offer
+    ensures { result ≡ inter prefix cost hops }
+{
+    Offer {
+        prefix,
+        kind: RouteKind::Inter,
+        cost,
+        distance: 0,
+        originator: RouterId::UNSPECIFIED,
+        tag: 0,
+        hops: Hops::from_bits(hops),
+    }
+}
+
+/// An offer of an AS boundary router, where this way leads to it or to its forwarding address.
+pub fn external(told: &External, way: Way) -> Offer
+    requires near { way.distance < 2147483648 }
+    requires metric { told.now.metric < 16777215 }
+    ensures { result ≡ offer_by told.now way }
+{
+    match told.kind {
+        ExternalType::Type1 => Offer {
+            prefix: told.prefix,
+            kind: RouteKind::External1,
+            cost: way.distance + told.metric,
+            distance: 0,
+            originator: told.originator,
+            tag: told.tag,
+            hops: Hops::from_bits(way.hops),
+        },
+        ExternalType::Type2 => Offer {
+            prefix: told.prefix,
+            kind: RouteKind::External2,
+            cost: told.metric,
+            distance: way.distance,
+            originator: told.originator,
+            tag: told.tag,
+            hops: Hops::from_bits(way.hops),
+        },
+    }
+}
+
+/// The router's name as a network of one address, by which it stands in a list of routes.
+pub fn host(router: u32) -> Prefix
+    ensures { result ≡ host router }
+{
+    Prefix::under(Address::new(router), 32).unwrap()
+}
+
+/// The way that a route stands for.
+pub fn way_by(route: Route) -> Way
+    ensures { result ≡ way_by route }
+{
+    Way {
+        distance: route.cost,
+        hops: route.hops.bits(),
+    }
+}

@@ -1,0 +1,80 @@
+//! The nodes of a database, each with its way.
+ghost use Rattle.std.specs.Prelude.{◌≡◌, ℕ, ◌<◌, length, IfOk, IfSome, IfNone, Some, slice_get};
+ghost use Rattle.area_graph.specs.Nodes.{Ascend};
+ghost use Rattle.candidates.specs.Reached.{alone, way_in};
+
+use crate::ways::Ways;
+use area_graph::{Slots, is_before};
+use routes::{Node, Root, Way};
+use std::alloc::{AllocError, Global};
+use std::marker::Model;
+
+/// The nodes of a database and the ways to those that walks from the root lead to, as `walk` found
+/// them. It doesn't look at the database again, so it serves for as long as the LSAs of types 1 and
+/// 2 say the same. Clauses see the lists of both, the nodes in order.
+#[derive(Debug, Drop)]
+pub struct Reached {
+    nodes: Vec<Node>,
+    slots: Slots,
+    // the way to the node at the same place
+    ways: Vec<Option<Way>>,
+}
+
+impl Model for Reached {
+    ghost use Rattle.candidates.specs.Reached.{AreBeside, NodeWays};
+
+    ghost Value = { NodeWays };
+
+    ghost view = { λ a. record { nodes = a.nodes.items; ways = a.ways.items } };
+
+    ghost invariant = { λ a. AreBeside (record { nodes = a.nodes.items; ways = a.ways.items }) };
+}
+
+impl Reached {
+    // The nodes with their slots and the ways that stand beside them.
+    pub(crate) fn new(nodes: Vec<Node>, slots: Slots, ways: Vec<Option<Way>>) -> Self
+        requires ascend { Ascend nodes.items }
+        requires count { length ways.items ≡ length nodes.items }
+        ensures { result ≡ record { nodes = nodes.items; ways = ways.items } }
+    {
+        Reached { nodes, slots, ways }
+    }
+}
+
+impl Ways for Reached {
+    ghost ways = { λ a node. way_in a node };
+
+    fn way_to(&self, node: &Node) -> Option<Way> {
+        let at = find(&self.nodes, &self.slots, node)?;
+        self.ways[at]
+    }
+}
+
+/// The place of a node, found where it is expected or by halving.
+pub fn find(nodes: &[Node], slots: &Slots, node: &Node) -> Option<usize>
+    requires { Ascend nodes.now }
+    ensures within { IfSome result (λ at. at < length nodes.now) }
+    ensures found { IfSome result (λ at. slice_get nodes.now at ≡ Some node.now) }
+    ensures missing { IfNone result ((at : ℕ) → slice_get nodes.now at ≡ Some node.now → ⊥) }
+{
+    let at = slots.place_of(nodes, node);
+    if at == nodes.len() || is_before(node, &nodes[at]) {
+        return None;
+    }
+    Some(at)
+}
+
+/// The root at distance 0, by no interface, and nothing else.
+pub fn root_alone(alloc: Global, root: &Root) -> Result<Reached, AllocError>
+    ensures { IfOk result (λ reached. reached ≡ alone root.now) }
+{
+    let mut nodes = Vec::new(alloc);
+    nodes.push(Node::ARouter(root.router))?;
+    let mut ways = Vec::new(alloc);
+    ways.push(Some(Way {
+        distance: 0,
+        hops: 0,
+    }))?;
+    let slots = Slots::none(alloc);
+    Ok(Reached::new(nodes, slots, ways))
+}

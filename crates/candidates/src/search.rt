@@ -1,0 +1,65 @@
+//! Routes looked up in a list that ascends by prefix.
+ghost use Rattle.std.specs.Prelude.{◌≡◌, ◌<◌, ◌≤◌};
+ghost use Rattle.candidates.specs.Borders.{Ascend, HasLengths, IsFound, IsLongest, IsMatch};
+ghost use Rattle.candidates.specs.Gathering.{IsJust};
+
+use words::{Address, Prefix, Route};
+
+/// The route for a prefix, found by halving.
+pub fn find(routes: &[Route], prefix: Prefix) -> Option<Route>
+    requires { Ascend routes.now }
+    ensures { IsJust (IsFound routes.now prefix) result }
+{
+    match routes.binary_search_by(|route| route.prefix.compare(&prefix)) {
+        Ok(at) => Some(routes[at]),
+        Err(_) => None,
+    }
+}
+
+/// Marks the lengths of the routes' prefixes, so that others need not be looked for.
+pub fn lengths_of(routes: &[Route]) -> [bool; 33]
+    ensures { HasLengths routes.now result }
+{
+    let mut lengths = [false; 33];
+    for route in routes {
+        lengths[usize::from(route.prefix.length())] = true;
+    }
+    lengths
+}
+
+// The route of this length whose network has the address, where some route has the length.
+fn match_of_length(
+    routes: &[Route],
+    lengths: &[bool; 33],
+    address: Address,
+    length: u8,
+) -> Option<Route>
+    requires ascend { Ascend routes.now }
+    requires lengths { HasLengths routes.now lengths.now }
+    requires length { length ≤ 32 }
+    ensures { IsJust (IsMatch routes.now address length) result }
+{
+    if !lengths[usize::from(length)] {
+        return None;
+    }
+    let route = find(routes, Prefix::under(address, length)?)?;
+    Some(route)
+}
+
+/// The route of the longest prefix that the address lies in: the lengths that occur are tried, the
+/// longest first.
+pub fn longest_match(routes: &[Route], lengths: &[bool; 33], address: Address) -> Option<Route>
+    requires ascend { Ascend routes.now }
+    requires lengths { HasLengths routes.now lengths.now }
+    ensures { IsJust (IsLongest routes.now address) result }
+{
+    let mut length = 33;
+    while length > 0 {
+        length -= 1;
+        match match_of_length(routes, lengths, address, length) {
+            Some(route) => return Some(route),
+            None => {}
+        }
+    }
+    None
+}

@@ -1,0 +1,53 @@
+//! The walk itself.
+ghost use Rattle.std.specs.Prelude.{◌≤◌, length, IfOk};
+ghost use Rattle.std.specs.FinMap as finite;
+ghost use Rattle.routes.specs.Said.{said_at};
+ghost use Rattle.candidates.specs.Ways.{AreNear, AreWays};
+ghost use Rattle.candidates.specs.Reached.{way_in};
+
+use crate::graph::AreaGraph;
+use crate::reached::{Reached, root_alone};
+use crate::way_out::has_no_way_out;
+use lsdb::Lsdb;
+use routes::Root;
+use std::alloc::{AllocError, Global};
+use words::Second;
+
+/// The ways to all nodes that walks over the links of a database lead to: for each its least cost,
+/// and exactly the interfaces of the first links of all least walks (RFC 2328, section 16.1). Where
+/// the root's router-LSA isn't there, is at MaxAge or has no link to a router or a transit network,
+/// the root alone is reached.
+///
+/// The database has at most 16,384 LSAs, the root at most 63 interfaces. The time is that of two
+/// walks over the LSAs of routers and networks, a look-up for each link and the search for least
+/// walks; where the root has no such link, that of one look-up.
+///
+/// # Errors
+/// Where memory for the nodes, the graph or the ways is refused.
+pub fn walk(alloc: Global, db: &Lsdb, root: &Root, moment: Second) -> Result<Reached, AllocError>
+    requires interfaces { length root.now.addresses ≤ 63 }
+    requires size { finite.len db.now.present ≤ 16384 }
+    ensures ways { IfOk result (λ reached. AreWays (said_at moment db.now.present) root.now
+        (way_in reached)) }
+    ensures near { IfOk result (λ reached. AreNear (way_in reached)) }
+{
+    if has_no_way_out(db, root, moment) {
+        let reached = root_alone(alloc, root)?;
+        Ok(reached)
+    } else {
+        walk_on(alloc, db, root, moment)
+    }
+}
+
+// The same by the whole graph.
+fn walk_on(alloc: Global, db: &Lsdb, root: &Root, moment: Second) -> Result<Reached, AllocError>
+    requires interfaces { length root.now.addresses ≤ 63 }
+    requires size { finite.len db.now.present ≤ 16384 }
+    ensures ways { IfOk result (λ reached. AreWays (said_at moment db.now.present) root.now
+        (way_in reached)) }
+    ensures near { IfOk result (λ reached. AreNear (way_in reached)) }
+{
+    let graph = AreaGraph::new(alloc, db, root, moment)?;
+    let reached = graph.walk(alloc)?;
+    Ok(reached)
+}

@@ -1,0 +1,43 @@
+//! Whether the root can reach any other node.
+ghost use Rattle.std.specs.Prelude.{◌≡◌, IsTrue};
+ghost use Rattle.std.specs.List.{list_all};
+ghost use Rattle.routes.specs.Said.{said_at};
+ghost use Rattle.candidates.specs.Alone.{HasNoWayOut, leads_nowhere};
+
+use lsa::{Body, Link, LinkKind, RouterLsa};
+use lsdb::Lsdb;
+use routes::Root;
+use words::{Key, LinkStateId, Second};
+
+// Tells whether the link is to no router and no transit network.
+fn leads_nowhere(link: &Link) -> bool
+    ensures { result ≡ leads_nowhere link.now.kind }
+{
+    match link.kind {
+        LinkKind::PointToPoint | LinkKind::Transit => false,
+        LinkKind::Stub | LinkKind::Virtual => true,
+    }
+}
+
+fn all_lead_nowhere(lsa: &RouterLsa) -> bool
+    ensures { result ≡ list_all (λ link. leads_nowhere link.kind) lsa.now.links }
+{
+    let links = lsa.links.as_slice();
+    links.iter().all(|link| leads_nowhere(link))
+}
+
+/// Tells whether the root's router-LSA has stub links and virtual links alone, as before its first
+/// neighbor is Full. While a database is loaded, most walks are asked for then.
+pub fn has_no_way_out(db: &Lsdb, root: &Root, moment: Second) -> bool
+    ensures { IsTrue result → HasNoWayOut (said_at moment db.now.present) root.now.router }
+{
+    let key = Key {
+        ls_type: 1,
+        link_state_id: LinkStateId::new(root.router.number()),
+        advertising_router: root.router,
+    };
+    match db.body_at(moment, &key) {
+        Some(Body::Router(lsa)) => all_lead_nowhere(lsa),
+        _ => false,
+    }
+}

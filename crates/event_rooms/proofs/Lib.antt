@@ -1,5 +1,0 @@
-pub mod Packings
-pub mod Rooms
-pub mod Fitting
-pub mod Walk
-pub mod Roomy

@@ -1,4 +1,0 @@
-pub mod Fronts
-pub mod Keys
-pub mod Neighbors
-pub mod Stay

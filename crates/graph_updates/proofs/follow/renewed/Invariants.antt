@@ -1,8 +1,0 @@
-use Rattle.std.proofs.Common.{take}
-use Rattle.graph_updates.proofs.Stay.{AreEither}
-use Rattle.routes.specs.Said.{said_at}
-use Rattle.graph_updates.proofs.follow.renewed.Given as goal
-
-abbrev pub invariant-loop-place : goal.invariant-loop-place
-invariant-loop-place l =
-    AreEither (said_at l.fn.before l.fn.db.settled) (said_at l.fn.moment l.fn.db.present) l.fn.graph.root l.fn.graph.nodes.items (take l.place-index l.places) l.vertices.items

@@ -1,5 +1,0 @@
-use Rattle.hook_laws.proofs.OneDestination.{answers_reach_one_destination}
-use Rattle.hook_laws.proofs.answers_reach_one_destination.Goals as goal
-
-pub returns : goal.returns
-returns c = answers_reach_one_destination

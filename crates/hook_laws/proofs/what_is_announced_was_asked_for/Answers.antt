@@ -1,5 +1,0 @@
-use Rattle.hook_laws.proofs.Announced.{what_is_announced_was_asked_for}
-use Rattle.hook_laws.proofs.what_is_announced_was_asked_for.Goals as goal
-
-pub returns : goal.returns
-returns c = what_is_announced_was_asked_for

@@ -1,3 +1,0 @@
-pub mod Topologies
-pub mod Laws
-pub mod Worked

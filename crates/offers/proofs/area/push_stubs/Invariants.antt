@@ -1,7 +1,0 @@
-use Rattle.std.proofs.Common.{take}
-use Rattle.offers.specs.Gathering.{Adds, AreCheap, OfEach}
-use Rattle.offers.specs.Sources.{IsStub}
-use Rattle.offers.proofs.area.push_stubs.Given as goal
-
-abbrev pub invariant-loop-link : goal.invariant-loop-link
-invariant-loop-link l = Adds l.fn.offers.items l.offers.items (OfEach (IsStub l.way) (take l.link-index l.links)) × (AreCheap l.fn.offers.items → AreCheap l.offers.items)

@@ -1,6 +1,0 @@
-use Rattle.std.proofs.Common.{take}
-use Rattle.offers.specs.Externals.{AreToldBy}
-use Rattle.offers.proofs.passes.externals_of.Given as goal
-
-abbrev pub invariant-loop-one : goal.invariant-loop-one
-invariant-loop-one l = AreToldBy (take l.one-index l.bodies) l.all.items

@@ -1,7 +1,0 @@
-use Rattle.std.proofs.Common.{[], take}
-use Rattle.offers.specs.Gathering.{Adds, AreCheap, OfEach}
-use Rattle.offers.specs.Sources.{IsInner}
-use Rattle.offers.proofs.passes.inner_offers.Given as goal
-
-abbrev pub invariant-loop-one : goal.invariant-loop-one
-invariant-loop-one g l = Adds [] l.offers.items (OfEach (IsInner l.root (g.W.Ways.ways l.ways) l.routers) (take l.one-index l.bodies)) × AreCheap l.offers.items

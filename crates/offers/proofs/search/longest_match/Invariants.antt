@@ -1,9 +1,0 @@
-use Rattle.std.proofs.Common.{◌≤◌}
-use Rattle.offers.proofs.Ordered.{AreShorter}
-use Rattle.offers.proofs.search.longest_match.Given as goal
-
-abbrev pub invariant-loop-length : goal.invariant-loop-length
-invariant-loop-length l = AreShorter l.routes l.address l.length × (l.length ≤ 33)
-
-abbrev pub decreases-loop-length : goal.decreases-loop-length
-decreases-loop-length l = l.length

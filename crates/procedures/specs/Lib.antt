@@ -1,0 +1,7 @@
+-- what a part of an event makes of the router, for those above
+pub use Rattle.router_state.specs.Making
+pub mod Wanted
+pub mod Received
+pub mod TickParts
+pub mod Full
+pub mod EndingParts

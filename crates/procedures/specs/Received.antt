@@ -1,0 +1,39 @@
+-- What is asked of a packet and of the LSAs of an Update.
+use Rattle.std.specs.Prelude.{Bool, true, false, ◌==◌, [], Option, None, Some}
+use Rattle.words.specs.Numbers.{InterfaceNumber, Moment, RouterNumber}
+use Rattle.adjacency.specs.lsdb.Headers.{Lsa}
+use Rattle.adjacency.specs.Neighbors.{is_exchange_or_later}
+use Rattle.adjacency.specs.declared.state.State.{State}
+use Rattle.events.specs.received.Cases.{Case}
+use Rattle.events.specs.received.Updates.{goes_on}
+use Rattle.events.specs.Packets.{case_in}
+use Rattle.events.specs.Routers.{Router}
+
+-- ---- by the neighbor's Router ID and state
+
+abbrev pub is_in_exchange_named : Option (RouterNumber × State) → Bool
+is_in_exchange_named None = false
+is_in_exchange_named (Some named) = is_exchange_or_later named.1
+
+abbrev pub is_from_named : (from : RouterNumber) → Option (RouterNumber × State) → Bool
+is_from_named from None = false
+is_from_named from (Some named) = named.0 == from
+
+-- ---- LSAs of an Update
+
+abbrev pub is_newer : Case → Bool
+is_newer Case.Unreadable = false
+is_newer Case.NothingToFlush = false
+is_newer Case.TooSoon = false
+is_newer Case.Newer = true
+is_newer Case.BadRequest = false
+is_newer Case.ImpliedAcknowledgment = false
+is_newer Case.Duplicate = false
+is_newer Case.SequenceWraps = false
+is_newer Case.SentJustNow = false
+is_newer Case.Older = false
+
+-- the Update goes on after this LSA, or after bytes that are none's
+abbrev pub goes_on_at : Moment → InterfaceNumber → Option Lsa → Router → Bool
+goes_on_at moment number unread r =
+    goes_on (case_in moment number unread (record { router = r; sends = [] }))

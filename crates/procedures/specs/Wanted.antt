@@ -1,0 +1,23 @@
+-- What becomes of the own LSA of a key, if it is wanted (RFC 2328, section 12.4).
+use Rattle.std.specs.Prelude.{Bool, Option, None, Some}
+use Rattle.std.specs.FinMap as finite
+use Rattle.words.specs.Numbers.{Moment}
+use Rattle.words.specs.declared.key.Key.{Key}
+use Rattle.lsa.specs.declared.body.Body.{Body}
+use Rattle.events.specs.EventState.{EventState}
+use Rattle.events.specs.Originations.{originate_body, wanted_body}
+use Rattle.events.specs.Routers.{Router}
+use Rattle.originations.specs.Decisions.{origination}
+use Rattle.originations.specs.declared.origination.Origination.{Origination}
+
+-- with what the LSA is to say
+abbrev pub wanted_origination : (may_now : Bool) → Moment → Key → Router → Option Body
+    → Option Origination
+wanted_origination may_now moment key r None = None
+wanted_origination may_now moment key r (Some says) = Some (origination may_now moment key says
+    (finite.get r.area.database key) (finite.get r.originated key))
+
+-- a new instance at once or at a Tick, if the LSA is wanted
+abbrev pub originate_wanted : (may_now : Bool) → Moment → Key → EventState → EventState
+originate_wanted may_now moment key p =
+    originate_body may_now moment key (wanted_body p.router key) p

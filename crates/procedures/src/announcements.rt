@@ -1,0 +1,187 @@
+//! External destinations that an operator announces and withdraws (RFC 2328, section 12.4.4).
+ghost use Rattle.std.specs.Prelude.{◌≡◌, ◌<◌, ◌^◌, OnOk, length, option_copied};
+ghost use Rattle.events.specs.Commands.{after_redistribute, after_withdraw, announce_as};
+ghost use Rattle.events.specs.Commands.{answered_external, end_want, is_announced_as, is_for};
+ghost use Rattle.events.specs.Commands.{same_external, same_kind, same_network};
+ghost use Rattle.events.specs.Originations.{external_key};
+ghost use Rattle.procedures.specs.Making.{Makes};
+
+use crate::origination::originate_anyway;
+use adjacency::Draft;
+use router_state::Router;
+use std::alloc::{AllocError, Global};
+use words::{External, ExternalType, Key, LinkStateId, Prefix, RouterId, Second};
+
+// LSInfinity: a metric of this or more announces nothing.
+const LS_INFINITY: u64 = 0xffffff;
+
+/// What names the AS-external-LSA of a destination: its address is the Link State ID (RFC 2328,
+/// section 12.4.4).
+pub fn external_key(own: RouterId, prefix: Prefix) -> Key
+    ensures { result ≡ external_key own prefix }
+{
+    Key {
+        ls_type: 5,
+        link_state_id: LinkStateId::new(prefix.address().bits()),
+        advertising_router: own,
+    }
+}
+
+/// Tells whether two prefixes are the same: of one address and one length.
+pub fn same_network(a: Prefix, b: Prefix) -> bool
+    ensures { result ≡ same_network a b }
+{
+    a.address() == b.address() && a.length() == b.length()
+}
+
+fn same_kind(a: ExternalType, b: ExternalType) -> bool
+    ensures { result ≡ same_kind a b }
+{
+    match a {
+        ExternalType::Type1 => match b {
+            ExternalType::Type1 => true,
+            ExternalType::Type2 => false,
+        },
+        ExternalType::Type2 => match b {
+            ExternalType::Type1 => false,
+            ExternalType::Type2 => true,
+        },
+    }
+}
+
+/// Tells whether two destinations are the same in each part: prefix, metric, type and tag.
+pub fn same_external(a: &External, b: &External) -> bool
+    ensures { result ≡ same_external a.now b.now }
+{
+    same_network(a.prefix, b.prefix)
+        && a.metric == b.metric
+        && same_kind(a.kind, b.kind)
+        && a.tag == b.tag
+}
+
+fn is_announced_as(external: &External, announced: Option<&External>) -> bool
+    ensures { result ≡ is_announced_as external.now (option_copied announced.entry) }
+{
+    let Some(announced) = announced else {
+        return false;
+    };
+    same_external(external, announced)
+}
+
+fn is_for(prefix: Prefix, announced: Option<&External>) -> bool
+    ensures { result ≡ is_for prefix (option_copied announced.entry) }
+{
+    let Some(announced) = announced else {
+        return false;
+    };
+    same_network(prefix, announced.prefix)
+}
+
+// The destination with the metric that was answered, and the low 32 bits of the tag.
+fn answered(external: External, tag: u64, price: u32) -> External
+    ensures { result ≡ answered_external external tag price }
+{
+    External {
+        metric: price,
+        tag: (tag % 0x1_0000_0000) as u32,
+        ..external
+    }
+}
+
+// The want ends, and the LSA is flushed.
+fn end_want(
+    router: &mut Router,
+    alloc: Global,
+    moment: Second,
+    key: &Key,
+    drafts: &mut [Draft],
+) -> Result<(), AllocError>
+    requires drafts { length drafts.old ≡ length router.old.present.area.links }
+    ensures makes { OnOk result (Makes (end_want moment key.now)
+        router.old.present router.new.present drafts.old drafts.new) }
+    ensures drafts { OnOk result (length drafts.new ≡ length router.new.present.area.links) }
+    ensures settled { router.new.settled ≡ router.old.settled }
+{
+    router.unannounce(key)?;
+    router.flush(alloc, moment, key, drafts)
+}
+
+// The destination is announced, unless it is announced just so.
+fn announce_as(
+    router: &mut Router,
+    alloc: Global,
+    moment: Second,
+    key: &Key,
+    external: External,
+    drafts: &mut [Draft],
+) -> Result<(), AllocError>
+    requires key { key.now ≡ external_key router.old.present.id external.prefix }
+    requires metric { external.metric < 2 ^ 24 }
+    requires drafts { length drafts.old ≡ length router.old.present.area.links }
+    ensures makes { OnOk result (Makes (announce_as moment key.now external)
+        router.old.present router.new.present drafts.old drafts.new) }
+    ensures drafts { OnOk result (length drafts.new ≡ length router.new.present.area.links) }
+    ensures settled { router.new.settled ≡ router.old.settled }
+{
+    let announced = is_announced_as(&external, router.announced().get(key));
+    if announced {
+        return Ok(());
+    }
+    router.announce(key, external)?;
+    originate_anyway(router, alloc, moment, key, drafts)
+}
+
+/// The destination is to be announced with these words on its tag and its metric: of the tag the
+/// low 32 bits count, and a metric of LSInfinity, 0xffffff, or more withholds it and flushes an own
+/// LSA that stands. What is announced already just so is left alone.
+///
+/// `AllocError` comes where memory was refused; the router is to be rolled back then, and the
+/// drafts are of no use.
+pub fn redistribute(
+    router: &mut Router,
+    alloc: Global,
+    moment: Second,
+    external: External,
+    tag: u64,
+    price: u64,
+    drafts: &mut [Draft],
+) -> Result<(), AllocError>
+    requires drafts { length drafts.old ≡ length router.old.present.area.links }
+    ensures makes { OnOk result (Makes (after_redistribute moment external tag price)
+        router.old.present router.new.present drafts.old drafts.new) }
+    ensures drafts { OnOk result (length drafts.new ≡ length router.new.present.area.links) }
+    ensures settled { router.new.settled ≡ router.old.settled }
+{
+    let key = external_key(router.id(), external.prefix);
+    if LS_INFINITY <= price {
+        return end_want(router, alloc, moment, &key, drafts);
+    }
+    let external = answered(external, tag, price as u32);
+    announce_as(router, alloc, moment, &key, external, drafts)
+}
+
+/// The destination of this prefix is announced no longer, and its LSA is flushed (RFC 2328, section
+/// 14.1). Without such a destination nothing happens.
+///
+/// `AllocError` comes where memory was refused; the router is to be rolled back then, and the
+/// drafts are of no use.
+pub fn withdraw(
+    router: &mut Router,
+    alloc: Global,
+    moment: Second,
+    prefix: Prefix,
+    drafts: &mut [Draft],
+) -> Result<(), AllocError>
+    requires drafts { length drafts.old ≡ length router.old.present.area.links }
+    ensures makes { OnOk result (Makes (after_withdraw moment prefix)
+        router.old.present router.new.present drafts.old drafts.new) }
+    ensures drafts { OnOk result (length drafts.new ≡ length router.new.present.area.links) }
+    ensures settled { router.new.settled ≡ router.old.settled }
+{
+    let key = external_key(router.id(), prefix);
+    let is_announced = is_for(prefix, router.announced().get(&key));
+    if is_announced {
+        return end_want(router, alloc, moment, &key, drafts);
+    }
+    Ok(())
+}

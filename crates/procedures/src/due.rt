@@ -1,0 +1,79 @@
+//! The own LSAs that a Tick originates.
+ghost use Rattle.std.specs.Prelude.{◌≡◌, ◌++◌, [], ◌∷◌, IfOk, OnOk, if◌then◌else◌, length};
+ghost use Rattle.events.specs.Originations.{due_keys, is_due, is_stale, originate_due};
+ghost use Rattle.router_state.specs.Making.{Makes};
+
+use crate::origination::originate_or_wait;
+use crate::wanted::router_key;
+use adjacency::{DatabaseCopy, Draft};
+use router_state::Router;
+use std::alloc::{AllocError, Global};
+use words::{Key, Second};
+
+// LSRefreshTime: an own LSA of so many seconds is originated again.
+const LS_REFRESH_TIME: u16 = 1800;
+
+fn is_stale(moment: Second, copy: Option<DatabaseCopy<'_>>) -> bool
+    ensures { result ≡ is_stale moment copy.entry }
+{
+    let Some(copy) = copy else {
+        return true;
+    };
+    LS_REFRESH_TIME <= copy.age(moment)
+}
+
+fn is_due(router: &Router, moment: Second, key: &Key) -> bool
+    ensures { result ≡ is_due moment router.now.present key.now }
+{
+    router.is_waiting(key) || is_stale(moment, router.area().database().get(key))
+}
+
+fn put_due(router: &Router, moment: Second, key: Key, due: &mut Vec<Key>) -> Result<(), AllocError>
+    ensures { OnOk result (due.new.items ≡ due.old.items
+        ++ (if is_due moment router.now.present key then key ∷ [] else [])) }
+{
+    let is_due = is_due(router, moment, &key);
+    if is_due {
+        due.push(key)?;
+    }
+    Ok(())
+}
+
+/// The keys of the own LSAs that are wanted and due at this moment, in their order: each waits for
+/// a Tick, has left the database, or is of LSRefreshTime, 1800 seconds, or more (RFC 2328, section
+/// 12.4).
+///
+/// The only error is that an allocation was refused.
+pub fn due_keys(router: &Router, alloc: Global, moment: Second) -> Result<Vec<Key>, AllocError>
+    ensures { IfOk result (λ keys. keys.items ≡ due_keys moment router.now.present) }
+{
+    let mut due = Vec::new(alloc);
+    put_due(router, moment, router_key(router.id()), &mut due)?;
+    for key in router.announced().keys() {
+        put_due(router, moment, key, &mut due)?;
+    }
+    Ok(due)
+}
+
+/// New instances of the own LSAs of these keys, one after the other, as `originate_or_wait` says.
+///
+/// `AllocError` comes where memory was refused; the router is to be rolled back then, and the
+/// drafts are of no use.
+pub fn originate_due(
+    router: &mut Router,
+    alloc: Global,
+    moment: Second,
+    keys: &[Key],
+    drafts: &mut [Draft],
+) -> Result<(), AllocError>
+    requires drafts { length drafts.old ≡ length router.old.present.area.links }
+    ensures makes { OnOk result (Makes (originate_due moment keys.now) router.old.present
+        router.new.present drafts.old drafts.new) }
+    ensures drafts { OnOk result (length drafts.new ≡ length router.new.present.area.links) }
+    ensures settled { router.new.settled ≡ router.old.settled }
+{
+    for key in keys {
+        originate_or_wait(router, alloc, moment, key, drafts)?;
+    }
+    Ok(())
+}

@@ -1,0 +1,149 @@
+//! The end of an event, part by part.
+ghost use Rattle.std.specs.Prelude.{◌≡◌, List, OnOk, length};
+ghost use Rattle.adjacency.specs.Drafts.{Drafted};
+ghost use Rattle.events.specs.received.Links.{Link};
+ghost use Rattle.events.specs.Endings.{describe_router, describe_router_later, end_event};
+ghost use Rattle.procedures.specs.Full.{full_routers};
+ghost use Rattle.procedures.specs.EndingParts.{fill, refill, request_and_remove};
+ghost use Rattle.procedures.specs.Making.{Makes, interfaces_of};
+
+use crate::origination::originate_or_wait;
+use crate::telling::{full_routers, has_changed, is_untold, router_key};
+use adjacency::Draft;
+use router_state::Router;
+use std::alloc::{AllocError, Global};
+use words::{RouterId, Second};
+
+// The router-LSA goes out, at once or at a Tick, where its content has changed in this event.
+fn describe_router(
+    router: &mut Router,
+    alloc: Global,
+    moment: Second,
+    before: &[Option<RouterId>],
+    drafts: &mut [Draft],
+) -> Result<(), AllocError>
+    requires drafts { length drafts.old ≡ length router.old.present.area.links }
+    requires before { length before.now ≡ length router.old.present.area.links }
+    ensures makes { OnOk result ((old : List Link)
+        → interfaces_of old ≡ interfaces_of router.old.present.area.links
+        → full_routers old ≡ before.now
+        → Makes (describe_router old moment)
+        router.old.present router.new.present drafts.old drafts.new) }
+    ensures drafts { OnOk result (length drafts.new ≡ length router.new.present.area.links) }
+    ensures settled { router.new.settled ≡ router.old.settled }
+{
+    let untold = is_untold(router, alloc, moment, before)?;
+    if !untold {
+        return Ok(());
+    }
+    let key = router_key(router.id());
+    originate_or_wait(router, alloc, moment, &key, drafts)
+}
+
+// Where the content of the router-LSA has changed, it waits for a Tick.
+fn describe_router_later(
+    router: &mut Router,
+    alloc: Global,
+    before: &[Option<RouterId>],
+) -> Result<(), AllocError>
+    requires before { length before.now ≡ length router.old.present.area.links }
+    ensures makes { OnOk result ((old : List Link) → (drafts : List Drafted)
+        → interfaces_of old ≡ interfaces_of router.old.present.area.links
+        → full_routers old ≡ before.now
+        → Makes (describe_router_later old)
+        router.old.present router.new.present drafts drafts) }
+    ensures links { OnOk result (length router.new.present.area.links
+        ≡ length router.old.present.area.links) }
+    ensures settled { router.new.settled ≡ router.old.settled }
+{
+    let differ = has_changed(router, alloc, before)?;
+    if !differ {
+        return Ok(());
+    }
+    let key = router_key(router.id());
+    router.wait(&key)
+}
+
+// Loading becomes Full where nothing is left to request, and the router-LSA tells what has changed
+// in this event.
+fn fill(
+    router: &mut Router,
+    alloc: Global,
+    moment: Second,
+    before: &[Option<RouterId>],
+    drafts: &mut [Draft],
+) -> Result<(), AllocError>
+    requires drafts { length drafts.old ≡ length router.old.present.area.links }
+    requires before { length before.now ≡ length router.old.present.area.links }
+    ensures makes { OnOk result ((old : List Link)
+        → interfaces_of old ≡ interfaces_of router.old.present.area.links
+        → full_routers old ≡ before.now
+        → Makes (fill old moment)
+        router.old.present router.new.present drafts.old drafts.new) }
+    ensures drafts { OnOk result (length drafts.new ≡ length router.new.present.area.links) }
+    ensures settled { router.new.settled ≡ router.old.settled }
+{
+    router.end_loading();
+    describe_router(router, alloc, moment, before, drafts)
+}
+
+// Loading becomes Full once more, since flooding the router-LSA may have met requests; what changes
+// by that waits for a Tick.
+fn refill(router: &mut Router, alloc: Global) -> Result<(), AllocError>
+    ensures makes { OnOk result ((drafts : List Drafted)
+        → Makes refill router.old.present router.new.present drafts drafts) }
+    ensures links { OnOk result (length router.new.present.area.links
+        ≡ length router.old.present.area.links) }
+    ensures settled { router.new.settled ≡ router.old.settled }
+{
+    let before = full_routers(router, alloc)?;
+    router.end_loading();
+    describe_router_later(router, alloc, &before)
+}
+
+// Requests go out, and copies at MaxAge that nobody has still to acknowledge leave.
+fn request_and_remove(
+    router: &mut Router,
+    alloc: Global,
+    moment: Second,
+    drafts: &mut [Draft],
+) -> Result<(), AllocError>
+    requires drafts { length drafts.old ≡ length router.old.present.area.links }
+    ensures makes { OnOk result (Makes (request_and_remove moment)
+        router.old.present router.new.present drafts.old drafts.new) }
+    ensures drafts { OnOk result (length drafts.new ≡ length router.new.present.area.links) }
+    ensures settled { router.new.settled ≡ router.old.settled }
+{
+    router.request_all(alloc, moment, drafts)?;
+    router.remove_aged(alloc, moment, drafts)
+}
+
+/// The end of an event: Loading becomes Full where nothing is left to request; where the content of
+/// the router-LSA has changed since the event began, it is originated anew; Requests go out; copies
+/// at MaxAge that nobody has still to acknowledge leave the database; the moment is the last one.
+/// `before` are the neighbors that were Full when the event began.
+///
+/// `AllocError` comes where memory was refused; the router is to be rolled back then, and the
+/// drafts are of no use.
+pub fn end_event(
+    router: &mut Router,
+    alloc: Global,
+    moment: Second,
+    before: &[Option<RouterId>],
+    drafts: &mut [Draft],
+) -> Result<(), AllocError>
+    requires drafts { length drafts.old ≡ length router.old.present.area.links }
+    requires before { before.now ≡ full_routers router.old.settled.area.links }
+    requires interfaces { interfaces_of router.old.present.area.links
+        ≡ interfaces_of router.old.settled.area.links }
+    ensures makes { OnOk result (Makes (end_event router.old.settled moment)
+        router.old.present router.new.present drafts.old drafts.new) }
+    ensures drafts { OnOk result (length drafts.new ≡ length router.new.present.area.links) }
+    ensures settled { router.new.settled ≡ router.old.settled }
+{
+    fill(router, alloc, moment, before, drafts)?;
+    refill(router, alloc)?;
+    request_and_remove(router, alloc, moment, drafts)?;
+    router.set_moment(moment);
+    Ok(())
+}

@@ -1,0 +1,172 @@
+//! New instances of own LSAs.
+ghost use Rattle.std.specs.Prelude.{◌≡◌, OnOk, length};
+ghost use Rattle.events.specs.Originations.{
+  originate_anyway,
+  originate_or_wait,
+  receive_self_originated,
+};
+ghost use Rattle.adjacency.specs.lsdb.Headers.{Lsa};
+ghost use Rattle.originations.specs.Decisions.{after_origination};
+ghost use Rattle.router_state.specs.Making.{Makes};
+ghost use Rattle.procedures.specs.Wanted.{originate_wanted};
+
+use crate::wanted::{is_wanted, wanted_origination};
+use adjacency::Draft;
+use lsa::{Header, Lsa};
+use originations::Origination;
+use router_state::Router;
+use std::alloc::{AllocError, Global};
+use words::{Key, Second};
+
+// The instance is installed and flooded, and its five seconds run.
+fn put_out(
+    router: &mut Router,
+    alloc: Global,
+    moment: Second,
+    key: &Key,
+    lsa: Lsa,
+    drafts: &mut [Draft],
+) -> Result<(), AllocError>
+    requires drafts { length drafts.old ≡ length router.old.present.area.links }
+    ensures makes { OnOk result (Makes (after_origination moment key.now
+        (Origination.Originates lsa))
+        router.old.present router.new.present drafts.old drafts.new) }
+    ensures drafts { OnOk result (length drafts.new ≡ length router.new.present.area.links) }
+    ensures settled { router.new.settled ≡ router.old.settled }
+{
+    router.install_and_flood(alloc, moment, lsa, drafts)?;
+    router.note_originated(moment, key)
+}
+
+// The LSA waits for a Tick.
+fn put_off(
+    router: &mut Router,
+    moment: Second,
+    key: &Key,
+    drafts: &mut [Draft],
+) -> Result<(), AllocError>
+    requires drafts { length drafts.old ≡ length router.old.present.area.links }
+    ensures makes { OnOk result (Makes (after_origination moment key.now Origination.Waits)
+        router.old.present router.new.present drafts.old drafts.new) }
+    ensures drafts { OnOk result (length drafts.new ≡ length router.new.present.area.links) }
+    ensures settled { router.new.settled ≡ router.old.settled }
+{
+    router.wait(key)
+}
+
+// What was found of the LSA is done.
+fn carry_out(
+    router: &mut Router,
+    alloc: Global,
+    moment: Second,
+    key: &Key,
+    found: Origination,
+    drafts: &mut [Draft],
+) -> Result<(), AllocError>
+    requires drafts { length drafts.old ≡ length router.old.present.area.links }
+    ensures makes { OnOk result (Makes (after_origination moment key.now found)
+        router.old.present router.new.present drafts.old drafts.new) }
+    ensures drafts { OnOk result (length drafts.new ≡ length router.new.present.area.links) }
+    ensures settled { router.new.settled ≡ router.old.settled }
+{
+    match found {
+        Origination::Flushes => router.flush(alloc, moment, key, drafts),
+        Origination::Waits => put_off(router, moment, key, drafts),
+        Origination::Originates(lsa) => put_out(router, alloc, moment, key, lsa, drafts),
+    }
+}
+
+// A new instance at once or at a Tick, if the LSA is wanted; at once only if `may_now`.
+fn originate(
+    router: &mut Router,
+    alloc: Global,
+    may_now: bool,
+    moment: Second,
+    key: &Key,
+    drafts: &mut [Draft],
+) -> Result<(), AllocError>
+    requires drafts { length drafts.old ≡ length router.old.present.area.links }
+    ensures makes { OnOk result (Makes (originate_wanted may_now moment key.now)
+        router.old.present router.new.present drafts.old drafts.new) }
+    ensures drafts { OnOk result (length drafts.new ≡ length router.new.present.area.links) }
+    ensures settled { router.new.settled ≡ router.old.settled }
+{
+    let found = wanted_origination(router, alloc, may_now, moment, key)?;
+    let Some(found) = found else {
+        return Ok(());
+    };
+    carry_out(router, alloc, moment, key, found, drafts)
+}
+
+/// A new instance of the own LSA of this key, if it is wanted: at once, where there is room for it
+/// in the database and MinLSInterval allows it, else at a Tick; after MaxSequenceNumber the copy is
+/// flushed first (RFC 2328, sections 12.1.6 and 12.4).
+///
+/// `AllocError` comes where memory was refused; the router is to be rolled back then, and the
+/// drafts are of no use.
+pub fn originate_or_wait(
+    router: &mut Router,
+    alloc: Global,
+    moment: Second,
+    key: &Key,
+    drafts: &mut [Draft],
+) -> Result<(), AllocError>
+    requires drafts { length drafts.old ≡ length router.old.present.area.links }
+    ensures makes { OnOk result (Makes (originate_or_wait moment key.now) router.old.present
+        router.new.present drafts.old drafts.new) }
+    ensures drafts { OnOk result (length drafts.new ≡ length router.new.present.area.links) }
+    ensures settled { router.new.settled ≡ router.old.settled }
+{
+    let has_room = router.area().database().has_room(key);
+    originate(router, alloc, has_room, moment, key, drafts)
+}
+
+/// As `originate_or_wait`, whether there is room in the database or not.
+///
+/// `AllocError` comes where memory was refused; the router is to be rolled back then, and the
+/// drafts are of no use.
+pub fn originate_anyway(
+    router: &mut Router,
+    alloc: Global,
+    moment: Second,
+    key: &Key,
+    drafts: &mut [Draft],
+) -> Result<(), AllocError>
+    requires drafts { length drafts.old ≡ length router.old.present.area.links }
+    ensures makes { OnOk result (Makes (originate_anyway moment key.now) router.old.present
+        router.new.present drafts.old drafts.new) }
+    ensures drafts { OnOk result (length drafts.new ≡ length router.new.present.area.links) }
+    ensures settled { router.new.settled ≡ router.old.settled }
+{
+    originate(router, alloc, true, moment, key, drafts)
+}
+
+/// A self-originated LSA with this header was received and installed (RFC 2328, section 13.4): one
+/// that is wanted is originated again, one past its number; any other is flushed. An LSA of another
+/// router's changes nothing.
+///
+/// `AllocError` comes where memory was refused; the router is to be rolled back then, and the
+/// drafts are of no use.
+pub fn receive_self_originated(
+    router: &mut Router,
+    alloc: Global,
+    moment: Second,
+    header: &Header,
+    drafts: &mut [Draft],
+) -> Result<(), AllocError>
+    requires drafts { length drafts.old ≡ length router.old.present.area.links }
+    ensures makes { OnOk result ((lsa : Lsa) → lsa.header ≡ header.now
+        → Makes (receive_self_originated moment lsa) router.old.present router.new.present
+        drafts.old drafts.new) }
+    ensures drafts { OnOk result (length drafts.new ≡ length router.new.present.area.links) }
+    ensures settled { router.new.settled ≡ router.old.settled }
+{
+    if header.advertising_router != router.id() {
+        return Ok(());
+    }
+    let key = header.key();
+    if is_wanted(router, &key) {
+        return originate_or_wait(router, alloc, moment, &key, drafts);
+    }
+    router.flush(alloc, moment, &key, drafts)
+}

@@ -1,0 +1,194 @@
+//! Packets by their types.
+ghost use Rattle.std.specs.Prelude.{◌≡◌, ◌≤◌, OnOk, false, length, true};
+ghost use Rattle.adjacency.specs.Steps.{named_neighbor};
+ghost use Rattle.events.specs.received.Links.{neighbor_at};
+ghost use Rattle.events.specs.Packets.{after_packet, from_neighbor, is_from, is_heard, is_hello};
+ghost use Rattle.events.specs.Packets.{is_in_exchange};
+ghost use Rattle.procedures.specs.Making.{Makes};
+ghost use Rattle.procedures.specs.Received.{is_from_named, is_in_exchange_named};
+
+use crate::updates::receive_lsas;
+use adjacency::{Draft, State};
+use neighbor_packets::is_foreign;
+use packet::{Body, Packet};
+use router_state::Router;
+use std::alloc::{AllocError, Global};
+use words::{RouterId, Second};
+
+fn is_hello(body: &Body) -> bool
+    ensures { result ≡ is_hello body.now }
+{
+    match body {
+        Body::Hello(_hello) => true,
+        Body::Description(_description) => false,
+        Body::Request(_keys) => false,
+        Body::Update(_lsas) => false,
+        Body::Acknowledgment(_headers) => false,
+    }
+}
+
+fn is_in_exchange_named(neighbor: Option<(RouterId, State)>) -> bool
+    ensures { result ≡ is_in_exchange_named neighbor }
+{
+    match neighbor {
+        None => false,
+        Some((_router, state)) => state.is_exchange_or_later(),
+    }
+}
+
+fn is_from_named(from: RouterId, neighbor: Option<(RouterId, State)>) -> bool
+    ensures { result ≡ is_from_named from neighbor }
+{
+    match neighbor {
+        None => false,
+        Some((router, _state)) => router.number() == from.number(),
+    }
+}
+
+// The neighbor at the interface of this number, unless it is Down.
+fn neighbor_at(router: &Router, number: usize) -> Option<(RouterId, State)>
+    requires first { 1 ≤ number }
+    requires last { number ≤ length router.now.present.area.links }
+    ensures { result ≡ named_neighbor (neighbor_at number router.now.present.area.links) }
+{
+    let links = router.area().links();
+    let i = number - 1;
+    links[i].neighbor()
+}
+
+// Tells whether the neighbor at the interface of this number is in Exchange or later.
+fn is_in_exchange(router: &Router, number: usize) -> bool
+    requires first { 1 ≤ number }
+    requires last { number ≤ length router.now.present.area.links }
+    ensures { result ≡ is_in_exchange (neighbor_at number router.now.present.area.links) }
+{
+    let neighbor = neighbor_at(router, number);
+    is_in_exchange_named(neighbor)
+}
+
+// Tells whether this is the Router ID of the neighbor at the interface of this number.
+fn is_from(from: RouterId, router: &Router, number: usize) -> bool
+    requires first { 1 ≤ number }
+    requires last { number ≤ length router.now.present.area.links }
+    ensures { result ≡ is_from from (neighbor_at number router.now.present.area.links) }
+{
+    let neighbor = neighbor_at(router, number);
+    is_from_named(from, neighbor)
+}
+
+// Tells whether the packet is of another router, and a Hello or from the interface's neighbor.
+fn is_heard(packet: &Packet, router: &Router, number: usize) -> bool
+    requires first { 1 ≤ number }
+    requires last { number ≤ length router.now.present.area.links }
+    ensures { result ≡ is_heard router.now.present.id packet.now
+        (neighbor_at number router.now.present.area.links) }
+{
+    let own = router.id();
+    let from = packet.router;
+    let foreign = is_foreign(own, from);
+    let hello = is_hello(&packet.body);
+    let from_neighbor = is_from(from, router, number);
+    foreign && (hello || from_neighbor)
+}
+
+// What a packet says that is heard, where the neighbor is in Exchange or later.
+fn from_neighbor_in_exchange(
+    router: &mut Router,
+    alloc: Global,
+    moment: Second,
+    number: usize,
+    from: RouterId,
+    body: &Body,
+    drafts: &mut [Draft],
+) -> Result<(), AllocError>
+    requires first { 1 ≤ number }
+    requires last { number ≤ length router.old.present.area.links }
+    requires exchange { is_in_exchange
+        (neighbor_at number router.old.present.area.links) ≡ true }
+    requires drafts { length drafts.old ≡ length router.old.present.area.links }
+    ensures makes { OnOk result (Makes
+        (from_neighbor moment number from true body.now)
+        router.old.present router.new.present drafts.old drafts.new) }
+    ensures drafts { OnOk result (length drafts.new ≡ length router.new.present.area.links) }
+    ensures settled { router.new.settled ≡ router.old.settled }
+{
+    match body {
+        Body::Hello(hello) => router.hear(alloc, moment, number, from, hello, drafts),
+        Body::Description(description) => {
+            router.describe(alloc, moment, number, description, drafts)
+        }
+        Body::Request(keys) => router.answer(alloc, moment, number, keys.as_slice(), drafts),
+        Body::Update(lsas) => {
+            receive_lsas(router, alloc, moment, number, lsas.as_slice(), drafts)
+        }
+        Body::Acknowledgment(headers) => {
+            router.acknowledged(alloc, moment, number, headers.as_slice(), drafts)
+        }
+    }
+}
+
+// What a packet says that is heard, where the neighbor isn't in Exchange or later: Requests,
+// Updates and Acknowledgments count for nothing.
+fn from_neighbor_before_exchange(
+    router: &mut Router,
+    alloc: Global,
+    moment: Second,
+    number: usize,
+    from: RouterId,
+    body: &Body,
+    drafts: &mut [Draft],
+) -> Result<(), AllocError>
+    requires first { 1 ≤ number }
+    requires last { number ≤ length router.old.present.area.links }
+    requires drafts { length drafts.old ≡ length router.old.present.area.links }
+    ensures makes { OnOk result (Makes
+        (from_neighbor moment number from false body.now)
+        router.old.present router.new.present drafts.old drafts.new) }
+    ensures drafts { OnOk result (length drafts.new ≡ length router.new.present.area.links) }
+    ensures settled { router.new.settled ≡ router.old.settled }
+{
+    match body {
+        Body::Hello(hello) => router.hear(alloc, moment, number, from, hello, drafts),
+        Body::Description(description) => {
+            router.describe(alloc, moment, number, description, drafts)
+        }
+        Body::Request(_keys) => Ok(()),
+        Body::Update(_lsas) => Ok(()),
+        Body::Acknowledgment(_headers) => Ok(()),
+    }
+}
+
+/// This packet came in at the interface of this number (RFC 2328, section 8.2). A packet of no
+/// router or of this one is discarded, and so is one other than a Hello that isn't from the
+/// interface's neighbor; Requests, Updates and Acknowledgments count from Exchange on.
+///
+/// `AllocError` comes where memory was refused; the router is to be rolled back then, and the
+/// drafts are of no use.
+pub fn receive_packet(
+    router: &mut Router,
+    alloc: Global,
+    moment: Second,
+    number: usize,
+    packet: &Packet,
+    drafts: &mut [Draft],
+) -> Result<(), AllocError>
+    requires first { 1 ≤ number }
+    requires last { number ≤ length router.old.present.area.links }
+    requires drafts { length drafts.old ≡ length router.old.present.area.links }
+    ensures makes { OnOk result (Makes (after_packet moment number packet.now)
+        router.old.present router.new.present drafts.old drafts.new) }
+    ensures drafts { OnOk result (length drafts.new ≡ length router.new.present.area.links) }
+    ensures settled { router.new.settled ≡ router.old.settled }
+{
+    let heard = is_heard(packet, router, number);
+    if !heard {
+        return Ok(());
+    }
+    let from = packet.router;
+    let body = &packet.body;
+    let exchanging = is_in_exchange(router, number);
+    if exchanging {
+        return from_neighbor_in_exchange(router, alloc, moment, number, from, body, drafts);
+    }
+    from_neighbor_before_exchange(router, alloc, moment, number, from, body, drafts)
+}

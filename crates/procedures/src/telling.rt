@@ -1,0 +1,99 @@
+//! Whether the router-LSA is to tell of a change (RFC 2328, section 12.4.1).
+ghost use Rattle.std.specs.Prelude.{◌≡◌, ◌&&◌, List, IfOk, length, not};
+ghost use Rattle.events.specs.received.Links.{Link};
+ghost use Rattle.events.specs.Endings.{is_at, is_current, links_differ};
+ghost use Rattle.events.specs.Originations.{router_key};
+ghost use Rattle.procedures.specs.Full.{full_routers};
+ghost use Rattle.procedures.specs.Making.{interfaces_of};
+
+use router_state::Router;
+use std::alloc::{AllocError, Global};
+use words::{Key, LinkStateId, RouterId, Second};
+
+/// The Router IDs of the neighbors that are Full, interface n at place n - 1, None where there is
+/// none: what the router-LSA rests on beside the configuration.
+///
+/// The only error is that an allocation was refused.
+pub fn full_routers(router: &Router, alloc: Global) -> Result<Vec<Option<RouterId>>, AllocError>
+    ensures { IfOk result (λ full. full.items ≡ full_routers router.now.present.area.links) }
+{
+    originations::full_routers(alloc, router.area().links())
+}
+
+// What names the router-LSA of this router.
+pub fn router_key(own: RouterId) -> Key
+    ensures { result ≡ router_key own }
+{
+    Key {
+        ls_type: 1,
+        link_state_id: LinkStateId::new(own.number()),
+        advertising_router: own,
+    }
+}
+
+fn is_at(moment: Second, at: Option<Second>) -> bool
+    ensures { result ≡ is_at moment at }
+{
+    let Some(at) = at else {
+        return false;
+    };
+    at == moment
+}
+
+// Tells whether the present links were told in an instance that was originated at this moment.
+fn is_current(router: &Router, alloc: Global, moment: Second) -> Result<bool, AllocError>
+    ensures { IfOk result (λ current. current ≡ is_current moment router.now.present) }
+{
+    let key = router_key(router.id());
+    let at = is_at(moment, router.originated(&key));
+    if !at {
+        return Ok(false);
+    }
+    let area = router.area();
+    let copy = area.database().get(&key);
+    originations::tells(alloc, area.links(), copy)
+}
+
+/// Tells whether the content of the router-LSA differs from what it was when just the neighbors
+/// `before` were Full.
+///
+/// The only error is that an allocation was refused.
+pub fn has_changed(
+    router: &Router,
+    alloc: Global,
+    before: &[Option<RouterId>],
+) -> Result<bool, AllocError>
+    requires before { length before.now ≡ length router.now.present.area.links }
+    ensures { IfOk result (λ differ. (old : List Link)
+        → interfaces_of old ≡ interfaces_of router.now.present.area.links
+        → full_routers old ≡ before.now
+        → differ ≡ links_differ old router.now.present.area.links) }
+{
+    let area = router.area();
+    originations::links_differ(alloc, area.links(), before)
+}
+
+/// Tells whether the content of the router-LSA differs from what it was when just the neighbors
+/// `before` were Full, and isn't told yet in an instance of this moment.
+///
+/// The only error is that an allocation was refused.
+pub fn is_untold(
+    router: &Router,
+    alloc: Global,
+    moment: Second,
+    before: &[Option<RouterId>],
+) -> Result<bool, AllocError>
+    requires before { length before.now ≡ length router.now.present.area.links }
+    ensures { IfOk result (λ untold. (old : List Link)
+        → interfaces_of old ≡ interfaces_of router.now.present.area.links
+        → full_routers old ≡ before.now
+        → untold ≡ (links_differ old router.now.present.area.links
+        && not (is_current moment router.now.present))) }
+{
+    let differ = has_changed(router, alloc, before)?;
+    if !differ {
+        return Ok(false);
+    }
+    let current = is_current(router, alloc, moment)?;
+    Ok(!current)
+}

@@ -1,0 +1,91 @@
+//! A Tick (RFC 2328, sections 9.5, 10.3, 12.4, 13.5 and 13.6).
+ghost use Rattle.std.specs.Prelude.{◌≡◌, OnOk, length};
+ghost use Rattle.events.specs.Originations.{due_keys};
+ghost use Rattle.events.specs.Ticks.{after_tick};
+ghost use Rattle.procedures.specs.Making.{Makes};
+ghost use Rattle.procedures.specs.TickParts.{originate_what_is_due, run_out_all, send_what_is_due};
+
+use crate::due::{due_keys, originate_due};
+use adjacency::Draft;
+use router_state::Router;
+use std::alloc::{AllocError, Global};
+use words::Second;
+
+// Times run out: inactive neighbors are Down, and own originations whose five seconds are over are
+// forgotten.
+fn run_out(
+    router: &mut Router,
+    alloc: Global,
+    moment: Second,
+    drafts: &mut [Draft],
+) -> Result<(), AllocError>
+    requires drafts { length drafts.old ≡ length router.old.present.area.links }
+    ensures makes { OnOk result (Makes (run_out_all moment)
+        router.old.present router.new.present drafts.old drafts.new) }
+    ensures drafts { OnOk result (length drafts.new ≡ length router.new.present.area.links) }
+    ensures settled { router.new.settled ≡ router.old.settled }
+{
+    let _drafts = drafts;
+    router.run_out(moment);
+    router.forget_originations(alloc, moment)
+}
+
+// Own LSAs that wait or are to be refreshed are originated; which, is found before the first of
+// them is.
+fn originate_what_is_due(
+    router: &mut Router,
+    alloc: Global,
+    moment: Second,
+    drafts: &mut [Draft],
+) -> Result<(), AllocError>
+    requires drafts { length drafts.old ≡ length router.old.present.area.links }
+    ensures makes { OnOk result (Makes (originate_what_is_due moment)
+        router.old.present router.new.present drafts.old drafts.new) }
+    ensures drafts { OnOk result (length drafts.new ≡ length router.new.present.area.links) }
+    ensures settled { router.new.settled ≡ router.old.settled }
+{
+    let keys = due_keys(router, alloc, moment)?;
+    originate_due(router, alloc, moment, &keys, drafts)
+}
+
+// What RxmtInterval lets go out is sent again; then delayed acknowledgments, then Hellos that are
+// due.
+fn send_what_is_due(
+    router: &mut Router,
+    alloc: Global,
+    moment: Second,
+    drafts: &mut [Draft],
+) -> Result<(), AllocError>
+    requires drafts { length drafts.old ≡ length router.old.present.area.links }
+    ensures makes { OnOk result (Makes (send_what_is_due moment)
+        router.old.present router.new.present drafts.old drafts.new) }
+    ensures drafts { OnOk result (length drafts.new ≡ length router.new.present.area.links) }
+    ensures settled { router.new.settled ≡ router.old.settled }
+{
+    router.send_all_again(alloc, moment, drafts)?;
+    router.acknowledge_all(alloc, moment, drafts)?;
+    router.send_hellos(alloc, moment, drafts)
+}
+
+/// What a Tick does, in its order: inactive neighbors are Down; own LSAs that wait or are to be
+/// refreshed are originated; what RxmtInterval lets go out is sent again; delayed acknowledgments
+/// and Hellos that are due are sent.
+///
+/// `AllocError` comes where memory was refused; the router is to be rolled back then, and the
+/// drafts are of no use.
+pub fn tick(
+    router: &mut Router,
+    alloc: Global,
+    moment: Second,
+    drafts: &mut [Draft],
+) -> Result<(), AllocError>
+    requires drafts { length drafts.old ≡ length router.old.present.area.links }
+    ensures makes { OnOk result (Makes (after_tick moment)
+        router.old.present router.new.present drafts.old drafts.new) }
+    ensures drafts { OnOk result (length drafts.new ≡ length router.new.present.area.links) }
+    ensures settled { router.new.settled ≡ router.old.settled }
+{
+    run_out(router, alloc, moment, drafts)?;
+    originate_what_is_due(router, alloc, moment, drafts)?;
+    send_what_is_due(router, alloc, moment, drafts)
+}

@@ -1,0 +1,152 @@
+//! The LSAs of an Update, one after the other (RFC 2328, section 13).
+ghost use Rattle.std.specs.Prelude.{◌≡◌, ◌≤◌, IfOk, OnOk, length};
+ghost use Rattle.lsa.specs.Reading.{lsa_in};
+ghost use Rattle.events.specs.received.Updates.{case_at, goes_on};
+ghost use Rattle.events.specs.Packets.{after_lsa, after_lsas, after_unread};
+ghost use Rattle.originations.specs.flooding.Cases.{case_of};
+ghost use Rattle.procedures.specs.Making.{Makes};
+ghost use Rattle.procedures.specs.Received.{goes_on_at, is_newer};
+
+use crate::origination::receive_self_originated;
+use adjacency::Draft;
+use lsa::{Lsa, ReadError, read};
+use originations::Case;
+use router_state::Router;
+use std::alloc::{AllocError, Global};
+use words::{Second, Sequence};
+
+fn is_newer(case: Case) -> bool
+    ensures { result ≡ is_newer (case_of case) }
+{
+    match case {
+        Case::Unreadable => false,
+        Case::NothingToFlush => false,
+        Case::TooSoon => false,
+        Case::Newer => true,
+        Case::BadRequest => false,
+        Case::ImpliedAcknowledgment => false,
+        Case::Duplicate => false,
+        Case::SequenceWraps => false,
+        Case::SentJustNow => false,
+        Case::Older => false,
+    }
+}
+
+// After a bad request the rest of the Update is dropped.
+fn goes_on(case: Case) -> bool
+    ensures { result ≡ goes_on (case_of case) }
+{
+    match case {
+        Case::Unreadable => true,
+        Case::NothingToFlush => true,
+        Case::TooSoon => true,
+        Case::Newer => true,
+        Case::BadRequest => false,
+        Case::ImpliedAcknowledgment => true,
+        Case::Duplicate => true,
+        Case::SequenceWraps => true,
+        Case::SentJustNow => true,
+        Case::Older => true,
+    }
+}
+
+// The LSA whose text the bytes are, if they are an LSA's.
+fn read_lsa(alloc: Global, bytes: &[u8]) -> Result<Option<Lsa>, AllocError>
+    ensures { IfOk result (λ lsa. lsa ≡ lsa_in bytes.now) }
+{
+    match read(alloc, bytes) {
+        Ok(lsa) => Ok(Some(lsa)),
+        Err(ReadError::Fault(_fault)) => Ok(None),
+        Err(ReadError::Memory) => Err(AllocError),
+    }
+}
+
+// An LSA of the Update: tells which case it is. One of this router's own that was installed is
+// settled.
+fn receive_lsa(
+    router: &mut Router,
+    alloc: Global,
+    moment: Second,
+    number: usize,
+    lsa: Lsa,
+    drafts: &mut [Draft],
+) -> Result<Case, AllocError>
+    requires first { 1 ≤ number }
+    requires last { number ≤ length router.old.present.area.links }
+    requires drafts { length drafts.old ≡ length router.old.present.area.links }
+    ensures case { IfOk result (λ c. case_of c
+        ≡ case_at moment number lsa router.old.present.area) }
+    ensures makes { IfOk result (λ c. Makes (after_lsa (case_of c) moment number lsa)
+        router.old.present router.new.present drafts.old drafts.new) }
+    ensures drafts { OnOk result (length drafts.new ≡ length router.new.present.area.links) }
+    ensures settled { router.new.settled ≡ router.old.settled }
+{
+    let header = lsa.header();
+    let case = router.receive(alloc, moment, number, lsa, drafts)?;
+    let newer = is_newer(case);
+    if newer {
+        receive_self_originated(router, alloc, moment, &header, drafts)?;
+        return Ok(case);
+    }
+    Ok(case)
+}
+
+// The text of an LSA, or bytes that are none's: tells whether the Update goes on.
+fn receive_text(
+    router: &mut Router,
+    alloc: Global,
+    moment: Second,
+    number: usize,
+    bytes: &[u8],
+    drafts: &mut [Draft],
+) -> Result<bool, AllocError>
+    requires first { 1 ≤ number }
+    requires last { number ≤ length router.old.present.area.links }
+    requires drafts { length drafts.old ≡ length router.old.present.area.links }
+    ensures goes_on { IfOk result (λ goes. goes
+        ≡ goes_on_at moment number (lsa_in bytes.now) router.old.present) }
+    ensures makes { OnOk result (Makes (after_unread moment number (lsa_in bytes.now))
+        router.old.present router.new.present drafts.old drafts.new) }
+    ensures drafts { OnOk result (length drafts.new ≡ length router.new.present.area.links) }
+    ensures settled { router.new.settled ≡ router.old.settled }
+{
+    let unread = read_lsa(alloc, bytes)?;
+    match unread {
+        None => Ok(true),
+        Some(lsa) => {
+            let case = receive_lsa(router, alloc, moment, number, lsa, drafts)?;
+            Ok(goes_on(case))
+        }
+    }
+}
+
+/// The texts of LSAs in an Update that came in at the interface of this number, from a neighbor in
+/// Exchange or later: one after the other, up to a bad request. A text that is no LSA's is skipped.
+///
+/// `AllocError` comes where memory was refused; the router is to be rolled back then, and the
+/// drafts are of no use.
+pub fn receive_lsas(
+    router: &mut Router,
+    alloc: Global,
+    moment: Second,
+    number: usize,
+    lsas: &[Sequence<u8>],
+    drafts: &mut [Draft],
+) -> Result<(), AllocError>
+    requires first { 1 ≤ number }
+    requires last { number ≤ length router.old.present.area.links }
+    requires drafts { length drafts.old ≡ length router.old.present.area.links }
+    ensures makes { OnOk result (Makes (after_lsas moment number lsas.now)
+        router.old.present router.new.present drafts.old drafts.new) }
+    ensures drafts { OnOk result (length drafts.new ≡ length router.new.present.area.links) }
+    ensures settled { router.new.settled ≡ router.old.settled }
+{
+    for i in 0..lsas.len() {
+        let bytes = lsas[i].as_slice();
+        let goes = receive_text(router, alloc, moment, number, bytes, drafts)?;
+        if !goes {
+            return Ok(());
+        }
+    }
+    Ok(())
+}

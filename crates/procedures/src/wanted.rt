@@ -1,0 +1,74 @@
+//! Which own LSAs are wanted, and what becomes of them.
+ghost use Rattle.std.specs.Prelude.{◌≡◌, IfOk};
+ghost use Rattle.keyed_map.specs.Keys.{same_key};
+ghost use Rattle.events.specs.Originations.{is_wanted, router_key, wanted_body};
+ghost use Rattle.procedures.specs.Wanted.{wanted_origination};
+
+use originations::{Origination, originate_external, originate_router};
+use router_state::Router;
+use std::alloc::{AllocError, Global};
+use words::{Key, LinkStateId, RouterId, Second};
+
+/// What names the router-LSA of this router (RFC 2328, section 12.4.1).
+pub fn router_key(own: RouterId) -> Key
+    ensures { result ≡ router_key own }
+{
+    Key {
+        ls_type: 1,
+        link_state_id: LinkStateId::new(own.number()),
+        advertising_router: own,
+    }
+}
+
+fn is_same(a: &Key, b: &Key) -> bool
+    ensures { result ≡ same_key a.now b.now }
+{
+    a.compare(b).is_eq()
+}
+
+fn names_router_lsa(own: RouterId, key: &Key) -> bool
+    ensures { result ≡ same_key key.now (router_key own) }
+{
+    let own_key = router_key(own);
+    is_same(key, &own_key)
+}
+
+/// Tells whether the own LSA of this key is wanted: it is the router-LSA, or that of a destination
+/// that is announced.
+pub fn is_wanted(router: &Router, key: &Key) -> bool
+    ensures { result ≡ is_wanted (wanted_body router.now.present key.now) }
+{
+    if names_router_lsa(router.id(), key) {
+        return true;
+    }
+    router.announced().contains(key)
+}
+
+/// What becomes of the own LSA of this key; None, if it isn't wanted.
+///
+/// The only error is that an allocation was refused.
+pub fn wanted_origination(
+    router: &Router,
+    alloc: Global,
+    may_now: bool,
+    moment: Second,
+    key: &Key,
+) -> Result<Option<Origination>, AllocError>
+    ensures { IfOk result (λ found. found ≡ wanted_origination may_now moment key.now
+        router.now.present (wanted_body router.now.present key.now)) }
+{
+    let own = router.id();
+    let last = router.originated(key);
+    let area = router.area();
+    if names_router_lsa(own, key) {
+        let links = area.links();
+        let found = originate_router(alloc, may_now, moment, own, links, area.database(), last)?;
+        return Ok(Some(found));
+    }
+    let Some(external) = router.announced().get(key) else {
+        return Ok(None);
+    };
+    let database = area.database();
+    let found = originate_external(alloc, may_now, moment, own, external, database, last)?;
+    Ok(Some(found))
+}

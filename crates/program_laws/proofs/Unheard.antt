@@ -1,0 +1,411 @@
+-- No event of a router looks at the answers of an Install, and an event has one outcome. So two lives
+-- of a router, or two histories of a network, that are the same but for these answers send the same.
+use Rattle.std.proofs.Common.{◌≡◌, ℕ, zero, suc, Bool, true, false, cond, not, ◌&&◌, List, [], ◌∷◌}
+use Rattle.std.proofs.Common.{◌++◌, map, Option, None, Some, refl, sym, ◌∙◌, ap, subst}
+use Rattle.std.specs.Prelude.{◌==◌, nat_le, set, slice_get}
+use Rattle.std.specs.FinMap as finite
+use Rattle.words.specs.Constants.{ls_infinity}
+use Rattle.words.specs.Numbers.{InterfaceNumber, Moment}
+use Rattle.words.specs.Prefixes.{Network as Prefix}
+use Rattle.words.specs.declared.key.Key.{Key}
+use Rattle.words.specs.declared.route.External.{External}
+use Rattle.lsa.specs.Reading.{lsa_in}
+use Rattle.lsdb.specs.Headers.{Lsa, lsa_key}
+use Rattle.packet.proofs.Whole.{one_packet}
+use Rattle.packet.specs.Text.{PacketText}
+use Rattle.packet.specs.declared.model.Body.{Body}
+use Rattle.packet.specs.declared.model.Body.TheVariants as body
+use Rattle.packet.specs.declared.model.Packet.{Packet}
+use Rattle.received.specs.Cases.{Case}
+use Rattle.received.specs.Links.{neighbor_at}
+use Rattle.received.specs.Updates.{after_case, case_at, goes_on}
+use Rattle.received.specs.Outcomes.{Outcome}
+use Rattle.events.specs.Commands.{after_redistribute, after_withdraw, announce, announce_as}
+use Rattle.events.specs.Commands.{answered_external, end_want, is_announced_as, is_for}
+use Rattle.events.specs.Endings.{end_event, start_event}
+use Rattle.events.specs.Events.{Happens, OwnPart, Run, Step}
+use Rattle.events.specs.EventState.{EventState, on_area, on_router}
+use Rattle.events.specs.Originations.{due_keys, external_key, flush, forget_originations, has_room}
+use Rattle.events.specs.Originations.{is_wanted, originate_anyway, originate_due}
+use Rattle.events.specs.Originations.{originate_or_flush, originate_or_wait}
+use Rattle.events.specs.Originations.{receive_self_originated, wanted_body}
+use Rattle.events.specs.Packets.{after_lsa, after_lsas, after_packet, after_self_originated}
+use Rattle.events.specs.Packets.{after_unread, case_in, from_neighbor, is_heard, is_in_exchange}
+use Rattle.events.specs.Packing.{outs_of}
+use Rattle.events.specs.Routers.{Occurrence, Router}
+use Rattle.events.specs.Ticks.{acknowledge_all, after_tick, run_out, send_all_again, send_hellos}
+use Rattle.events.specs.declared.model.Out.{Out}
+use Rattle.received.specs.Outcomes.{on_links}
+use Rattle.program_laws.specs.Vetoes.{without_answers}
+use Rattle.program_laws.specs.Unheard.{Act, Acts, Cause, Datagram, History, Network}
+use Rattle.program_laws.specs.Unheard.{VetoesAreNeverHeard, act_without_words, asked}
+use Rattle.program_laws.specs.Unheard.{cause_without_words, event_of, network_without_answers}
+use Rattle.program_laws.specs.Unheard.{received_at, sent, sent_at, without_words}
+use Rattle.program_laws.proofs.Vetoes.{Overlooks, by_body, ended, one_of, without}
+
+-- ---- each part of an event does the same without the answers
+
+or_waits : (moment : Moment) (key : Key) → Overlooks (originate_or_wait moment key)
+or_waits moment key p = by_body (has_room key p.router) moment key (wanted_body p.router key) p
+
+anyway : (moment : Moment) (key : Key) → Overlooks (originate_anyway moment key)
+anyway moment key p = by_body true moment key (wanted_body p.router key) p
+
+or_flushes : (wanted : Bool) (moment : Moment) (key : Key) → Overlooks
+    (originate_or_flush wanted moment key)
+or_flushes true moment key p = or_waits moment key p
+or_flushes false moment key p = refl
+
+own_received : (moment : Moment) (lsa : Lsa) → Overlooks (receive_self_originated moment lsa)
+own_received moment lsa p =
+    let wanted : Bool = is_wanted (wanted_body p.router (lsa_key lsa)) in
+    let own : Bool = lsa.header.advertising_router == p.router.id in
+    one_of own (originate_or_flush wanted moment (lsa_key lsa) p) p
+    ∙ ap (λ (q : EventState). cond own q (without p)) (or_flushes wanted moment (lsa_key lsa) p)
+
+settled : (case : Case) (moment : Moment) (lsa : Lsa) → Overlooks
+    (after_self_originated case moment lsa)
+settled Case.Unreadable moment lsa p = refl
+settled Case.NothingToFlush moment lsa p = refl
+settled Case.TooSoon moment lsa p = refl
+settled Case.Newer moment lsa p = own_received moment lsa p
+settled Case.BadRequest moment lsa p = refl
+settled Case.ImpliedAcknowledgment moment lsa p = refl
+settled Case.Duplicate moment lsa p = refl
+settled Case.SequenceWraps moment lsa p = refl
+settled Case.SentJustNow moment lsa p = refl
+settled Case.Older moment lsa p = refl
+
+one_lsa : (case : Case) (moment : Moment) (number : InterfaceNumber) (lsa : Lsa) → Overlooks
+    (after_lsa case moment number lsa)
+one_lsa case moment number lsa p = settled case moment lsa
+    (on_area (after_case case moment number lsa) p)
+
+unread : (moment : Moment) (number : InterfaceNumber) (lsa : Option Lsa) → Overlooks
+    (after_unread moment number lsa)
+unread moment number None p = refl
+unread moment number (Some lsa) p = one_lsa
+    (case_at moment number lsa p.router.area) moment number lsa p
+
+same_case : (moment : Moment) (number : InterfaceNumber) (lsa : Option Lsa) (p : EventState)
+    → case_in moment number lsa p ≡ case_in moment number lsa (without p)
+same_case moment number None p = refl
+same_case moment number (Some lsa) p = refl
+
+all_lsas : (moment : Moment) (number : InterfaceNumber) (texts : List (List ℕ)) → Overlooks
+    (after_lsas moment number texts)
+all_lsas moment number [] p = refl
+all_lsas moment number (bytes ∷ rest) p =
+    let q : EventState = after_unread moment number (lsa_in bytes) p in
+    let on : Bool = goes_on (case_in moment number (lsa_in bytes) p) in
+    let same : without q ≡ after_unread moment number (lsa_in bytes) (without p) =
+    unread moment number (lsa_in bytes) p in
+    one_of on (after_lsas moment number rest q) q
+    ∙ ap (λ (r : EventState). cond on r (without q)) (all_lsas moment number rest q)
+    ∙ ap (λ (r : EventState). cond on (after_lsas moment number rest r) r) same
+    ∙ ap (λ (c : Case). cond (goes_on c)
+    (after_lsas moment number rest (after_unread moment number (lsa_in bytes) (without p)))
+    (after_unread moment number (lsa_in bytes) (without p)))
+    (same_case moment number (lsa_in bytes) p)
+
+from_its_neighbor : (moment : Moment) (number : InterfaceNumber) (from : ℕ) (in_exchange : Bool)
+    (says : Body) → Overlooks (from_neighbor moment number from in_exchange says)
+from_its_neighbor moment number from in_exchange (body.Hello h) p = refl
+from_its_neighbor moment number from in_exchange (body.Description d) p = refl
+from_its_neighbor moment number from true (body.Request keys) p = refl
+from_its_neighbor moment number from false (body.Request keys) p = refl
+from_its_neighbor moment number from true (body.Update lsas) p = all_lsas moment number lsas p
+from_its_neighbor moment number from false (body.Update lsas) p = refl
+from_its_neighbor moment number from true (body.Acknowledgment headers) p = refl
+from_its_neighbor moment number from false (body.Acknowledgment headers) p = refl
+
+a_packet : (moment : Moment) (number : InterfaceNumber) (packet : Packet) → Overlooks
+    (after_packet moment number packet)
+a_packet moment number packet p =
+    let heard : Bool = is_heard p.router.id packet (neighbor_at number p.router.area.links) in
+    let exchanges : Bool = is_in_exchange (neighbor_at number p.router.area.links) in
+    one_of heard (from_neighbor moment number packet.router exchanges packet.body p) p
+    ∙ ap (λ (q : EventState). cond heard q (without p))
+    (from_its_neighbor moment number packet.router exchanges packet.body p)
+
+all_due : (moment : Moment) (keys : List Key) → Overlooks (originate_due moment keys)
+all_due moment [] p = refl
+all_due moment (key ∷ keys) p =
+    all_due moment keys (originate_or_wait moment key p)
+    ∙ ap (originate_due moment keys) (or_waits moment key p)
+
+a_tick : (moment : Moment) → Overlooks (after_tick moment)
+a_tick moment p =
+    let quiet : EventState = on_router (forget_originations moment)
+    (on_area (on_links (map (run_out moment))) p) in
+    ap (on_area
+    (λ (o : Outcome). send_hellos moment (acknowledge_all moment (send_all_again moment o))))
+    (all_due moment (due_keys moment quiet.router) quiet)
+
+announced : (moment : Moment) (key : Key) (e : External) → Overlooks (announce_as moment key e)
+announced moment key e p =
+    let same : Bool = is_announced_as e (finite.get p.router.announced key) in
+    one_of same p (originate_anyway moment key (on_router (announce key e) p))
+    ∙ ap (λ (q : EventState). cond same (without p) q)
+    (anyway moment key (on_router (announce key e) p))
+
+redistributed : (moment : Moment) (e : External) (tag price : ℕ) → Overlooks
+    (after_redistribute moment e tag price)
+redistributed moment e tag price p =
+    let key : Key = external_key p.router.id e.prefix in
+    let ends : Bool = nat_le ls_infinity price in
+    one_of ends (end_want moment key p) (announce_as moment key (answered_external e tag price) p)
+    ∙ ap (λ (q : EventState). cond ends (end_want moment key (without p)) q)
+    (announced moment key (answered_external e tag price) p)
+
+withdrawn : (moment : Moment) (prefix : Prefix) → Overlooks (after_withdraw moment prefix)
+withdrawn moment prefix p =
+    let key : Key = external_key p.router.id prefix in
+    one_of (is_for prefix (finite.get p.router.announced key)) (end_want moment key p) p
+
+own_part : (moment : Moment) (event : Occurrence) (before after : EventState)
+    → OwnPart moment event before after → OwnPart moment (without_words event) (without before)
+    (without after)
+own_part moment (Occurrence.Packet number bytes) before after part =
+    (part.0, part.1, ap without part.2 ∙ a_packet moment number part.0 before)
+own_part moment Occurrence.Tick before after part = ap without part ∙ a_tick moment before
+own_part moment (Occurrence.Redistribute tagged tag priced price) before after part =
+    ap without part ∙ redistributed moment priced tag price before
+own_part moment (Occurrence.Withdraw prefix) before after part = ap without part
+    ∙ withdrawn moment prefix before
+own_part moment (Occurrence.Install answers) before after part = ap without part
+own_part moment (Occurrence.LinkDown number) before after part = ap without part
+
+happens_without : (old : Router) (moment : Moment) (event : Occurrence) (outs : List Out)
+    (new : Router)
+    → Happens old moment event outs new → Happens (without_answers old) moment
+    (without_words event) outs (without_answers new)
+happens_without old moment event outs new it =
+    let same : without (end_event old moment it.after) ≡ end_event (without_answers old) moment
+    (without it.after) = ended old moment it.after in
+    record {
+      after = without it.after;
+      own = own_part moment event (start_event moment old) it.after it.own;
+      router = ap without_answers it.router ∙ ap (λ (p : EventState). p.router) same;
+      sent = it.sent ∙ ap (λ (p : EventState). outs_of old.id old.area.links p.sends) same;
+    }
+
+-- ---- an event has one outcome
+
+one_part : (moment : Moment) (event : Occurrence) (before after next : EventState)
+    → OwnPart moment event before after → OwnPart moment event before next → after ≡ next
+one_part moment (Occurrence.Packet number bytes) before after next part other =
+    part.2 ∙ ap (λ (packet : Packet). after_packet moment number packet before)
+    (one_packet bytes part.0 other.0 part.1 other.1) ∙ sym other.2
+one_part moment Occurrence.Tick before after next part other = part ∙ sym other
+one_part moment (Occurrence.Redistribute tagged tag priced price) before after next part other =
+    part ∙ sym other
+one_part moment (Occurrence.Withdraw prefix) before after next part other = part ∙ sym other
+one_part moment (Occurrence.Install answers) before after next part other = part ∙ sym other
+one_part moment (Occurrence.LinkDown number) before after next part other = part ∙ sym other
+
+one_outcome : (old : Router) (moment : Moment) (event : Occurrence) (outs these : List Out)
+    (new next : Router)
+    → Happens old moment event outs new → Happens old moment event these next → (outs ≡ these) ×
+    (new ≡ next)
+one_outcome old moment event outs these new next it other =
+    let same : end_event old moment it.after ≡ end_event old moment other.after = ap
+    (end_event old moment)
+    (one_part moment event
+    (start_event moment old) it.after other.after it.own other.own) in (
+      it.sent ∙ ap (λ (p : EventState). outs_of old.id old.area.links p.sends) same
+          ∙ sym other.sent,
+      it.router ∙ ap (λ (p : EventState). p.router) same ∙ sym other.router,
+    )
+
+-- two routers that are the same but for the answers, and two events that are the same but for the
+-- words
+alike : (old before : Router) (moment : Moment) (at : Moment) (event other : Occurrence)
+    (outs these : List Out) (new next : Router)
+    → without_answers old ≡ without_answers before → moment ≡ at → without_words event
+    ≡ without_words other
+    → Happens old moment event outs new → Happens before at other these next
+    → (outs ≡ these) × (without_answers new ≡ without_answers next)
+alike old before moment at event other outs these new next routers moments events it that =
+    let first : Happens (without_answers old) moment (without_words event) outs
+    (without_answers new) = happens_without old moment event outs new it in
+    let second : Happens (without_answers before) at (without_words other) these
+    (without_answers next) = happens_without before at other these next that in
+    let here : Happens (without_answers old) at (without_words other) these
+    (without_answers next) = subst
+    (λ (r : Router). Happens r at (without_words other) these (without_answers next))
+    (sym routers) second in
+    let now : Happens (without_answers old) moment (without_words other) these
+    (without_answers next) = subst
+    (λ (m : Moment). Happens (without_answers old) m (without_words other) these
+    (without_answers next)) (sym moments) here in
+    let of_it : Happens (without_answers old) moment (without_words event) these
+    (without_answers next) = subst
+    (λ (o : Occurrence). Happens (without_answers old) moment o these
+    (without_answers next)) (sym events) now in
+    one_outcome (without_answers old) moment (without_words event) outs these
+    (without_answers new) (without_answers next) first of_it
+
+-- ---- lists that begin alike
+
+abbrev head_or : {X : Type 0} → X → List X → X
+head_or x [] = x
+head_or x (y ∷ ys) = y
+
+abbrev tail_of : {X : Type 0} → List X → List X
+tail_of [] = []
+tail_of (y ∷ ys) = ys
+
+abbrev is_empty : {X : Type 0} → List X → Bool
+is_empty [] = true
+is_empty (y ∷ ys) = false
+
+heads : {X : Type 0} (x y : X) (xs ys : List X) → x ∷ xs ≡ y ∷ ys → x ≡ y
+heads x y xs ys e = ap (head_or x) e
+
+tails : {X : Type 0} (x y : X) (xs ys : List X) → x ∷ xs ≡ y ∷ ys → xs ≡ ys
+tails x y xs ys e = ap tail_of e
+
+never : {X : Type 0} {A : Type 0} (y : X) (ys : List X) → [] ≡ y ∷ ys → A
+never y ys e = absurd cc
+
+-- ---- two lives of a router
+
+lives : (old before : Router) (steps others : List Step) (new next : Router)
+    → without_answers old ≡ without_answers before → Run old steps new → Run before others next
+    → map asked steps ≡ map asked others
+    → (map sent steps ≡ map sent others) × (without_answers new ≡ without_answers next)
+lives old before [] [] new next routers run other same =
+    (refl, ap without_answers run ∙ routers ∙ sym (ap without_answers other))
+lives old before [] (t ∷ ts) new next routers run other same = never (asked t) (map asked ts) same
+lives old before (s ∷ ss) [] new next routers run other same = never (asked s) (map asked ss)
+    (sym same)
+lives old before (s ∷ ss) (t ∷ ts) new next routers run other same =
+    let first : asked s ≡ asked t = heads (asked s) (asked t) (map asked ss) (map asked ts) same in
+    let one : (s.outs ≡ t.outs) × (without_answers run.0 ≡ without_answers other.0) =
+    alike old before s.moment t.moment s.event t.event s.outs t.outs run.0 other.0 routers
+    (ap (λ (a : Moment × Occurrence). a.0) first)
+    (ap (λ (a : Moment × Occurrence). a.1) first) run.1 other.1 in
+    let rest : (map sent ss ≡ map sent ts) × (without_answers new ≡ without_answers next) =
+    lives run.0 other.0 ss ts new next one.1 run.2 other.2
+    (tails (asked s) (asked t) (map asked ss) (map asked ts) same) in (
+      ap (λ (outs : List Out). outs ∷ map sent ss) one.0 ∙ ap
+          (λ (more : List (List Out)). t.outs ∷ more) rest.0,
+      rest.1,
+    )
+
+-- ---- two histories of a network
+
+abbrev on_option : {X Y : Type 0} → (X → Y) → Option X → Option Y
+on_option f None = None
+on_option f (Some x) = Some (f x)
+
+abbrev value_or : {X : Type 0} → X → Option X → X
+value_or x None = x
+value_or x (Some y) = y
+
+somes : {X : Type 0} (x y : X) → Some x ≡ Some y → x ≡ y
+somes x y e = ap (value_or x) e
+
+at_mapped : {X Y : Type 0} (f : X → Y) (xs : List X) (i : ℕ) → slice_get (map f xs) i
+    ≡ on_option f (slice_get xs i)
+at_mapped f [] i = refl
+at_mapped f (x ∷ xs) zero = refl
+at_mapped f (x ∷ xs) (suc i) = at_mapped f xs i
+
+set_mapped : {X Y : Type 0} (f : X → Y) (xs : List X) (i : ℕ) (x : X) → map f (set xs i x) ≡ set
+    (map f xs) i (f x)
+set_mapped f [] i x = refl
+set_mapped f (y ∷ ys) zero x = refl
+set_mapped {Y = Y} f (y ∷ ys) (suc i) x = ap (λ (zs : List Y). f y ∷ zs) (set_mapped f ys i x)
+
+delivered : (number : InterfaceNumber) (d : Option Datagram) → on_option without_words
+    (received_at number d) ≡ received_at number d
+delivered number None = refl
+delivered number (Some d) = refl
+
+-- the event of a cause, but for the words
+caused : (all : List Datagram) (cause : Cause) → on_option without_words (event_of all cause)
+    ≡ event_of all (cause_without_words cause)
+caused all (Cause.Delivers datagram number) = delivered number (slice_get all datagram)
+caused all (Cause.Other event) = refl
+
+-- two acts that are the same but for the words, in networks that are the same but for the answers
+acted : (w v : Network) (act other : Act) (next after : Network)
+    → network_without_answers w ≡ network_without_answers v → act_without_words act
+    ≡ act_without_words other
+    → Acts w act next → Acts v other after → network_without_answers next
+    ≡ network_without_answers after
+acted w v act other next after same acts it that =
+    let routers : map without_answers w.routers ≡ map without_answers v.routers = ap
+    (λ (n : Network). n.routers) same in
+    let all : w.sent ≡ v.sent = ap (λ (n : Network). n.sent) same in
+    let places : act.place ≡ other.place = ap (λ (a : Act). a.place) acts in
+    let causes : cause_without_words act.cause ≡ cause_without_words other.cause = ap
+    (λ (a : Act). a.cause) acts in
+    let actors : without_answers it.old ≡ without_answers that.old = somes
+    (without_answers it.old) (without_answers that.old) (
+    sym (ap (on_option without_answers) it.here) ∙ sym
+    (at_mapped without_answers w.routers act.place)
+    ∙ ap (λ (rs : List Router). slice_get rs act.place) routers ∙ ap
+    (slice_get (map without_answers v.routers)) places
+    ∙ at_mapped without_answers v.routers other.place ∙ ap (on_option without_answers) that.here
+    ) in
+    let events : without_words it.event ≡ without_words that.event = somes
+    (without_words it.event) (without_words that.event) (
+    sym (ap (on_option without_words) it.is) ∙ caused w.sent act.cause
+    ∙ ap (λ (ds : List Datagram). event_of ds (cause_without_words act.cause)) all ∙ ap
+    (event_of v.sent) causes
+    ∙ sym (caused v.sent other.cause) ∙ ap (on_option without_words) that.is
+    ) in
+    let one : (it.outs ≡ that.outs) × (without_answers it.new ≡ without_answers that.new) =
+    alike it.old that.old act.moment other.moment it.event that.event it.outs that.outs it.new
+    that.new actors (ap (λ (a : Act). a.moment) acts) events it.happens that.happens in
+    let routers_after : map without_answers (set w.routers act.place it.new) ≡ map without_answers
+    (set v.routers other.place that.new) =
+    set_mapped without_answers w.routers act.place it.new
+    ∙ ap (λ (rs : List Router). set rs act.place (without_answers it.new)) routers
+    ∙ ap (λ (i : ℕ). set (map without_answers v.routers) i (without_answers it.new)) places
+    ∙ ap (set (map without_answers v.routers) other.place) one.1
+    ∙ sym (set_mapped without_answers v.routers other.place that.new) in
+    let sent_after : w.sent ++ map (sent_at act.place) it.outs ≡ v.sent ++ map
+    (sent_at other.place) that.outs =
+    ap (λ (ds : List Datagram). ds ++ map (sent_at act.place) it.outs) all
+    ∙ ap (λ (i : ℕ). v.sent ++ map (sent_at i) it.outs) places
+    ∙ ap (λ (os : List Out). v.sent ++ map (sent_at other.place) os) one.0 in
+    ap network_without_answers it.leaves
+    ∙ ap (λ (rs : List Router). record
+    { routers = rs; sent = w.sent ++ map (sent_at act.place) it.outs }) routers_after
+    ∙ ap (λ (ds : List Datagram). record {
+      routers = map without_answers (set v.routers other.place that.new);
+      sent =
+          ds;
+    }) sent_after
+    ∙ sym (ap network_without_answers that.leaves)
+
+histories : (w v : Network) (acts others : List Act) (last final : Network)
+    → network_without_answers w ≡ network_without_answers v → History w acts last
+    → History v others final
+    → map act_without_words acts ≡ map act_without_words others → network_without_answers last
+    ≡ network_without_answers final
+histories w v [] [] last final same history other acts = ap network_without_answers history ∙ same
+    ∙ sym (ap network_without_answers other)
+histories w v [] (b ∷ bs) last final same history other acts = never (act_without_words b)
+    (map act_without_words bs) acts
+histories w v (a ∷ as_) [] last final same history other acts = never (act_without_words a)
+    (map act_without_words as_) (sym acts)
+histories w v (a ∷ as_) (b ∷ bs) last final same history other acts =
+    histories history.0 other.0 as_ bs last final
+    (acted w v a b history.0 other.0 same
+    (heads (act_without_words a) (act_without_words b) (map act_without_words as_)
+    (map act_without_words bs) acts) history.1 other.1)
+    history.2 other.2
+    (tails (act_without_words a) (act_without_words b) (map act_without_words as_)
+    (map act_without_words bs) acts)
+
+pub vetoes_are_never_heard : VetoesAreNeverHeard
+vetoes_are_never_heard = record {
+  by_a_router = λ old steps others new next. lives old old steps others new next refl;
+  by_a_network =
+      λ before acts others last final. histories before before acts others last final refl;
+}

@@ -1,6 +1,0 @@
--- for the parts of an event above
-pub use Rattle.router_state.proofs.Making
-pub use Rattle.router_state.proofs.Drafts
-pub mod Keys
-pub mod Found
-pub mod Filtered
