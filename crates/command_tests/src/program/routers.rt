@@ -1,7 +1,7 @@
 //! The command `route`: the configuration, the console's streams and the status go to the router
 //! and back.
 
-use super::{Step, path_for, play};
+use super::path_for;
 use commands::Routing;
 use commands::program::program;
 use std::alloc::Global;
@@ -67,18 +67,4 @@ fn a_router_has_its_configuration_and_the_console(rt: HostRuntime) -> Result<(),
     }
     fs::remove_file(&rt, path.as_str())?;
     Ok(())
-}
-
-const ROUTE_BYTES: Step<'_> = Step::Run(&["route", "@bytes.conf"], 3, "cannot read @bytes.conf\n");
-
-const NO_TEXT: &[Step<'_>] = &[
-    ROUTE_BYTES,
-    Step::Write("bytes.conf", &[0xff, 0xfe]),
-    ROUTE_BYTES,
-    Step::Remove("bytes.conf"),
-];
-
-#[test]
-fn a_configuration_that_is_no_text_cant_be_read(rt: HostRuntime) -> Result<(), Fail> {
-    play(&rt, process::id(rt.process()), NO_TEXT)
 }
