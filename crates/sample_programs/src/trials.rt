@@ -216,45 +216,6 @@ fn both_runs(
     Ok((ended, checked))
 }
 
-/// The answer of an accepted program on an input: its run takes at most its bound, and is the
-/// checked one.
-fn answer_on(
-    alloc: Global,
-    accepted: &Accepted,
-    code: &Code,
-    input: &Input,
-) -> Result<Option<u64>, Fail>
-    requires { number_of (slice_range input.now.context 0 4) ≡ hook_number accepted.now.hook }
-{
-    let (ended, checked) = both_runs(alloc, accepted, code, input)?;
-    if checked == Ok(ended) && ended.used <= accepted.bound() {
-        Ok(Some(ended.answer))
-    } else {
-        Ok(None)
-    }
-}
-
-/// Its answer on no packet and a context of zeros.
-fn bare_answer(alloc: Global, accepted: &Accepted, code: &Code) -> Result<Option<u64>, Fail> {
-    let input = Input {
-        context: bare_context(accepted.hook()),
-        packet: &[],
-        rows: &[],
-    };
-    answer_on(alloc, accepted, code, &input)
-}
-
-/// Its answer on the other input.
-fn rich_answer(alloc: Global, accepted: &Accepted, code: &Code) -> Result<Option<u64>, Fail> {
-    let rows = rows(alloc)?;
-    let input = Input {
-        context: rich_context(accepted.hook()),
-        packet: PACKET,
-        rows: &rows,
-    };
-    answer_on(alloc, accepted, code, &input)
-}
-
 /// Whether the accepted program gives by `run` what it gives by `run_checked`, within its bound, on
 /// a hundred inputs: a packet of up to 20 bytes, one row or none, and contexts that differ.
 pub fn runs_agree(alloc: Global, accepted: &Accepted, code: &Code) -> Result<bool, Fail> {
@@ -287,7 +248,6 @@ fn runs_agree_beside(
 /// A program with its code, and what the verifier says of it.
 #[derive(Drop)]
 pub struct Trial {
-    pub object: Object,
     pub code: Code,
     pub verdict: Result<Accepted, VerifyError>,
 }
@@ -297,11 +257,7 @@ pub fn tried(alloc: Global, text: &str) -> Result<Trial, Fail> {
     let object = object_of(alloc, text)?;
     let code = code_of(alloc, &object)?;
     let verdict = verdict_of(alloc, &object)?;
-    Ok(Trial {
-        object,
-        code,
-        verdict,
-    })
+    Ok(Trial { code, verdict })
 }
 
 /// The program is accepted with this bound.
@@ -310,55 +266,6 @@ fn is_accepted(rt: &impl Abort, tried: &Trial, text: &str, bound: u64) {
         Ok(accepted) => assert!(rt; accepted.bound() == bound, "{text}"),
         Err(error) => assert!(rt; false, "{text}: {error:?}"),
     }
-}
-
-/// The program is refused at this slot by the rule of this number.
-fn is_refused(rt: &impl Abort, tried: &Trial, text: &str, slot: usize, rule: u8) {
-    match &tried.verdict {
-        Ok(_) => assert!(rt; false, "{text}: accepted"),
-        Err(VerifyError::Refused(refusal)) => {
-            let number = refusal.rule.number();
-            assert!(rt;
-                refusal.slot == slot && number == rule,
-                "{text}: {refusal:?}"
-            );
-        }
-        Err(error) => assert!(rt; false, "{text}: {error:?}"),
-    }
-}
-
-/// The entry rank and one, times the slots.
-fn bound_of(object: &Object) -> u64 {
-    let passes = u64::from(object.entry_rank()).wrapping_add(1);
-    passes.wrapping_mul(object.slots() as u64)
-}
-
-fn answers_so(
-    rt: &impl Abort,
-    alloc: Global,
-    tried: &Trial,
-    text: &str,
-    answers: [u64; 2],
-) -> Result<(), Fail> {
-    let Ok(accepted) = &tried.verdict else {
-        return Ok(());
-    };
-    let bare = bare_answer(alloc, accepted, &tried.code)?;
-    let rich = rich_answer(alloc, accepted, &tried.code)?;
-    let [first, second] = answers;
-    assert!(rt;
-        bare == Some(first) && rich == Some(second),
-        "{text}: {bare:?}, {rich:?}"
-    );
-    Ok(())
-}
-
-/// The program is accepted with its bound, gives by `run` what it gives by `run_checked`, and
-/// answers this on an input of zeros and on the other one.
-fn accepts(rt: &impl Abort, alloc: Global, text: &str, answers: [u64; 2]) -> Result<(), Fail> {
-    let tried = tried(alloc, text)?;
-    is_accepted(rt, &tried, text, bound_of(&tried.object));
-    answers_so(rt, alloc, &tried, text, answers)
 }
 
 // What its run and its checked run on the other input come to.
@@ -400,100 +307,4 @@ pub fn ends(
     let tried = tried(alloc, text)?;
     is_accepted(rt, &tried, text, bound);
     ends_so(rt, alloc, &tried, text, wanted)
-}
-
-/// A safe program, and its answers on no packet and a context of zeros, and on the other input.
-pub type Safe = (&'static str, [u64; 2]);
-
-/// Each of these programs is accepted and answers as its row says.
-pub fn accepts_each(rt: &impl Abort, alloc: Global, rows: &[Safe]) -> Result<(), Fail> {
-    for row in rows {
-        let (text, answers) = *row;
-        accepts(rt, alloc, text, answers)?;
-    }
-    Ok(())
-}
-
-// Where the checked run of the code is stuck on no packet and a context of zeros.
-fn bare_trap(alloc: Global, tried: &Trial, limit: u64) -> Result<Option<Trap>, Fail> {
-    let hook = tried.object.hook();
-    let input = Input {
-        context: bare_context(hook),
-        packet: &[],
-        rows: &[],
-    };
-    Ok(checked_of(alloc, &tried.code, hook, limit, &input)?.err())
-}
-
-// Where it is stuck on the other input.
-fn rich_trap(alloc: Global, tried: &Trial, limit: u64) -> Result<Option<Trap>, Fail> {
-    let hook = tried.object.hook();
-    let rows = rows(alloc)?;
-    let input = Input {
-        context: rich_context(hook),
-        packet: PACKET,
-        rows: &rows,
-    };
-    Ok(checked_of(alloc, &tried.code, hook, limit, &input)?.err())
-}
-
-/// Where the checked run of refused code is stuck, on an input of zeros or on the other one: within
-/// the number of instructions that its object allows and one more, which may leave the code.
-fn trap_of(alloc: Global, tried: &Trial) -> Result<Option<Trap>, Fail> {
-    let limit = bound_of(&tried.object).wrapping_add(1);
-    match bare_trap(alloc, tried, limit)? {
-        Some(trap) => Ok(Some(trap)),
-        None => rich_trap(alloc, tried, limit),
-    }
-}
-
-/// The program is refused at this slot by the rule of this number.
-pub fn refuses_at(
-    rt: &impl Abort,
-    alloc: Global,
-    text: &str,
-    slot: usize,
-    rule: u8,
-) -> Result<(), Fail> {
-    let tried = tried(alloc, text)?;
-    is_refused(rt, &tried, text, slot, rule);
-    Ok(())
-}
-
-fn is_trapped(
-    rt: &impl Abort,
-    alloc: Global,
-    tried: &Trial,
-    text: &str,
-    trap: u8,
-) -> Result<(), Fail> {
-    let number = trap_of(alloc, tried)?.map(|trap| trap.number());
-    assert!(rt; number == Some(trap), "{text}: {number:?}");
-    Ok(())
-}
-
-/// The program is refused so, and rightly: a run of it comes to the trap of this number.
-fn refuses(
-    rt: &impl Abort,
-    alloc: Global,
-    text: &str,
-    slot: usize,
-    rule: u8,
-    trap: u8,
-) -> Result<(), Fail> {
-    let tried = tried(alloc, text)?;
-    is_refused(rt, &tried, text, slot, rule);
-    is_trapped(rt, alloc, &tried, text, trap)
-}
-
-/// An unsafe program, the slot and the rule of its refusal, and the trap of a run.
-pub type Unsafe = (&'static str, usize, u8, u8);
-
-/// Each of these programs is refused as its row says.
-pub fn refuses_each(rt: &impl Abort, alloc: Global, rows: &[Unsafe]) -> Result<(), Fail> {
-    for row in rows {
-        let (text, slot, rule, trap) = *row;
-        refuses(rt, alloc, text, slot, rule, trap)?;
-    }
-    Ok(())
 }
