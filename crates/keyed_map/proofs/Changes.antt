@@ -1,10 +1,13 @@
 -- What stood at a key before all edits.
 use Rattle.std.proofs.Common.{◌≡◌, ℕ, zero, suc, ◌+◌, ◌<◌, ◌⊎◌, inl, inr, Bool, true, false, cond, List, [], ◌∷◌, ◌++◌, length, Some, None, refl, sym, ap, subst, ◌∙◌, arith}
-use Rattle.std.specs.Prelude.{Option, slice_get, IsTrue, not, ◌↔◌}
+use Rattle.std.specs.Prelude.{Option, slice_get, IsSome, IsTrue, not, ◌↔◌}
+use Rattle.std.specs.BTreeMap.{is_at}
+use Rattle.std.specs.Map.{lookup}
 use Rattle.std.specs.Cmp.{Equal-is, tied_itself}
 use Rattle.std.specs.Ordering.{eq_by_cmp, is_eq}
 use Rattle.std.specs.FinMap as map
 use Rattle.std.specs.List.{Contains}
+use Rattle.std.specs.Option.{is_some}
 use Rattle.std.proofs.lemmas.Bool.{cases_eq}
 use Rattle.std.proofs.lemmas.List.Elements.{Contains-append_left, Contains-push_cases}
 use Rattle.std.proofs.lemmas.Option.{same_Some, slice_get_within}
@@ -44,9 +47,35 @@ module _ {X : Type 0} where
   held_same (Some Gone) = refl
   held_same (Some (Holds x)) = refl
 
+  -- what held a value held it in its slot
+  pub holds_is : (o : Option (Slot X)) (x : X) → Some x ≡ held_before o → Some (Holds x) ≡ o
+  holds_is None x is = absurd cc
+  holds_is (Some Gone) x is = absurd cc
+  holds_is (Some (Holds y)) x is = cc
+
+  -- nothing stands at a key that lies past the greatest
+  pub not_there : (o : Option (Slot X)) (b : Bool) → (IsSome o → b ≡ false) → b ≡ true → is_some (held_in o) ≡ false
+  not_there None b f t = refl
+  not_there (Some s) b f t = absurd (let no : true ≡ false = sym t ∙ f refl in cc)
+
+  -- nor at any key where there is no slot
+  pub none_there : (es : List (Key × Slot X)) (q : Key) → (0 < length es → ⊥) → is_some (held_in (lookup (is_at (key_cmp q)) es)) ≡ false
+  none_there [] q empty = refl
+  none_there (e ∷ es) q empty = absurd (empty (omega arith))
+
+  -- whether the key was there
+  pub was_there : (m : ByKey (Slot X)) (q : Key) (before : Option (Slot X)) → before ≡ map.get m q → is_some (held_before before) ≡ map.contains_key (live m) q
+  was_there m q before is = ap is_some (sym (held_same before) ∙ ap held_in is ∙ sym (get-live m q))
+
   get-put_back : (k : Key) (before : Option (Slot X)) (m : ByKey (Slot X)) (q : Key) → map.get (put_back k before m) q ≡ cond (eq_by_cmp key_cmp q k) before (map.get m q)
   get-put_back k None m q = map.get-remove keys_total m k q
   get-put_back k (Some s) m q = map.get-insert keys_total m k s q
+
+  -- there is an edit at each place
+  pub found_at : (es : List (Edit X)) (n : ℕ) → n < length es → (e : Edit X) × (slice_get es n ≡ Some e)
+  found_at [] n low = absurd (omega (arith, low))
+  found_at (e ∷ es) zero low = (e, refl)
+  found_at (e ∷ es) (suc n) low = found_at es n (omega (arith, low))
 
   -- before the first edit of the key it stood there
   pub record StoodAt (es : List (Edit X)) (q : Key) (before : Option (Slot X)) : Type 0 where

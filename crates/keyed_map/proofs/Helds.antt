@@ -1,16 +1,10 @@
 -- A map and its settled one, after an edit that may be refused.
-use Rattle.std.proofs.Common.{◌≡◌, Result, Ok, Err, IsOk, is_ok, cond, OnOk, OnErr, refl, sym, subst}
-use mathlib.Core.Bool.{false≢true}
+use Rattle.std.proofs.Common.{◌≡◌, Result, Ok, Err, OnOk, OnErr, sym, subst}
 use Rattle.keyed_map.specs.Keys.{ByKey}
 use Rattle.keyed_map.specs.Held.{Held}
 
 pub held : {X : Type 0} {p q s t : ByKey X} → p ≡ q → s ≡ t → ◌≡◌ {A = Held X} (record { present = p; settled = s }) (record { present = q; settled = t })
 held a b i = record { present = a i; settled = b i }
-
--- what a call that succeeded left
-pub when_ok : {A E X : Type 0} (r : Result A E) (x y : X) → IsOk r → cond (is_ok r) x y ≡ x
-when_ok (Ok a) x y ok = refl
-when_ok (Err e) x y ok = absurd (false≢true ok)
 
 -- what holds of the old and of the edited holds whatever the answer
 pub after : {A E V : Type 0} (r : Result A E) (P : V → Type 0) (new old edited : V) → OnOk r (new ≡ edited) → OnErr r (new ≡ old) → P edited → P old → P new

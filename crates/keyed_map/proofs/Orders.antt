@@ -1,6 +1,6 @@
 -- Slots in the order of their keys: what is live keeps the order.
 use Rattle.std.proofs.Common.{Ordering, cond, Some, None, ◌≡◌, ℕ, zero, suc, ◌≤◌, arith, length, take, Bool, true, false, T, List, [], ◌∷◌, ◌++◌, map, ◌&&◌, refl, sym, ap, subst, ◌∙◌}
-use Rattle.std.specs.List.{AllByRecursion}
+use Rattle.std.specs.List.{AllByRecursion, filter}
 use Rattle.std.specs.List.Sorted.{IsStrictlySortedBy}
 use Rattle.std.specs.declared.cmp.Ordering.TheVariants.{Less, Equal, Greater}
 use Rattle.std.specs.declared.ops.Bound.TheVariants.{Included, Unbounded}
@@ -15,8 +15,9 @@ use Rattle.keyed_map.specs.declared.slot.Slot.TheVariants.{Gone, Holds}
 use Rattle.std.specs.Prelude.{Option}
 use Rattle.keyed_map.specs.Keys.{ByKey}
 use Rattle.keyed_map.specs.Keys.{key_cmp}
-use Rattle.keyed_map.specs.Slots.{kept, keys_from, live, slots_of}
+use Rattle.keyed_map.specs.Slots.{holds, kept, keys_from, live, slots_of}
 use Rattle.keyed_map.proofs.Keys.{keys_exact, keys_total}
+use Rattle.keyed_map.proofs.Slots.{live-empty, slots-empty}
 
 both : (a b : Bool) → T a → T b → T (a && b)
 both true b p q = q
@@ -72,6 +73,21 @@ module _ {X : Type 0} where
   live_entries es ordered =
       let sorted = sorted_from es ordered in
       ap (λ fs. finite.entries (finite.from_entries {R = key_cmp} (kept fs))) (entries_of es sorted) ∙ entries_of (kept es) (sorted_kept es sorted)
+
+  kept_held : (es : List (Key × Slot X)) → kept (filter (λ e. holds e.1) es) ≡ kept es
+  kept_held [] = refl
+  kept_held ((k, Gone) ∷ es) = kept_held es
+  kept_held ((k, Holds x) ∷ es) = ap (λ fs. (k, x) ∷ fs) (kept_held es)
+
+  -- the slots of keys that are gone may be left out
+  pub live_held : (es fs : List (Key × Slot X)) → IsStrictlySortedBy key_cmp (keys_of es) → IsStrictlySortedBy key_cmp (keys_of fs) → fs ≡ filter (λ e. holds e.1) es
+      → live (slots_of fs) ≡ live (slots_of es)
+  live_held es fs ordered still is =
+      finite.same_entries_map _ _ (live_entries fs still ∙ ap kept is ∙ kept_held es ∙ sym (live_entries es ordered))
+
+  -- and all of them where no key is left
+  pub live_none : (es fs : List (Key × Slot X)) → finite.len (live (slots_of es)) ≡ 0 → fs ≡ [] → live (slots_of fs) ≡ live (slots_of es)
+  live_none es fs none is = ap live (slots-empty fs is) ∙ live-empty ∙ sym (finite.empty_of_len (live (slots_of es)) none)
 
   length-kept : (es : List (Key × Slot X)) → length (kept es) ≤ length es
   length-kept [] = omega arith

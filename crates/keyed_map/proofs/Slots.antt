@@ -113,13 +113,13 @@ module _ {X : Type 0} where
       missing q true tied = ap (map.get m) (keys_exact q k (equal _ tied)) ∙ is
       missing q false tied = refl
 
-  -- a gone slot can be forgotten
-  pub live_forget : (m : ByKey (Slot X)) (k : Key) → map.get m k ≡ Some Gone → live (map.remove m k) ≡ live m
-  live_forget m k is = same _ _ (λ q. get-live _ q ∙ ap held_in (map.get-remove keys_total m k q) ∙ forgotten q (eq_by_cmp key_cmp q k) refl ∙ sym (get-live m q))
+  -- what stands there already is put there
+  pub same_again : (m : ByKey (Slot X)) (k : Key) (s : Slot X) → map.get m k ≡ Some s → map.insert m k s ≡ m
+  same_again m k s is = same _ _ (λ q. map.get-insert keys_total m k s q ∙ stands q (eq_by_cmp key_cmp q k) refl)
     where
-      forgotten : (q : Key) (b : Bool) → eq_by_cmp key_cmp q k ≡ b → held_in (cond b None (map.get m q)) ≡ held_in (map.get m q)
-      forgotten q true tied = ap held_in (sym (ap (map.get m) (keys_exact q k (equal _ tied)) ∙ is))
-      forgotten q false tied = refl
+      stands : (q : Key) (b : Bool) → eq_by_cmp key_cmp q k ≡ b → cond b (Some s) (map.get m q) ≡ map.get m q
+      stands q true tied = sym is ∙ ap (map.get m) (sym (keys_exact q k (equal _ tied)))
+      stands q false tied = refl
 
   -- what stood at the key is put back
   pub put_back_is : (m : ByKey (Slot X)) (k : Key) (s : Slot X) (before : Option (Slot X)) → before ≡ map.get m k → put_back k before (map.insert m k s) ≡ m

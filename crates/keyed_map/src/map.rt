@@ -1,5 +1,6 @@
 ghost use Rattle.std.specs.Prelude.{◌≡◌, ◌==◌, ◌↔◌, ◌<◌, ◌≤◌, Some, length, slice_get, IfOk, OnOk};
-ghost use Rattle.std.specs.Prelude.{OnErr, IsTrue, Option, take, option_copied};
+ghost use Rattle.std.specs.Prelude.{OnErr, IfSome, IsTrue, None, Option, false, is_some};
+ghost use Rattle.std.specs.Prelude.{option_copied, take, true};
 ghost use Rattle.std.specs.FinMap as map;
 ghost use Rattle.std.specs.List.{Contains};
 ghost use Rattle.words.specs.declared.key.Key.{Key as KeyValue};
@@ -7,7 +8,7 @@ ghost use Rattle.keyed_map.specs.declared.slot.Edit.{Edit as EditValue};
 ghost use Rattle.keyed_map.specs.Keys.{key_cmp};
 ghost use Rattle.keyed_map.specs.Slots.{Fits, count_after_change, holds};
 ghost use Rattle.keyed_map.specs.Slots.{keys_from, keys_where, live};
-ghost use Rattle.keyed_map.specs.Slots.{put_live, slots_of, undo};
+ghost use Rattle.keyed_map.specs.Slots.{slots_of, undo};
 ghost use Rattle.keyed_map.specs.Changes.{IsFirst, held_before};
 
 use crate::entries_in_order::EntriesInOrder;
@@ -16,6 +17,7 @@ use crate::slot::{Edit, Slot};
 use std::alloc::{AllocError, Global};
 use std::collections::BTreeMap;
 use std::marker::Model;
+use std::mem::replace;
 use words::Key;
 
 /// A map by LSA key, which remembers what it was when it was last settled.
@@ -23,6 +25,8 @@ use words::Key;
 pub struct KeyedMap<X> {
     slots: BTreeMap<Key, Slot<X>>,
     edits: Vec<Edit<X>>,
+    // no fewer than the slots of keys that are gone: only time rests on it
+    gone: usize,
     // how many keys there are, and how many there were when it was last settled
     len: usize,
     settled_len: usize,
@@ -62,16 +66,13 @@ fn holds<X>(slot: &Slot<X>) -> bool
     }
 }
 
-// How many keys there are, once a slot was written: there are no more than slots.
-fn count<X>(slots: &BTreeMap<Key, Slot<X>>, len: usize, held: bool, holds: bool) -> usize
-    requires { map.len (live (slots_of slots.now.entries)) ≡ count_after_change held holds len }
+// How many keys there are, once one that was held or not was set: there are no more than slots.
+fn count<X>(slots: &BTreeMap<Key, Slot<X>>, len: usize, held: bool) -> usize
+    requires { map.len (live (slots_of slots.now.entries)) ≡ count_after_change held true len }
     ensures { result ≡ map.len (live (slots_of slots.now.entries)) }
 {
     let _slots = slots.len();
-    if holds {
-        return if held { len } else { len + 1 };
-    }
-    if held { len.saturating_sub(1) } else { len }
+    if held { len } else { len + 1 }
 }
 
 // Takes one edit back. It needs no memory.
@@ -91,12 +92,40 @@ fn take_back<X: Drop>(slots: &mut BTreeMap<Key, Slot<X>>, edit: Edit<X>)
     }
 }
 
-// Forgets a key that is gone.
-fn forget<X: Drop>(slots: &mut BTreeMap<Key, Slot<X>>, key: Key)
+// Puts a value at a key.
+fn put_value<X: Drop>(slots: &mut BTreeMap<Key, Slot<X>>, key: Key, x: X) -> Result<(), AllocError>
+    ensures { OnOk result (live (slots_of slots.new.entries)
+        ≡ map.insert (live (slots_of slots.old.entries)) key x) }
+{
+    let _before = slots.insert(key, Slot::Holds(x))?;
+    Ok(())
+}
+
+// Takes the value of a key out of its slot, which stays.
+fn take_out<X: Drop>(slots: &mut BTreeMap<Key, Slot<X>>, key: &Key) -> Option<X>
+    ensures value { result ≡ held_before (map.get (slots_of slots.old.entries) key.now) }
+    ensures some { IfSome result (λ _. slots_of slots.new.entries
+        ≡ map.insert (slots_of slots.old.entries) key.now Slot.Gone) }
+    ensures none { result ≡ None → slots_of slots.new.entries ≡ slots_of slots.old.entries }
+{
+    match slots.get_mut(key) {
+        Some(slot) => match replace(slot, Slot::Gone) {
+            Slot::Holds(x) => Some(x),
+            Slot::Gone => None,
+        },
+        None => None,
+    }
+}
+
+// Forgets the keys that are gone, where so many others are there. It wants no memory.
+fn forget_gone<X: Drop>(slots: &mut BTreeMap<Key, Slot<X>>, len: usize)
+    requires { len ≡ map.len (live (slots_of slots.old.entries)) }
     ensures { live (slots_of slots.new.entries) ≡ live (slots_of slots.old.entries) }
 {
-    if let Some(Slot::Gone) = slots.get(&key) {
-        let _gone = slots.remove(&key);
+    if len == 0 {
+        slots.clear();
+    } else {
+        slots.retain(|_key, slot| holds(slot));
     }
 }
 
@@ -108,6 +137,17 @@ fn held_before<X>(before: &Option<Slot<X>>) -> Option<&X>
         Some(Slot::Holds(x)) => Some(x),
         Some(Slot::Gone) => None,
         None => None,
+    }
+}
+
+// Whether anything stood there before an edit.
+fn held<X>(before: &Option<Slot<X>>) -> bool
+    ensures { result ≡ is_some (held_before before.now) }
+{
+    match before {
+        Some(Slot::Holds(_)) => true,
+        Some(Slot::Gone) => false,
+        None => false,
     }
 }
 
@@ -187,14 +227,19 @@ impl<X: Copied> KeyedMap<X> {
         ensures present { IfOk result (λ made. made.present ≡ self.now.present) }
         ensures settled { IfOk result (λ made. made.settled ≡ made.present) }
     {
-        let mut made = KeyedMap::new(alloc);
+        let mut slots = BTreeMap::new(alloc);
         for (key, slot) in self.slots.iter() {
             if let Slot::Holds(x) = slot {
-                made.insert(*key, x.copy(alloc)?)?;
-                made.settle();
+                put_value(&mut slots, *key, x.copy(alloc)?)?;
             }
         }
-        Ok(made)
+        Ok(KeyedMap {
+            slots,
+            edits: Vec::new(alloc),
+            gone: 0,
+            len: self.len,
+            settled_len: self.len,
+        })
     }
 }
 
@@ -204,14 +249,19 @@ impl<X: Copy + Drop> KeyedMap<X> {
         ensures present { IfOk result (λ made. made.present ≡ self.now.present) }
         ensures settled { IfOk result (λ made. made.settled ≡ made.present) }
     {
-        let mut made = KeyedMap::new(alloc);
+        let mut slots = BTreeMap::new(alloc);
         for (key, slot) in self.slots.iter() {
             if let Slot::Holds(x) = slot {
-                made.insert(*key, *x)?;
-                made.settle();
+                put_value(&mut slots, *key, *x)?;
             }
         }
-        Ok(made)
+        Ok(KeyedMap {
+            slots,
+            edits: Vec::new(alloc),
+            gone: 0,
+            len: self.len,
+            settled_len: self.len,
+        })
     }
 }
 
@@ -223,6 +273,7 @@ impl<X: Drop> KeyedMap<X> {
         KeyedMap {
             slots: BTreeMap::new(alloc),
             edits: Vec::new(alloc),
+            gone: 0,
             len: 0,
             settled_len: 0,
         }
@@ -266,6 +317,17 @@ impl<X: Drop> KeyedMap<X> {
             }
         }
         self.get(key)
+    }
+
+    /// Tells that the key comes after all that are there. It looks at the last place alone, which a
+    /// key that left may hold still, so it may say no of such a key.
+    pub fn is_beyond(&self, key: &Key) -> bool
+        ensures { IsTrue result → map.contains_key self.now.present key.now ≡ false }
+    {
+        match self.slots.last_key_value() {
+            Some((last, _slot)) => last.compare(key).is_lt(),
+            None => true,
+        }
     }
 
     /// Tells whether the key is there.
@@ -327,6 +389,18 @@ impl<X: Drop> KeyedMap<X> {
             }
         }
         Ok(keys)
+    }
+
+    /// The first key from a key on, if there is one.
+    pub fn next_from(&self, key: &Key) -> Option<Key>
+        ensures { result ≡ slice_get (keys_from key.now (map.keys self.now.present)) 0 }
+    {
+        for (found, slot) in self.slots.range(*key..) {
+            if let Slot::Holds(_) = slot {
+                return Some(same(found));
+            }
+        }
+        None
     }
 
     /// The keys that pass a test, in their order. It looks at each.
@@ -395,29 +469,19 @@ impl<X: Drop> KeyedMap<X> {
         Ok(keys)
     }
 
-    // Writes a slot, and notes what stood there.
-    fn put(&mut self, key: Key, slot: Slot<X>) -> Result<(), AllocError>
-        ensures ok { OnOk result (self.new.present ≡ put_live self.old.present key slot) }
-        ensures settled { self.new.settled ≡ self.old.settled }
-        ensures err { OnErr result (self.new.present ≡ self.old.present) }
-    {
-        self.edits.reserve(1)?;
-        let noted = same(&key);
-        let held = self.contains(&key);
-        let holds = holds(&slot);
-        let before = self.slots.insert(key, slot)?;
-        self.edits.push(Edit { key: noted, before }).unwrap();
-        self.len = count(&self.slots, self.len, held, holds);
-        Ok(())
-    }
-
     /// Sets the value of a key.
     pub fn insert(&mut self, key: Key, x: X) -> Result<(), AllocError>
         ensures ok { OnOk result (self.new.present ≡ map.insert self.old.present key x) }
         ensures settled { self.new.settled ≡ self.old.settled }
         ensures err { OnErr result (self.new.present ≡ self.old.present) }
     {
-        self.put(key, Slot::Holds(x))
+        self.edits.reserve(1)?;
+        let noted = same(&key);
+        let before = self.slots.insert(key, Slot::Holds(x))?;
+        let held = held(&before);
+        self.edits.push_reserved(Edit { key: noted, before });
+        self.len = count(&self.slots, self.len, held);
+        Ok(())
     }
 
     /// Takes a key out, if it is there.
@@ -426,20 +490,29 @@ impl<X: Drop> KeyedMap<X> {
         ensures settled { self.new.settled ≡ self.old.settled }
         ensures err { OnErr result (self.new.present ≡ self.old.present) }
     {
-        if let None = self.get(key) {
-            return Ok(());
+        self.edits.reserve(1)?;
+        if let Some(x) = take_out(&mut self.slots, key) {
+            let before = Some(Slot::Holds(x));
+            self.edits.push_reserved(Edit {
+                key: same(key),
+                before,
+            });
+            self.gone = self.gone.saturating_add(1);
+            self.len = self.len.saturating_sub(1);
         }
-        self.put(*key, Slot::Gone)
+        Ok(())
     }
 
     /// Makes the edits so far final.
     pub fn settle(&mut self)
         ensures { self.new ≡ record { present = self.old.present; settled = self.old.present } }
     {
-        while let Some(edit) = self.edits.pop() {
-            forget(&mut self.slots, edit.key);
-        }
+        self.edits.clear();
         self.settled_len = self.len;
+        if self.gone > self.len {
+            forget_gone(&mut self.slots, self.len);
+            self.gone = 0;
+        }
     }
 
     /// Takes all edits back that were made since it was last settled.

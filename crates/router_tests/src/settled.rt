@@ -17,6 +17,10 @@ enum Step {
     Held(u32, Option<u32>, Option<u32>),
     // the keys of these numbers hold something else than then
     Changed(&'static [u32]),
+    // the first key from the key of the first number on has the second one
+    Next(u32, Option<u32>),
+    // whether the key of this number comes after all others
+    Beyond(u32, bool),
 }
 
 // Whether both are one number, or there is neither.
@@ -89,6 +93,13 @@ fn holds(map: &KeyedMap<u32>, number: u32, now: Option<u32>, settled: Option<u32
     map.get(&key).copied() == now && map.settled_get(&key).copied() == settled
 }
 
+fn is_next(map: &KeyedMap<u32>, number: u32, found: Option<u32>) -> bool {
+    match map.next_from(&key(number)) {
+        Some(key) => found == Some(key.link_state_id.number()),
+        None => found == None,
+    }
+}
+
 fn have_changed(alloc: Global, map: &KeyedMap<u32>, numbers: &[u32]) -> Result<bool, AllocError> {
     let keys = map.changed_keys(alloc, &Equal {})?;
     Ok(have_ids(&keys, numbers))
@@ -109,6 +120,8 @@ fn took(alloc: Global, map: &mut KeyedMap<u32>, step: Step) -> Result<bool, Allo
         }
         Step::Held(number, now, settled) => Ok(holds(map, number, now, settled)),
         Step::Changed(numbers) => have_changed(alloc, map, numbers),
+        Step::Next(number, found) => Ok(is_next(map, number, found)),
+        Step::Beyond(number, beyond) => Ok(map.is_beyond(&key(number)) == beyond),
     }
 }
 
@@ -156,6 +169,31 @@ const STEPS: &[Step] = &[
     Step::Held(2, Some(20), Some(20)),
     Step::Held(3, None, None),
     Step::Changed(&[]),
+    // a walk passes over keys that left, and so does what comes next
+    Step::Insert(3, 30),
+    Step::Settle,
+    Step::Remove(2),
+    Step::Next(0, Some(1)),
+    Step::Next(2, Some(3)),
+    Step::Next(4, None),
+    Step::Beyond(3, false),
+    Step::Beyond(4, true),
+    // keys that left are forgotten, at last all of them
+    Step::Settle,
+    Step::Remove(1),
+    Step::Settle,
+    Step::Held(1, None, None),
+    Step::Held(3, Some(30), Some(30)),
+    Step::Next(0, Some(3)),
+    Step::Remove(3),
+    Step::Next(0, None),
+    Step::Settle,
+    Step::Held(3, None, None),
+    Step::Beyond(0, true),
+    Step::Insert(2, 21),
+    Step::Held(2, Some(21), None),
+    Step::RollBack,
+    Step::Next(0, None),
 ];
 
 fn first_wrong_of_new(alloc: Global, steps: &[Step]) -> Result<Option<usize>, Fail> {

@@ -1,4 +1,4 @@
-use Rattle.std.proofs.Common.{false, ap, ◌∙◌, arith}
+use Rattle.std.proofs.Common.{true, ap, ◌∙◌, arith}
 use Rattle.keyed_map.specs.Slots.{count_after_change}
 use Rattle.keyed_map.proofs.Orders.{len_live}
 use Rattle.keyed_map.proofs.map.count.Goals as goal
@@ -7,5 +7,5 @@ use Rattle.keyed_map.proofs.map.count.Goals as goal
 pub overflow_add-result : goal.overflow_add-result
 overflow_add-result g c =
     let slots = len_live c.args.slots.now.entries c.len-slots.ensures.ordered in
-    let more = c.requires ∙ ap (λ b. count_after_change b c.args.holds c.args.len) c.if-held.false ∙ ap (λ b. count_after_change false b c.args.len) c.if-holds.true in
+    let more = c.requires ∙ ap (λ b. count_after_change b true c.args.len) c.if-held.false in
     omega (arith, more, c.len-slots.ensures.len, c.len-slots.ensures.small, slots)
