@@ -18,6 +18,7 @@ from dataclasses import dataclass
 from enum import Enum
 from functools import cached_property
 from ipaddress import IPv4Address, IPv4Network
+from typing import NamedTuple
 
 from leafrunt_host.authentication import Refusal, Refused
 from leafrunt_host.packets import IP_HEADER_LENGTH, VERSION, AuType
@@ -92,8 +93,7 @@ def assembled(steps: list[Step], returns: dict[str, int]) -> bytes:
     )
 
 
-@dataclass(frozen=True)
-class Arrived:
+class Arrived(NamedTuple):
     """An IPv4 packet of protocol 89: its addresses as numbers, and what it carries."""
 
     source: int

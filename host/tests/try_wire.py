@@ -11,6 +11,7 @@ from tests.network import (
     COMES_UP,
     HOST,
     NOT_FULL,
+    SHA,
     Announce,
     Bird,
     Box,
@@ -129,6 +130,34 @@ def attacked_from_afar(given: Try, is_box: bool) -> None:
     if isinstance(it.tried, Box):
         told = [each.strip() for each in it.tried.status().splitlines() if "strange" in each]
         looks.look("`leafrunt status` tells of them", told, "; ".join(told))
+    it.stop()
+
+
+def flood(given: Try) -> None:
+    """Floods from the link for 16 seconds, RouterDeadInterval 8: Hellos of made-up Router IDs, and
+    packets of the neighbor's own with wrong digests; at a box, and beside it at BIRD."""
+    for is_box in (True, False):
+        anew(given, lambda: flooded(given, is_box, "hellos", (), 30_000))
+        anew(given, lambda: flooded(given, is_box, "digests", (SHA,), 40_000))
+
+
+def flooded(
+    given: Try, is_box: bool, kind: str, keys: tuple[Secret, ...], rate: float, seconds: float = 16
+) -> None:
+    it, looks, who = Pair(given, is_box, keys), given.looks, "a box" if is_box else "BIRD"
+    it.start()
+    looks.timed(f"{who} and its neighbor: Full", COMES_UP, it.is_up)
+    attack = it.attack(kind, it.next, "224.0.0.5", seconds, rate)
+    sent = attack.communicate()[0].strip()
+    it.network.stop(attack)
+    is_up = it.is_up()
+    what = {"hellos": "Hellos of made-up Router IDs", "digests": "its packets with wrong digests"}
+    said = f"{who} stays Full under a flood of {what[kind]}"
+    if isinstance(it.tried, Box):
+        changes = [each for each in it.tried.log_lines() if "2.2.2.2 Full ->" in each]
+        looks.look(said, is_up and not changes, "; ".join([sent, *changes]))
+    else:
+        print(f"     beside it: {said}: {'yes' if is_up else 'no'}: {sent}")
     it.stop()
 
 
