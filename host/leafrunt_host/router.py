@@ -2,7 +2,6 @@
 from __future__ import annotations
 
 import logging
-import queue
 import re
 import subprocess
 import threading
@@ -10,10 +9,12 @@ from collections.abc import Callable
 from dataclasses import dataclass
 from pathlib import Path
 
+from leafrunt_host.answers import Answers
+
 log = logging.getLogger("leafrunt.router")
 LISTS = ("table", "neighbors", "counters")
 """The commands whose answer is a list of lines and then `end`."""
-NO_LISTS = re.compile(r"unknown|out of memory|refused \d+")
+NO_LISTS = re.compile(rb"unknown|out of memory|refused \d+")
 """What such a command may be answered in place of a list."""
 LONGEST_LINE = 4096
 SECONDS_TO_ANSWER = 120
@@ -46,10 +47,8 @@ class Router:
         self, program: Path, configuration: Path, told: Callable[[str], None] = lambda line: None
     ) -> None:
         self._told = told
-        self._lines: queue.SimpleQueue[str | None] = queue.SimpleQueue()
         self._one_at_a_time = threading.Lock()
         self._is_gone = False
-        self._said = ""
         self._ran: subprocess.Popen[bytes] = subprocess.Popen(
             [str(program), "route", str(configuration)],
             stdin=subprocess.PIPE,
@@ -65,22 +64,14 @@ class Router:
             self._ran.stdout,
             self._ran.stderr,
         )
-        self._readers = [
-            threading.Thread(target=self._read_answers, daemon=True),
-            threading.Thread(target=self._read_errors, daemon=True),
-        ]
-        for each in self._readers:
-            each.start()
+        self._answers = Answers(self._output)
+        errors = threading.Thread(target=self._read_errors, daemon=True)
+        errors.start()
+        self._readers = [self._answers.reader, errors]
 
     @property
     def pid(self) -> int:
         return self._ran.pid
-
-    def _read_answers(self) -> None:
-        for line in self._output:
-            self._said = line.decode("utf-8", "replace").rstrip("\n")
-            self._lines.put(self._said)
-        self._lines.put(None)
 
     def _read_errors(self) -> None:
         for line in self._errors:
@@ -96,31 +87,32 @@ class Router:
         """Whether it was given up, since it didn't answer."""
         return self._is_gone and self._ran.poll() is None
 
-    def _next(self, seconds: float) -> str:
+    def _answer(self, line: str, seconds: float) -> list[bytes]:
         try:
-            line = self._lines.get(timeout=seconds)
-        except queue.Empty:
+            first = self._answers.next(seconds)
+            if line not in LISTS or first == b"end" or NO_LISTS.fullmatch(first):
+                return [first]
+            return [first, *self._answers.up_to(b"end", seconds)]
+        except TimeoutError:
             self._is_gone = True
             raise RouterGone(f"routerd has not answered for {seconds} seconds") from None
-        if line is None:
+        except EOFError:
             self._is_gone = True
-            raise RouterGone("routerd has ended")
-        return line
+            raise RouterGone("routerd has ended") from None
 
     def ask(self, line: str, seconds: float = SECONDS_TO_ANSWER) -> list[str]:
         """The lines of the answer as they are; `end`, which closes a list, is one of them."""
+        return [each.decode("utf-8", "replace") for each in self._asked(line, seconds)]
+
+    def _asked(self, line: str, seconds: float) -> list[bytes]:
         data = line.encode("utf-8")
         if b"\n" in data or len(data) > LONGEST_LINE:
-            return ["unknown"]
+            return [b"unknown"]
         with self._one_at_a_time:
             if self._is_gone:
                 raise RouterGone("routerd has ended")
             self._write(data + b"\n")
-            answer = [self._next(seconds)]
-            if line in LISTS and not NO_LISTS.fullmatch(answer[0]):
-                while answer[-1] != "end":
-                    answer.append(self._next(seconds))
-            return answer
+            return self._answer(line, seconds)
 
     def _write(self, data: bytes) -> None:
         try:
@@ -132,8 +124,13 @@ class Router:
 
     def ask_list(self, line: str) -> list[str] | None:
         """The lines of a list without its end; None where it was refused."""
-        answer = self.ask(line)
-        return answer[:-1] if answer[-1] == "end" else None
+        lines = self.ask_bytes(line)
+        return None if lines is None else [each.decode("utf-8", "replace") for each in lines]
+
+    def ask_bytes(self, line: str) -> list[bytes] | None:
+        """The same as they came, for a list of thousands of lines."""
+        answer = self._asked(line, SECONDS_TO_ANSWER)
+        return answer[:-1] if answer[-1] == b"end" else None
 
     def quit(self, seconds: float = SECONDS_TO_END) -> Ended:
         """Ends it, if it hasn't ended, and waits for it. One that doesn't end by itself is killed,
@@ -154,10 +151,8 @@ class Router:
                 status = self._ran.wait()
         for each in self._readers:
             each.join(5)
-        lines = []
-        while not self._lines.empty():
-            lines.append(self._lines.get())
-        counters = tuple(each for each in lines if each and each.startswith("counter "))
+        lines = [each.decode("utf-8", "replace") for each in self._answers.rest()]
+        counters = tuple(each for each in lines if each.startswith("counter "))
         self._output.close()
         self._errors.close()
-        return Ended(status, counters, self._said)
+        return Ended(status, counters, self._answers.last.decode("utf-8", "replace"))

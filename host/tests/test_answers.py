@@ -1,0 +1,50 @@
+import io
+import os
+import unittest
+
+from leafrunt_host.answers import Answers
+
+
+class Pieces(io.BytesIO):
+    """A stream that gives what it has in pieces of some bytes."""
+
+    def __init__(self, data: bytes, size: int) -> None:
+        super().__init__(data)
+        self._size = size
+
+    def read1(self, size: int | None = -1) -> bytes:
+        return super().read1(self._size)
+
+
+class Lines(unittest.TestCase):
+    def test_pieces_of_any_length(self) -> None:
+        data = b"one\n\nthree\nend\nfive"
+        for size in range(1, len(data) + 1):
+            with self.subTest(size):
+                answers = Answers(Pieces(data, size))
+                self.assertEqual(answers.next(5), b"one")
+                self.assertEqual(answers.up_to(b"end", 5)[:3], [b"", b"three", b"end"])
+                answers.reader.join(5)
+                self.assertEqual(answers.last, b"five")
+
+    def test_the_end(self) -> None:
+        answers = Answers(Pieces(b"one\ntwo\nthree", 4))
+        self.assertEqual(answers.next(5), b"one")
+        self.assertEqual(answers.next(5), b"two")
+        answers.reader.join(5)
+        self.assertEqual(answers.rest(), [b"three"])
+        self.assertRaises(EOFError, answers.next, 5)
+        self.assertRaises(EOFError, answers.up_to, b"end", 5)
+
+    def test_one_that_says_nothing(self) -> None:
+        reader, writer = os.pipe()
+        with os.fdopen(reader, "rb") as stream:
+            answers = Answers(stream)
+            self.assertRaises(TimeoutError, answers.next, 0.01)
+            os.close(writer)
+            answers.reader.join(5)
+            self.assertRaises(EOFError, answers.next, 0.01)
+
+
+if __name__ == "__main__":
+    unittest.main()
