@@ -1,0 +1,544 @@
+"""The kernel's interfaces, addresses, next hops and IPv4 routes, by rtnetlink(7): asked for,
+changed, and told of where others change them.
+
+A change is one message of some 50 bytes; hundreds go to the kernel at a time, which answers the
+refused ones alone, with its own words. Nothing here waits longer than `SECONDS`.
+"""
+from __future__ import annotations
+
+import os
+import socket
+import struct
+import sys
+from array import array
+from collections.abc import Iterable, Iterator
+from dataclasses import dataclass
+from enum import Flag, auto
+from ipaddress import IPv4Address, IPv4Interface
+from typing import NamedTuple
+
+SECONDS = 5.0
+"""How long an answer of the kernel is waited for."""
+AT_ONCE = 200
+"""Changes in one message to the kernel: its answers have to find room in the receive buffer."""
+LARGEST = 1 << 18
+RECEIVE_BUFFER = 4 << 20
+TRIES = 3
+"""How often a list is asked for anew that changed while it was given."""
+MOST_NOTICES = 10_000
+"""How many notices are read at a time; what is left counts the next time."""
+
+# <linux/netlink.h>, <linux/rtnetlink.h>, <linux/nexthop.h>, <linux/if_link.h>, <linux/filter.h>
+ERROR, DONE = 2, 3
+NEW_LINK, DELETE_LINK, GET_LINK = 16, 17, 18
+NEW_ADDRESS, DELETE_ADDRESS, GET_ADDRESS = 20, 21, 22
+NEW_ROUTE, DELETE_ROUTE, GET_ROUTE = 24, 25, 26
+NEW_NEXT_HOP, DELETE_NEXT_HOP, GET_NEXT_HOP = 104, 105, 106
+REQUEST, ACKNOWLEDGE, INTERRUPTED, DUMP = 0x1, 0x4, 0x10, 0x300
+REPLACE, EXCLUSIVE, CREATE, HAS_WORDS = 0x100, 0x200, 0x400, 0x200
+GROUPS = 0x1 | 0x10 | 0x40 | 0x8000_0000
+"""Notices of links, IPv4 addresses, IPv4 routes and next hops."""
+IFLA_IFNAME, IFLA_MTU = 3, 4
+IFA_LOCAL, IFA_FLAGS, IFA_F_SECONDARY = 2, 8, 0x1
+RTA_DST, RTA_OIF, RTA_GATEWAY, RTA_PRIORITY = 1, 4, 5, 6
+RTA_MULTIPATH, RTA_TABLE, RTA_NH_ID = 9, 15, 30
+NHA_ID, NHA_GROUP, NHA_OIF, NHA_GATEWAY = 1, 2, 5, 6
+NLMSGERR_ATTR_MSG = 1
+MAIN, UNICAST, UNIVERSE, ONLINK = 254, 1, 0, 4
+SOL_NETLINK, CAP_ACK, EXT_ACK, STRICT_CHECK = 270, 10, 11, 12
+SO_ATTACH_FILTER, SO_RCVBUFFORCE = 26, 33
+IFF_UP, IFF_RUNNING = 0x1, 0x40
+
+HEADER = struct.Struct("=IHHII")
+LINK = struct.Struct("=BxHiII")
+ADDRESS = struct.Struct("=BBBBi")
+ROUTE = struct.Struct("=BBBBBBBBI")
+NEXT_HOP = struct.Struct("=BBBxI")
+MEMBER = struct.Struct("=IBxH")
+PATH = struct.Struct("=HBBi")
+ATTRIBUTE = struct.Struct("=HH")
+INSTRUCTION = struct.Struct("=HBBI")
+
+
+class CannotAsk(Exception):
+    """The kernel doesn't answer, or not in this form; the text is a sentence."""
+
+
+class Link(NamedTuple):
+    """An interface of the kernel."""
+
+    index: int
+    name: str
+    mtu: int
+    is_up: bool
+    """Whether it is up and has a carrier."""
+
+
+class Address(NamedTuple):
+    """An IPv4 address of an interface."""
+
+    index: int
+    address: IPv4Interface
+    is_secondary: bool
+
+
+class NextHop(NamedTuple):
+    """A next hop object: a gateway at an interface, or a group of others by their numbers."""
+
+    id: int
+    index: int = 0
+    gateway: bytes = b""
+    members: tuple[int, ...] = ()
+
+
+class Route(NamedTuple):
+    """A route of the main table: its prefix (the four bytes of the address, then the length), the
+    number of its next hop object, 0 where it has none, and its paths: the gateway, empty where the
+    destination is on the link, and the interface's index."""
+
+    prefix: bytes
+    protocol: int
+    metric: int
+    next_hop: int
+    paths: tuple[tuple[bytes, int], ...]
+
+
+class SetNextHop(NamedTuple):
+    """Makes a next hop object, which must not be there yet."""
+
+    next_hop: NextHop
+
+
+class ReplaceNextHop(NamedTuple):
+    """Makes another of a next hop object, for all routes that go by it."""
+
+    next_hop: NextHop
+
+
+class DeleteNextHop(NamedTuple):
+    """Removes a next hop object, and with it all routes that go by it."""
+
+    id: int
+
+
+class AddRoute(NamedTuple):
+    """Makes a route; refused where one has its prefix and metric."""
+
+    prefix: bytes
+    next_hop: int
+
+
+class ReplaceRoute(NamedTuple):
+    """Makes a route that is there go by another next hop object."""
+
+    prefix: bytes
+    next_hop: int
+
+
+class DeleteRoute(NamedTuple):
+    """Removes a route."""
+
+    prefix: bytes
+
+
+Change = SetNextHop | ReplaceNextHop | DeleteNextHop | AddRoute | ReplaceRoute | DeleteRoute
+
+
+class Refusal(NamedTuple):
+    """Why the kernel refused a change: the error's number, and words."""
+
+    number: int
+    words: str
+
+
+class News(Flag):
+    """What others changed."""
+
+    NOTHING = 0
+    LINKS = auto()
+    NEXT_HOPS = auto()
+    ROUTES = auto()
+    ALL = LINKS | NEXT_HOPS | ROUTES
+
+
+# -- messages as bytes
+
+
+@dataclass(frozen=True)
+class Message:
+    """One message of the kernel."""
+
+    kind: int
+    flags: int
+    sequence: int
+    port: int
+    body: bytes
+
+
+def messages(data: bytes) -> Iterator[Message]:
+    """The messages in what came; what is no message ends them."""
+    at = 0
+    while at + HEADER.size <= len(data):
+        length, kind, flags, sequence, port = HEADER.unpack_from(data, at)
+        if not HEADER.size <= length <= len(data) - at:
+            return
+        yield Message(kind, flags, sequence, port, data[at + HEADER.size : at + length])
+        at += (length + 3) & ~3
+
+
+def attributes(data: bytes, at: int = 0) -> dict[int, bytes]:
+    """The attributes of a message from a place on, by their numbers."""
+    found = {}
+    while at + 4 <= len(data):
+        length, kind = ATTRIBUTE.unpack_from(data, at)
+        if not 4 <= length <= len(data) - at:
+            break
+        found[kind & 0x3FFF] = data[at + 4 : at + length]
+        at += (length + 3) & ~3
+    return found
+
+
+def number_of(data: bytes | None) -> int:
+    """A number of the kernel's; 0 where there is none."""
+    return int.from_bytes(data or b"", sys.byteorder)
+
+
+def attribute(kind: int, data: bytes) -> bytes:
+    return ATTRIBUTE.pack(4 + len(data), kind) + data + bytes(-len(data) % 4)
+
+
+def number(kind: int, value: int) -> bytes:
+    return struct.pack("=HHI", 8, kind, value)
+
+
+def link_of(body: bytes) -> Link:
+    """An interface, from the body of a message of it."""
+    _, _, index, flags, _ = LINK.unpack_from(body)
+    said = attributes(body, LINK.size)
+    name = said.get(IFLA_IFNAME, b"").rstrip(b"\0").decode("utf-8", "surrogateescape")
+    is_up = flags & (IFF_UP | IFF_RUNNING) == IFF_UP | IFF_RUNNING
+    return Link(index, name, number_of(said.get(IFLA_MTU)), is_up)
+
+
+def address_of(body: bytes) -> Address | None:
+    """An address, from the body of a message of it; None where it is none of IPv4."""
+    family, length, flags, _, index = ADDRESS.unpack_from(body)
+    said = attributes(body, ADDRESS.size)
+    local = said.get(IFA_LOCAL, b"")
+    if family != socket.AF_INET or len(local) != 4:
+        return None
+    flags |= number_of(said.get(IFA_FLAGS))
+    address = IPv4Interface((local, length))
+    return Address(index, address, bool(flags & IFA_F_SECONDARY))
+
+
+def route_of(body: bytes) -> Route | None:
+    """A route, from the body of a message of it; None where it is no unicast one of IPv4 in the
+    main table."""
+    family, length, _, _, table, protocol, _, kind, _ = ROUTE.unpack_from(body)
+    said = attributes(body, ROUTE.size)
+    if family != socket.AF_INET or kind != UNICAST:
+        return None
+    if (number_of(said.get(RTA_TABLE)) or table) != MAIN:
+        return None
+    paths = tuple(paths_of(said))
+    prefix = said.get(RTA_DST, bytes(4)) + bytes([length])
+    metric, next_hop = number_of(said.get(RTA_PRIORITY)), number_of(said.get(RTA_NH_ID))
+    return Route(prefix, protocol, metric, next_hop, paths)
+
+
+def paths_of(said: dict[int, bytes]) -> Iterator[tuple[bytes, int]]:
+    """The paths among a route's attributes."""
+    if RTA_OIF in said:
+        yield said.get(RTA_GATEWAY, b""), number_of(said[RTA_OIF])
+    several, at = said.get(RTA_MULTIPATH, b""), 0
+    while at + PATH.size <= len(several):
+        length, _, _, index = PATH.unpack_from(several, at)
+        if not PATH.size <= length <= len(several) - at:
+            return
+        of_path = attributes(several[at : at + length], PATH.size)
+        yield of_path.get(RTA_GATEWAY, b""), index
+        at += (length + 3) & ~3
+
+
+def next_hop_of(body: bytes) -> NextHop:
+    """A next hop object, from the body of a message of it."""
+    said = attributes(body, NEXT_HOP.size)
+    members = tuple(each[0] for each in MEMBER.iter_unpack(said.get(NHA_GROUP, b"")))
+    index, gateway = number_of(said.get(NHA_OIF)), said.get(NHA_GATEWAY, b"")
+    return NextHop(number_of(said.get(NHA_ID)), index, gateway, members)
+
+
+def next_hop_body(it: NextHop, protocol: int) -> bytes:
+    """`onlink`: a neighbor may have an address out of the interface's network on a point-to-point
+    link."""
+    if it.members:
+        group = b"".join(MEMBER.pack(each, 0, 0) for each in it.members)
+        head = NEXT_HOP.pack(0, 0, protocol, 0)
+        return head + number(NHA_ID, it.id) + attribute(NHA_GROUP, group)
+    head = NEXT_HOP.pack(socket.AF_INET, 0, protocol, ONLINK)
+    said = number(NHA_ID, it.id) + number(NHA_OIF, it.index)
+    return head + said + attribute(NHA_GATEWAY, it.gateway)
+
+
+ROUTE_BODY = struct.Struct("=BBBBBBBBI HH4s HHI HHI")
+
+
+def route_body(prefix: bytes, next_hop: int, protocol: int, metric: int) -> bytes:
+    """The body of a message that makes, or without a next hop removes, a route."""
+    return ROUTE_BODY.pack(
+        *(socket.AF_INET, prefix[4], 0, 0, MAIN, protocol, UNIVERSE, UNICAST, 0),
+        *(8, RTA_DST, prefix[:4], 8, RTA_PRIORITY, metric, 8, RTA_NH_ID, next_hop),
+    )[: None if next_hop else -8]
+
+
+def request(change: Change, protocol: int, metric: int) -> tuple[int, int, bytes]:
+    """Kind, flags and body of the message for a change."""
+    match change:
+        case AddRoute(prefix, next_hop):
+            return NEW_ROUTE, CREATE | EXCLUSIVE, route_body(prefix, next_hop, protocol, metric)
+        case ReplaceRoute(prefix, next_hop):
+            return NEW_ROUTE, REPLACE, route_body(prefix, next_hop, protocol, metric)
+        case DeleteRoute(prefix):
+            return DELETE_ROUTE, 0, route_body(prefix, 0, protocol, metric)
+        case SetNextHop(it):
+            return NEW_NEXT_HOP, CREATE | EXCLUSIVE, next_hop_body(it, protocol)
+        case ReplaceNextHop(it):
+            return NEW_NEXT_HOP, REPLACE, next_hop_body(it, protocol)
+        case DeleteNextHop(identity):
+            return DELETE_NEXT_HOP, 0, NEXT_HOP.pack(0, 0, 0, 0) + number(NHA_ID, identity)
+    raise TypeError(change)
+
+
+def refusal_of(message: Message) -> Refusal | None:
+    """What an answer says; None where the change was made."""
+    (answer,) = struct.unpack_from("=i", message.body)
+    if not answer:
+        return None
+    words = os.strerror(-answer)
+    if message.flags & HAS_WORDS:
+        said = attributes(message.body, 4 + HEADER.size).get(NLMSGERR_ATTR_MSG)
+        words = said.rstrip(b"\0").decode("utf-8", "replace") if said else words
+    return Refusal(-answer, words)
+
+
+# -- sockets
+
+
+def netlink(groups: int = 0) -> socket.socket:
+    """A socket to the kernel of the network namespace that this thread is in."""
+    one = socket.socket(socket.AF_NETLINK, socket.SOCK_RAW, socket.NETLINK_ROUTE)
+    try:
+        one.bind((0, groups))
+        try:
+            one.setsockopt(socket.SOL_SOCKET, SO_RCVBUFFORCE, RECEIVE_BUFFER)
+        except PermissionError:
+            one.setsockopt(socket.SOL_SOCKET, socket.SO_RCVBUF, RECEIVE_BUFFER)
+        for option in (CAP_ACK, EXT_ACK, STRICT_CHECK):
+            one.setsockopt(SOL_NETLINK, option, 1)
+        return one
+    except OSError:
+        one.close()
+        raise
+
+
+class Kernel:
+    """Questions and changes. The routes and next hops that it makes have one protocol number and
+    one metric. `CannotAsk` from each call that the kernel doesn't answer."""
+
+    def __init__(self, protocol: int = 0, metric: int = 0, one: socket.socket | None = None):
+        self.protocol, self.metric = protocol, metric
+        try:
+            self._socket = one or netlink()
+        except OSError as error:
+            raise CannotAsk(f"no netlink socket: {error.strerror}") from error
+        self._socket.settimeout(SECONDS)
+        self._sequence = 0
+
+    @property
+    def port(self) -> int:
+        """What the kernel's notices call the one that made a change."""
+        port: int = self._socket.getsockname()[0]
+        return port
+
+    def close(self) -> None:
+        self._socket.close()
+
+    def links(self) -> list[Link]:
+        return [link_of(each) for each in self._list(GET_LINK, LINK.pack(0, 0, 0, 0, 0))]
+
+    def addresses(self) -> list[Address]:
+        bodies = self._list(GET_ADDRESS, ADDRESS.pack(socket.AF_INET, 0, 0, 0, 0))
+        return [each for each in map(address_of, bodies) if each]
+
+    def routes(self, protocol: int = 0) -> list[Route]:
+        """The unicast routes of the main table, of one protocol number where one is given."""
+        head = ROUTE.pack(socket.AF_INET, 0, 0, 0, MAIN, protocol, 0, 0, 0)
+        return [each for each in map(route_of, self._list(GET_ROUTE, head)) if each]
+
+    def own_routes(self) -> list[Route]:
+        return [each for each in self.routes(self.protocol) if each.metric == self.metric]
+
+    def next_hops(self, is_own: bool = True) -> list[NextHop]:
+        """The next hop objects, by default those of the own protocol number."""
+        bodies = self._list(GET_NEXT_HOP, NEXT_HOP.pack(0, 0, 0, 0))
+        own = (each for each in bodies if not is_own or each[2] == self.protocol)
+        return [next_hop_of(each) for each in own]
+
+    def change(self, changes: list[Change]) -> list[Refusal | None]:
+        """Makes the changes in their order; to each why it was refused. A refused one keeps none
+        of the others."""
+        answers: list[Refusal | None] = []
+        for at in range(0, len(changes), AT_ONCE):
+            answers += self._changed(changes[at : at + AT_ONCE])
+        return answers
+
+    def _changed(self, changes: list[Change]) -> list[Refusal | None]:
+        first, data = self._sequence + 1, []
+        for at, each in enumerate(changes, 1):
+            kind, flags, body = request(each, self.protocol, self.metric)
+            flags |= REQUEST | (ACKNOWLEDGE if at == len(changes) else 0)
+            length = HEADER.size + len(body)
+            data.append(HEADER.pack(length, kind, flags, self._sequence + at, 0) + body)
+        self._sequence += len(changes)
+        self._send(b"".join(data))
+        answers: list[Refusal | None] = [None] * len(changes)
+        while True:
+            for message in self._received():
+                at = message.sequence - first
+                if message.kind == ERROR and 0 <= at < len(changes):
+                    answers[at] = refusal_of(message)
+                    if at == len(changes) - 1:
+                        return answers
+
+    def _list(self, kind: int, head: bytes) -> list[bytes]:
+        """The bodies of all messages of a list, which is asked for again where it changed in the
+        meantime."""
+        for _ in range(TRIES):
+            self._sequence += 1
+            length = HEADER.size + len(head)
+            asked = HEADER.pack(length, kind, REQUEST | DUMP, self._sequence, 0)
+            self._send(asked + head)
+            bodies, is_whole = self._listed()
+            if is_whole:
+                break
+        return bodies
+
+    def _listed(self) -> tuple[list[bytes], bool]:
+        bodies, is_whole = [], True
+        while True:
+            for message in self._received():
+                if message.sequence != self._sequence:
+                    continue
+                is_whole = is_whole and not message.flags & INTERRUPTED
+                if message.kind == DONE:
+                    return bodies, is_whole
+                if message.kind == ERROR:
+                    refusal = refusal_of(message)
+                    words = refusal.words if refusal else "an answer of no use"
+                    raise CannotAsk(f"the kernel can't be asked: {words}")
+                bodies.append(message.body)
+
+    def _send(self, data: bytes) -> None:
+        try:
+            self._socket.send(data)
+        except OSError as error:
+            raise CannotAsk(f"the kernel can't be told: {error.strerror or error}") from error
+
+    def _received(self) -> Iterable[Message]:
+        try:
+            return list(messages(self._socket.recv(LARGEST)))
+        except TimeoutError as error:
+            raise CannotAsk(f"the kernel hasn't answered for {SECONDS:g} seconds") from error
+        except OSError as error:
+            raise CannotAsk(f"the kernel's answer is lost: {error.strerror}") from error
+
+
+# -- notices
+
+LOAD_WORD, LOAD_HALF, LOAD_BYTE, IF_EQUAL, RETURN = 0x20, 0x28, 0x30, 0x15, 0x06
+
+
+def swapped(value: int, width: int) -> int:
+    """A number as a filter sees it, which takes each for one of network order."""
+    return int.from_bytes(value.to_bytes(width, sys.byteorder), "big")
+
+
+def filter_of_others(port: int, protocol: int) -> list[tuple[int, int, int, int]]:
+    """A classic BPF program for a socket of notices: it takes none of the port's own changes, and
+    of routes and next hops those of the protocol number alone."""
+    kinds = [NEW_ROUTE, DELETE_ROUTE, NEW_NEXT_HOP, DELETE_NEXT_HOP]
+    new_route, delete_route, new_next_hop, delete_next_hop = (swapped(each, 2) for each in kinds)
+    return [
+        (LOAD_WORD, 0, 0, 12),
+        (IF_EQUAL, 10, 0, swapped(port, 4)),
+        (LOAD_HALF, 0, 0, 4),
+        (IF_EQUAL, 3, 0, new_route),
+        (IF_EQUAL, 2, 0, delete_route),
+        (IF_EQUAL, 3, 0, new_next_hop),
+        (IF_EQUAL, 2, 4, delete_next_hop),
+        (LOAD_BYTE, 0, 0, HEADER.size + 5),
+        (IF_EQUAL, 2, 3, protocol),
+        (LOAD_BYTE, 0, 0, HEADER.size + 2),
+        (IF_EQUAL, 0, 1, protocol),
+        (RETURN, 0, 0, 0xFFFF_FFFF),
+        (RETURN, 0, 0, 0),
+    ]
+
+
+def attach_filter(one: socket.socket, program: list[tuple[int, int, int, int]]) -> None:
+    """Lets the kernel drop what the program doesn't take, before it comes to the socket."""
+    code = array("B", b"".join(INSTRUCTION.pack(*each) for each in program))
+    address, _ = code.buffer_info()
+    one.setsockopt(socket.SOL_SOCKET, SO_ATTACH_FILTER, struct.pack("HP", len(program), address))
+
+
+OF_KIND = {
+    NEW_LINK: News.LINKS,
+    DELETE_LINK: News.LINKS,
+    NEW_ADDRESS: News.LINKS,
+    DELETE_ADDRESS: News.LINKS,
+    NEW_ROUTE: News.ROUTES,
+    DELETE_ROUTE: News.ROUTES,
+    NEW_NEXT_HOP: News.NEXT_HOPS,
+    DELETE_NEXT_HOP: News.NEXT_HOPS,
+}
+
+
+class Notices:
+    """What others than this port change of links, addresses, and routes and next hops of the
+    protocol number."""
+
+    def __init__(self, port: int, protocol: int, one: socket.socket | None = None) -> None:
+        try:
+            self._socket = one or netlink(GROUPS)
+            self._port = port
+            if one is None:
+                attach_filter(self._socket, filter_of_others(port, protocol))
+        except OSError as error:
+            words = f"no socket for the kernel's notices: {error.strerror}"
+            raise CannotAsk(words) from error
+        self._socket.setblocking(False)
+
+    def fileno(self) -> int:
+        return self._socket.fileno()
+
+    def read(self) -> News:
+        """What changed since the last question. Where more came than the kernel keeps for this
+        socket, all may have."""
+        news = News.NOTHING
+        for _ in range(MOST_NOTICES):
+            try:
+                data = self._socket.recv(LARGEST)
+            except BlockingIOError:
+                break
+            except OSError:
+                news = News.ALL
+                continue
+            for message in messages(data):
+                if message.port != self._port:
+                    news |= OF_KIND.get(message.kind, News.NOTHING)
+        return news
+
+    def close(self) -> None:
+        self._socket.close()
