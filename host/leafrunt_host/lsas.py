@@ -9,6 +9,9 @@ from ipaddress import IPv4Address, IPv4Network, NetmaskValueError
 from itertools import accumulate
 
 HEADER = struct.Struct(">HBB4s4siHH")
+INSTANCE = struct.Struct(">iH")
+"""Sequence number and checksum, from byte 12 on: of two instances the one with the larger pair is
+newer, unless they are equal."""
 ROUTER_LINK = struct.Struct(">4s4sBBH")
 MAX_AGE = 3600
 MAX_AGE_DIFF = 900
@@ -93,16 +96,15 @@ def is_whole(data: bytes) -> bool:
     return sum(covered) % 255 == 0 and sum(accumulate(covered)) % 255 == 0
 
 
-def is_newer(one: LsHeader, other: LsHeader) -> bool:
+def is_newer(one: bytes, other: bytes, its_age: int, others_age: int) -> bool:
     """Whether one of two instances of an LSA, with their ages now, is newer than the other (RFC
     2328, 13.1)."""
-    if one.sequence != other.sequence:
-        return one.sequence > other.sequence
-    if one.checksum != other.checksum:
-        return one.checksum > other.checksum
-    if (one.age == MAX_AGE) != (other.age == MAX_AGE):
-        return one.age == MAX_AGE
-    return other.age - one.age > MAX_AGE_DIFF
+    instance, others = INSTANCE.unpack_from(one, 12), INSTANCE.unpack_from(other, 12)
+    if instance != others:
+        return instance > others
+    if (its_age == MAX_AGE) != (others_age == MAX_AGE):
+        return its_age == MAX_AGE
+    return others_age - its_age > MAX_AGE_DIFF
 
 
 @dataclass(frozen=True)

@@ -40,7 +40,7 @@ class Kept:
 
     routes: int = 0
     refused: tuple[str, ...] = ()
-    without_hop: tuple[IPv4Network, ...] = ()
+    without_hop: tuple[bytes, ...] = ()
     error: str | None = None
 
 
@@ -137,7 +137,7 @@ def status_of(known: Known) -> Json:
             "kept": configuration.kernel,
             "routes": kept.routes,
             "refused": list(kept.refused),
-            "without_next_hop": list(map(str, kept.without_hop)),
+            "without_next_hop": [each.decode() for each in kept.without_hop],
             "error": kept.error,
         },
         "warnings": warnings_of(configuration),

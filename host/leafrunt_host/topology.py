@@ -13,8 +13,9 @@ import threading
 import time
 from collections import OrderedDict
 from collections.abc import Callable
-from dataclasses import dataclass, replace
+from dataclasses import replace
 from ipaddress import IPv4Address
+from typing import NamedTuple
 
 from leafrunt_host.exchange import Side
 from leafrunt_host.journal import where_it_failed
@@ -38,7 +39,7 @@ from leafrunt_host.lsas import (
 from leafrunt_host.packets import LSA_HEADER_LENGTH, Malformed, Packet, PacketType, chunks, lsas_of
 
 log = logging.getLogger("leafrunt.topology")
-KINDS = frozenset(LsType)
+KINDS = frozenset(map(int, LsType))
 MOST_WAITING = 50_000
 SECONDS_WAITING = 60
 MOST_UNREAD = 8_192
@@ -53,8 +54,7 @@ KEY, INSTANCE = slice(3, 12), slice(3, 18)
 after them (RFC 2328, A.4.1)."""
 
 
-@dataclass(frozen=True)
-class Entry:
+class Entry(NamedTuple):
     """An LSA, the age that it had when it was seen, and when that was."""
 
     data: bytes
@@ -83,8 +83,15 @@ class Topology:
     """The database. The bridge hands it packets, a thread of its own reads them, and others ask, in
     threads of theirs."""
 
-    def __init__(self, clock: Callable[[], float] = time.monotonic) -> None:
+    def __init__(
+        self,
+        clock: Callable[[], float] = time.monotonic,
+        news: Callable[[], None] = lambda: None,
+    ) -> None:
         self._clock = clock
+        self._news = news
+        """Is called where an LSA comes, from either side, that says something new: a refresh of one
+        that is known doesn't."""
         self._one_at_a_time = threading.Lock()
         self._entries: dict[bytes, Entry] = {}
         self._waiting: OrderedDict[bytes, Entry] = OrderedDict()
@@ -132,21 +139,34 @@ class Topology:
             lsas = lsas_of(packet.body)
         except Malformed:
             return
+        if any(self._is_new(data, now) for data in lsas):
+            self._news()
         for data in lsas:
-            entry = Entry(data, age_of(data), now)
             if data[3] not in KINDS:
                 continue
+            entry = Entry(data, age_of(data), now)
             if side is Side.ROUTER:
                 self._put(entry, now)
             else:
-                self._wait(entry, now)
+                self._wait(entry)
+        self._let_go(now)
 
-    def _wait(self, entry: Entry, now: float) -> None:
+    def _is_new(self, data: bytes, now: float) -> bool:
+        """Whether the LSA isn't known yet, says something else, or ends or begins anew."""
+        before = self._entries.get(data[KEY])
+        if before is None or data[LSA_HEADER_LENGTH:] != before.data[LSA_HEADER_LENGTH:]:
+            return True
+        return (age_of(data) == MAX_AGE) != (before.age_at(now) == MAX_AGE)
+
+    def _wait(self, entry: Entry) -> None:
         """An LSA from the wire waits until `routerd` acknowledges it, which takes it a second, or
         refuses it in silence."""
         instance = entry.data[INSTANCE]
+        self._waiting.pop(instance, None)
         self._waiting[instance] = entry
-        self._waiting.move_to_end(instance)
+
+    def _let_go(self, now: float) -> None:
+        """Of what wasn't acknowledged the oldest goes."""
         while self._waiting:
             oldest = next(iter(self._waiting.values()))
             if len(self._waiting) <= MOST_WAITING and now - oldest.moment < SECONDS_WAITING:
@@ -157,15 +177,17 @@ class Topology:
         """An acknowledgment of `routerd` has the header that it received, age and all (13.5)."""
         entry = self._waiting.pop(header[INSTANCE], None)
         if entry:
-            self._put(replace(entry, age=age_of(header)), now)
+            self._put(entry._replace(age=age_of(header)), now)
 
     def _put(self, entry: Entry, now: float) -> None:
         """An older instance than the one here comes late, or, where that one was flushed, begins
         anew (12.1.6, 14.1)."""
-        if not is_whole(entry.data):
-            return
         before = self._entries.get(entry.data[KEY])
-        if before and is_newer(before.header_at(now), entry.header_at(now)):
+        is_known = before is not None and before.data[2:] == entry.data[2:]
+        if not is_known and not is_whole(entry.data):
+            return
+        ages = (before.age_at(now), entry.age_at(now)) if before else (0, 0)
+        if before and is_newer(before.data, entry.data, *ages):
             is_flushed = before.age_at(now) == MAX_AGE
             if not is_flushed or now - before.moment < SECONDS_UNSETTLED:
                 return

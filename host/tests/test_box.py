@@ -19,13 +19,14 @@ from pathlib import Path
 from types import SimpleNamespace
 from typing import IO
 
-from leafrunt_host.box import SIGNALS, Box, Keeper
+from leafrunt_host.box import SIGNALS, Box
 from leafrunt_host.client import Client
 from leafrunt_host.commands import main
 from leafrunt_host.configuration import read_configuration
 from leafrunt_host.console import completions
 from leafrunt_host.forwarding import Hop
 from leafrunt_host.journal import Kept as KeptLog
+from leafrunt_host.keeper import Keeper, Waker
 from leafrunt_host.rooms import Room, running, socket_path
 from leafrunt_host.status import neighbors_of
 from leafrunt_host.statuses import Status, Stopped
@@ -624,7 +625,7 @@ class Hops(unittest.TestCase):
             links=links,
             configuration=SimpleNamespace(announcements=()),
         )
-        keeper = Keeper(SimpleNamespace(known=known), None, None)
+        keeper = Keeper(known, None, None, None, Waker())
         self.assertEqual(keeper._hops(), {1: Hop(IPv4Address("2.2.2.2"), "eth1")})
 
 

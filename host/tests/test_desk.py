@@ -10,7 +10,6 @@ from dataclasses import dataclass, field
 from ipaddress import IPv4Address, IPv4Interface, IPv4Network
 from pathlib import Path
 
-from leafrunt_host.box import kept_routes
 from leafrunt_host.capture import Capture
 from leafrunt_host.configuration import Announcement, Configuration, InterfaceSettings
 from leafrunt_host.journal import Kept as KeptLog
@@ -103,11 +102,11 @@ class Statuses(unittest.TestCase):
         for kept, line in (
             (Kept(1), "kernel: 1 route"),
             (
-                Kept(2, ("route add 10.0.0.0/8: File exists",)),
-                "kernel: 2 routes, 1 refused: route add 10.0.0.0/8: File exists",
+                Kept(2, ("10.0.0.0/8 via 10.0.1.2 dev eth1: File exists",)),
+                "kernel: 2 routes, 1 refused: 10.0.0.0/8 via 10.0.1.2 dev eth1: File exists",
             ),
             (
-                Kept(0, (), (IPv4Network("10.0.0.0/8"),)),
+                Kept(0, (), (b"10.0.0.0/8",)),
                 "kernel: 0 routes, 1 without a known next hop",
             ),
             (Kept(error="no ip"), "kernel: its table isn't kept: no ip"),
@@ -132,12 +131,6 @@ class Statuses(unittest.TestCase):
             net = IPv4Network(prefix)
             it.announced[net] = (Announcement(net, 1, 2, 0), answer)
         self.assertEqual(originated(it), frozenset([IPv4Network("10.0.0.0/8")]))
-        table = [
-            "10.0.1.0/24 intra 10 via 0",
-            "10.0.0.0/8 ext2 1 via 1",
-            "11.0.0.0/8 ext2 1 via 1,2",
-        ]
-        self.assertEqual(kept_routes(table, originated(it)), 1)
 
 
 class Captures(unittest.TestCase):

@@ -9,8 +9,6 @@ from leafrunt_host.exchange import Side
 from leafrunt_host.kernel import KernelRoute, Way, route_of
 from leafrunt_host.lsas import (
     MAX_AGE,
-    LsHeader,
-    LsKey,
     body_of,
     header_of,
     is_newer,
@@ -114,10 +112,9 @@ class Lsas(unittest.TestCase):
 
     def test_newer(self) -> None:
         """RFC 2328, 13.1."""
-        key = LsKey(1, IPv4Address(1), IPv4Address(1))
 
-        def one(sequence: int = 1, checksum: int = 1, age: int = 0) -> LsHeader:
-            return LsHeader(key, age, 2, sequence, checksum, 24)
+        def one(sequence: int = 1, checksum: int = 1, age: int = 0) -> tuple[bytes, int]:
+            return bytes(12) + struct.pack(">iHH", sequence, checksum, 24), age
 
         for newer, older in (
             (one(0x7FFFFFFF), one(FIRST)),
@@ -126,9 +123,9 @@ class Lsas(unittest.TestCase):
             (one(1, 1, 3600), one(1, 1, 3599)),
             (one(1, 1, 99), one(1, 1, 1000)),
         ):
-            self.assertTrue(is_newer(newer, older))
-            self.assertFalse(is_newer(older, newer))
-        self.assertFalse(is_newer(one(1, 1, 100), one(1, 1, 1000)))
+            self.assertTrue(is_newer(newer[0], older[0], newer[1], older[1]))
+            self.assertFalse(is_newer(older[0], newer[0], older[1], newer[1]))
+        self.assertFalse(is_newer(one()[0], one()[0], 100, 1000))
 
     def test_bodies_that_are_too_short(self) -> None:
         whole = router_lsa("1.1.1.1", (1, "2.2.2.2", "10.0.1.1", 10))
@@ -421,6 +418,35 @@ class KernelRoutes(unittest.TestCase):
         self.assertEqual(len(route_of(several).ways), 2)
         self.assertIsNone(route_of([]))
         self.assertEqual(route_of([{"type": "blackhole", "dst": "10.0.0.0/8"}]).ways, ())
+
+
+class News(unittest.TestCase):
+    def test_what_is_new(self) -> None:
+        """An LSA that is known, and comes again or as a later instance that says the same, isn't."""
+        came: list[int] = []
+        topology = Topology(clock=lambda: 0.0, news=lambda: came.append(1))
+        later = sealed(EXTERNAL[:12] + bytes.fromhex("80000009") + EXTERNAL[16:])
+        other = sealed(later[:12] + bytes.fromhex("8000000a") + later[16:27] + b"\7" + later[28:])
+        for side in Side:
+            for data, news in (
+                (EXTERNAL, side is Side.WIRE),
+                (EXTERNAL, False),
+                (later, False),
+                (other, True),
+                (other[:0] + (3600).to_bytes(2, "big") + other[2:], True),
+                (EXTERNAL, True),
+            ):
+                came.clear()
+                head = (1).to_bytes(4, "big") + data
+                update = Packet(PacketType.LINK_STATE_UPDATE, IPv4Address(9), IPv4Address(0), head)
+                topology.watch(side, update, 0.0)
+                acknowledged = Packet(
+                    PacketType.LINK_STATE_ACKNOWLEDGMENT, IPv4Address(1), IPv4Address(0), data[:20]
+                )
+                topology.watch(Side.ROUTER, acknowledged, 1.0)
+                topology.entries()
+                with self.subTest(side=side, data=data.hex()):
+                    self.assertEqual(bool(came), news)
 
 
 if __name__ == "__main__":

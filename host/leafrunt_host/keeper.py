@@ -1,0 +1,238 @@
+"""Keeps what a running box knows of its neighbors, and the kernel's table, equal to what `routerd`
+says: in a thread of its own, which is woken where something happens."""
+from __future__ import annotations
+
+import logging
+import os
+import select
+import threading
+import time
+from ipaddress import IPv4Address, IPv4Network
+
+from leafrunt_host.configuration import Announcement
+from leafrunt_host.desk import Desk
+from leafrunt_host.exchange import Side
+from leafrunt_host.forwarding import CannotKeep, Hop, KernelTable
+from leafrunt_host.journal import where_it_failed
+from leafrunt_host.packets import HELLO, Packet, PacketType
+from leafrunt_host.router import Router, RouterGone
+from leafrunt_host.status import Kept, Known, neighbors_of, originated
+from leafrunt_host.statuses import Stopped
+
+log = logging.getLogger("leafrunt.box")
+EACH = 0.5
+"""Seconds between two looks at the neighbors, whose states timers change too."""
+AFTER = (0.02, 0.03, 0.05, 0.1, 0.3, 1.0)
+"""After something happened the table is looked at so many seconds later, one after the other until
+it has changed: `routerd` doesn't say when it has dealt with it."""
+SELDOM = 5.0
+"""Seconds between two looks where nothing happens."""
+REST, LONGEST_REST = 5, 0.25
+"""After a look that found another table the keeper rests so many times what it took, and so many
+seconds at most."""
+ANNOUNCED_AGAIN = 5
+SECONDS_TO_STOP = 3.0
+"""How long the end waits for a look that is under way."""
+
+
+class Waker:
+    """Ends the keeper's wait, from any thread."""
+
+    def __init__(self) -> None:
+        self._event = os.eventfd(0, os.EFD_CLOEXEC | os.EFD_NONBLOCK)
+        self._hellos: dict[IPv4Address, bytes] = {}
+
+    def fileno(self) -> int:
+        return self._event
+
+    def wake(self) -> None:
+        try:
+            os.eventfd_write(self._event, 1)
+        except BlockingIOError:
+            pass  # it is awake
+
+    def clear(self) -> None:
+        try:
+            os.eventfd_read(self._event)
+        except BlockingIOError:
+            pass  # nobody has called
+
+    def watch(self, side: Side, packet: Packet) -> None:
+        """A Hello that names others than the one before tells of a neighbor that comes or goes."""
+        if side is not Side.WIRE or packet.type != PacketType.HELLO:
+            return
+        named = packet.body[HELLO.size :]
+        if self._hellos.get(packet.router_id) != named:
+            if len(self._hellos) >= 64:
+                self._hellos.clear()
+            self._hellos[packet.router_id] = named
+            self.wake()
+
+
+class Pace:
+    """When the table is looked at next, by moments of one clock."""
+
+    def __init__(self, now: float) -> None:
+        self.due = now
+        self._step = len(AFTER)
+        self._rested = now
+
+    def woken(self, now: float) -> None:
+        """Something happened."""
+        self._step = 0
+        self.due = min(self.due, max(now + AFTER[0], self._rested))
+
+    def looked(self, now: float, taken: float, is_changed: bool) -> None:
+        """A look that took so many seconds has ended, and the table was another or was not."""
+        self._step = len(AFTER) - 1 if is_changed else self._step + 1
+        pause = AFTER[self._step] if self._step < len(AFTER) else SELDOM
+        self._rested = now + min(REST * taken, LONGEST_REST) if is_changed else now
+        self.due = max(now + pause, self._rested)
+
+
+class Keeper:
+    """The log tells what changed of the neighbors, and the kernel's table is kept equal."""
+
+    def __init__(
+        self,
+        known: Known,
+        router: Router,
+        kernel: KernelTable | None,
+        desk: Desk,
+        waker: Waker,
+    ) -> None:
+        self._known, self._router = known, router
+        self._kernel, self._desk, self._waker = kernel, desk, waker
+        self._ending = threading.Event()
+        self._thread = threading.Thread(target=self._keep, name="keeper", daemon=True)
+        self._to_announce: list[Announcement] = list(known.configuration.announcements)
+        self._announced_at = 0.0
+        self._pace = Pace(time.monotonic())
+        self._lines: list[bytes] = []
+        self._neighbors: list[str] = []
+        self._own: frozenset[IPv4Network] = frozenset()
+        self._announced: object = None
+        self._said: str | None = None
+
+    def start(self) -> None:
+        self._thread.start()
+
+    def stop(self) -> None:
+        """Ends it; one that waits for an answer is left behind."""
+        self._ending.set()
+        self._waker.wake()
+        if self._thread.is_alive():
+            self._thread.join(SECONDS_TO_STOP)
+        if self._thread.is_alive():
+            log.warning("the look at the kernel's table doesn't end: the box ends without it")
+
+    def _keep(self) -> None:
+        waiting = select.poll()
+        for each in filter(None, (self._waker, self._kernel)):
+            waiting.register(each.fileno(), select.POLLIN)
+        looked = 0.0
+        while not self._ending.is_set():
+            now = time.monotonic()
+            until = min(self._pace.due if self._kernel else now + EACH, looked + EACH)
+            if waiting.poll(max(0.0, until - now) * 1000) and not self._ending.is_set():
+                self._waker.clear()
+                self._pace.woken(time.monotonic())
+                self._ending.wait(AFTER[0])
+            if self._ending.is_set():
+                return
+            looked = time.monotonic()
+            if not self._looked(looked):
+                return
+
+    def _looked(self, now: float) -> bool:
+        """Looks once; whether there is something to look at still."""
+        try:
+            self._look(now)
+            self._say(None)
+        except RouterGone:
+            return False
+        except (CannotKeep, Stopped, ValueError) as error:
+            self._say(str(error))
+        except Exception as error:  # told, and tried again
+            self._say(where_it_failed(error))
+        return True
+
+    def _say(self, error: str | None) -> None:
+        """Logs what keeps the kernel's table from being kept, once, and that it is over."""
+        if error and error != self._said:
+            log.error("%s", error)
+        if self._said and not error:
+            log.info("kernel: the table is kept again")
+        self._said = error
+        self._known.kept.error = error
+
+    def announce(self) -> None:
+        """Announces the configured destinations. One that `routerd` can't take now is tried again."""
+        self._announced_at = time.monotonic()
+        waiting = []
+        for each in self._to_announce:
+            answer = self._desk.passed_on(each.line())[0]
+            if answer not in ("originated", "withheld"):
+                waiting.append(each)
+                log.warning("%s: %s: it is tried again", each.line(), answer)
+        self._to_announce = waiting
+
+    def _look(self, now: float) -> None:
+        if self._to_announce and now - self._announced_at >= ANNOUNCED_AGAIN:
+            self.announce()
+        if self._look_at_neighbors(now):
+            self._pace.woken(now - AFTER[0])
+        if self._kernel and now >= self._pace.due:
+            self._keep_kernel(self._kernel)
+
+    def _look_at_neighbors(self, now: float) -> bool:
+        """Logs what changed of the neighbors, and says whether something did."""
+        known = self._known
+        neighbors = self._router.ask_list("neighbors")
+        if neighbors is None or neighbors == self._neighbors:
+            return False
+        self._neighbors = neighbors
+        known.neighbors = neighbors_of(neighbors)
+        names = {number: link.interface.name for number, link in known.links.items()}
+        for line in known.adjacencies.look(neighbors, names, now):
+            log.info("%s", line)
+        return True
+
+    def _keep_kernel(self, kernel: KernelTable) -> None:
+        began, is_changed = time.monotonic(), True
+        try:
+            is_changed = self._kept(kernel)
+        finally:
+            now = time.monotonic()
+            self._pace.looked(now, now - began, is_changed)
+
+    def _kept(self, kernel: KernelTable) -> bool:
+        """Brings the table to the kernel; whether it was another than the last one."""
+        table = self._router.ask_bytes("table")
+        if table is None:
+            raise Stopped("routerd has no memory for its table")
+        outcome = kernel.keep(table, self._hops(), self._own_destinations())
+        for each in outcome.news:
+            log.warning("kernel: %s", each)
+        self._known.kept = Kept(outcome.routes, outcome.refused, outcome.without_hop)
+        is_changed, self._lines = table != self._lines, table
+        return is_changed
+
+    def _own_destinations(self) -> frozenset[IPv4Network]:
+        """What this router announces, made anew only where that changed."""
+        if self._announced is not self._known.announced:
+            self._announced = self._known.announced
+            self._own = originated(self._known)
+        return self._own
+
+    def _hops(self) -> dict[int, Hop]:
+        """The next hop at each interface that is up and whose neighbor is Full."""
+        found = {}
+        for number, neighbor in self._known.neighbors.items():
+            link = self._known.links.get(number)
+            if link is None or neighbor.state != "Full" or not link.is_usable:
+                continue
+            address = link.next_hop(neighbor.router_id)
+            if address:
+                found[number] = Hop(address, link.interface.name)
+        return found

@@ -1,0 +1,190 @@
+"""The keeper's looks: when they are, and what comes of them, with a made-up `routerd` and kernel."""
+import os
+import select
+import threading
+import time
+import unittest
+from dataclasses import dataclass
+from ipaddress import IPv4Address
+from typing import Any
+from unittest import mock
+
+from leafrunt_host import keeper
+from leafrunt_host.desk import Desk
+from leafrunt_host.exchange import Side
+from leafrunt_host.forwarding import KernelTable
+from leafrunt_host.keeper import AFTER, LONGEST_REST, REST, SELDOM, Keeper, Pace, Waker
+from leafrunt_host.packets import Packet, PacketType
+from tests.fake_kernel import FakeKernel, FakeNotices
+from tests.test_desk import TWO, interface, known
+
+THREE, NOBODY = IPv4Address("3.3.3.3"), IPv4Address(0)
+
+
+class Paces(unittest.TestCase):
+    def test_until_the_table_has_changed(self) -> None:
+        pace = Pace(100.0)
+        pace.looked(100.0, 0, True)
+        pace.woken(100.5)
+        dues = []
+        for _ in range(len(AFTER) + 2):
+            dues.append(pace.due)
+            pace.looked(pace.due, 0, False)
+        steps = [round(later - sooner, 6) for sooner, later in zip(dues, dues[1:])]
+        self.assertEqual(dues[0], 100.5 + AFTER[0])
+        self.assertEqual(steps, [*AFTER[1:], SELDOM, SELDOM])
+
+    def test_after_a_change(self) -> None:
+        pace = Pace(100.0)
+        pace.woken(100.0)
+        pace.looked(100.03, 0, True)
+        self.assertEqual(pace.due, 100.03 + AFTER[-1])
+        pace.looked(pace.due, 0, False)
+        self.assertEqual(pace.due, 100.03 + AFTER[-1] + SELDOM)
+
+    def test_long_looks_are_far_between(self) -> None:
+        pace = Pace(100.0)
+        pace.looked(101.0, 0.02, True)
+        pace.woken(101.0)
+        self.assertEqual(pace.due, 101.0 + REST * 0.02)
+        pace.looked(102.0, 1.0, True)
+        pace.woken(102.0)
+        self.assertEqual(pace.due, 102.0 + LONGEST_REST)
+
+
+class Wakes(unittest.TestCase):
+    def is_awake(self, waker: Waker) -> bool:
+        awake = bool(select.select([waker], [], [], 0)[0])
+        waker.clear()
+        return awake
+
+    def test_who_wakes(self) -> None:
+        waker = Waker()
+        self.assertFalse(self.is_awake(waker))
+        waker.wake()
+        waker.wake()
+        self.assertTrue(self.is_awake(waker))
+        named = Packet(PacketType.HELLO, TWO, NOBODY, bytes(20) + TWO.packed)
+        nobody = Packet(PacketType.HELLO, TWO, NOBODY, bytes(20))
+        other = Packet(PacketType.LINK_STATE_REQUEST, TWO, NOBODY, bytes(24))
+        for side, packet, wakes in (
+            (Side.WIRE, named, True),
+            (Side.WIRE, named, False),
+            (Side.WIRE, other, False),
+            (Side.ROUTER, nobody, False),
+            (Side.WIRE, nobody, True),
+            (Side.WIRE, named, True),
+        ):
+            waker.watch(side, packet)
+            self.assertEqual(self.is_awake(waker), wakes)
+
+    def test_any_number_of_router_ids(self) -> None:
+        waker = Waker()
+        for number in range(1000):
+            waker.watch(Side.WIRE, Packet(PacketType.HELLO, IPv4Address(number), NOBODY, bytes(20)))
+        self.assertLessEqual(len(waker._hellos), 64)
+
+
+@dataclass
+class StandInLink:
+    interface: Any
+    is_usable: bool = True
+
+    def next_hop(self, router_id: IPv4Address) -> IPv4Address:
+        return IPv4Address("10.0.1.2") if router_id == TWO else IPv4Address("10.0.2.2")
+
+
+class StandInRouter:
+    def __init__(self) -> None:
+        self.table = [b"10.0.1.0/24 intra 10 via 0", b"172.16.2.0/24 ext2 20 via 1,2"]
+        self.neighbors = ["neighbor 1 2.2.2.2 Full", "neighbor 2 3.3.3.3 Full"]
+        self.asked = 0
+        self.silence = threading.Event()
+        self.silence.set()
+        self.is_asked = threading.Event()
+
+    def ask_list(self, _line: str) -> list[str]:
+        self.is_asked.set()
+        self.silence.wait(30)
+        return list(self.neighbors)
+
+    def ask_bytes(self, _line: str) -> list[bytes]:
+        self.asked += 1
+        return list(self.table)
+
+
+class Keeps(unittest.TestCase):
+    def setUp(self) -> None:
+        self.router, self.kernel = StandInRouter(), FakeKernel("eth1", "eth2")
+        self.links = {
+            1: StandInLink(interface("eth1", "10.0.1.1/24")),
+            2: StandInLink(interface("eth2", "10.0.2.1/24")),
+        }
+        self.known = known()
+        self.known.links = self.links  # type: ignore[assignment]
+        table = KernelTable(self.kernel, FakeNotices(self.kernel))
+        self.waker = Waker()
+        desk = mock.create_autospec(Desk)
+        self.keeper = Keeper(self.known, self.router, table, desk, self.waker)  # type: ignore
+
+    def test_next_hops_of_links_that_are_down(self) -> None:
+        self.keeper._look(time.monotonic())
+        self.assertEqual(self.kernel.forwards(), {"172.16.2.0/24": ["10.0.1.2", "10.0.2.2"]})
+        self.assertEqual(self.known.kept.routes, 1)
+        self.links[2].is_usable = False
+        self.keeper._look(time.monotonic() + 60)
+        self.assertEqual(self.kernel.forwards(), {"172.16.2.0/24": ["10.0.1.2"]})
+
+    def test_a_neighbor_that_is_no_longer_full(self) -> None:
+        self.keeper._look(time.monotonic())
+        self.router.neighbors[1] = "neighbor 2 3.3.3.3 ExStart"
+        with self.assertLogs("leafrunt.box", "INFO") as logged:
+            self.keeper._look(time.monotonic() + 0.01)
+        self.assertIn("eth2: 3.3.3.3 Full -> ExStart", logged.output[0])
+        self.assertEqual(self.kernel.forwards(), {"172.16.2.0/24": ["10.0.1.2"]})
+
+    def test_nothing_happens(self) -> None:
+        """The table is asked for a few times, and then each five seconds."""
+        now = time.monotonic()
+        for _ in range(600):
+            now += 0.1
+            with mock.patch("time.monotonic", return_value=now):
+                self.keeper._look(now)
+        self.assertLessEqual(self.router.asked, 16)
+        self.assertEqual(self.kernel.reads, 1)
+
+    def test_it_is_woken(self) -> None:
+        reader, writer = os.pipe()
+        self.addCleanup(os.close, writer)
+        self.addCleanup(os.close, reader)
+        with mock.patch.object(FakeNotices, "fileno", lambda _: reader):
+            with mock.patch.object(keeper, "SELDOM", 3600.0), mock.patch.object(keeper, "EACH", 3600.0):
+                self.keeper.start()
+                self.wait(lambda: len(self.kernel.forwards()) == 1)
+                self.router.table.append(b"172.16.3.0/24 ext2 20 via 1")
+                self.waker.wake()
+                self.wait(lambda: len(self.kernel.forwards()) == 2)
+                self.keeper.stop()
+
+    def test_one_that_waits_for_an_answer(self) -> None:
+        """The end doesn't wait for it for long, and says so."""
+        self.router.silence.clear()
+        self.addCleanup(self.router.silence.set)
+        with mock.patch.object(FakeNotices, "fileno", lambda _: self.waker.fileno()):
+            self.keeper._kernel = None
+            self.keeper.start()
+            self.assertTrue(self.router.is_asked.wait(60))
+            with mock.patch.object(keeper, "SECONDS_TO_STOP", 0.05):
+                with self.assertLogs("leafrunt.box", "WARNING") as logged:
+                    self.keeper.stop()
+        self.assertIn("the box ends without it", logged.output[0])
+
+    def wait(self, is_so: Any) -> None:
+        until = time.monotonic() + 60
+        while not is_so():
+            self.assertLess(time.monotonic(), until)
+            time.sleep(0.01)
+
+
+if __name__ == "__main__":
+    unittest.main()
