@@ -1,19 +1,14 @@
-"""What the kernel says of its interfaces, and of the way that it takes to a destination: by `ip`,
-of iproute2."""
+"""What the kernel says of its interfaces, and of the way that it takes to a destination."""
 from __future__ import annotations
 
-import json
-import shutil
-import subprocess
+from collections.abc import Iterable, Mapping
+from contextlib import closing
 from dataclasses import dataclass
 from ipaddress import IPv4Address, IPv4Interface, IPv4Network
 from typing import Any
 
+from leafrunt_host.rtnetlink import Address, CannotAsk, Kernel, Link, NextHop, Route
 from leafrunt_host.statuses import Stopped
-
-PLACES = "/usr/sbin:/sbin:/usr/bin:/bin"
-"""Where programs of the system are looked for: never where the caller's PATH says."""
-SECONDS = 30
 
 Json = dict[str, Any]
 """An object of JSON."""
@@ -48,77 +43,71 @@ class KernelRoute:
     ways: tuple[Way, ...]
 
 
-def ip_program() -> str:
-    """The path of `ip`."""
-    found = shutil.which("ip", path=PLACES)
-    if not found:
-        raise Stopped(f"there is no program `ip` in {PLACES}: install iproute2")
+def interfaces_of(links: Iterable[Link], addresses: Iterable[Address]) -> dict[str, KernelInterface]:
+    """The interfaces with their addresses, by their names."""
+    known = [each for each in addresses if not each.address.ip.is_loopback]
+    found = {}
+    for link in links:
+        own = [each for each in known if each.index == link.index]
+        main = tuple(each.address for each in own if not each.is_secondary)
+        secondary = tuple(each.address for each in own if each.is_secondary)
+        peers = tuple((each.address, each.peer) for each in own if each.peer)
+        found[link.name] = KernelInterface(link.name, link.mtu, main, secondary, peers)
     return found
-
-
-def ip_says(*words: str) -> list[Json]:
-    """What `ip -json` says to these words, each of which is passed on as one, never through a
-    shell."""
-    try:
-        ran = subprocess.run(
-            [ip_program(), "-json", *words],
-            capture_output=True,
-            text=True,
-            check=False,
-            timeout=SECONDS,
-        )
-    except (OSError, subprocess.TimeoutExpired) as error:
-        raise Stopped(f"`ip {' '.join(words)}` failed: {error}") from error
-    if ran.returncode:
-        raise Stopped(f"`ip {' '.join(words)}` failed: {' '.join(ran.stderr.split())}")
-    said: list[Json] = json.loads(ran.stdout or "[]")
-    return said
-
-
-def interface_of(said: Json) -> KernelInterface:
-    """An interface from what `ip -json address show` says of it."""
-    main: list[IPv4Interface] = []
-    secondary: list[IPv4Interface] = []
-    peers: list[tuple[IPv4Interface, IPv4Network]] = []
-    for each in said.get("addr_info", []):
-        if each.get("family") != "inet":
-            continue
-        address = IPv4Interface(f"{each['local']}/{each['prefixlen']}")
-        if not address.ip.is_loopback:
-            (secondary if each.get("secondary") else main).append(address)
-            if "address" in each:
-                there = IPv4Interface(f"{each['address']}/{each['prefixlen']}")
-                peers.append((address, there.network))
-    return KernelInterface(
-        said["ifname"], said["mtu"], tuple(main), tuple(secondary), tuple(peers)
-    )
 
 
 def kernel_interfaces() -> dict[str, KernelInterface]:
     """All interfaces of the network namespace that this process is in, by their names."""
-    return {
-        said["ifname"]: interface_of(said)
-        for said in ip_says("address", "show")
-        if "ifname" in said
-    }
+    try:
+        with closing(Kernel()) as kernel:
+            return interfaces_of(kernel.links(), kernel.addresses())
+    except CannotAsk as error:
+        raise Stopped(str(error)) from error
 
 
-def route_of(said: list[Json]) -> KernelRoute | None:
-    """The route that is taken, from what `ip -json route show match` says: the longest prefix, then
-    the least metric."""
-    routes = []
-    for each in said:
-        prefix = IPv4Network("0.0.0.0/0" if each["dst"] == "default" else each["dst"])
-        hops = each.get("nexthops", [each])
-        ways = tuple(
-            Way(hop["dev"], IPv4Address(hop["gateway"]) if "gateway" in hop else None)
-            for hop in hops
-            if "dev" in hop
-        )
-        routes.append((-prefix.prefixlen, each.get("metric", 0), KernelRoute(prefix, ways)))
-    return min(routes, key=lambda each: each[:2])[2] if routes else None
+def network_of(prefix: bytes) -> IPv4Network:
+    return IPv4Network((prefix[:4], prefix[4]))
+
+
+def ways_of(route: Route, names: Mapping[int, str], next_hops: Mapping[int, NextHop]) -> list[Way]:
+    """A route's ways; where the kernel names its next hop object alone, that's."""
+    paths = list(route.paths)
+    if not paths and route.next_hop in next_hops:
+        it = next_hops[route.next_hop]
+        members = [next_hops[each] for each in it.members if each in next_hops] or [it]
+        paths = [(each.gateway, each.index) for each in members]
+    return [
+        Way(names[index], IPv4Address(gateway) if len(gateway) == 4 else None)
+        for gateway, index in paths
+        if index in names
+    ]
+
+
+def route_to(
+    destination: IPv4Network,
+    routes: Iterable[Route],
+    names: Mapping[int, str],
+    next_hops: Mapping[int, NextHop],
+) -> KernelRoute | None:
+    """The route that is taken to all of the destination: the longest prefix, then the least
+    metric."""
+    found = []
+    for each in routes:
+        prefix = network_of(each.prefix)
+        if destination.subnet_of(prefix):
+            found.append((-prefix.prefixlen, each.metric, prefix, each))
+    if not found:
+        return None
+    *_, prefix, route = min(found, key=lambda each: each[:2])
+    return KernelRoute(prefix, tuple(ways_of(route, names, next_hops)))
 
 
 def kernel_route(destination: IPv4Network) -> KernelRoute | None:
     """The route of the main table that the kernel takes to all of the destination."""
-    return route_of(ip_says("-4", "route", "show", "table", "main", "match", str(destination)))
+    try:
+        with closing(Kernel()) as kernel:
+            names = {each.index: each.name for each in kernel.links()}
+            next_hops = {each.id: each for each in kernel.next_hops(is_own=False)}
+            return route_to(destination, kernel.routes(), names, next_hops)
+    except CannotAsk as error:
+        raise Stopped(str(error)) from error

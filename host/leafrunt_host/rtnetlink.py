@@ -14,7 +14,7 @@ from array import array
 from collections.abc import Iterable, Iterator
 from dataclasses import dataclass
 from enum import Flag, auto
-from ipaddress import IPv4Address, IPv4Interface
+from ipaddress import IPv4Interface, IPv4Network
 from typing import NamedTuple
 
 SECONDS = 5.0
@@ -39,7 +39,7 @@ REPLACE, EXCLUSIVE, CREATE, HAS_WORDS = 0x100, 0x200, 0x400, 0x200
 GROUPS = 0x1 | 0x10 | 0x40 | 0x8000_0000
 """Notices of links, IPv4 addresses, IPv4 routes and next hops."""
 IFLA_IFNAME, IFLA_MTU = 3, 4
-IFA_LOCAL, IFA_FLAGS, IFA_F_SECONDARY = 2, 8, 0x1
+IFA_ADDRESS, IFA_LOCAL, IFA_FLAGS, IFA_F_SECONDARY = 1, 2, 8, 0x1
 RTA_DST, RTA_OIF, RTA_GATEWAY, RTA_PRIORITY = 1, 4, 5, 6
 RTA_MULTIPATH, RTA_TABLE, RTA_NH_ID = 9, 15, 30
 NHA_ID, NHA_GROUP, NHA_OIF, NHA_GATEWAY = 1, 2, 5, 6
@@ -80,6 +80,8 @@ class Address(NamedTuple):
     index: int
     address: IPv4Interface
     is_secondary: bool
+    peer: IPv4Network | None = None
+    """The network that the peer is in, where the address has one (ip-address(8))."""
 
 
 class NextHop(NamedTuple):
@@ -228,16 +230,17 @@ def address_of(body: bytes) -> Address | None:
     if family != socket.AF_INET or len(local) != 4:
         return None
     flags |= number_of(said.get(IFA_FLAGS))
-    address = IPv4Interface((local, length))
-    return Address(index, address, bool(flags & IFA_F_SECONDARY))
+    address, there = IPv4Interface((local, length)), said.get(IFA_ADDRESS, local)
+    peer = None if there == local else IPv4Interface((there, length)).network
+    return Address(index, address, bool(flags & IFA_F_SECONDARY), peer)
 
 
 def route_of(body: bytes) -> Route | None:
-    """A route, from the body of a message of it; None where it is no unicast one of IPv4 in the
-    main table."""
-    family, length, _, _, table, protocol, _, kind, _ = ROUTE.unpack_from(body)
+    """A route, from the body of a message of it; None where it is none of IPv4 in the main
+    table."""
+    family, length, _, _, table, protocol, *_ = ROUTE.unpack_from(body)
     said = attributes(body, ROUTE.size)
-    if family != socket.AF_INET or kind != UNICAST:
+    if family != socket.AF_INET:
         return None
     if (number_of(said.get(RTA_TABLE)) or table) != MAIN:
         return None
@@ -372,7 +375,7 @@ class Kernel:
         return [each for each in map(address_of, bodies) if each]
 
     def routes(self, protocol: int = 0) -> list[Route]:
-        """The unicast routes of the main table, of one protocol number where one is given."""
+        """The routes of the main table, of one protocol number where one is given."""
         head = ROUTE.pack(socket.AF_INET, 0, 0, 0, MAIN, protocol, 0, 0, 0)
         return [each for each in map(route_of, self._list(GET_ROUTE, head)) if each]
 

@@ -1,4 +1,3 @@
-import json
 import os
 import shutil
 import subprocess
@@ -15,7 +14,8 @@ from leafrunt_host.configuration import (
     read_configuration,
     verdict_of,
 )
-from leafrunt_host.kernel import KernelInterface, interface_of
+from leafrunt_host.kernel import KernelInterface, interfaces_of
+from leafrunt_host.rtnetlink import Address, Link
 from leafrunt_host.statuses import Status, Stopped
 
 ONE = IPv4Interface("10.0.1.1/24")
@@ -791,24 +791,23 @@ class Objects(Files):
 
 class Kernel(unittest.TestCase):
     def test_an_interface(self) -> None:
-        said = json.loads(
-            '{"ifname": "eth1", "mtu": 1500, "addr_info": [{"family": "inet", "local": "127.0.0.1", "prefixlen": 8},'
-            '{"family": "inet", "local": "10.0.1.1", "prefixlen": 24}, {"family": "inet6", "local": "::1", "prefixlen": 128},'
-            '{"family": "inet", "local": "10.0.1.9", "prefixlen": 24, "secondary": true}]}'
-        )
-        self.assertEqual(
-            interface_of(said),
-            KernelInterface("eth1", 1500, (ONE,), (IPv4Interface("10.0.1.9/24"),)),
-        )
+        addresses = [
+            Address(1, IPv4Interface("127.0.0.1/8"), False),
+            Address(2, IPv4Interface("127.0.0.9/8"), False),
+            Address(2, ONE, False),
+            Address(2, IPv4Interface("10.0.1.9/24"), True),
+        ]
+        found = interfaces_of([Link(1, "lo", 65_536, True), Link(2, "eth1", 1500, True)], addresses)
+        secondary = (IPv4Interface("10.0.1.9/24"),)
+        self.assertEqual(found["eth1"], KernelInterface("eth1", 1500, (ONE,), secondary))
+        self.assertEqual(found["lo"], KernelInterface("lo", 65_536, ()))
 
     def test_a_peer(self) -> None:
-        said = json.loads(
-            '{"ifname": "eth1", "mtu": 1500, "addr_info": [{"family": "inet", "local": "192.0.2.1",'
-            '"address": "198.51.100.7", "prefixlen": 30}]}'
-        )
-        alone = IPv4Interface("192.0.2.1/30")
+        alone, there = IPv4Interface("192.0.2.1/30"), IPv4Network("198.51.100.4/30")
+        addresses = [Address(2, alone, False, there)]
+        found = interfaces_of([Link(2, "eth1", 1500, True)], addresses)
         peers = ((alone, IPv4Network("198.51.100.4/30")),)
-        self.assertEqual(interface_of(said), KernelInterface("eth1", 1500, (alone,), (), peers))
+        self.assertEqual(found["eth1"], KernelInterface("eth1", 1500, (alone,), (), peers))
 
 
 class Unit(unittest.TestCase):

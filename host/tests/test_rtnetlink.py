@@ -3,7 +3,7 @@ import struct
 import sys
 import unittest
 from collections.abc import Callable
-from ipaddress import IPv4Interface
+from ipaddress import IPv4Interface, IPv4Network
 from unittest import mock
 
 from leafrunt_host import rtnetlink
@@ -154,6 +154,15 @@ class Kernels(unittest.TestCase):
         self.assertEqual(
             self.kernel(listing(ADDRESSES)).addresses(),
             [Address(3, one, False), Address(3, other, True)],
+        )
+
+    def test_an_address_with_a_peer(self) -> None:
+        """As `ip address add 192.0.2.1 peer 198.51.100.7/30` makes it."""
+        text = "280000001400020002000000503500000" "21e800003000000" "08000100c6336407" "08000200c0000201"
+        there = IPv4Network("198.51.100.4/30")
+        self.assertEqual(
+            self.kernel(listing(text)).addresses(),
+            [Address(3, IPv4Interface("192.0.2.1/30"), False, there)],
         )
 
     def test_routes(self) -> None:

@@ -6,7 +6,7 @@ from itertools import accumulate
 from leafrunt_host.area import Area, Ways, area_of, network, router
 from leafrunt_host.area_map import Destination, map_lines
 from leafrunt_host.exchange import Side
-from leafrunt_host.kernel import KernelRoute, Way, route_of
+from leafrunt_host.kernel import KernelRoute, Way, route_to
 from leafrunt_host.lsas import (
     MAX_AGE,
     body_of,
@@ -16,6 +16,7 @@ from leafrunt_host.lsas import (
     network_of,
 )
 from leafrunt_host.packets import Packet, PacketType
+from leafrunt_host.rtnetlink import NextHop, Route
 from leafrunt_host.topology import Topology, database_lines, whole_lines
 
 EXTERNAL = bytes.fromhex(
@@ -395,29 +396,32 @@ class Maps(unittest.TestCase):
 
 class KernelRoutes(unittest.TestCase):
     def test_the_longest_and_then_the_least_metric(self) -> None:
-        said = [
-            {"dst": "default", "gateway": "10.0.0.9", "dev": "eth9"},
-            {"dst": "10.0.0.0/8", "gateway": "10.0.1.2", "dev": "eth1", "metric": 89},
-            {"dst": "10.0.0.0/8", "gateway": "10.0.2.2", "dev": "eth2", "metric": 20},
+        names = {1: "eth1", 2: "eth2", 9: "eth9"}
+        routes = [
+            Route(bytes(5), 4, 0, 0, ((bytes([10, 0, 0, 9]), 9),)),
+            Route(bytes([10, 0, 0, 0, 8]), 89, 89, 0, ((bytes([10, 0, 1, 2]), 1),)),
+            Route(bytes([10, 0, 0, 0, 8]), 12, 20, 0, ((bytes([10, 0, 2, 2]), 2),)),
+            Route(bytes([10, 0, 1, 0, 24]), 2, 0, 0, ((b"", 1),)),
+            Route(bytes([10, 9, 0, 0, 16]), 4, 0, 0, ()),
         ]
+
+        def to(text: str, next_hops: dict[int, NextHop] | None = None) -> KernelRoute | None:
+            return route_to(IPv4Network(text), routes, names, next_hops or {})
+
         way = Way("eth2", IPv4Address("10.0.2.2"))
-        self.assertEqual(route_of(said), KernelRoute(IPv4Network("10.0.0.0/8"), (way,)))
-        self.assertEqual(
-            route_of([{"dst": "10.0.1.0/24", "dev": "eth1"}]),
-            KernelRoute(IPv4Network("10.0.1.0/24"), (Way("eth1", None),)),
-        )
-        several = [
-            {
-                "dst": "192.0.2.1",
-                "nexthops": [
-                    {"gateway": "10.0.1.2", "dev": "eth1"},
-                    {"gateway": "10.0.2.2", "dev": "eth2"},
-                ],
-            }
-        ]
-        self.assertEqual(len(route_of(several).ways), 2)
-        self.assertIsNone(route_of([]))
-        self.assertEqual(route_of([{"type": "blackhole", "dst": "10.0.0.0/8"}]).ways, ())
+        ten, link = IPv4Network("10.0.0.0/8"), IPv4Network("10.0.1.0/24")
+        self.assertEqual(to("10.7.0.0/16"), KernelRoute(ten, (way,)))
+        self.assertEqual(to("10.0.0.0/16"), KernelRoute(ten, (way,)))
+        self.assertEqual(to("10.0.1.128/25"), KernelRoute(link, (Way("eth1", None),)))
+        self.assertEqual(to("10.9.1.0/24"), KernelRoute(IPv4Network("10.9.0.0/16"), ()))
+        own = Route(bytes([192, 0, 2, 1, 32]), 89, 89, 7, ())
+        routes.append(own)
+        members = {1: NextHop(1, 1, bytes([10, 0, 1, 2])), 2: NextHop(2, 2, bytes([10, 0, 2, 2]))}
+        found = to("192.0.2.1", {**members, 7: NextHop(7, members=(1, 2))})
+        assert found
+        self.assertEqual(found.ways, (Way("eth1", IPv4Address("10.0.1.2")), way))
+        routes.clear()
+        self.assertIsNone(to("192.0.2.1"))
 
 
 class News(unittest.TestCase):
