@@ -4,26 +4,20 @@ from __future__ import annotations
 
 import queue
 import threading
-from collections import deque
-from typing import BinaryIO, Protocol
+from typing import BinaryIO
 
 LARGEST_PIECE = 1 << 18
 
 
-class Stream(Protocol):
-    """A pipe that is read in pieces."""
-
-    def read1(self, size: int) -> bytes: ...
-
-
 class Answers:
-    """Lines without their line feeds, for one asker at a time. `TimeoutError` where none comes in
-    time, `EOFError` once there are no more."""
+    """Lines, for one asker at a time. `TimeoutError` where none comes in time, `EOFError` once
+    there are no more."""
 
-    def __init__(self, stream: Stream | BinaryIO) -> None:
+    def __init__(self, stream: BinaryIO) -> None:
         self._stream = stream
-        self._pieces: queue.SimpleQueue[list[bytes] | None] = queue.SimpleQueue()
-        self._lines: deque[bytes] = deque()
+        self._pieces: queue.SimpleQueue[bytes | None] = queue.SimpleQueue()
+        self._left = b""
+        """What came and wasn't taken yet: whole lines, each with its line feed."""
         self._is_over = False
         self.last = b""
         """The last line that came, taken or not."""
@@ -32,19 +26,19 @@ class Answers:
 
     def _read(self) -> None:
         begun = b""
-        while data := self._stream.read1(LARGEST_PIECE):  # type: ignore[union-attr]
+        while data := self._stream.read1(LARGEST_PIECE):  # type: ignore[attr-defined]
             whole, line_feed, begun = (begun + data).rpartition(b"\n")
             if line_feed:
-                self._put(whole.split(b"\n"))
+                self._put(whole)
         if begun:
-            self._put([begun])
+            self._put(begun)
         self._pieces.put(None)
 
-    def _put(self, lines: list[bytes]) -> None:
-        self.last = lines[-1]
-        self._pieces.put(lines)
+    def _put(self, lines: bytes) -> None:
+        self.last = lines[lines.rfind(b"\n") + 1 :]
+        self._pieces.put(lines + b"\n")
 
-    def _piece(self, seconds: float) -> list[bytes]:
+    def _piece(self, seconds: float) -> bytes:
         if self._is_over:
             raise EOFError
         try:
@@ -57,25 +51,26 @@ class Answers:
         return piece
 
     def next(self, seconds: float) -> bytes:
-        """The next line."""
-        if not self._lines:
-            self._lines.extend(self._piece(seconds))
-        return self._lines.popleft()
+        """The next line, without its line feed."""
+        if not self._left:
+            self._left = self._piece(seconds)
+        line, _, self._left = self._left.partition(b"\n")
+        return line
 
-    def up_to(self, end: bytes, seconds: float) -> list[bytes]:
-        """The lines up to one that is `end`, and that one, which nothing follows until more is
+    def up_to(self, end: bytes, seconds: float) -> bytes:
+        """The lines up to one that is `end`, without that one, which nothing follows until more is
         asked for."""
-        lines = list(self._lines)
-        self._lines.clear()
-        while not lines or lines[-1] != end:
-            lines += self._piece(seconds)
-        return lines
+        last, pieces = end + b"\n", [b"\n", self._left]
+        self._left = b""
+        while not (pieces[-1].endswith(b"\n" + last) or pieces[-1] == last):
+            pieces.append(self._piece(seconds))
+        return b"".join(pieces)[1 : -len(last)]
 
     def rest(self) -> list[bytes]:
-        """What is left once the program has ended."""
-        lines = list(self._lines)
+        """The lines that are left once the program has ended."""
+        pieces = [self._left]
         try:
             while True:
-                lines += self._piece(0)
+                pieces.append(self._piece(0))
         except (EOFError, TimeoutError):
-            return lines
+            return b"".join(pieces).splitlines()

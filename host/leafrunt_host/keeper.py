@@ -22,9 +22,11 @@ from leafrunt_host.statuses import Stopped
 log = logging.getLogger("leafrunt.box")
 EACH = 0.5
 """Seconds between two looks at the neighbors, whose states timers change too."""
-AFTER = (0.02, 0.03, 0.05, 0.1, 0.3, 1.0)
+AFTER = (0.02, 0.03, 0.05, 0.1, 0.15, 1.0)
 """After something happened the table is looked at so many seconds later, one after the other until
 it has changed: `routerd` doesn't say when it has dealt with it."""
+AGAIN = 4
+"""Which of these steps comes after the table has changed: it may have changed in part."""
 SELDOM = 5.0
 """Seconds between two looks where nothing happens."""
 REST, LONGEST_REST = 5, 0.25
@@ -84,7 +86,7 @@ class Pace:
 
     def looked(self, now: float, taken: float, is_changed: bool) -> None:
         """A look that took so many seconds has ended, and the table was another or was not."""
-        self._step = len(AFTER) - 1 if is_changed else self._step + 1
+        self._step = AGAIN if is_changed else self._step + 1
         pause = AFTER[self._step] if self._step < len(AFTER) else SELDOM
         self._rested = now + min(REST * taken, LONGEST_REST) if is_changed else now
         self.due = max(now + pause, self._rested)
@@ -108,7 +110,7 @@ class Keeper:
         self._to_announce: list[Announcement] = list(known.configuration.announcements)
         self._announced_at = 0.0
         self._pace = Pace(time.monotonic())
-        self._lines: list[bytes] = []
+        self._table, self._lines = b"", list[bytes]()
         self._neighbors: list[str] = []
         self._own: frozenset[IPv4Network] = frozenset()
         self._announced: object = None
@@ -211,11 +213,13 @@ class Keeper:
         table = self._router.ask_bytes("table")
         if table is None:
             raise Stopped("routerd has no memory for its table")
-        outcome = kernel.keep(table, self._hops(), self._own_destinations())
+        is_changed = table != self._table
+        if is_changed:
+            self._table, self._lines = table, table.splitlines()
+        outcome = kernel.keep(self._lines, self._hops(), self._own_destinations())
         for each in outcome.news:
             log.warning("kernel: %s", each)
         self._known.kept = Kept(outcome.routes, outcome.refused, outcome.without_hop)
-        is_changed, self._lines = table != self._lines, table
         return is_changed
 
     def _own_destinations(self) -> frozenset[IPv4Network]:

@@ -87,32 +87,37 @@ class Router:
         """Whether it was given up, since it didn't answer."""
         return self._is_gone and self._ran.poll() is None
 
-    def _answer(self, line: str, seconds: float) -> list[bytes]:
+    def ask(self, line: str, seconds: float = SECONDS_TO_ANSWER) -> list[str]:
+        """The lines of the answer as they are; `end`, which closes a list, is one of them."""
+        first, more = self._asked(line, seconds)
+        lines = [first.decode("utf-8", "replace")]
+        if more is not None:
+            lines += more.decode("utf-8", "replace").splitlines() + ["end"]
+        return lines
+
+    def _asked(self, line: str, seconds: float) -> tuple[bytes, bytes | None]:
+        """The first line of the answer, and where a list follows its other lines."""
+        data = line.encode("utf-8")
+        if b"\n" in data or len(data) > LONGEST_LINE:
+            return b"unknown", None
+        with self._one_at_a_time:
+            if self._is_gone:
+                raise RouterGone("routerd has ended")
+            self._write(data + b"\n")
+            return self._answer(line in LISTS, seconds)
+
+    def _answer(self, is_list: bool, seconds: float) -> tuple[bytes, bytes | None]:
         try:
             first = self._answers.next(seconds)
-            if line not in LISTS or first == b"end" or NO_LISTS.fullmatch(first):
-                return [first]
-            return [first, *self._answers.up_to(b"end", seconds)]
+            if not is_list or first == b"end" or NO_LISTS.fullmatch(first):
+                return first, None
+            return first, self._answers.up_to(b"end", seconds)
         except TimeoutError:
             self._is_gone = True
             raise RouterGone(f"routerd has not answered for {seconds} seconds") from None
         except EOFError:
             self._is_gone = True
             raise RouterGone("routerd has ended") from None
-
-    def ask(self, line: str, seconds: float = SECONDS_TO_ANSWER) -> list[str]:
-        """The lines of the answer as they are; `end`, which closes a list, is one of them."""
-        return [each.decode("utf-8", "replace") for each in self._asked(line, seconds)]
-
-    def _asked(self, line: str, seconds: float) -> list[bytes]:
-        data = line.encode("utf-8")
-        if b"\n" in data or len(data) > LONGEST_LINE:
-            return [b"unknown"]
-        with self._one_at_a_time:
-            if self._is_gone:
-                raise RouterGone("routerd has ended")
-            self._write(data + b"\n")
-            return self._answer(line, seconds)
 
     def _write(self, data: bytes) -> None:
         try:
@@ -124,13 +129,15 @@ class Router:
 
     def ask_list(self, line: str) -> list[str] | None:
         """The lines of a list without its end; None where it was refused."""
-        lines = self.ask_bytes(line)
-        return None if lines is None else [each.decode("utf-8", "replace") for each in lines]
+        said = self.ask_bytes(line)
+        return None if said is None else said.decode("utf-8", "replace").splitlines()
 
-    def ask_bytes(self, line: str) -> list[bytes] | None:
-        """The same as they came, for a list of thousands of lines."""
-        answer = self._asked(line, SECONDS_TO_ANSWER)
-        return answer[:-1] if answer[-1] == b"end" else None
+    def ask_bytes(self, line: str) -> bytes | None:
+        """The same as it came, each line with its line feed: a list may have thousands."""
+        first, more = self._asked(line, SECONDS_TO_ANSWER)
+        if more is None:
+            return b"" if first == b"end" else None
+        return first + b"\n" + more
 
     def quit(self, seconds: float = SECONDS_TO_END) -> Ended:
         """Ends it, if it hasn't ended, and waits for it. One that doesn't end by itself is killed,

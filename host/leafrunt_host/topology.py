@@ -160,7 +160,10 @@ class Topology:
 
     def _wait(self, entry: Entry) -> None:
         """An LSA from the wire waits until `routerd` acknowledges it, which takes it a second, or
-        refuses it in silence."""
+        refuses it in silence. One that is known, and comes by another way, needn't."""
+        before = self._entries.get(entry.data[KEY])
+        if before and before.data[2:] == entry.data[2:] and MAX_AGE not in (before.age, entry.age):
+            return
         instance = entry.data[INSTANCE]
         self._waiting.pop(instance, None)
         self._waiting[instance] = entry

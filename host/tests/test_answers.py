@@ -23,9 +23,13 @@ class Lines(unittest.TestCase):
             with self.subTest(size):
                 answers = Answers(Pieces(data, size))
                 self.assertEqual(answers.next(5), b"one")
-                self.assertEqual(answers.up_to(b"end", 5)[:3], [b"", b"three", b"end"])
+                self.assertEqual(answers.up_to(b"end", 5), b"\nthree\n")
                 answers.reader.join(5)
                 self.assertEqual(answers.last, b"five")
+
+    def test_an_end_alone(self) -> None:
+        answers = Answers(Pieces(b"one\nend\n", 4))
+        self.assertEqual((answers.next(5), answers.up_to(b"end", 5)), (b"one", b""))
 
     def test_the_end(self) -> None:
         answers = Answers(Pieces(b"one\ntwo\nthree", 4))

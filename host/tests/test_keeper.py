@@ -13,7 +13,7 @@ from leafrunt_host import keeper
 from leafrunt_host.desk import Desk
 from leafrunt_host.exchange import Side
 from leafrunt_host.forwarding import KernelTable
-from leafrunt_host.keeper import AFTER, LONGEST_REST, REST, SELDOM, Keeper, Pace, Waker
+from leafrunt_host.keeper import AFTER, AGAIN, LONGEST_REST, REST, SELDOM, Keeper, Pace, Waker
 from leafrunt_host.packets import Packet, PacketType
 from tests.fake_kernel import FakeKernel, FakeNotices
 from tests.test_desk import TWO, interface, known
@@ -24,7 +24,7 @@ THREE, NOBODY = IPv4Address("3.3.3.3"), IPv4Address(0)
 class Paces(unittest.TestCase):
     def test_until_the_table_has_changed(self) -> None:
         pace = Pace(100.0)
-        pace.looked(100.0, 0, True)
+        pace.looked(100.0, 0, False)
         pace.woken(100.5)
         dues = []
         for _ in range(len(AFTER) + 2):
@@ -38,9 +38,11 @@ class Paces(unittest.TestCase):
         pace = Pace(100.0)
         pace.woken(100.0)
         pace.looked(100.03, 0, True)
-        self.assertEqual(pace.due, 100.03 + AFTER[-1])
-        pace.looked(pace.due, 0, False)
-        self.assertEqual(pace.due, 100.03 + AFTER[-1] + SELDOM)
+        for seconds in (AFTER[AGAIN], AFTER[-1], SELDOM, SELDOM):
+            before = 100.03 if seconds == AFTER[AGAIN] else pace.due
+            if before != 100.03:
+                pace.looked(pace.due, 0, False)
+            self.assertAlmostEqual(pace.due, before + seconds)
 
     def test_long_looks_are_far_between(self) -> None:
         pace = Pace(100.0)
@@ -108,9 +110,9 @@ class StandInRouter:
         self.silence.wait(30)
         return list(self.neighbors)
 
-    def ask_bytes(self, _line: str) -> list[bytes]:
+    def ask_bytes(self, _line: str) -> bytes:
         self.asked += 1
-        return list(self.table)
+        return b"".join(each + b"\n" for each in self.table)
 
 
 class Keeps(unittest.TestCase):
