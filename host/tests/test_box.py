@@ -571,12 +571,17 @@ class Starts(Boxes):
         self.assertEqual(status, 1)
         self.assertIn("is no folder of this user's", log)
 
-    def test_numbers_that_are_none(self) -> None:
+    def test_damaged_state(self) -> None:
+        """It is told of, and the box starts."""
         (self.state / "one").mkdir(parents=True)
         (self.state / "one" / "numbers").write_text("many\n")
-        status, log = self.refused()
-        self.assertEqual(status, 3)
-        self.assertIn("'many' is no sequence number", log)
+        (self.state / "one" / "neighbor-numbers").write_bytes(b"\xff\n")
+        box = self.up()
+        said = " ".join(self.client().ask("log"))
+        self.assertIn("no sequence number, so it begins with the clock ('many')", said)
+        self.assertIn("left out, no neighbor's sequence number", said)
+        box.terminate()
+        self.assertEqual(self.ended(box)[0], 0)
 
     def test_check(self) -> None:
         path = self.folder / "x.toml"
