@@ -11,6 +11,7 @@ import os
 import socket
 import struct
 import threading
+import time
 from collections.abc import Callable
 from dataclasses import dataclass, field
 from pathlib import Path
@@ -20,6 +21,7 @@ from leafrunt_host.statuses import Stopped
 
 log = logging.getLogger("leafrunt.console")
 MOST_CLIENTS = 32
+"""Beyond these the one that has asked nothing longest is let go for each that comes."""
 SECONDS_TO_READ = 30
 """A client that takes nothing of its answer for so long is let go."""
 CREDENTIALS = struct.Struct("3i")
@@ -45,6 +47,14 @@ class Answer:
     stays: bool = False
 
 
+@dataclass
+class _Client:
+    """When a client asked last, or came, and whether it is being answered."""
+
+    asked: float
+    is_answered: bool = False
+
+
 def encoded(lines: list[str]) -> bytes:
     """An answer as it is sent: no line of it is empty, an empty one is its end."""
     return "".join(f"{line or ' '}\n" for line in lines).encode("utf-8", "replace") + b"\n"
@@ -56,7 +66,7 @@ class Server:
     def __init__(self, path: Path, answer: Callable[[Asked], Answer]) -> None:
         self._path, self._answer = path, answer
         self._ending = threading.Event()
-        self._clients: set[socket.socket] = set()
+        self._clients: dict[socket.socket, _Client] = {}
         self._staying: list[threading.Thread] = []
         self._last_word = ""
         self._changing = threading.Lock()
@@ -95,14 +105,14 @@ class Server:
     def _let_in(self, client: socket.socket) -> None:
         """Gives a client a thread of its own."""
         with self._changing:
-            self._clients.add(client)
+            self._clients[client] = _Client(time.monotonic())
         thread = threading.Thread(target=self._serve, args=(client,), name="client", daemon=True)
         try:
             thread.start()
         except RuntimeError as error:
             log.warning("console: no client can come in: %s", error)
             with self._changing:
-                self._clients.discard(client)
+                self._clients.pop(client, None)
             client.close()
 
     def _why_not(self, client: socket.socket) -> str | None:
@@ -114,9 +124,30 @@ class Server:
         if user not in (0, os.geteuid()):
             return f"the console is its owner's alone, and this is the user {user}"
         with self._changing:
-            if len(self._clients) >= MOST_CLIENTS:
-                return f"there are {MOST_CLIENTS} clients already"
+            if len(self._clients) >= MOST_CLIENTS and not self._let_go():
+                return f"there are {MOST_CLIENTS} clients already, and all are being answered"
         return None
+
+    def _let_go(self) -> bool:
+        """Lets the client go that has asked nothing longest; whether there is one."""
+        idle = {each: it.asked for each, it in self._clients.items() if not it.is_answered}
+        if not idle:
+            return False
+        oldest = min(idle, key=lambda each: idle[each])
+        del self._clients[oldest]
+        word = f"refused: this console was let go, since {MOST_CLIENTS} others came or asked later"
+        try:
+            oldest.send(encoded([word]), socket.MSG_DONTWAIT)
+            oldest.shutdown(socket.SHUT_RDWR)
+        except OSError:
+            pass  # it has left
+        return True
+
+    def _note(self, client: socket.socket, is_answered: bool) -> None:
+        with self._changing:
+            it = self._clients.get(client)
+            if it:
+                it.asked, it.is_answered = time.monotonic(), is_answered
 
     def _serve(self, client: socket.socket) -> None:
         """Answers a client until it leaves."""
@@ -126,6 +157,7 @@ class Server:
                 asked = reader.next()
                 if asked is None or asked.line in LEAVING:
                     break
+                self._note(client, is_answered=True)
                 answer = self._answer(asked)
                 reader.close(asked)
                 if answer.stays:
@@ -133,12 +165,13 @@ class Server:
                     break
                 if not self._send(client, answer.lines):
                     break
+                self._note(client, is_answered=False)
         except (OSError, ValueError) as error:
             log.debug("console: a client left: %s", error)
         finally:
             reader.end()
             with self._changing:
-                self._clients.discard(client)
+                self._clients.pop(client, None)
             client.close()
 
     def _stay(self, client: socket.socket, answer: Answer) -> None:

@@ -28,6 +28,7 @@ from leafrunt_host.forwarding import Hop
 from leafrunt_host.journal import Kept as KeptLog
 from leafrunt_host.keeper import Keeper, Waker
 from leafrunt_host.rooms import Room, running, socket_path
+from leafrunt_host.server import MOST_CLIENTS
 from leafrunt_host.status import neighbors_of
 from leafrunt_host.statuses import Status, Stopped
 from leafrunt_host.words import help_lines
@@ -394,18 +395,26 @@ class Consoles(Boxes):
         self.assertEqual((ran.returncode, ran.stderr), (3, ""))
 
     def many_clients(self) -> None:
-        clients = [Client(self.run_folder, "one") for _ in range(40)]
-        said = [client.ask("counters") for client in clients]
-        self.assertIn(["refused: there are 32 clients already"], said)
-        self.assertIn(["counter 5 6", "end"], said)
-        for client in clients:
-            client.close()
-        self.assertTrue(
-            within(30, lambda: self.client().ask("counters") == ["counter 5 6", "end"])
-        )
-
+        """Any number of them that ask nothing locks nobody out: the one that has asked nothing
+        longest is let go, and is told so."""
+        idle = [Client(self.run_folder, "one") for _ in range(MOST_CLIENTS + 8)]
+        for each in idle:
+            self.addCleanup(each.close)
+        self.assertEqual(self.leafrunt("status")[0], 0)
+        self.assertEqual(idle[-1].ask("counters"), ["counter 5 6", "end"])
+        (said,) = idle[0].ask("counters")
+        self.assertIn("refused: this console was let go, since", said)
+        with self.assertRaises(Stopped):
+            idle[0].ask("counters")
 
 class Ends(Boxes):
+    def test_down_beside_idle_clients(self) -> None:
+        box = self.up()
+        idle = [self.client() for _ in range(MOST_CLIENTS + 1)]
+        self.assertEqual(self.leafrunt("down"), (0, "the box one has ended, status 0\n", ""))
+        self.assertEqual(self.ended(box)[0], 0)
+        del idle
+
     def test_down(self) -> None:
         box = self.up()
         routerd = self.routerd_of(self.client())
