@@ -8,3 +8,4 @@ pub mod Whole
 pub mod Patch
 mod Typed
 pub mod Writable
+pub mod Sums
