@@ -395,9 +395,9 @@ impl<X: Drop> KeyedMap<X> {
     pub fn next_from(&self, key: &Key) -> Option<Key>
         ensures { result ≡ slice_get (keys_from key.now (map.keys self.now.present)) 0 }
     {
-        for (found, slot) in self.slots.range(*key..) {
+        for (first, slot) in self.slots.range(*key..) {
             if let Slot::Holds(_) = slot {
-                return Some(same(found));
+                return Some(same(first));
             }
         }
         None
