@@ -16,12 +16,13 @@ from pathlib import Path
 from typing import Any
 
 from leafrunt_host.authentication import MD5_KEY_LENGTH, Algorithm, Key, Lifetime
+from leafrunt_host.isolation import USER, Account, account_of
 from leafrunt_host.kernel import KernelInterface
+from leafrunt_host.rooms import LONGEST_OBJECT
 from leafrunt_host.statuses import Status, Stopped
 from leafrunt_host.tables import Mistake, Table, shown, toml_of
 
 LONGEST_FILE = 1 << 20
-LONGEST_OBJECT = 16 << 20
 MOST_INTERFACES = 63
 MOST_EXTERNALS = 4096
 LEAST_MTU, MOST_MTU = 576, 65535
@@ -95,6 +96,8 @@ class Configuration:
     programs: tuple[Program, ...]
     advice: tuple[str, ...]
     """What isn't wrong, and yet should be known."""
+    account: Account | None = None
+    """Whom `routerd` runs as, in a world of its own; None: as this process, and beside it."""
 
     def text(self, ports: list[tuple[int, int]]) -> str:
         """The configuration of `routerd`: an interface's datagrams come to the first port of its
@@ -223,7 +226,8 @@ class _Reader:
         router_id = self._top.parsed(
             "router_id", "an address of four numbers that isn't 0.0.0.0, in quotes", router_id_of
         )
-        routerd = self._routerd()
+        account = self._account()
+        routerd = self._routerd(account)
         keeps_kernel = self._top.truth("kernel", True)
         keys = self._keys()
         interfaces = self._interfaces(keys)
@@ -242,6 +246,7 @@ class _Reader:
             tuple(announcements),
             tuple(programs),
             tuple(self._advice),
+            account,
         )
 
     def _box_name(self) -> None:
@@ -255,7 +260,25 @@ class _Reader:
     def _in_folder(self, text: str) -> Path:
         return self._folder / text
 
-    def _routerd(self) -> Path | None:
+    def _account(self) -> Account | None:
+        """Whom `routerd` runs as; None where it isn't to have a world of its own."""
+        is_isolated = self._top.truth("isolated", True)
+        name = self._top.text("user", "a user of this machine", "")
+        if not is_isolated:
+            self._advice.append(
+                "isolated = false: every user of this machine can send to routerd as if a "
+                "neighbor did"
+            )
+            if name:
+                self._top.note("user", shown(name), "none where isolated = false")
+            return None
+        try:
+            return account_of(name or None, self._path.stem)
+        except ValueError as error:
+            self._top.note("user", f"{shown(name or USER)}, {error}", "a user of this machine")
+            return None
+
+    def _routerd(self, account: Account | None) -> Path | None:
         """The program, which must be there."""
         allowed = "the path of the program `routerd`"
         text = self._top.text("routerd", allowed, ROUTERD)
@@ -263,6 +286,8 @@ class _Reader:
             return None
         path = self._in_folder(text)
         why = why_no_program(path)
+        if not why and account and not account.runs(path):
+            why = f"which the user {account.name} can't run: let others pass each folder on the way"
         if why:
             self._top.note("routerd", f"{shown(text)}, {why}", allowed)
             return None

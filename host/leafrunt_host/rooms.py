@@ -3,9 +3,11 @@ from __future__ import annotations
 
 import fcntl
 import os
+import shutil
 import socket
 import stat
-from collections.abc import Iterable
+from collections.abc import Iterable, Iterator
+from contextlib import contextmanager
 from dataclasses import dataclass, field
 from pathlib import Path
 from typing import TextIO
@@ -14,6 +16,7 @@ from leafrunt_host.statuses import Status, Stopped
 
 RUN = Path("/run/leafrunt")
 STATE = Path("/var/lib/leafrunt")
+LONGEST_OBJECT = 16 << 20
 LONGEST_SOCKET_PATH = 107
 """unix(7): `sun_path` has 108 bytes with the zero at its end."""
 
@@ -56,8 +59,44 @@ class Room:
         return self.run / "socket"
 
     @property
+    def lent(self) -> Path:
+        """What `routerd` may read: it's started there. Other users can't pass the folder above."""
+        return self.run / "routerd"
+
+    @property
     def configuration(self) -> Path:
-        return self.run / "routerd.conf"
+        return self.lent / "routerd.conf"
+
+    def lend(self, name: str, data: bytes) -> Path:
+        """Writes a file for `routerd`, whatever the umask. `OSError` where it can't be written."""
+        self.lent.mkdir(exist_ok=True)
+        self.lent.chmod(0o755)
+        path = self.lent / name
+        path.unlink(missing_ok=True)
+        with open(path, "xb") as it:
+            os.fchmod(it.fileno(), 0o644)
+            it.write(data)
+        return path
+
+    @contextmanager
+    def lent_object(self, path: str) -> Iterator[str]:
+        """A name by which `routerd` can read an object file, which may be in a folder that's closed
+        to it: a copy's. Where it can't be copied, its own: `routerd` says what is wrong."""
+        name = "object"
+        try:
+            with open(os.open(path, os.O_RDONLY | os.O_NONBLOCK | os.O_CLOEXEC), "rb") as it:
+                is_file = stat.S_ISREG(os.fstat(it.fileno()).st_mode)
+                data = it.read(LONGEST_OBJECT + 1) if is_file else b""
+            if not 0 < len(data) <= LONGEST_OBJECT or len(path.split()) != 1:
+                raise ValueError(path)
+            self.lend(name, data)
+        except (OSError, ValueError):
+            yield path
+            return
+        try:
+            yield name
+        finally:
+            (self.lent / name).unlink(missing_ok=True)
 
     def enter(self) -> None:
         """Makes the folders and takes the lock, which the kernel gives back however this process
@@ -116,8 +155,8 @@ class Room:
         self._claims.clear()
         if self._lock is None:
             return
-        for path in (self.socket, self.configuration):
-            path.unlink(missing_ok=True)
+        self.socket.unlink(missing_ok=True)
+        shutil.rmtree(self.lent, ignore_errors=True)
         self._lock.truncate(0)
         self._lock.close()
         self._lock = None

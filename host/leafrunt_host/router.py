@@ -6,20 +6,39 @@ import re
 import subprocess
 import threading
 from collections.abc import Callable
+from contextlib import AbstractContextManager, nullcontext
 from dataclasses import dataclass
 from pathlib import Path
 
 from leafrunt_host.answers import Answers
+from leafrunt_host.isolation import ENVIRONMENT, World
 
 log = logging.getLogger("leafrunt.router")
 LISTS = ("table", "neighbors", "counters")
 """The commands whose answer is a list of lines and then `end`."""
 NO_LISTS = re.compile(rb"unknown|out of memory|refused \d+")
 """What such a command may be answered in place of a list."""
+ATTACH = "attach "
 LONGEST_LINE = 4096
 SECONDS_TO_ANSWER = 120
 SECONDS_TO_END = 30
-ENVIRONMENT = {"PATH": "/usr/sbin:/usr/bin:/sbin:/bin", "LANG": "C.UTF-8"}
+
+
+def started(world: World, program: Path, configuration: Path) -> subprocess.Popen[bytes]:
+    """The process: in the folder of its configuration, as whom the world says."""
+    account = world.account
+    return subprocess.Popen(
+        world.words(program, "route", configuration.name),
+        stdin=subprocess.PIPE,
+        stdout=subprocess.PIPE,
+        stderr=subprocess.PIPE,
+        cwd=configuration.parent,
+        env=ENVIRONMENT,
+        start_new_session=True,
+        user=account.user if account else None,
+        group=account.group if account else None,
+        extra_groups=[] if account else None,
+    )
 
 
 class RouterGone(Exception):
@@ -44,19 +63,20 @@ class Router:
     """The child. Its standard error is logged, line by line."""
 
     def __init__(
-        self, program: Path, configuration: Path, told: Callable[[str], None] = lambda line: None
+        self,
+        program: Path,
+        configuration: Path,
+        told: Callable[[str], None] = lambda line: None,
+        world: World | None = None,
+        lends: Callable[[str], AbstractContextManager[str]] = nullcontext,
     ) -> None:
-        self._told = told
+        """`lends` makes an object file readable there, and says by which name."""
+        self._told, self._lends = told, lends
+        world = world or World(None)
         self._one_at_a_time = threading.Lock()
         self._is_gone = False
-        self._ran: subprocess.Popen[bytes] = subprocess.Popen(
-            [str(program), "route", str(configuration)],
-            stdin=subprocess.PIPE,
-            stdout=subprocess.PIPE,
-            stderr=subprocess.PIPE,
-            cwd="/",
-            env=ENVIRONMENT,
-            start_new_session=True,
+        self._ran: subprocess.Popen[bytes] = world.do(
+            lambda: started(world, program, configuration)
         )
         assert self._ran.stdin and self._ran.stdout and self._ran.stderr  # each is a pipe
         self._input, self._output, self._errors = (
@@ -89,6 +109,12 @@ class Router:
 
     def ask(self, line: str, seconds: float = SECONDS_TO_ANSWER) -> list[str]:
         """The lines of the answer as they are; `end`, which closes a list, is one of them."""
+        if line.startswith(ATTACH):
+            with self._lends(line.removeprefix(ATTACH)) as name:
+                return self._lines(ATTACH + name, seconds)
+        return self._lines(line, seconds)
+
+    def _lines(self, line: str, seconds: float) -> list[str]:
         first, more = self._asked(line, seconds)
         lines = [first.decode("utf-8", "replace")]
         if more is not None:

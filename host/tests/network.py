@@ -255,15 +255,13 @@ class Network:
         return status
 
     def left_behind(self) -> list[str]:
-        """Processes that are still in a namespace, or below a program of this network."""
+        """Processes that are still in a namespace, or were started in a folder of this network."""
         found = []
-        for name in self._namespaces:
-            for process in output("ip", "netns", "pids", name).split():
-                command = Path("/proc", process, "cmdline")
-                with contextlib.suppress(OSError):
-                    found.append(
-                        command.read_bytes().replace(b"\0", b" ").decode(errors="replace")
-                    )
+        inside = {each for name in self._namespaces for each in pids_in(name)}
+        for process in sorted(inside | set(started_below(self.work))):
+            command = Path("/proc", process, "cmdline")
+            with contextlib.suppress(OSError):
+                found.append(command.read_bytes().replace(b"\0", b" ").decode(errors="replace"))
         return found
 
     def close(self) -> list[str]:
@@ -281,9 +279,25 @@ class Network:
         return left
 
 
+def pids_in(namespace: str) -> list[str]:
+    """The processes in a namespace."""
+    return output("ip", "netns", "pids", namespace).split()
+
+
+def started_below(folder: Path) -> list[str]:
+    """The processes whose own folder is one below this: each `routerd` is in that of its box, and
+    in a network namespace without a name."""
+    found = []
+    for process in Path("/proc").iterdir():
+        with contextlib.suppress(OSError):
+            if process.name.isdigit() and (process / "cwd").resolve().is_relative_to(folder):
+                found.append(process.name)
+    return found
+
+
 def kill_all_in(namespace: str) -> None:
     """Kills what runs in a namespace of this network."""
-    for process in output("ip", "netns", "pids", namespace).split():
+    for process in pids_in(namespace):
         with contextlib.suppress(OSError, ValueError):
             os.kill(int(process), signal.SIGKILL)
 
@@ -544,6 +558,11 @@ class Box:
         status = self.network.stop(self.process, by) if self.process else 0
         self.process = None
         return status
+
+    def runs(self) -> bool:
+        """Whether anything of it runs: `leafrunt` or `routerd`."""
+        folder = self.network.work / "run" / self.name
+        return bool(pids_in(self.namespace) or started_below(folder))
 
     def send_signal(self, number: int) -> None:
         if self.process:

@@ -1,6 +1,7 @@
 """A box from its start to its end, around a stand-in for `routerd`, as the operator's commands see
 it."""
 import contextlib
+import errno
 import io
 import os
 import shutil
@@ -18,6 +19,7 @@ from ipaddress import IPv4Address
 from pathlib import Path
 from types import SimpleNamespace
 from typing import IO
+from unittest import mock
 
 from leafrunt_host.box import SIGNALS, Box
 from leafrunt_host.client import Client
@@ -25,6 +27,7 @@ from leafrunt_host.commands import main
 from leafrunt_host.configuration import read_configuration
 from leafrunt_host.console import completions
 from leafrunt_host.forwarding import Hop
+from leafrunt_host.isolation import Account
 from leafrunt_host.journal import Kept as KeptLog
 from leafrunt_host.keeper import Keeper, Waker
 from leafrunt_host.rooms import Room, running, socket_path
@@ -36,7 +39,7 @@ from tests.run_box import KERNEL
 
 HERE = Path(__file__).parent
 LEAFRUNT = HERE.parent / "leafrunt"
-TEXT = 'router_id = "{}"\nrouterd = "routerd"\nkernel = false\n[[interface]]\nname = "lan0"\npassive = true\n'
+TEXT = 'router_id = "{}"\nrouterd = "routerd"\nkernel = false\nisolated = false\n[[interface]]\nname = "lan0"\npassive = true\n'
 MANY = 3
 NOBODY = 65534
 
@@ -521,6 +524,17 @@ class Starts(Boxes):
             self.assertEqual(told.recv(100), b"STOPPING=1")
             self.assertEqual(self.ended(box)[0], 0)
 
+    def test_no_world_of_its_own(self) -> None:
+        """A kernel that refuses it: told with what to do, and nothing is left behind."""
+        why = OSError(errno.EPERM, "Operation not permitted")
+        text = TEXT.replace("isolated = false\n", "")
+        with mock.patch("leafrunt_host.isolation.libc_call", side_effect=why):
+            with mock.patch.object(Account, "runs", return_value=True):
+                status, log = self.refused(text=text)
+        self.assertEqual(status, 3)
+        self.assertIn("CAP_SYS_ADMIN, is needed). `isolated = false` in the", log)
+        self.assertEqual(os.listdir(self.run_folder / "one"), ["lock"])
+
     def test_an_interface_of_another_box(self) -> None:
         """In one network namespace an interface and the kernel's table are one box's."""
         rooms = [Room(name, self.run_folder / name, self.state / name) for name in ("one", "two")]
@@ -539,10 +553,10 @@ class Starts(Boxes):
         self.up("9.9.9.1")
         self.assertIn("other ports are tried", " ".join(self.client().ask("log")))
 
-    def refused(self, router_id: str = "1.1.1.1") -> tuple[Status, str]:
+    def refused(self, router_id: str = "1.1.1.1", text: str = TEXT) -> tuple[Status, str]:
         """Status and log of a box that can't be started, in this process."""
         path = self.folder / "one.toml"
-        path.write_text(TEXT.format(router_id))
+        path.write_text(text.format(router_id))
         room = Room("one", self.run_folder / "one", self.state / "one")
         handlers = {number: signal.getsignal(number) for number in SIGNALS}
         try:

@@ -6,6 +6,7 @@ import tomllib
 import unittest
 from ipaddress import IPv4Interface, IPv4Network
 from pathlib import Path
+from unittest import mock
 
 from leafrunt_host.configuration import (
     Configuration,
@@ -14,6 +15,7 @@ from leafrunt_host.configuration import (
     read_configuration,
     verdict_of,
 )
+from leafrunt_host.isolation import Account
 from leafrunt_host.kernel import KernelInterface, interfaces_of
 from leafrunt_host.rtnetlink import Address, Link
 from leafrunt_host.statuses import Status, Stopped
@@ -74,7 +76,7 @@ PREFIX = "A.B.C.D/L whose bits after the first L are 0"
 OBJECT = "the path of an object file that `routerd verify` accepts, without a space in it"
 TABLES = "tables, each begun with [[{}]]"
 TOML = "TOML 1.0, as toml.io describes it"
-TOP_KEYS = "router_id, routerd, kernel, interface, announce, program"
+TOP_KEYS = "router_id, isolated, user, routerd, kernel, interface, announce, program"
 INTERFACE_KEYS = "name, passive, address, cost, hello_interval, dead_interval, retransmit_interval, transmit_delay, keys, peer"
 OF_ETH1 = "interface 1 (eth1), "
 KERNEL_NAMES = f"the name of an interface of the kernel: {NAMES}"
@@ -305,6 +307,20 @@ MISTAKES = [
                 "none where passive = true: nobody is heard there",
             ),
         ),
+    ),
+    ("isolated = 1\n" + TOP + INTERFACE, (("isolated", "1", "true or false"),)),
+    ("user = 1\n" + TOP + INTERFACE, (("user", "1", "a user of this machine"),)),
+    (
+        'user = "no such user"\n' + TOP + INTERFACE,
+        (("user", '"no such user", which the system doesn\'t have', "a user of this machine"),),
+    ),
+    (
+        'user = "root"\n' + TOP + INTERFACE,
+        (("user", '"root", who may do everything', "a user of this machine"),),
+    ),
+    (
+        'isolated = false\nuser = "nobody"\n' + TOP + INTERFACE,
+        (("user", '"nobody"', "none where isolated = false"),),
     ),
     (TOP + INTERFACE + "passive = 1\n", ((OF_ETH1 + "passive", "1", "true or false"),)),
     (TOP + INTERFACE + "cost = 0\n", ((OF_ETH1 + "cost", "0", NUMBERS.format(1, 65535)),)),
@@ -548,6 +564,10 @@ class Files(unittest.TestCase):
     def setUp(self) -> None:
         self.folder = Path(tempfile.mkdtemp(prefix="leafrunt-test-"))
         self.addCleanup(shutil.rmtree, self.folder)
+        # (whether other users can pass the folder of this machine's temporary files doesn't matter)
+        runs = mock.patch.object(Account, "runs", return_value=True)
+        self.runs = runs.start()
+        self.addCleanup(runs.stop)
         self.write("routerd", b"", 0o755)
         self.write("open", b"", 0o777)
         self.write("keys.toml", KEYS.encode(), 0o600)
@@ -622,6 +642,20 @@ class Reading(Files):
             "router 1.1.1.1\n"
             "interface 1 10.0.1.1/24 cost 10 hello 10 dead 40 rxmt 5 delay 1 port 7001 peer 7002\n",
         )
+
+    def test_whom_routerd_runs_as(self) -> None:
+        """By default somebody else than this process; without a world of its own that's told."""
+        account = self.read(TOP + INTERFACE).account
+        self.assertIsNotNone(account)
+        self.assertNotEqual(account.user, 0)
+        self.assertEqual(self.read(TOP + 'user = "nobody"\n' + INTERFACE).account.name, "nobody")
+        without = self.read(TOP + "isolated = false\n" + INTERFACE)
+        self.assertIsNone(without.account)
+        self.assertIn("every user of this machine can send to routerd", without.advice[0])
+        self.runs.return_value = False
+        ((where, found, _),) = self.mistakes_of(TOP + INTERFACE)
+        self.assertEqual(where, "routerd")
+        self.assertRegex(found, "can't run: let others pass each folder on the way")
 
     def test_whose_packets_count(self) -> None:
         """Those from the network of the address, of the kernel's peer, or of the `peer` given; an

@@ -281,7 +281,7 @@ def ring_killed(it: Ring, looks: Looks) -> None:
         took = time.monotonic() - start
         what = f"a box is killed: {name} drops it within RouterDeadInterval, 8 s"
         looks.look(what, took <= DEAD_INTERVAL + 1, f"after {took:.1f} s")
-    running = within(5, lambda: not output("ip", "netns", "pids", box.namespace).split())
+    running = within(5, lambda: not box.runs())
     looks.look("`routerd` ends with it", running is not None)
     others = within(10, lambda: it.is_connected(0.4, range(1, 5)))
     looks.look("the other hosts ping each other", others is not None)

@@ -1,0 +1,173 @@
+"""A world of its own for `routerd`: a user that nobody else is, no capabilities and no way to any,
+a bounded address space, and a network namespace that has nothing but a loopback interface. The
+bridge's ends of the UDP sockets are opened there too, so no other user of this machine reaches
+them or `routerd`'s, and what `routerd` might do wrong reaches nothing.
+"""
+from __future__ import annotations
+
+import ctypes
+import errno
+import fcntl
+import logging
+import os
+import pwd
+import shutil
+import socket
+import struct
+import zlib
+from collections.abc import Callable
+from concurrent.futures import ThreadPoolExecutor
+from dataclasses import dataclass
+from pathlib import Path
+from typing import TypeVar
+
+log = logging.getLogger("leafrunt.isolation")
+T = TypeVar("T")
+PLACES = "/usr/sbin:/usr/bin:/sbin:/bin"
+"""Where programs of the system are looked for: never where the caller's PATH says."""
+USER = "leafrunt"
+"""Whom `routerd` runs as, where the system has this user and the configuration names no other."""
+FIRST_NUMBER, LAST_NUMBER = 61184, 65519
+"""User numbers that systemd gives to services that have no user (DynamicUser=): nobody's else."""
+ADDRESS_SPACE = 1 << 30
+"""Bytes of address space that `routerd` may have: 63 interfaces and a full database need some
+700 MB of it, with one arena for all threads."""
+ENVIRONMENT = {
+    "PATH": PLACES,
+    "LANG": "C.UTF-8",
+    # glibc would reserve 64 MiB or more of address space for each thread (mallopt(3))
+    "MALLOC_ARENA_MAX": "1",
+}
+
+# Numbers of Linux that Python has no names for.
+CLONE_NEWNET = 0x40000000  # <linux/sched.h>
+PR_SET_NO_NEW_PRIVS = 38  # <linux/prctl.h>
+SIOCSIFFLAGS = 0x8914  # <linux/sockios.h>
+IFF_UP = 0x1  # <linux/if.h>
+
+
+class CannotIsolate(Exception):
+    """`routerd` can't be given a world of its own; the text is a sentence that says what to do."""
+
+
+@dataclass(frozen=True)
+class Account:
+    """Whom `routerd` runs as."""
+
+    name: str
+    user: int
+    group: int
+
+    def may(self, status: os.stat_result, bit: int) -> bool:
+        """Whether a file's mode allows it that (4 read, 2 write, 1 execute or pass)."""
+        shift = 6 if status.st_uid == self.user else 3 if status.st_gid == self.group else 0
+        return bool(status.st_mode >> shift & bit)
+
+    def runs(self, program: Path) -> bool:
+        """Whether it may run a program: each folder on the way has to let it pass."""
+        places = {*program.parents, *program.resolve().parents, program}
+        return all(self.may(each.stat(), 1) for each in places)
+
+
+def account_of(name: str | None, box: str) -> Account:
+    """The account of a user, by default of `leafrunt`, and where there is none, one of a number
+    that nobody has. `ValueError`, with half a sentence, where the user isn't there, or is root."""
+    try:
+        found = pwd.getpwnam(name or USER)
+    except KeyError:
+        if name:
+            raise ValueError("which the system doesn't have") from None
+        number = free_number(box)
+        return Account(str(number), number, number)
+    if found.pw_uid == 0:
+        raise ValueError("who may do everything")
+    return Account(found.pw_name, found.pw_uid, found.pw_gid)
+
+
+def free_number(box: str) -> int:
+    """A user number that no user has, and no process; for one box the same, if it's free."""
+    taken = {each.pw_uid for each in pwd.getpwall()} | running_users()
+    span = LAST_NUMBER - FIRST_NUMBER + 1
+    start = zlib.crc32(box.encode())
+    numbers = (FIRST_NUMBER + (start + at) % span for at in range(span))
+    return next((each for each in numbers if each not in taken), LAST_NUMBER)
+
+
+def running_users(processes: Path = Path("/proc")) -> set[int]:
+    """The users of all processes."""
+    found = set()
+    for each in processes.iterdir():
+        if each.name.isdigit():
+            try:
+                found.add(each.stat().st_uid)
+            except OSError:
+                pass  # it has ended
+    return found
+
+
+def libc_call(name: str, *numbers: int) -> None:
+    """A call of the C library that Python has no name for. `OSError` where it fails."""
+    if getattr(ctypes.CDLL(None, use_errno=True), name)(*map(ctypes.c_ulong, numbers)):
+        number = ctypes.get_errno()
+        raise OSError(number, os.strerror(number))
+
+
+def enter_namespace() -> None:
+    """Takes this thread, alone, into a new network namespace (unshare(2)) whose loopback interface
+    is up, and takes the way to new privileges from it and its children (prctl(2))."""
+    libc_call("unshare", CLONE_NEWNET)
+    with socket.socket(socket.AF_INET, socket.SOCK_DGRAM) as any_socket:
+        fcntl.ioctl(any_socket, SIOCSIFFLAGS, struct.pack("16sH22x", b"lo", IFF_UP))
+    libc_call("prctl", PR_SET_NO_NEW_PRIVS, 1, 0, 0, 0)
+
+
+class World:
+    """Where `routerd` is started, and the bridge's sockets to it are opened."""
+
+    def __init__(self, account: Account | None) -> None:
+        """With an account, a world of its own: `CannotIsolate` where it can't be had."""
+        self.account = account
+        self._inside: ThreadPoolExecutor | None = None
+        if account is None:
+            return
+        self._inside = ThreadPoolExecutor(1, "namespace")
+        try:
+            self.do(enter_namespace)
+        except OSError as error:
+            self.close()
+            raise CannotIsolate(why_not_isolated(error)) from error
+
+    def do(self, work: Callable[[], T]) -> T:
+        """Does something there: what it opens or starts stays there."""
+        return self._inside.submit(work).result() if self._inside else work()
+
+    def close(self) -> None:
+        """Nothing more is done there; the namespace ends with what is open there."""
+        if self._inside:
+            self._inside.shutdown()
+
+    def words(self, program: Path, *words: str) -> list[str]:
+        """The command that runs a program there with a bounded address space."""
+        bounded = shutil.which("prlimit", path=PLACES)
+        if bounded is None:
+            log.warning("there is no program `prlimit`: routerd's memory isn't bounded")
+            return [str(program), *words]
+        return [bounded, f"--as={ADDRESS_SPACE}", "--", str(program), *words]
+
+    def sockets_of(self, process: int) -> Path:
+        """Where the kernel lists the UDP sockets of the namespace that `routerd` is in (proc(5))."""
+        return Path(f"/proc/{process}/net/udp") if self._inside else Path("/proc/net/udp")
+
+
+def why_not_isolated(error: OSError) -> str:
+    if error.errno in (errno.EPERM, errno.EACCES):
+        needs = "root, or the capability CAP_SYS_ADMIN, is needed"
+    elif error.errno == errno.ENOSPC:
+        needs = "there are too many of them: sysctl user.max_net_namespaces"
+    else:
+        needs = "the kernel may have none"
+    return (
+        f"routerd can't have a network namespace of its own: {error.strerror} ({needs}). "
+        "`isolated = false` in the configuration does without: then every user of this machine "
+        "can send to routerd as if a neighbor did"
+    )

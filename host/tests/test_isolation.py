@@ -1,0 +1,188 @@
+"""The world that `routerd` is started in. What needs root is skipped without it."""
+import errno
+import os
+import socket
+import stat
+import tempfile
+import unittest
+from pathlib import Path
+from unittest import mock
+
+from leafrunt_host.isolation import (
+    ADDRESS_SPACE,
+    FIRST_NUMBER,
+    LAST_NUMBER,
+    Account,
+    CannotIsolate,
+    World,
+    account_of,
+    free_number,
+    running_users,
+)
+from leafrunt_host.rooms import Room
+from leafrunt_host.router import Router
+
+NAMESPACE = "/proc/thread-self/ns/net"
+PRINTS = '#!/bin/sh\nexec >&2\ncat /proc/self/status\nulimit -v\ncat "$2"\nenv\n'
+
+
+def isolated(case: unittest.TestCase) -> World:
+    """A world of its own, where this test may have one."""
+    try:
+        world = World(account_of(None, "test"))
+    except CannotIsolate as why:
+        case.skipTest(str(why))
+    case.addCleanup(world.close)
+    return world
+
+
+class Accounts(unittest.TestCase):
+    def test_users(self) -> None:
+        for name, words in (("no such user", "which the system doesn't have"), ("root", "who may")):
+            with self.assertRaises(ValueError) as raised:
+                account_of(name, "one")
+            self.assertIn(words, str(raised.exception))
+
+    def test_a_number_that_nobody_has(self) -> None:
+        one = free_number("one")
+        self.assertTrue(FIRST_NUMBER <= one <= LAST_NUMBER)
+        self.assertEqual(free_number("one"), one)
+        with mock.patch("leafrunt_host.isolation.running_users", return_value={one}):
+            self.assertNotEqual(free_number("one"), one)
+        self.assertIn(os.geteuid(), running_users())
+
+    def test_who_can_run_a_program(self) -> None:
+        own = Account("own", os.geteuid(), os.getegid())
+        other = Account("other", FIRST_NUMBER, FIRST_NUMBER)
+        with tempfile.TemporaryDirectory() as folder:
+            program = Path(folder, "routerd")
+            program.write_bytes(b"")
+            program.chmod(0o755)
+            self.assertTrue(own.runs(program))
+            self.assertFalse(other.runs(program))  # (the folder is its owner's alone)
+            program.chmod(0o655)
+            self.assertFalse(own.runs(program))
+        status = os.stat_result((0o710, 0, 0, 1, 5, 6, 0, 0, 0, 0))
+        may = [Account("", user, group).may(status, 1) for user, group in ((5, 0), (0, 6), (0, 0))]
+        self.assertEqual(may, [True, True, False])
+
+
+class Worlds(unittest.TestCase):
+    def test_none_of_its_own(self) -> None:
+        world = World(None)
+        here = os.stat(NAMESPACE).st_ino
+        self.assertEqual(world.do(lambda: os.stat(NAMESPACE).st_ino), here)
+        self.assertEqual(world.sockets_of(7), Path("/proc/net/udp"))
+        self.assertEqual(world.words(Path("/r"), "route", "x")[-3:], ["/r", "route", "x"])
+
+    def test_a_refusal_says_what_to_do(self) -> None:
+        account = Account("other", FIRST_NUMBER, FIRST_NUMBER)
+        for number, words in (
+            (errno.EPERM, "root, or the capability CAP_SYS_ADMIN, is needed"),
+            (errno.ENOSPC, "user.max_net_namespaces"),
+            (errno.EINVAL, "the kernel may have none"),
+        ):
+            why = OSError(number, os.strerror(number))
+            with mock.patch("leafrunt_host.isolation.libc_call", side_effect=why):
+                with self.assertRaises(CannotIsolate) as raised:
+                    World(account)
+            self.assertIn(words, str(raised.exception))
+            self.assertIn("`isolated = false`", str(raised.exception))
+
+    def test_no_way_in(self) -> None:
+        """Its sockets aren't reached from here, and this thread stays where it is."""
+        here = os.stat(NAMESPACE).st_ino
+        world = isolated(self)
+        self.assertNotEqual(world.do(lambda: os.stat(NAMESPACE).st_ino), here)
+        self.assertEqual(os.stat(NAMESPACE).st_ino, here)
+
+        def bound() -> socket.socket:
+            one = socket.socket(socket.AF_INET, socket.SOCK_DGRAM)
+            one.bind(("127.0.0.1", 0))
+            return one
+
+        with world.do(bound) as one, world.do(bound) as other, bound() as outside:
+            one.settimeout(0.2)
+            outside.sendto(b"outside", one.getsockname())
+            self.assertRaises(TimeoutError, one.recv, 10)
+            other.sendto(b"inside", one.getsockname())
+            self.assertEqual(one.recv(10), b"inside")
+
+    def test_whom_it_runs_as(self) -> None:
+        """A program that prints what it is: no capabilities, no groups, a bounded memory."""
+        world = isolated(self)
+        account = world.account
+        assert account
+        with tempfile.TemporaryDirectory() as folder:
+            room = Room("one", Path(folder, "run"), Path(folder, "state"))
+            room.enter()
+            os.chmod(folder, 0o755)
+            program = Path(folder, "routerd")
+            program.write_text(PRINTS)
+            program.chmod(0o755)
+            room.lend("routerd.conf", b"the configuration\n")
+            said: list[str] = []
+            with self.assertLogs("leafrunt.router"):
+                ended = Router(program, room.configuration, said.append, world).quit()
+            room.leave()
+        self.assertEqual(ended.status, 0)
+        for line in (
+            f"Uid:\t{account.user}\t{account.user}\t{account.user}\t{account.user}",
+            f"Gid:\t{account.group}\t{account.group}\t{account.group}\t{account.group}",
+            "Groups:\t ",
+            "CapPrm:\t0000000000000000",
+            "CapEff:\t0000000000000000",
+            "CapAmb:\t0000000000000000",
+            "NoNewPrivs:\t1",
+            f"{ADDRESS_SPACE >> 10}",
+            "the configuration",
+            "MALLOC_ARENA_MAX=1",
+        ):
+            self.assertIn(line.strip(), [each.strip() for each in said])
+
+
+class Lending(unittest.TestCase):
+    def setUp(self) -> None:
+        folder = tempfile.TemporaryDirectory()
+        self.addCleanup(folder.cleanup)
+        self.folder = Path(folder.name)
+        self.room = Room("one", self.folder / "run", self.folder / "state")
+        self.room.enter()
+        self.addCleanup(self.room.leave)
+
+    def test_a_file(self) -> None:
+        """Whoever can pass the folder above can read it, which is `routerd` alone."""
+        before = os.umask(0o077)
+        try:
+            path = self.room.lend("routerd.conf", b"router 1.1.1.1\n")
+        finally:
+            os.umask(before)
+        self.assertEqual(path, self.room.configuration)
+        modes = [stat.S_IMODE(each.stat().st_mode) for each in (path, path.parent, self.room.run)]
+        self.assertEqual(modes, [0o644, 0o755, 0o700])
+        self.room.leave()
+        self.assertFalse(self.room.lent.exists())
+
+    def test_an_object(self) -> None:
+        closed = self.folder / "closed"
+        closed.mkdir(0o700)
+        path = closed / "veto.o"
+        path.write_bytes(b"BPFH")
+        path.chmod(0o600)
+        with self.room.lent_object(str(path)) as name:
+            self.assertEqual((self.room.lent / name).read_bytes(), b"BPFH")
+        self.assertFalse((self.room.lent / name).exists())
+
+    def test_what_is_no_object(self) -> None:
+        """It has its own name: `routerd` says what is wrong."""
+        os.mkfifo(self.folder / "pipe")
+        (self.folder / "empty").write_bytes(b"")
+        (self.folder / "two words").write_bytes(b"BPFH")
+        for path in ("", "none", "pipe", "empty", ".", "two words"):
+            given = str(self.folder / path) if path else ""
+            with self.room.lent_object(given) as name:
+                self.assertEqual(name, given)
+
+
+if __name__ == "__main__":
+    unittest.main()
