@@ -9,6 +9,7 @@ import threading
 import time
 from ipaddress import IPv4Address, IPv4Network
 
+from leafrunt_host.clock import Clock
 from leafrunt_host.configuration import Announcement
 from leafrunt_host.desk import Desk
 from leafrunt_host.exchange import Side
@@ -33,6 +34,8 @@ REST, LONGEST_REST = 5, 0.25
 """After a look that found another table the keeper rests so many times what it took, and so many
 seconds at most."""
 ANNOUNCED_AGAIN = 5
+MOST_STEPS = 3
+"""Steps of the clock that are told of."""
 SECONDS_TO_STOP = 3.0
 """How long the end waits for a look that is under way."""
 
@@ -115,6 +118,7 @@ class Keeper:
         self._own: frozenset[IPv4Network] = frozenset()
         self._announced: object = None
         self._said: str | None = None
+        self._clock = Clock()
 
     def start(self) -> None:
         self._thread.start()
@@ -157,6 +161,7 @@ class Keeper:
             self._say(str(error))
         except Exception as error:  # told, and tried again
             self._say(where_it_failed(error))
+        self._known.looked = time.monotonic()
         return True
 
     def _say(self, error: str | None) -> None:
@@ -179,7 +184,14 @@ class Keeper:
                 log.warning("%s: %s: it is tried again", each.line(), answer)
         self._to_announce = waiting
 
+    def _look_at_clock(self) -> None:
+        step = self._clock.look()
+        if step:
+            log.warning("%s", step.news())
+            self._known.steps = (*self._known.steps, step)[-MOST_STEPS:]
+
     def _look(self, now: float) -> None:
+        self._look_at_clock()
         if self._to_announce and now - self._announced_at >= ANNOUNCED_AGAIN:
             self.announce()
         if self._look_at_neighbors(now):

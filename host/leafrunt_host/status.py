@@ -7,11 +7,14 @@ from dataclasses import dataclass, field
 from ipaddress import IPv4Address, IPv4Network
 
 from leafrunt_host.bridge import Link
+from leafrunt_host.clock import Step, moment_text
 from leafrunt_host.configuration import Announcement, Configuration, InterfaceSettings
 from leafrunt_host.forwarding import host_warnings
 from leafrunt_host.kernel import Json
 from leafrunt_host.observing import Adjacencies
 
+SECONDS_TO_LOOK = 10.0
+"""After so long a look of the keeper's hangs."""
 NEIGHBOR = re.compile(r"neighbor (\d+) (\S+) (\w+)")
 
 
@@ -61,6 +64,10 @@ class Known:
     kept: Kept = field(default_factory=Kept)
     stopped: tuple[str, ...] = ()
     """Interfaces that `routerd` serves no longer."""
+    steps: tuple[Step, ...] = ()
+    """The last steps of the machine's clock."""
+    looked: float | None = None
+    """When the keeper's last look ended, by the clock that nobody sets."""
 
 
 def originated(known: Known) -> frozenset[IPv4Network]:
@@ -76,8 +83,15 @@ def warnings_of(configuration: Configuration) -> list[str]:
     return [*configuration.advice, *host_warnings(names)]
 
 
-def moment_text(moment: float) -> str:
-    return time.strftime("%Y-%m-%d %H:%M:%S", time.localtime(moment))
+def remarks_of(known: Known, now: float) -> list[str]:
+    """What is wrong with the box as a whole, beside its interfaces."""
+    said = [each for step in known.steps if (each := step.remark(now))]
+    if known.looked is not None and now - known.looked > SECONDS_TO_LOOK:
+        said.append(
+            f"no look at `routerd` and the kernel's table has ended for {now - known.looked:.0f} s: "
+            "one of them doesn't answer"
+        )
+    return said
 
 
 def since(known: Known, number: int) -> float | None:
@@ -140,7 +154,7 @@ def status_of(known: Known) -> Json:
             "without_next_hop": [each.decode() for each in kept.without_hop],
             "error": kept.error,
         },
-        "warnings": warnings_of(configuration),
+        "warnings": [*remarks_of(known, time.monotonic()), *warnings_of(configuration)],
         "interfaces": [
             interface_status(known, number, each)
             for number, each in enumerate(configuration.interfaces, 1)

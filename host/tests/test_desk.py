@@ -9,8 +9,10 @@ from collections import Counter
 from dataclasses import dataclass, field
 from ipaddress import IPv4Address, IPv4Interface, IPv4Network
 from pathlib import Path
+from unittest import mock
 
-from leafrunt_host.capture import Capture
+from leafrunt_host import capture as captures
+from leafrunt_host.capture import MOST_WAITING, Capture
 from leafrunt_host.configuration import Announcement, Configuration, InterfaceSettings
 from leafrunt_host.journal import Kept as KeptLog
 from leafrunt_host.journal import one_line
@@ -134,39 +136,69 @@ class Statuses(unittest.TestCase):
 
 
 class Captures(unittest.TestCase):
-    def test_packets(self) -> None:
-        with tempfile.TemporaryDirectory() as folder:
-            path = Path(folder, "it.pcap")
-            capture = Capture(os.open(path, os.O_WRONLY | os.O_CREAT, 0o600), str(path))
-            packets = [b"\x45" + bytes(63), b"\x45" + bytes(1499)]
-            for each in packets:
-                capture.take(each)
-            self.assertEqual(capture.end(), f"captured 2 packets to {path}")
-            capture.take(b"late")
-            data = path.read_bytes()
+    def setUp(self) -> None:
+        folder = tempfile.TemporaryDirectory()
+        self.addCleanup(folder.cleanup)
+        self.path = Path(folder.name, "it.pcap")
+
+    def capture(self) -> Capture:
+        return Capture(os.open(self.path, os.O_WRONLY | os.O_CREAT, 0o600), str(self.path))
+
+    def packets(self) -> list[bytes]:
+        """The packets in the file, which has nothing else."""
+        data, at, found = self.path.read_bytes(), 24, []
         self.assertEqual(
             struct.unpack("=IHHiIII", data[:24]), (0xA1B2C3D4, 2, 4, 0, 0, 65535, 101)
         )
-        at = 24
-        for each in packets:
-            seconds, micros, kept, length = struct.unpack("=IIII", data[at : at + 16])
-            self.assertEqual(
-                (kept, length, data[at + 16 : at + 16 + kept]), (len(each), len(each), each)
-            )
+        while at < len(data):
+            _, micros, kept, length = struct.unpack("=IIII", data[at : at + 16])
+            self.assertEqual(kept, length)
             self.assertLess(micros, 1_000_000)
+            found.append(data[at + 16 : at + 16 + kept])
             at += 16 + kept
-        self.assertEqual(at, len(data))
+        return found
+
+    def test_packets(self) -> None:
+        capture = self.capture()
+        packets = [b"\x45" + bytes(63), b"\x45" + bytes(1499)]
+        for each in packets:
+            capture.take(each)
+        self.assertEqual(capture.end(), f"captured 2 packets to {self.path}")
+        capture.take(b"late")
+        self.assertEqual(self.packets(), packets)
 
     def test_a_file_that_can_not_be_written(self) -> None:
-        with tempfile.TemporaryDirectory() as folder:
-            path = Path(folder, "it.pcap")
-            path.touch()
-            capture = Capture(os.open(path, os.O_RDONLY), str(path))
-            capture.take(b"x")
+        self.path.touch()
+        capture = Capture(os.open(self.path, os.O_RDONLY), str(self.path))
+        capture.take(b"x")
+        self.assertEqual(
+            capture.end(),
+            f"captured 0 packets to {self.path}, then writing failed: Bad file descriptor",
+        )
+
+    def test_a_disk_that_waits(self) -> None:
+        """Nobody waits for it: what comes too fast is counted and left out."""
+        reader, writer = os.pipe()
+        with mock.patch("stat.S_ISREG", return_value=True):
+            capture = Capture(writer, "it")
+        for _ in range(MOST_WAITING + 500):
+            capture.take(bytes(1000))
+        with mock.patch.object(captures, "SECONDS_TO_WRITE", 0.05):
+            said = capture.end()
+        self.assertRegex(said, r"^captured \d+ packets to it; \d+ came too fast and were left out")
+        os.close(reader)
+
+    def test_its_length_is_bounded(self) -> None:
+        with mock.patch.object(captures, "LARGEST_FILE", 1000):
+            capture = self.capture()
+            for number in range(20):
+                capture.take(bytes([number]) * 84)
             self.assertEqual(
                 capture.end(),
-                f"captured 0 packets to {path}, then writing failed: Bad file descriptor",
+                f"captured 9 packets to {self.path}, then the file had its largest length, 1000 bytes",
             )
+        self.assertEqual(len(self.packets()), 9)
+        self.assertLessEqual(self.path.stat().st_size, 1000)
 
 
 class Logs(unittest.TestCase):
