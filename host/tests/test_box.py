@@ -104,6 +104,7 @@ class Boxes(unittest.TestCase):
             stderr=subprocess.PIPE,
             text=True,
             env={**os.environ, "PYTHONDONTWRITEBYTECODE": "1"},
+            start_new_session=True,
         )
         self.boxes.append(box)
         return box
@@ -456,6 +457,16 @@ class Ends(Boxes):
             self.assertEqual(status, 0)
             self.assertIn(f"{name}: the box ends", log)
             self.assertFalse(is_running(pid))
+
+    def test_sighup(self) -> None:
+        """To a daemon it means that the configuration is to be read again: a box can't, says so,
+        and goes on. One in a terminal ends with it."""
+        box = self.up()
+        box.send_signal(signal.SIGHUP)
+        said = "SIGHUP: a box that runs doesn't read its configuration again"
+        self.assertTrue(within(30, lambda: said in " ".join(self.client().ask("log"))))
+        self.assertEqual(self.leafrunt("down")[0], 0)
+        self.assertEqual(self.ended(box)[0], 0)
 
     def test_several(self) -> None:
         self.up(name="one")

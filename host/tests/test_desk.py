@@ -1,5 +1,6 @@
 """What a box says of itself where it has neighbors, and its parts that no whole box shows in a test."""
 import json
+import logging
 import os
 import struct
 import sys
@@ -140,6 +141,8 @@ class Captures(unittest.TestCase):
         folder = tempfile.TemporaryDirectory()
         self.addCleanup(folder.cleanup)
         self.path = Path(folder.name, "it.pcap")
+        logging.disable(logging.WARNING)
+        self.addCleanup(logging.disable, logging.NOTSET)
 
     def capture(self) -> Capture:
         return Capture(os.open(self.path, os.O_WRONLY | os.O_CREAT, 0o600), str(self.path))
@@ -187,6 +190,7 @@ class Captures(unittest.TestCase):
             said = capture.end()
         self.assertRegex(said, r"^captured \d+ packets to it; \d+ came too fast and were left out")
         os.close(reader)
+        capture._thread.join(5)
 
     def test_its_length_is_bounded(self) -> None:
         with mock.patch.object(captures, "LARGEST_FILE", 1000):
