@@ -1,5 +1,5 @@
 -- Section headers, symbols and relocations as they lie in a file: Elf64_Shdr, Elf64_Sym, Elf64_Rel.
-use Rattle.std.specs.Prelude.{ℕ, ◌+◌, ◌*◌, ◌%◌, ◌==◌, Bool, true, false, List, [], slice_index}
+use Rattle.std.specs.Prelude.{ℕ, ◌/◌, ◌+◌, ◌*◌, ◌%◌, ◌==◌, Bool, true, false, List, [], slice_index}
 use Rattle.std.specs.Prelude.{if◌then◌else◌, slice_range}
 use Rattle.elf.specs.declared.section.Section.{Section}
 use Rattle.elf.specs.declared.section.SectionKind.{SectionKind}
@@ -33,6 +33,10 @@ section_header bytes at = record {
   info = word bytes (at + 44);
   entry_size = xword bytes (at + 56);
 }
+
+-- SHF_EXECINSTR, bit 2 of sh_flags: the section has instructions
+abbrev pub is_code : Section → Bool
+is_code s = s.flags / 4 % 2 == 1
 
 -- the sections that have bytes in the file: all but SHT_NULL and SHT_NOBITS
 abbrev pub has_bytes : SectionKind → Bool

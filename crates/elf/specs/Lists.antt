@@ -1,6 +1,6 @@
 -- What a relocatable BPF object says of its sections: symbols, functions and relocations, in the
 -- order of the file.
-use Rattle.std.specs.Prelude.{ℕ, zero, suc, ◌/◌, ◌<◌, ◌==◌, ◌&&◌, Bool, true, false, List, [], ◌∷◌, ◌++◌, length, if◌then◌else◌}
+use Rattle.std.specs.Prelude.{◌+◌, ◌≤◌, slice_range, ℕ, zero, suc, ◌/◌, ◌<◌, ◌==◌, ◌&&◌, Bool, true, false, List, [], ◌∷◌, ◌++◌, length, if◌then◌else◌}
 use Rattle.elf.specs.declared.section.Section.{Section}
 use Rattle.elf.specs.declared.section.SectionKind.{SectionKind}
 use Rattle.elf.specs.declared.section.SectionKind.TheVariants as kinds
@@ -34,6 +34,15 @@ symbol_of bytes i k = symbol_at (contents_of bytes i) k
 abbrev pub symbol_name : List ℕ → ℕ → ℕ → List ℕ
 symbol_name bytes i k = string_at (contents_of bytes (section_at bytes i).link)
     (symbol_of bytes i k).name
+
+-- The symbol is in a section, with all the bytes that it has.
+abbrev pub HasBytes : List ℕ → Symbol → Type 0
+HasBytes bytes symbol = (symbol.section < section_count bytes)
+    × (symbol.value + symbol.size ≤ length (contents_of bytes symbol.section))
+
+abbrev pub symbol_bytes : List ℕ → Symbol → List ℕ
+symbol_bytes bytes symbol =
+    slice_range (contents_of bytes symbol.section) symbol.value (symbol.value + symbol.size)
 
 -- ---- the functions of a section: the symbols STT_FUNC that are in it
 

@@ -6,7 +6,7 @@ ghost use Rattle.elf.specs.Files.{IsObjectFile, section_count, section_at, secti
 ghost use Rattle.elf.specs.Files.{contents_of};
 ghost use Rattle.elf.specs.Faults.{Breaks};
 ghost use Rattle.elf.specs.Lists.{HasSymbol, symbol_count, symbol_of, symbol_name};
-ghost use Rattle.elf.specs.Lists.{functions_of, relocations_of};
+ghost use Rattle.elf.specs.Lists.{functions_of, relocations_of, HasBytes, symbol_bytes};
 
 use crate::checks::check;
 use crate::fault::Fault;
@@ -109,6 +109,24 @@ impl<'a> ObjectFile<'a> {
         let symbol = symbol_at(tables::contents_of(self.bytes, table), index);
         let link = tables::section_at(self.bytes, table).link as usize;
         Some(string_at(tables::contents_of(self.bytes, link), symbol.name as usize))
+    }
+
+    /// The bytes that the symbol names, if they are in a section.
+    pub fn symbol_bytes(&self, symbol: Symbol) -> Option<&'a [u8]>
+        ensures { MatchOption result (HasBytes self.now symbol → ⊥)
+            (λ bytes. HasBytes self.now symbol × (bytes.now ≡ symbol_bytes self.now symbol)) }
+    {
+        let section = symbol.section as usize;
+        if section >= tables::section_count(self.bytes) {
+            return None;
+        }
+        let contents = tables::contents_of(self.bytes, section);
+        let size = contents.len() as u64;
+        if symbol.value > size || symbol.size > size - symbol.value {
+            return None;
+        }
+        let start = symbol.value as usize;
+        Some(&contents[start..start + symbol.size as usize])
     }
 
     /// The functions that are in the section, in the order of the file.

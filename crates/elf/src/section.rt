@@ -63,6 +63,17 @@ pub struct Section {
     pub entry_size: u64,
 }
 
+impl Section {
+    ghost use Rattle.elf.specs.Entries.{is_code};
+
+    /// Tells whether the section has instructions (SHF_EXECINSTR).
+    pub fn is_code(&self) -> bool
+        ensures { result ≡ is_code self.now }
+    {
+        self.flags / 4 % 2 == 1
+    }
+}
+
 /// The header at a place of the file.
 #[tactic(auto, unfolding(crate::specs::Entries::section_header))]
 pub(crate) fn section_header(bytes: &[u8], at: usize) -> Section
