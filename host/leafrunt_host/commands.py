@@ -17,6 +17,7 @@ from leafrunt_host.kernel import kernel_interfaces
 from leafrunt_host.rooms import RUN, STATE, Room
 from leafrunt_host.status import warnings_of
 from leafrunt_host.statuses import Status, Stopped
+from leafrunt_host.version import Version
 
 ABOUT = """A box that routes: `routerd`, an OSPF router, on this host, among BIRD, FRR and others.
 
@@ -94,6 +95,8 @@ def parser() -> argparse.ArgumentParser:
     """The words of the command line."""
     shown = argparse.RawDescriptionHelpFormatter
     top = argparse.ArgumentParser("leafrunt", description=ABOUT, formatter_class=shown)
+    about = "print the version, with its commit, its kit and the gate's last line"
+    top.add_argument("--version", action=Version, nargs=0, help=about)
     words = top.add_subparsers(dest="command", required=True, metavar="COMMAND")
     for name, title in TITLES.items():
         one = words.add_parser(
