@@ -1,0 +1,9 @@
+mod Ranks
+mod Lists
+mod Ages
+mod Settling
+mod Describing
+mod Parts
+mod Sent
+mod Walk
+mod Runs

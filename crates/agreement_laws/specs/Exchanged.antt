@@ -1,0 +1,102 @@
+-- What a router and its neighbor tell each other of LSAs in one conversation (RFC 2328, sections
+-- 10.6, 13 and 13.7): the headers that the neighbor's packets tell, and those that the router
+-- describes to it.
+use Rattle.std.specs.Prelude.{◌≡◌, ℕ, ◌≤◌, true, List, [], ◌∷◌, Option, Some, map}
+use Rattle.std.specs.List.{Contains, filter_map}
+use Rattle.words.specs.Numbers.{InterfaceNumber, Moment, RouterNumber}
+use Rattle.lsa.specs.Reading.{lsa_in}
+use Rattle.lsdb.specs.Headers.{Header, Lsa}
+use Rattle.lsdb.specs.Instances.{ListEntry}
+use Rattle.packet.specs.declared.model.Body.{Body}
+use Rattle.packet.specs.declared.model.Body.TheVariants as body
+use Rattle.packet.specs.declared.model.Description.{Description}
+use Rattle.packet.specs.declared.model.Packet.{Packet}
+use Rattle.packet.specs.Text.{PacketText}
+use Rattle.adjacency.specs.Neighbors.{Neighbor, is_exchange_or_later}
+use Rattle.received.specs.Links.{neighbor_at}
+use Rattle.events.specs.declared.model.Out.{Out}
+use Rattle.events.specs.Events.{Happens, Step}
+use Rattle.events.specs.Packing.{out_of}
+use Rattle.events.specs.Routers.{Occurrence, Router}
+
+-- ---- a conversation
+
+-- The neighbor's Router ID, and the DD sequence number with which the router began the attempt.
+-- Each further attempt has another number, until the neighbor is Down.
+pub record Conversation : Type 0 where
+  pub router : RouterNumber
+  pub attempt : Option ℕ
+
+abbrev pub conversation_with : Neighbor → Conversation
+conversation_with n = record { router = n.router; attempt = n.dd_sequence_start }
+
+-- the router is in this conversation with the neighbor at the interface, in Exchange or later
+pub record Converses (number : InterfaceNumber) (with_it : Conversation) (r : Router)
+    : Type 0 where
+  pub neighbor : Neighbor
+  pub there : neighbor_at number r.area.links ≡ Some neighbor
+  pub exchanging : is_exchange_or_later neighbor.state ≡ true
+  pub is : conversation_with neighbor ≡ with_it
+
+-- ---- what is told in an event
+
+-- the headers that a packet tells: those of a Description, of an Update's readable LSAs, and of an
+-- Acknowledgment
+abbrev pub headers_told : Body → List Header
+headers_told (body.Hello h) = []
+headers_told (body.Description d) = d.headers
+headers_told (body.Request keys) = []
+headers_told (body.Update lsas) = map (λ (l : Lsa). l.header) (filter_map lsa_in lsas)
+headers_told (body.Acknowledgment headers) = headers
+
+-- the event's packet came in at this interface from this router, and tells the header
+pub record Tells (event : Occurrence) (number : InterfaceNumber) (router : RouterNumber)
+    (header : Header) : Type 0 where
+  pub bytes : List ℕ
+  pub packet : Packet
+  pub is : event ≡ Occurrence.Packet number bytes
+  pub text : PacketText bytes packet
+  pub from : packet.router ≡ router
+  pub told : Contains (headers_told packet.body) header
+
+-- a Description with the header goes out at the interface
+pub record Describes (own : RouterNumber) (outs : List Out) (number : InterfaceNumber)
+    (header : Header) : Type 0 where
+  pub description : Description
+  pub sent : Contains outs (out_of own number (body.Description description))
+  pub among : Contains description.headers header
+
+-- the event tells the header to the router, or describes it to the neighbor
+pub data IsExchanged (own : RouterNumber) (step : Step) (number : InterfaceNumber)
+    (router : RouterNumber) (header : Header) : Type 0 where
+  Told : Tells step.event number router header → IsExchanged own step number router header
+  Described : Describes own step.outs number header → IsExchanged own step number router header
+
+-- ---- in a run
+
+-- a run from old to new in which the conversation goes on: it is the neighbor's at each point
+abbrev pub GoesOn : InterfaceNumber → Conversation → Router → List Step → Router → Type 0
+GoesOn number with_it old [] new = (new ≡ old) × Converses number with_it old
+GoesOn number with_it old (s ∷ steps) new =
+    Converses number with_it old
+    × (middle : Router) × Happens old s.moment s.event s.outs middle
+    × GoesOn number with_it middle steps new
+
+-- the header was exchanged in an event of the run, at the moment of the entry, and since then the
+-- conversation has gone on
+pub data WasExchanged (number : InterfaceNumber) (with_it : Conversation) (entry : ListEntry)
+    : Router → List Step → Router → Type 0 where
+  Now : (old middle new : Router) (step : Step) (rest : List Step)
+      → Happens old step.moment step.event step.outs middle
+      → IsExchanged old.id step number with_it.router entry.header
+      → entry.at ≡ step.moment → GoesOn number with_it middle rest new
+      → WasExchanged number with_it entry old (step ∷ rest) new
+  Later : (old middle new : Router) (step : Step) (rest : List Step)
+      → Happens old step.moment step.event step.outs middle
+      → WasExchanged number with_it entry middle rest new
+      → WasExchanged number with_it entry old (step ∷ rest) new
+
+-- no event is earlier than the one before it
+abbrev pub ClockRunsOn : Moment → List Step → Type 0
+ClockRunsOn moment [] = Unit {0}
+ClockRunsOn moment (s ∷ steps) = (moment ≤ s.moment) × ClockRunsOn s.moment steps

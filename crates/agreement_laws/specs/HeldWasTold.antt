@@ -1,0 +1,45 @@
+-- What a router holds was told to its neighbors (RFC 2328, sections 10.3, 10.6 and 13.3): each of
+-- its copies is on a neighbor's retransmission list, or is still to be described to it; or, in
+-- their present conversation, it was described to the neighbor, or the neighbor told an instance
+-- that is as new. Whatever comes in: nothing is supposed of what is lost, repeated or late.
+use Rattle.std.specs.Prelude.{◌≡◌, true, false, List, Some}
+use Rattle.std.specs.FinMap as finite
+use Rattle.words.specs.Numbers.{InterfaceNumber}
+use Rattle.words.specs.declared.key.Key.{Key}
+use Rattle.lsdb.specs.Copies.{DatabaseCopy, copy_now}
+use Rattle.lsdb.specs.Headers.{key_of}
+use Rattle.lsdb.specs.Instances.{ListEntry, listed_now}
+use Rattle.lsdb.specs.declared.order.Instance.{Instance}
+use Rattle.adjacency.specs.Neighbors.{Neighbor, is_exchange_or_later}
+use Rattle.received.specs.Links.{neighbor_at}
+use Rattle.events.specs.declared.model.Config.{Config}
+use Rattle.events.specs.Events.{Run, Step, initial}
+use Rattle.events.specs.Routers.{Router}
+use Rattle.agreement_laws.specs.Exchanged.{ClockRunsOn, Conversation, WasExchanged}
+use Rattle.agreement_laws.specs.Exchanged.{conversation_with}
+use Rattle.agreement_laws.specs.Ranks.{is_at_least}
+
+-- a header of the key that was exchanged in the conversation is, with its age by now, as new as the
+-- instance
+pub record IsKnownToBoth (number : InterfaceNumber) (with_it : Conversation) (key : Key)
+    (instance : Instance) (old : Router) (steps : List Step) (new : Router) : Type 0 where
+  pub entry : ListEntry
+  pub of_key : key_of entry.header ≡ key
+  pub as_new : is_at_least (listed_now new.moment entry) instance ≡ true
+  pub exchanged : WasExchanged number with_it entry old steps new
+
+-- nothing of the key is left to be sent to the neighbor: it is on neither list
+pub record IsNotOwed (n : Neighbor) (key : Key) : Type 0 where
+  pub acknowledged : finite.contains_key n.retransmissions key ≡ false
+  pub described : finite.contains_key n.summary key ≡ false
+
+-- after every run: what is held and isn't owed to a neighbor in Exchange or later is known to both
+abbrev pub WhatIsHeldWasTold : Type 0
+WhatIsHeldWasTold =
+    (c : Config) (steps : List Step) (r : Router) → Run (initial c) steps r
+    → ClockRunsOn c.start steps
+    → (number : InterfaceNumber) (n : Neighbor) → neighbor_at number r.area.links ≡ Some n
+    → is_exchange_or_later n.state ≡ true
+    → (key : Key) (copy : DatabaseCopy) → finite.get r.area.database key ≡ Some copy
+    → IsNotOwed n key
+    → IsKnownToBoth number (conversation_with n) key (copy_now r.moment copy) (initial c) steps r
