@@ -183,11 +183,24 @@ pub trait KeyTest<X> {
 
 /// A test of what stood at a key and of what stands there now.
 pub trait ChangeTest<X> {
-    ghost use Rattle.std.specs.Prelude.{Option, IfOk, IsTrue, ◌↔◌};
+    ghost use Rattle.std.specs.Prelude.{Option, IfOk, IsTrue, ◌↔◌, ◌≡◌, false, true};
     ghost use Rattle.words.specs.declared.key.Key.{Key};
 
     ghost same: { Self → Key → Option X → Option X → Type 0 };
 
+    ghost counted: { Self → Key → Type 0 };
+
+    /// Tells whether the key counts. At one that doesn't both are the same whatever they are, and
+    /// are not looked up.
+    ///
+    /// # Errors
+    /// Where memory to find out is refused.
+    fn counts(&self, alloc: Global, key: &Key) -> Result<bool, AllocError>
+        ensures { IfOk result (λ counts. (counts ≡ true → counted self.now key.now)
+            × (counts ≡ false → (before now : Option X) → same self.now key.now before now)) };
+
+    /// Compares both at a key that counts.
+    ///
     /// # Errors
     /// Where memory to compare both is refused.
     fn is_same(
@@ -197,6 +210,7 @@ pub trait ChangeTest<X> {
         before: Option<&X>,
         now: Option<&X>,
     ) -> Result<bool, AllocError>
+        requires { counted self.now key.now }
         ensures { IfOk result (λ is. IsTrue is
             ↔ same self.now key.now (option_copied before.entry) (option_copied now.entry)) };
 }
@@ -210,7 +224,9 @@ fn is_kept<X, T: ChangeTest<X>>(
     place: usize,
     now: Option<&X>,
 ) -> Result<bool, AllocError>
-    requires { place < length edits.now }
+    requires there { place < length edits.now }
+    requires counted { (edit : EditValue X) → slice_get edits.now place ≡ Some edit
+        → T.counted test.now edit.key }
     ensures { (edit : EditValue X) → slice_get edits.now place ≡ Some edit
         → IfOk result (λ kept. IsTrue kept
         ↔ (IsFirst edits.now place edit.key
@@ -420,6 +436,29 @@ impl<X: Drop> KeyedMap<X> {
         Ok(keys)
     }
 
+    // Whether the key of the edit at this place doesn't count, or holds the same now as before the
+    // edit, or the edit isn't the first of its key.
+    fn keeps_at<T: ChangeTest<X>>(
+        &self,
+        alloc: Global,
+        test: &T,
+        edits: &[Edit<X>],
+        place: usize,
+    ) -> Result<bool, AllocError>
+        requires { place < length edits.now }
+        ensures { (edit : EditValue X) → slice_get edits.now place ≡ Some edit
+            → IfOk result (λ kept. IsTrue kept
+            ↔ (IsFirst edits.now place edit.key → T.same test.now edit.key
+            (held_before edit.before) (map.get self.now.present edit.key))) }
+    {
+        let edit = &edits[place];
+        if !test.counts(alloc, &edit.key)? {
+            return Ok(true);
+        }
+        let now = self.get(&edit.key);
+        is_kept(alloc, test, edits, place, now)
+    }
+
     /// Tells whether each key holds the same, by the test, as when the map was last settled. It
     /// looks at the keys that were edited since. The first edit of a key tells what it held then.
     ///
@@ -432,8 +471,7 @@ impl<X: Drop> KeyedMap<X> {
     {
         let edits = self.edits.as_slice();
         for place in 0..edits.len() {
-            let now = self.get(&edits[place].key);
-            if !is_kept(alloc, test, edits, place, now)? {
+            if !self.keeps_at(alloc, test, edits, place)? {
                 return Ok(false);
             }
         }
@@ -461,8 +499,7 @@ impl<X: Drop> KeyedMap<X> {
         let edits = self.edits.as_slice();
         for place in 0..edits.len() {
             let edit = &edits[place];
-            let now = self.get(&edit.key);
-            if !is_kept(alloc, test, edits, place, now)? {
+            if !self.keeps_at(alloc, test, edits, place)? {
                 keys.push(same(&edit.key))?;
             }
         }

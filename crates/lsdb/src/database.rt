@@ -141,16 +141,19 @@ impl ChangeTest<StoredLsa> for SameBodies {
 
     ghost same = { λ a key before now. IsUpTo a.last_type key → IsSameBody before now };
 
+    ghost counted = { λ a key. IsUpTo a.last_type key };
+
+    fn counts(&self, _alloc: Global, key: &Key) -> Result<bool, AllocError> {
+        Ok(is_up_to(self.last_type, key))
+    }
+
     fn is_same(
         &self,
         alloc: Global,
-        key: &Key,
+        _key: &Key,
         before: Option<&StoredLsa>,
         now: Option<&StoredLsa>,
     ) -> Result<bool, AllocError> {
-        if !is_up_to(self.last_type, key) {
-            return Ok(true);
-        }
         is_same_body(alloc, before, now)
     }
 }
@@ -171,6 +174,12 @@ impl<'a> ChangeTest<Times> for AlikeAges<'a> {
     ghost same = { λ a key before now. IsUpTo a.last_type key
         → finite.contains_key a.lsas.now.present key ≡ true → CountsAlike a.moment before now };
 
+    ghost counted = { λ a key. IsUpTo a.last_type key };
+
+    fn counts(&self, _alloc: Global, key: &Key) -> Result<bool, AllocError> {
+        Ok(is_up_to(self.last_type, key))
+    }
+
     fn is_same(
         &self,
         _alloc: Global,
@@ -178,8 +187,7 @@ impl<'a> ChangeTest<Times> for AlikeAges<'a> {
         before: Option<&Times>,
         now: Option<&Times>,
     ) -> Result<bool, AllocError> {
-        let counts = is_up_to(self.last_type, key) && self.lsas.contains(key);
-        Ok(!counts || counts_alike(self.moment, before, now))
+        Ok(!self.lsas.contains(key) || counts_alike(self.moment, before, now))
     }
 }
 

@@ -31,6 +31,12 @@ impl ChangeTest<u32> for Equal {
 
     ghost same = { λ _ _ before now. before ≡ now };
 
+    ghost counted = { λ _ _. Unit {0} };
+
+    fn counts(&self, _alloc: Global, _key: &Key) -> Result<bool, AllocError> {
+        Ok(true)
+    }
+
     fn is_same(
         &self,
         _alloc: Global,

@@ -1,5 +1,5 @@
 //! What the database kept since it was last settled, apart from keys that don't count.
-ghost use Rattle.std.specs.Prelude.{◌≡◌, ◌↔◌, IfOk, IsTrue, take};
+ghost use Rattle.std.specs.Prelude.{◌≡◌, ◌↔◌, IfOk, IsTrue, false, take, true};
 ghost use Rattle.std.specs.FinMap as finite;
 ghost use Rattle.keyed_map.specs.Slots.{keys_from};
 ghost use Rattle.lsdb.specs.Changes.{SaysTheSame};
@@ -25,6 +25,14 @@ pub trait KeyRule {
         ensures { IfOk result (λ is. IsTrue is ↔ leaves_out self.now key.now) };
 }
 
+// Whether the key counts.
+pub(super) fn counts_by<T: KeyRule>(rule: &T, alloc: Global, key: &Key) -> Result<bool, AllocError>
+    ensures { IfOk result (λ counts. (counts ≡ true → T.leaves_out rule.now key.now → ⊥)
+        × (counts ≡ false → T.leaves_out rule.now key.now)) }
+{
+    Ok(!rule.leaves_out(alloc, key)?)
+}
+
 // Whether the LSAs of the keys that count have the bodies that they had.
 #[derive(Drop)]
 struct OtherBodies<'a, T> {
@@ -36,16 +44,19 @@ impl<'a, T: KeyRule> ChangeTest<StoredLsa> for OtherBodies<'a, T> {
 
     ghost same = { λ a key before now. (T.leaves_out a.rule.now key → ⊥) → IsSameBody before now };
 
+    ghost counted = { λ a key. T.leaves_out a.rule.now key → ⊥ };
+
+    fn counts(&self, alloc: Global, key: &Key) -> Result<bool, AllocError> {
+        counts_by(self.rule, alloc, key)
+    }
+
     fn is_same(
         &self,
         alloc: Global,
-        key: &Key,
+        _key: &Key,
         before: Option<&StoredLsa>,
         now: Option<&StoredLsa>,
     ) -> Result<bool, AllocError> {
-        if self.rule.leaves_out(alloc, key)? {
-            return Ok(true);
-        }
         is_same_body(alloc, before, now)
     }
 }
@@ -65,14 +76,20 @@ impl<'a, T: KeyRule> ChangeTest<Times> for OtherAges<'a, T> {
     ghost same = { λ a key before now. (T.leaves_out a.rule.now key → ⊥)
         → finite.contains_key a.lsas.now.present key ≡ true → CountsAlike a.moment before now };
 
+    ghost counted = { λ a key. T.leaves_out a.rule.now key → ⊥ };
+
+    fn counts(&self, alloc: Global, key: &Key) -> Result<bool, AllocError> {
+        counts_by(self.rule, alloc, key)
+    }
+
     fn is_same(
         &self,
-        alloc: Global,
+        _alloc: Global,
         key: &Key,
         before: Option<&Times>,
         now: Option<&Times>,
     ) -> Result<bool, AllocError> {
-        if !self.lsas.contains(key) || self.rule.leaves_out(alloc, key)? {
+        if !self.lsas.contains(key) {
             return Ok(true);
         }
         Ok(counts_alike(self.moment, before, now))

@@ -4,7 +4,7 @@ ghost use Rattle.std.specs.FinMap as finite;
 ghost use Rattle.words.specs.declared.key.Key.{Key as KeyValue};
 ghost use Rattle.lsdb.specs.Silence.{AreSilent, SaysNoMore, is_silent};
 
-use super::others::KeyRule;
+use super::others::{KeyRule, counts_by};
 use super::{Lsdb, counts_alike, is_same_body, tells_max_age};
 use crate::stored::StoredLsa;
 use crate::times::Times;
@@ -31,6 +31,12 @@ impl<'a, T: KeyRule> ChangeTest<StoredLsa> for SameOrSilent<'a, T> {
         → IsSameBody before now ⊎ AreSilent a.before a.moment
         (finite.get a.times.now.present key) (finite.get a.times.now.present key) };
 
+    ghost counted = { λ a key. T.leaves_out a.rule.now key → ⊥ };
+
+    fn counts(&self, alloc: Global, key: &Key) -> Result<bool, AllocError> {
+        counts_by(self.rule, alloc, key)
+    }
+
     fn is_same(
         &self,
         alloc: Global,
@@ -38,9 +44,6 @@ impl<'a, T: KeyRule> ChangeTest<StoredLsa> for SameOrSilent<'a, T> {
         before: Option<&StoredLsa>,
         now: Option<&StoredLsa>,
     ) -> Result<bool, AllocError> {
-        if self.rule.leaves_out(alloc, key)? {
-            return Ok(true);
-        }
         let times = self.times.get(key);
         if are_silent(self.before, self.moment, times, times) {
             return Ok(true);
@@ -65,16 +68,19 @@ impl<'a, T: KeyRule> ChangeTest<Times> for AlikeOrSilent<'a, T> {
     ghost same = { λ a key before now. (T.leaves_out a.rule.now key → ⊥)
         → CountsAlike a.moment before now ⊎ AreSilent a.before a.moment before now };
 
+    ghost counted = { λ a key. T.leaves_out a.rule.now key → ⊥ };
+
+    fn counts(&self, alloc: Global, key: &Key) -> Result<bool, AllocError> {
+        counts_by(self.rule, alloc, key)
+    }
+
     fn is_same(
         &self,
-        alloc: Global,
-        key: &Key,
+        _alloc: Global,
+        _key: &Key,
         before: Option<&Times>,
         now: Option<&Times>,
     ) -> Result<bool, AllocError> {
-        if self.rule.leaves_out(alloc, key)? {
-            return Ok(true);
-        }
         if are_silent(self.before, self.moment, before, now) {
             return Ok(true);
         }

@@ -3,7 +3,7 @@ use Rattle.std.specs.Prelude.{Some, slice_get}
 use Rattle.std.specs.FinMap as map
 use Rattle.std.proofs.lemmas.List.Elements.{Contains-push}
 use Rattle.std.proofs.lemmas.Option.{slice_get_read}
-use Rattle.keyed_map.specs.Changes.{IsFirst, held_before}
+use Rattle.keyed_map.specs.Changes.{IsFirst}
 use Rattle.keyed_map.specs.Held.{Held}
 use Rattle.keyed_map.specs.Slots.{slots_of}
 use Rattle.keyed_map.proofs.Changes.{Keeps, Outside, kept, kept_there, one_differs, one_more, still_outside}
@@ -20,7 +20,7 @@ loop-place-preserved g c =
     let edit = c.index-edits-place.result in
     let at = slice_get_read es (length es) n edit refl (omega (arith, c.loop-place-test.true)) c.index-edits-place.is in
     let keys = c.loop-place.keys.items in
-    let kept_here = c.in_ok-is_kept.ensures edit at in
+    let kept_here = c.in_ok-keeps_at.ensures edit at in
     elim c.if-not-branch.branch [
       | then-not-branch+in_ok-push w ↦
           let pushed = w.in_ok-push.ensures.items ∙ ap (λ k. keys ++ k ∷ []) w.same.ensures in
@@ -32,7 +32,7 @@ loop-place-preserved g c =
           let inside = subst (λ (h : Held _). S edit.key (map.get h.settled edit.key) (map.get h.present edit.key)) (sym c.self.view_is) same in
           let t = kept_here.1 (λ first.
           let one = kept_there S items slots n edit in_items (subst (λ xs. IsFirst xs n edit.key) value first) inside in
-          subst (S edit.key (held_before edit.before)) (sym c.get-now.ensures) (subst (λ (h : Held _). Keeps S h.present edit) c.self.view_is one)) in
+          subst (λ (h : Held _). Keeps S h.present edit) c.self.view_is one) in
           let no : false ≡ true = sym w.if-not-branch.true ∙ t in
           absurd cc in
           let still = still_outside S present es n keys (edit.key ∷ []) c.loop-place.invariant.others in
@@ -41,7 +41,7 @@ loop-place-preserved g c =
           rw (w.keys-is, pushed) (record { changed = changed; others = others })
       | else-not-branch w ↦
           let others = one_more (Outside keys S) present es n edit at
-          (λ first none. subst (S edit.key (held_before edit.before)) c.get-now.ensures (kept_here.0 w.if-not-branch.false first)) c.loop-place.invariant.others in
+          (λ first none. kept_here.0 w.if-not-branch.false first) c.loop-place.invariant.others in
           rw w.keys-is (record { changed = c.loop-place.invariant.changed; others = others })
     ]
 

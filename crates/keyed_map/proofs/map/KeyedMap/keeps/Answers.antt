@@ -1,12 +1,11 @@
-use Rattle.std.proofs.Common.{◌≡◌, true, false, get_or, length, refl, sym, ◌∙◌, ap, subst, arith}
+use Rattle.std.proofs.Common.{◌≡◌, true, false, length, sym, ap, subst, ◌∙◌, refl, arith}
 use Rattle.std.specs.Prelude.{Some, slice_get}
-use Rattle.std.proofs.lemmas.Option.{slice_get-get_or}
 use Rattle.std.specs.FinMap as map
 use Rattle.words.specs.declared.key.Key.{Key}
-use Rattle.keyed_map.specs.Changes.{IsFirst, held_before}
+use Rattle.keyed_map.specs.Changes.{IsFirst}
 use Rattle.keyed_map.specs.Slots.{slots_of}
 use Rattle.keyed_map.specs.Held.{Held}
-use Rattle.keyed_map.proofs.Changes.{Keeps, first_kept, kept, one_more}
+use Rattle.keyed_map.proofs.Changes.{Keeps, first_kept, found_at, kept, one_more}
 use Rattle.keyed_map.proofs.map.KeyedMap.keeps.Goals as goal
 
 pub loop-place-preserved : goal.loop-place-preserved
@@ -14,18 +13,19 @@ loop-place-preserved g c =
     let S = g.T.ChangeTest.same c.args.test.now in
     let es = c.as_slice-edits.result.now in
     let n = c.loop-place.place in
-    let edit = get_or es n c.index-edits-place.result in
-    let at = slice_get-get_or es n c.index-edits-place.result (omega arith) in
-    let same = (c.in_ok-is_kept.ensures edit at).0 c.if-not-branch.false in
-    one_more S c.args.self.now.present es n edit at (λ first. subst (S edit.key (held_before edit.before)) c.get-now.ensures (same first)) c.loop-place.invariant
+    let found = found_at es n (omega arith) in
+    let edit = found.0 in
+    let at = found.1 in
+    one_more S c.args.self.now.present es n edit at ((c.in_ok-keeps_at.ensures edit at).0 c.if-not-branch.false) c.loop-place.invariant
 
 pub returns-then-not-branch : goal.returns-then-not-branch
 returns-then-not-branch g c =
     let S = g.T.ChangeTest.same c.args.test.now in
     let es = c.as_slice-edits.result.now in
     let n = c.loop-place.place in
-    let edit = get_or es n c.index-edits-place.result in
-    let at = slice_get-get_or es n c.index-edits-place.result (omega arith) in
+    let found = found_at es n (omega arith) in
+    let edit = found.0 in
+    let at = found.1 in
     let items = c.self.inside.edits.items in
     let slots = slots_of c.self.inside.slots.entries in
     let in_items = subst (λ xs. slice_get xs n ≡ Some edit) c.as_slice-edits.ensures.value at in (
@@ -34,9 +34,8 @@ returns-then-not-branch g c =
           let inside = subst (λ (h : Held _). (key : Key) → S key (map.get h.settled key) (map.get h.present key)) (sym c.self.view_is) all in
           let same = λ (first : IsFirst es n edit.key).
           let one = first_kept S items slots n edit in_items (subst (λ xs. IsFirst xs n edit.key) c.as_slice-edits.ensures.value first) inside in
-          let now = subst (λ (h : Held _). Keeps S h.present edit) c.self.view_is one in
-          subst (S edit.key (held_before edit.before)) (sym c.get-now.ensures) now in
-          let t = (c.in_ok-is_kept.ensures edit at).1 same in
+          subst (λ (h : Held _). Keeps S h.present edit) c.self.view_is one in
+          let t = (c.in_ok-keeps_at.ensures edit at).1 same in
           let no : false ≡ true = sym c.if-not-branch.true ∙ t in
           cc)),
     )
