@@ -33,6 +33,10 @@ pub both-none : (l : Option Lsa) → both l None ≡ None
 both-none None = refl
 both-none (Some l) = refl
 
+pub none_is : {X : Type 0} (o : Option X) → is_some o ≡ false → None ≡ o
+none_is None is = refl
+none_is (Some x) is = absurd cc
+
 find-entry : (q k : Key) (l : Lsa) (times : ByKey Times) (o : Option Lsa) (rest : List (Key × DatabaseCopy)) (t : Option Times) (b : Bool)
     → eq_by_cmp key_cmp q k ≡ b → finite.get times k ≡ t → finite.find key_cmp q rest ≡ both o (finite.get times q)
     → finite.find key_cmp q (entry_of k (both (Some l) t) rest) ≡ both (cond b (Some l) o) (finite.get times q)

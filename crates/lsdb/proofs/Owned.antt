@@ -154,6 +154,12 @@ pub contains_joined : (lsas : ByKey Lsa) (times : ByKey Times) → HaveTimes lsa
 contains_joined lsas times has k =
     finite.contains_key-keys lsas k ∙ sym (finite.contains_key-keys (copies_of lsas times) k ∙ ap (list_any (eq_by_cmp key_cmp k)) (keys_joined lsas times has))
 
+-- whether a key is there counts of own externals alone
+pub counts_if_own : (own there holds : Bool) (n : ℕ)
+    → cond own (count_after_change there holds n) n ≡ cond own (count_after_change (cond own there false) holds n) n
+counts_if_own true there holds n = refl
+counts_if_own false there holds n = refl
+
 -- ---- one of two, as it is computed
 
 pub either_true : (a b : Bool) → a ≡ true → a ≡ (a || b)

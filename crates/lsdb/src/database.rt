@@ -33,7 +33,7 @@ mod silence;
 use crate::ages::{Ages, foresee, foresee_again};
 use crate::database_copy::DatabaseCopy;
 use crate::keyed_bodies::{KeyedBody, bodies_of};
-use crate::limits::{MOST_LSAS, MOST_OWN_EXTERNALS, is_own_external, recount};
+use crate::limits::{MOST_LSAS, MOST_OWN_EXTERNALS, holds_own, is_own_external, recount};
 use crate::order::age_at;
 use crate::stored::StoredLsa;
 use crate::times::Times;
@@ -362,6 +362,10 @@ impl Lsdb {
     pub fn get(&self, key: &Key) -> Option<DatabaseCopy<'_>>
         ensures { result ≡ finite.get self.now.present key.now }
     {
+        // A database that comes in the order of its keys grows at its end.
+        if self.lsas.is_beyond(key) {
+            return None;
+        }
         match self.lsas.get(key) {
             None => None,
             Some(stored) => match self.times.get(key) {
@@ -525,7 +529,7 @@ impl Lsdb {
         };
         let name = header.key();
         let key = &name;
-        let held = self.lsas.contains(key);
+        let held = holds_own(self.router, &self.lsas, key);
         self.past = one_more_past(&self.ages, key, self.past);
         self.ages.note(moment, key, &times)?;
         self.times.insert(*key, times)?;
@@ -594,7 +598,7 @@ impl Lsdb {
         ensures settled { self.new.settled ≡ self.old.settled }
         ensures router { self.new.router ≡ self.old.router }
     {
-        let held = self.lsas.contains(key);
+        let held = holds_own(self.router, &self.lsas, key);
         self.past = one_more_past(&self.ages, key, self.past);
         self.lsas.remove(key)?;
         self.externals = recount(self.router, &self.lsas, key, held, false, self.externals);

@@ -1,5 +1,6 @@
 //! How many LSAs the database may hold.
-ghost use Rattle.std.specs.Prelude.{◌≡◌, if◌then◌else◌};
+ghost use Rattle.std.specs.Prelude.{◌≡◌, if◌then◌else◌, false};
+ghost use Rattle.std.specs.FinMap as map;
 ghost use Rattle.keyed_map.specs.Slots.{count_after_change};
 ghost use Rattle.lsdb.specs.Joined.{count_own_externals};
 ghost use Rattle.lsdb.specs.Limits.{is_own_external};
@@ -22,8 +23,21 @@ pub fn is_own_external(router: RouterId, key: &Key) -> bool
     key.ls_type == 5 && key.advertising_router == router
 }
 
+/// Tells whether this is the key of an own external that is there. Of other keys nothing is looked
+/// up.
+pub fn holds_own(router: RouterId, lsas: &KeyedMap<StoredLsa>, key: &Key) -> bool
+    ensures { result ≡ (if is_own_external router key.now
+        then map.contains_key lsas.now.present key.now else false) }
+{
+    if is_own_external(router, key) {
+        lsas.contains(key)
+    } else {
+        false
+    }
+}
+
 /// How many own externals there are, once the LSA of a key was set or taken out: `held` tells
-/// whether the key was there, `holds` whether it is there now.
+/// whether the key of an own external was there, `holds` whether the key is there now.
 pub fn recount(
     router: RouterId,
     lsas: &KeyedMap<StoredLsa>,

@@ -75,6 +75,8 @@ enum Sight {
     Room(u32, u32, bool),
     // the routers and numbers of all keys, in order
     Keys(&'static [(u32, u32)]),
+    // the router and number of the first key from that of a router and a number on
+    Next(u32, u32, Option<(u32, u32)>),
     // when this router's external of the number 0 was sent
     Sent(u64),
     // which of the externals of 2.2.2.2 have come of age at a moment
@@ -142,6 +144,19 @@ fn has_keys(database: &Lsdb, alloc: Global, wanted: &[(u32, u32)]) -> Result<boo
     Ok(are_keys(&keys, wanted))
 }
 
+fn is_next(database: &Lsdb, from: &Key, found: Option<(u32, u32)>) -> bool {
+    match database.next_from(from) {
+        Some(next) => {
+            found
+                == Some((
+                    next.advertising_router.number(),
+                    next.link_state_id.number(),
+                ))
+        }
+        None => found.is_none(),
+    }
+}
+
 // Whether the keys are those of 2.2.2.2 and these numbers, in order.
 fn are_numbers(keys: &[Key], numbers: &[u32]) -> bool {
     if keys.len() != numbers.len() {
@@ -204,6 +219,7 @@ fn is_seen(database: &Lsdb, alloc: Global, sight: &Sight) -> Result<bool, AllocE
         Sight::Counts(len, own, exceeds) => Ok(has_counts(database, len, own, exceeds)),
         Sight::Room(router, number, has) => Ok(database.has_room(&key(router, number)) == has),
         Sight::Keys(wanted) => has_keys(database, alloc, wanted),
+        Sight::Next(router, number, found) => Ok(is_next(database, &key(router, number), found)),
         Sight::Sent(moment) => Ok(was_sent(database, moment)),
         Sight::Aged(moment, numbers) => are_aged(database, alloc, moment, numbers),
     }
@@ -334,7 +350,12 @@ const MIXED: &[Row] = &[(
         Deed::Originate(OWN, 3, 4),
         Deed::Remove(OTHER, 7),
     ],
-    &[Sight::Keys(&[(OWN, 3), (OTHER, 3), (OTHER, 9)])],
+    &[
+        Sight::Keys(&[(OWN, 3), (OTHER, 3), (OTHER, 9)]),
+        Sight::Next(OTHER, 3, Some((OTHER, 3))),
+        Sight::Next(OWN, 4, Some((OTHER, 9))),
+        Sight::Next(OWN, 10, None),
+    ],
 )];
 
 #[test]

@@ -1,5 +1,5 @@
 //! What the database kept since it was last settled, apart from keys that don't count.
-ghost use Rattle.std.specs.Prelude.{◌≡◌, ◌↔◌, IfOk, IsTrue, false, take, true};
+ghost use Rattle.std.specs.Prelude.{◌≡◌, ◌↔◌, IfOk, IsTrue, false, slice_get, take, true};
 ghost use Rattle.std.specs.FinMap as finite;
 ghost use Rattle.keyed_map.specs.Slots.{keys_from};
 ghost use Rattle.lsdb.specs.Changes.{SaysTheSame};
@@ -153,5 +153,12 @@ impl Lsdb {
             ≡ take count (keys_from key.now (finite.keys self.now.present))) }
     {
         self.lsas.first_from(alloc, key, count)
+    }
+
+    /// The first key from a key on, if there is one.
+    pub fn next_from(&self, key: &Key) -> Option<Key>
+        ensures { result ≡ slice_get (keys_from key.now (finite.keys self.now.present)) 0 }
+    {
+        self.lsas.next_from(key)
     }
 }

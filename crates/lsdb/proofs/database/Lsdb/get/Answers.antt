@@ -1,8 +1,15 @@
 use Rattle.std.proofs.Common.{Some, ap, sym, ◌∙◌}
 use Rattle.std.specs.FinMap as finite
 use Rattle.lsdb.specs.Joined.{both, copy_of}
-use Rattle.lsdb.proofs.Joins.{both-none, get-joined}
+use Rattle.lsdb.proofs.Joins.{both-none, get-joined, none_is}
 use Rattle.lsdb.proofs.database.Lsdb.get.Goals as goal
+
+pub returns-then-is_beyond : goal.returns-then-is_beyond
+returns-then-is_beyond c =
+    let lsas = c.self.inside.lsas.present in
+    let times = c.self.inside.times.present in
+    ap (λ o. both o (finite.get times c.args.key.now)) (none_is (finite.get lsas c.args.key.now) (c.is_beyond.ensures c.if-is_beyond.true)) ∙ sym (get-joined lsas times c.args.key.now)
+    ∙ ap (λ h. finite.get h.present c.args.key.now) c.self.view_is
 
 pub returns-in-None : goal.returns-in-None
 returns-in-None c =

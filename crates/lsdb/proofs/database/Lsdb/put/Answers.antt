@@ -8,7 +8,7 @@ use Rattle.lsdb.specs.Joined.{HaveTimes, copy_of, copies_of, count_own_externals
 use Rattle.lsdb.specs.Limits.{is_own_external}
 use Rattle.lsdb.specs.declared.times.Times.{Times}
 use Rattle.lsdb.proofs.Joins.{have_both, have_more, joined_insert}
-use Rattle.lsdb.proofs.Owned.{count_put}
+use Rattle.lsdb.proofs.Owned.{count_put, counts_if_own}
 use Rattle.lsdb.proofs.database.Lsdb.put.Goals as goal
 
 pub recount-self-inside-requires : goal.recount-self-inside-requires
@@ -18,7 +18,8 @@ recount-self-inside-requires c =
     let own = is_own_external router key in
     ap (count_own_externals router) c.in_ok-insert-2.ensures.ok
     ∙ count_put (is_own_external router) c.self.inside.lsas.present key c.new.result
-    ∙ sym (λ i. cond own (count_after_change (c.contains-held.ensures i) true (c.self.invariant.counted i)) (c.self.invariant.counted i))
+    ∙ counts_if_own own (finite.contains_key c.self.inside.lsas.present key) true (count_own_externals router c.self.inside.lsas.present)
+    ∙ sym (λ i. cond own (count_after_change (c.holds_own-held.ensures i) true (c.self.invariant.counted i)) (c.self.invariant.counted i))
 
 -- without memory for the LSA its times alone are new
 pub invariant_of-self-in_err-insert-2 : goal.invariant_of-self-in_err-insert-2

@@ -7,7 +7,7 @@ use Rattle.lsdb.proofs.Foresight.{foresees_taken}
 use Rattle.lsdb.specs.Joined.{HaveTimes, copies_of, count_own_externals}
 use Rattle.lsdb.specs.Limits.{is_own_external}
 use Rattle.lsdb.proofs.Joins.{have_neither, have_without, joined_remove}
-use Rattle.lsdb.proofs.Owned.{count_remove}
+use Rattle.lsdb.proofs.Owned.{count_remove, counts_if_own}
 use Rattle.lsdb.proofs.database.Lsdb.remove.Goals as goal
 
 pub recount-self-inside-requires : goal.recount-self-inside-requires
@@ -17,7 +17,8 @@ recount-self-inside-requires c =
     let own = is_own_external router key in
     ap (count_own_externals router) c.in_ok-remove.ensures.ok
     ∙ count_remove (is_own_external router) c.self.inside.lsas.present key
-    ∙ sym (λ i. cond own (count_after_change (c.contains-held.ensures i) false (c.self.invariant.counted i)) (c.self.invariant.counted i))
+    ∙ counts_if_own own (finite.contains_key c.self.inside.lsas.present key) false (count_own_externals router c.self.inside.lsas.present)
+    ∙ sym (λ i. cond own (count_after_change (c.holds_own-held.ensures i) false (c.self.invariant.counted i)) (c.self.invariant.counted i))
 
 pub returns-clause-ok : goal.returns-clause-ok
 returns-clause-ok c =
