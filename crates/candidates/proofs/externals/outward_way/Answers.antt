@@ -1,8 +1,8 @@
 use Rattle.std.proofs.Common.{◌≡◌, true, arith, rules, ap}
 use Rattle.routes.specs.declared.graph.Way.{Way}
-use Rattle.offers.proofs.Boundaries.{below_longest}
-use Rattle.offers.proofs.Forwarded.{by_forwarding, by_originator, no_forwarding, no_originator}
-use Rattle.offers.proofs.externals.outward_way.Goals as goal
+use Rattle.candidates.proofs.Boundaries.{below_longest}
+use Rattle.candidates.proofs.Forwarded.{by_forwarding, by_originator, no_forwarding, no_originator}
+use Rattle.candidates.proofs.externals.outward_way.Goals as goal
 
 pub returns-in_err-boundary-clause-just : goal.returns-in_err-boundary-clause-just
 returns-in_err-boundary-clause-just c = rw c.from_residual.ensures (no_originator _ _ _ _ _ c.in_err-boundary.ensures.just)
