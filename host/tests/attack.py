@@ -61,6 +61,8 @@ def main() -> None:
     raw = socket.socket(socket.AF_INET, socket.SOCK_RAW, 89)
     if destination == "224.0.0.5":
         raw.setsockopt(socket.SOL_SOCKET, socket.SO_BINDTODEVICE, b"eth1")
+        # (the neighbor isn't to hear them too)
+        raw.setsockopt(socket.IPPROTO_IP, socket.IP_MULTICAST_LOOP, 0)
     each, sent, lost = itertools.cycle(packets(kind)), 0, 0
     began = time.monotonic()
     while (gone := time.monotonic() - began) < seconds:

@@ -16,7 +16,6 @@ from tests.network import (
     Bird,
     Box,
     End,
-    Looks,
     Network,
     Secret,
     Side,
@@ -75,7 +74,7 @@ class Pair:
     def routes(self) -> str:
         """The kernel's routes at 1.1.1.1 that came by OSPF."""
         lines = output("ip", "-n", self.own, "-4", "route", "show").splitlines()
-        return "; ".join(each.strip() for each in lines if "proto 89" in each or "proto bird" in each)
+        return "; ".join(each for each in lines if "proto 89" in each or "proto bird" in each)
 
     def attack(
         self, kind: str, source: str, destination: str, seconds: float, rate: float = SENT_EACH
@@ -83,7 +82,8 @@ class Pair:
         """Somebody in a namespace begins to send: see attack.py."""
         words = [sys.executable, str(HOST / "tests" / "attack.py"), kind, destination]
         words += [f"{seconds}", f"{rate}"]
-        return self.network.start(source, words, self.network.work / "attack", stdout=subprocess.PIPE)
+        log = self.network.work / "attack"
+        return self.network.start(source, words, log, stdout=subprocess.PIPE)
 
 
 def anew(given: Try, part: Callable[[], None]) -> None:
@@ -164,6 +164,11 @@ def flooded(
 def comeback(given: Try) -> None:
     """An interface that is made again with its index, that was in another namespace, that was
     renamed; a link that is lost twice within a HelloInterval."""
+    anew(given, lambda: come_back(given))
+    anew(given, lambda: lost_again(given))
+
+
+def come_back(given: Try) -> None:
     it, looks = Pair(given), given.looks
     it.network.namespace("away")
     it.start()
@@ -172,7 +177,11 @@ def comeback(given: Try) -> None:
     for what, away, back in (
         ("made again with its index", lambda: deleted(it), lambda: made_again(it, index)),
         ("moved to another namespace and back", lambda: moved(it), lambda: moved_back(it)),
-        ("renamed, and again", lambda: renamed(it, "eth1", "gone"), lambda: renamed(it, "gone", "eth1")),
+        (
+            "renamed, and again",
+            lambda: renamed(it, "eth1", "gone"),
+            lambda: renamed(it, "gone", "eth1"),
+        ),
     ):
         for pause in (0.0, 3.0):
             away()
@@ -183,7 +192,6 @@ def comeback(given: Try) -> None:
             what_then = f"an interface is {what} after {pause:g} s ({same}): Full"
             looks.timed(what_then, COMES_UP, it.is_up)
     it.stop()
-    lost_again(given, looks)
 
 
 def index_of(it: Pair) -> int:
@@ -221,11 +229,9 @@ def renamed(it: Pair, name: str, other: str) -> None:
     run("ip", "-n", it.own, "link", "set", other, "up")
 
 
-def lost_again(given: Try, looks: Looks) -> None:
+def lost_again(given: Try) -> None:
     """With HelloInterval 10: it's lost again before the neighbor's next Hello."""
-    given.network.close()
-    given.network = Network()
-    it = Pair(given)
+    it, looks = Pair(given), given.looks
     for each in (it.tried, it.neighbor):
         each.sides[0] = Side("eth1", hello=10, dead=40)
     it.start()
