@@ -16,6 +16,10 @@ from leafrunt_host.statuses import Status, Stopped
 
 RUN = Path("/run/leafrunt")
 STATE = Path("/var/lib/leafrunt")
+CLAIMS = ".claims"
+"""In the folder of running boxes: no box has such a name."""
+NAMESPACE = "/proc/self/ns/net"
+LONGEST_HOLDER = 100
 LONGEST_OBJECT = 16 << 20
 LONGEST_SOCKET_PATH = 107
 """unix(7): `sun_path` has 108 bytes with the zero at its end."""
@@ -44,6 +48,33 @@ def own_folder(path: Path) -> None:
             ) from error
 
 
+def locked(path: Path, holder: str) -> tuple[TextIO | None, str]:
+    """A file that is locked for this process, which the kernel gives back however that ends, with
+    the holder written into it; None where another has it, and who that is."""
+    try:
+        lock = open(
+            os.open(path, os.O_RDWR | os.O_CREAT | os.O_NOFOLLOW | os.O_CLOEXEC, 0o600),
+            "r+",
+            encoding="ascii",
+            errors="replace",
+        )
+    except OSError as error:
+        raise Stopped(f"cannot open {path}: {error.strerror}") from error
+    try:
+        fcntl.flock(lock, fcntl.LOCK_EX | fcntl.LOCK_NB)
+    except OSError:
+        with lock:
+            return None, lock.read(LONGEST_HOLDER).strip()
+    try:
+        lock.truncate(0)
+        lock.write(holder)
+        lock.flush()
+    except OSError as error:
+        lock.close()
+        raise Stopped(f"cannot write {path}: {error.strerror}") from error
+    return lock, holder
+
+
 @dataclass
 class Room:
     """The folders of a running box. While it's held no other box of the name can be started."""
@@ -52,7 +83,7 @@ class Room:
     run: Path
     state: Path
     _lock: TextIO | None = None
-    _claims: list[socket.socket] = field(default_factory=list)
+    _claims: list[TextIO] = field(default_factory=list)
 
     @property
     def socket(self) -> Path:
@@ -99,8 +130,7 @@ class Room:
             (self.lent / name).unlink(missing_ok=True)
 
     def enter(self) -> None:
-        """Makes the folders and takes the lock, which the kernel gives back however this process
-        ends. What an earlier box left is removed."""
+        """Makes the folders and takes the lock. What an earlier box left is removed."""
         if len(os.fsencode(self.socket)) > LONGEST_SOCKET_PATH:
             raise Stopped(
                 f"{self.socket}: a socket's path has at most {LONGEST_SOCKET_PATH} bytes",
@@ -108,49 +138,35 @@ class Room:
             )
         own_folder(self.run)
         own_folder(self.state)
-        path = self.run / "lock"
-        try:
-            lock = open(
-                os.open(path, os.O_RDWR | os.O_CREAT | os.O_NOFOLLOW | os.O_CLOEXEC, 0o600),
-                "r+",
-                encoding="ascii",
-            )
-        except OSError as error:
-            raise Stopped(f"cannot open {path}: {error.strerror}") from error
-        try:
-            fcntl.flock(lock, fcntl.LOCK_EX | fcntl.LOCK_NB)
-        except OSError as error:
-            holder = lock.read(20).strip()
-            lock.close()
+        self._lock, holder = locked(self.run / "lock", f"{os.getpid()}\n")
+        if self._lock is None:
             process = f" (process {holder})" if holder.isdigit() else ""
             raise Stopped(
                 f"the box {self.name} runs already{process}: `leafrunt down` ends it",
                 Status.REFUSED,
-            ) from error
-        lock.truncate(0)
-        lock.write(f"{os.getpid()}\n")
-        lock.flush()
-        self._lock = lock
+            )
         self.socket.unlink(missing_ok=True)
 
     def claim(self, names: Iterable[str]) -> None:
-        """Claims interfaces and the kernel's table for this box, in this network namespace, by
-        abstract sockets (unix(7)): two boxes that share one would undo each other's work."""
+        """Claims interfaces and the kernel's table for this box, in this network namespace: two
+        boxes that share one would undo each other's work. A claim is a locked file, in a folder
+        that its owner alone may use, so nobody else can claim anything."""
+        folder = self.run.parent / CLAIMS
+        own_folder(folder)
+        namespace = os.stat(NAMESPACE).st_ino
         for name in names:
-            claim = socket.socket(socket.AF_UNIX, socket.SOCK_DGRAM)
-            try:
-                claim.bind(f"\0leafrunt {name}")
-            except OSError as error:
-                claim.close()
-                raise Stopped(
-                    f"another box has the {name} in this network namespace", Status.REFUSED
-                ) from error
+            path = folder / f"{namespace} {name}"
+            claim, holder = locked(path, f"{self.name} (process {os.getpid()})\n")
+            if claim is None:
+                who = f"the box {holder}" if holder else "another box"
+                raise Stopped(f"{who} has the {name} in this network namespace", Status.REFUSED)
             self._claims.append(claim)
 
     def leave(self) -> None:
         """Removes what nobody needs any more, and gives the name back. The state's folder stays,
         for the next start."""
         for claim in self._claims:
+            claim.truncate(0)
             claim.close()
         self._claims.clear()
         if self._lock is None:

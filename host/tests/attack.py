@@ -2,15 +2,22 @@
 """Sends OSPF packets that pretend to be the neighbor's, from wherever it is started.
 
 attack.py KIND DESTINATION SECONDS RATE
+attack.py udp
+attack.py squat NAME..
 
 KIND is what is sent, so many a second and so long: `hello` (2.2.2.2 names 1.1.1.1), `silent` (it
 names nobody), `update` (its AS-external-LSA of 66.66.66.0/24), `hellos` (of made-up Router IDs),
 `digests` (2.2.2.2's, with key 5 and digests of HMAC-SHA-256 that are wrong). A DESTINATION of
 224.0.0.5 is sent to by eth1. Prints how many were sent.
+
+`udp` sends the same LSA, as the user nobody, to every UDP port of 127.0.0.1 that the kernel lists,
+and prints how many there are. `squat` binds abstract unix sockets of these names as nobody, prints
+that, and waits.
 """
 from __future__ import annotations
 
 import itertools
+import os
 import random
 import socket
 import struct
@@ -22,6 +29,7 @@ from pathlib import Path
 
 sys.path.insert(0, str(Path(__file__).resolve().parents[1]))
 from leafrunt_host.authentication import Algorithm, Key, sign  # noqa: E402
+from leafrunt_host.inbox import LOOPBACK  # noqa: E402
 from leafrunt_host.packets import Hello, Packet, PacketType  # noqa: E402
 from tests.test_topology import lsa  # noqa: E402
 
@@ -31,6 +39,7 @@ MASK = IPv4Address("255.255.255.0")
 SILENT = Hello(MASK, 2, 2, 1, 8, NOBODY, NOBODY, ())
 EXTERNAL = "66.66.66.0"
 MOST = 4096
+NOBODYS_NUMBER = 65534
 TICK = 0.002
 
 
@@ -56,7 +65,40 @@ def packets(kind: str) -> list[bytes]:
     ]
 
 
+def become_nobody() -> None:
+    os.setgroups([])
+    os.setgid(NOBODYS_NUMBER)
+    os.setuid(NOBODYS_NUMBER)
+
+
+def to_each_port() -> None:
+    """A datagram in which the neighbor seems to flood, for whoever takes it."""
+    # (anybody may read it; a process that changes its user may not read what is its own in /proc)
+    lines = Path("/proc/net/udp").read_text(encoding="ascii").splitlines()[1:]
+    ends = [line.split()[1].split(":") for line in lines]
+    ports = {int(port, 16) for address, port in ends if address in LOOPBACK}
+    become_nobody()
+    with socket.socket(socket.AF_INET, socket.SOCK_DGRAM) as udp:
+        for data in packets("update")[:3]:
+            for port in ports:
+                udp.sendto(data, ("127.0.0.1", port))
+    print(f"{len(ports)} ports")
+
+
+def squat(names: list[str]) -> None:
+    become_nobody()
+    taken = [socket.socket(socket.AF_UNIX, socket.SOCK_DGRAM) for _ in names]
+    for one, name in zip(taken, names, strict=True):
+        one.bind(f"\0{name}")
+    print("squatting", flush=True)
+    time.sleep(600)
+
+
 def main() -> None:
+    if sys.argv[1] == "udp":
+        return to_each_port()
+    if sys.argv[1] == "squat":
+        return squat(sys.argv[2:])
     kind, destination, seconds, rate = sys.argv[1], sys.argv[2], *map(float, sys.argv[3:5])
     raw = socket.socket(socket.AF_INET, socket.SOCK_RAW, 89)
     if destination == "224.0.0.5":

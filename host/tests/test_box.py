@@ -549,16 +549,34 @@ class Starts(Boxes):
     def test_an_interface_of_another_box(self) -> None:
         """In one network namespace an interface and the kernel's table are one box's."""
         rooms = [Room(name, self.run_folder / name, self.state / name) for name in ("one", "two")]
-        name = f"interface of process {os.getpid()}"
-        rooms[0].claim([name])
+        name = "interface eth1"
+        rooms[0].claim([name, "kernel's routing table"])
         with self.assertRaises(Stopped) as raised:
-            rooms[1].claim([name])
+            rooms[1].claim(["interface eth2", name])
         self.assertEqual(
-            str(raised.exception), f"another box has the {name} in this network namespace"
+            str(raised.exception),
+            f"the box one (process {os.getpid()}) has the {name} in this network namespace",
         )
-        rooms[0].leave()
-        rooms[1].claim([name])
         rooms[1].leave()
+        rooms[0].leave()
+        rooms[1].claim(["interface eth2", name])
+        rooms[1].leave()
+
+    def test_nobody_else_can_claim(self) -> None:
+        """The files of claims are their owner's alone, and an abstract socket of the name that
+        other versions claimed by keeps no box from starting."""
+        room = Room("one", self.run_folder / "one", self.state / "one")
+        with socket.socket(socket.AF_UNIX, socket.SOCK_DGRAM) as squatter:
+            squatter.bind("\0leafrunt interface eth1")
+            room.claim(["interface eth1"])
+        folder = self.run_folder / ".claims"
+        modes = [stat.S_IMODE(each.stat().st_mode) for each in (folder, *folder.iterdir())]
+        self.assertEqual(modes, [0o700, 0o600])
+        room.leave()
+        shutil.rmtree(folder)
+        folder.symlink_to(self.folder)
+        with self.assertRaises(Stopped):
+            room.claim(["interface eth1"])
 
     def test_a_port_that_is_taken(self) -> None:
         self.up("9.9.9.1")

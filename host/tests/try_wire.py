@@ -2,10 +2,12 @@
 `try-network`."""
 from __future__ import annotations
 
+import re
 import subprocess
 import sys
 import time
 from collections.abc import Callable
+from pathlib import Path
 
 from tests.network import (
     COMES_UP,
@@ -28,6 +30,8 @@ from tests.network import (
 
 EXTERNAL = "203.0.113.0/24"
 """What the neighbor announces."""
+FORGED = "66.66.66.0/24"
+"""What attack.py announces."""
 ROUTER_IDS = ("1.1.1.1", "2.2.2.2")
 SENT_EACH = 20
 """Packets a second of an attack that isn't a flood."""
@@ -130,6 +134,32 @@ def attacked_from_afar(given: Try, is_box: bool) -> None:
     if isinstance(it.tried, Box):
         told = [each.strip() for each in it.tried.status().splitlines() if "strange" in each]
         looks.look("`leafrunt status` tells of them", told, "; ".join(told))
+    it.stop()
+
+
+def users(given: Try) -> None:
+    """Another user of the machine, with HMAC-SHA-256 on the link: sends to every UDP port, and has
+    bound names before the box starts."""
+    it, looks = Pair(given, keys=(SHA,)), given.looks
+    attack = [sys.executable, str(HOST / "tests" / "attack.py")]
+    names = ["leafrunt interface eth1", "leafrunt kernel's routing table"]
+    log = it.network.work / "attack"
+    squatter = it.network.start(it.own, [*attack, "squat", *names], log, stdout=subprocess.PIPE)
+    assert squatter.stdout
+    squatter.stdout.readline()
+    it.start()
+    looks.timed("nobody has bound abstract sockets: Full all the same", COMES_UP, it.is_up)
+    looks.timed("with the neighbor's routes", 20, lambda: EXTERNAL in it.routes())
+    said = run("ip", "netns", "exec", it.own, *attack, "udp").strip()
+    reached = within(3, lambda: FORGED in it.routes())
+    looks.look("nobody sends to each UDP port: no route comes of it", reached is None, said)
+    routerd = int(re.findall(r"routerd is process (\d+)", it.tried.status())[0])
+    status = Path(f"/proc/{routerd}/status").read_text(encoding="ascii")
+    number = int(re.findall(r"Uid:\t(\d+)", status)[0])
+    is_poor = re.search(r"CapEff:\t0+\n", status) and "NoNewPrivs:\t1" in status
+    what = "`routerd` is a user of its own, without capabilities and new privileges"
+    looks.look(what, is_poor and number not in (0, 65534), f"user {number}")
+    it.network.stop(squatter)
     it.stop()
 
 
