@@ -155,7 +155,7 @@ class World:
         return [bounded, f"--as={ADDRESS_SPACE}", "--", str(program), *words]
 
     def sockets_of(self, process: int) -> Path:
-        """Where the kernel lists the UDP sockets of the namespace that `routerd` is in (proc(5))."""
+        """Where the kernel lists the UDP sockets of `routerd`'s namespace (proc(5))."""
         return Path(f"/proc/{process}/net/udp") if self._inside else Path("/proc/net/udp")
 
 
