@@ -1,118 +1,143 @@
-//! How many turns one worker and four workers take a second at one router.
-use crate::load::{KINDS, Kind, Load, SIZE};
-use crate::measuring::measure_once;
-use crate::routers::hub;
-use crate::trouble::Trouble;
-use anyhow::Result;
-use std::alloc::Global;
+//! How long a turn takes for a Hello at a router with one interface: what a turn costs beside its
+//! event.
+ghost use Rattle.worker.specs.Opening.{IsSetUpFor};
+
+use crate::figures::{MEASUREMENTS, Times, nanoseconds_since};
+use crate::programs::program;
+use anyhow::{Result, anyhow, ensure};
+use flood::{Config, Interface};
+use hooks::Loader;
+use std::alloc::{AllocError, Global};
+use std::marker::Brand;
 use std::rt::Clock;
 use std::sync::Wait;
-use std::thread;
-use std::thread::Threads;
-use worker::Core;
+use std::time::Instant;
+use words::{Address, RouterId, Second, Sequence};
+use worker::{Book, Core, Hub, Open, Port, Setup, Site, Work, open_hub, turn};
 
-/// How many measurements each figure is the least of, each at a router of its own.
-const MEASUREMENTS: u32 = 5;
+/// How many turns one measurement takes.
+const TURNS: u64 = 10_000;
 
-// The least nanoseconds a turn.
-fn least<R: Threads + Wait + Clock + AllocGlobal + Sync>(
-    rt: &R,
-    core: &Core,
-    load: Load,
-    trouble: &mut Trouble,
-) -> u64 {
-    let mut least = u64::MAX;
-    for _measurement in 0..MEASUREMENTS {
-        let measured = measure_once(rt, rt.alloc(), core, load, trouble);
-        least = least.min(trouble.or_zero(measured));
+// The interface 10.0.1.1/24.
+fn interface() -> Interface {
+    Interface {
+        address: Address::new(0x0a00_0101),
+        length: 24,
+        cost: 10,
+        hello_interval: 10,
+        dead_interval: 40,
+        retransmit_interval: 5,
+        delay: 1,
     }
-    least / u64::from(load.kind.turns).max(1)
 }
 
-// Without a program, and with one at `count`.
-fn measure<R: Threads + Wait + Clock + AllocGlobal + Sync>(
+fn config(alloc: Global) -> Result<Config, AllocError> {
+    let interfaces = Vec::from_slice(alloc, &[interface()])?;
+    Ok(Config {
+        router: RouterId::new(0x0101_0101),
+        start: Second::new(0),
+        interfaces: Sequence::from_vec(interfaces),
+    })
+}
+
+// A Hello of 2.2.2.2, which has heard of nobody.
+const HELLO: &[u8] = &[
+    2, 1, 0, 44, 2, 2, 2, 2, 0, 0, 0, 0, 0xf8, 0x9a, 0, 0, 0, 0, 0, 0, 0, 0, 0, 0, 255, 255, 255,
+    0, 0, 10, 2, 1, 0, 0, 0, 40, 0, 0, 0, 0, 0, 0, 0, 0,
+];
+
+// What comes in.
+fn packet(alloc: Global) -> Result<Work, AllocError> {
+    let bytes = Vec::from_slice(alloc, HELLO)?;
+    Ok(Work::Datagram(1, Sequence::from_vec(bytes)))
+}
+
+// Takes the turns: how many weren't refused.
+fn labor<L: Site, R: Wait>(rt: &R, hub: &Hub<L, Book<L>>, port: &mut Port<L>, work: &Work) -> u64 {
+    let mut taken = 0u64;
+    for _turn in 0..TURNS {
+        if turn(rt, hub, port, &Open {}, Second::new(10), work).is_ok() {
+            taken = taken.wrapping_add(1);
+        }
+    }
+    taken
+}
+
+fn measure<L: Site, R: Wait + Clock>(
     rt: &R,
-    core: &Core,
-    load: Load,
-) -> Result<[u64; 2]> {
-    let mut trouble = Trouble::none();
-    let without = least(rt, core, load, &mut trouble);
-    let counting = Load {
-        counts: true,
-        ..load
+    alloc: Global,
+    hub: &Hub<L, Book<L>>,
+    port: Option<Port<L>>,
+) -> Result<u64> {
+    let Some(port) = port else {
+        return Err(anyhow!("no port"));
     };
-    let with = least(rt, core, counting, &mut trouble);
-    trouble.outcome()?;
-    Ok([without, with])
+    let mut port = port;
+    let work = packet(alloc)?;
+    let start = Instant::now(rt)?;
+    let taken = labor(rt, hub, &mut port, &work);
+    let nanoseconds = nanoseconds_since(rt, start)?;
+    ensure!(taken == TURNS, "{taken} of {TURNS} turns were taken");
+    Ok(nanoseconds)
 }
 
-fn print_turns<R: Print>(rt: &R, load: Load, taken: [u64; 2]) -> Result<()> {
-    let ([without, with], name, workers) = (taken, load.kind.name, load.workers);
-    let each = 1_000_000_000 / without.max(1);
-    let counted = 1_000_000_000 / with.max(1);
-    println!(rt;
-        "{name}, {workers} at once: {each} turns a second, {without} ns each; at count {counted}, \
-            {with} ns"
-    )?;
+// At a hub that begins with a new router.
+fn measure_at<L: Site, R: Wait + Clock>(rt: &R, alloc: Global, setup: Setup) -> Result<u64>
+    requires setup { IsSetUpFor L.name L.parts L.words L.history setup }
+{
+    let core = Core::new(alloc, &config(alloc)?)?;
+    let (hub, mut ports, _rest) = open_hub::<L>(alloc, setup, core)?;
+    let measured = measure(rt, alloc, &hub, ports.pop());
+    let (book, _shared) = hub.into_parts();
+    let _taken = book.close();
+    measured
+}
+
+// Beside a program at `count`, if there is to be one.
+fn measure_beside<L: Site, R: Wait + Clock>(
+    rt: &R,
+    alloc: Global,
+    setup: Setup,
+    loader: &mut Loader<&R>,
+    counts: bool,
+) -> Result<u64>
+    requires setup { IsSetUpFor L.name L.parts L.words L.history setup }
+{
+    if counts {
+        let adds = "hook count\nrank 0\nr1 = 5\nr2 = 1\ncall 1\nexit\n";
+        loader.attach(program(alloc, adds)?)?;
+    }
+    measure_at::<L, R>(rt, alloc, setup)
+}
+
+// One measurement, in nanoseconds.
+#[tactic(auto, using(crate::proofs::Fresh::all_ask))]
+fn measure_once<R: Wait + Clock>(rt: &R, alloc: Global, counts: bool) -> Result<u64> {
+    let (mut loader, setup) = Setup::new(alloc, rt, 2)?;
+    measure_beside::<Brand, R>(rt, alloc, setup, &mut loader, counts)
+}
+
+fn print_turns<R: Wait + Clock + Print + AllocGlobal>(
+    rt: &R,
+    what: &str,
+    counts: bool,
+) -> Result<()> {
+    let mut measured = [0; MEASUREMENTS];
+    for turn in 0..MEASUREMENTS {
+        measured[turn] = measure_once(rt, rt.alloc(), counts)?;
+    }
+    let Times { least, median } = Times::of(measured);
+    let (least, median) = (least / TURNS, median / TURNS);
+    println!(rt; "{what}: least {least}, median {median} ns a turn")?;
     Ok(())
 }
 
-fn print_workers<R: Threads + Wait + Clock + Print + AllocGlobal + Sync>(
-    rt: &R,
-    core: &Core,
-    kind: Kind,
-    workers: u32,
-) -> Result<()> {
-    let load = Load {
-        kind,
-        workers,
-        counts: false,
-    };
-    print_turns(rt, load, measure(rt, core, load)?)
-}
-
-// One worker, and four at once.
-fn print_each<R: Threads + Wait + Clock + Print + AllocGlobal + Sync>(
-    rt: &R,
-    core: &Core,
-    kind: Kind,
-) -> Result<()> {
-    print_workers(rt, core, kind, 1)?;
-    print_workers(rt, core, kind, 4)
-}
-
-fn core_of(alloc: Global, kind: Kind) -> Result<Core> {
-    hub(alloc, 4, kind.size)?.into_core()
-}
-
-fn print_kind<R: Threads + Wait + Clock + Print + AllocGlobal + Sync>(
-    rt: &R,
-    kind: Kind,
-) -> Result<()> {
-    let core = core_of(rt.alloc(), kind)?;
-    let printed = print_each(rt, &core, kind);
-    core.close();
-    printed
-}
-
-fn print_heading<R: Threads + Print>(rt: &R) -> Result<()> {
-    let cores = thread::available_parallelism(rt)?;
-    println!(rt; "turns at {SIZE} LSAs, {cores} cores, the most of {MEASUREMENTS}")?;
-    Ok(())
-}
-
-/// Prints how many turns one worker and four workers take a second at a router with four Full
-/// neighbors and 16,384 LSAs: for Hellos, for AS-external-LSAs that say the same in their next
-/// instance, and for new ones; each without a program and with one at `count` that adds to a
-/// counter. The most of 5 measurements.
+/// Prints how long a turn takes for a Hello, by one worker: without a program, and with one at
+/// `count` that adds to a counter.
 ///
 /// # Errors
-/// The clock or the output failed, memory ran out, a turn was refused, or other than all datagrams
-/// were counted.
-pub fn print<R: Threads + Wait + Clock + Print + AllocGlobal + Sync>(rt: &R) -> Result<()> {
-    print_heading(rt)?;
-    for kind in &KINDS {
-        print_kind(rt, *kind)?;
-    }
-    Ok(())
+/// The clock or the output failed, memory ran out, or a turn was refused.
+pub fn print<R: Wait + Clock + Print + AllocGlobal>(rt: &R) -> Result<()> {
+    print_turns(rt, "a Hello", false)?;
+    print_turns(rt, "the same, counted by a program", true)
 }

@@ -1,0 +1,110 @@
+//! How a figure of speed is taken, and how it is printed.
+use anyhow::{Result, ensure};
+use std::fmt;
+use std::rt::Clock;
+use std::time::Instant;
+
+/// How many measurements each figure is taken of, behind one that isn't counted.
+pub const MEASUREMENTS: usize = 11;
+
+/// The shortest measurement of a figure and the middle one, in nanoseconds.
+#[derive(Clone, Copy)]
+pub struct Times {
+    pub least: u64,
+    pub median: u64,
+}
+
+impl Times {
+    /// Of all measurements.
+    pub fn of(measured: [u64; MEASUREMENTS]) -> Times {
+        let mut nanos = measured;
+        nanos.sort_unstable();
+        Times {
+            least: nanos[0],
+            median: nanos[MEASUREMENTS / 2],
+        }
+    }
+}
+
+/// Nanoseconds since the start.
+pub fn nanoseconds_since<R: Clock>(rt: &R, start: Instant) -> Result<u64> {
+    Ok(u64::try_from(start.elapsed(rt)?.as_nanos()).unwrap_or(u64::MAX))
+}
+
+/// Work that is measured, round by round.
+pub trait Round {
+    /// Does it once, and tells whether that succeeded.
+    fn succeeds(&mut self) -> bool;
+}
+
+// How many of so many rounds succeed.
+fn successes<W: Round>(rounds: u64, work: &mut W) -> u64 {
+    let mut done = 0u64;
+    for _round in 0..rounds {
+        if work.succeeds() {
+            done = done.wrapping_add(1);
+        }
+    }
+    done
+}
+
+// One measurement: how long so many rounds take. A round that fails is an error, since it would
+// count as a fast one.
+fn measure_once<R: Clock, W: Round>(rt: &R, rounds: u64, work: &mut W) -> Result<u64> {
+    let start = Instant::now(rt)?;
+    let done = successes(rounds, work);
+    let nanos = nanoseconds_since(rt, start)?;
+    ensure!(done == rounds, "{done} of {rounds} rounds succeeded");
+    Ok(nanos)
+}
+
+// How long so many rounds of the work take.
+fn measure<R: Clock, W: Round>(rt: &R, rounds: u64, work: &mut W) -> Result<Times> {
+    let _warm_up = measure_once(rt, rounds, work)?;
+    let mut measured = [0; MEASUREMENTS];
+    for turn in 0..MEASUREMENTS {
+        measured[turn] = measure_once(rt, rounds, work)?;
+    }
+    Ok(Times::of(measured))
+}
+
+/// A time, in hundredths of a nanosecond.
+#[derive(Clone, Copy)]
+struct Hundredths {
+    amount: u128,
+}
+
+impl Hundredths {
+    /// So many nanoseconds, divided among so many.
+    fn each(nanos: u64, many: u64) -> Hundredths {
+        Hundredths {
+            amount: nanos as u128 * 100 / (many.max(1) as u128),
+        }
+    }
+}
+
+impl fmt::Display for Hundredths {
+    fn fmt<W: fmt::Write>(&self, f: &mut fmt::Formatter<W>) -> fmt::Result {
+        let whole = self.amount / 100;
+        let part = self.amount % 100;
+        write!(f, "{whole}.{part:02}")
+    }
+}
+
+/// Measures so many rounds of the work, each of which handles so many of a `unit`, and prints the
+/// least time of each of these and the median.
+pub fn report<R: Clock + Print, W: Round>(
+    rt: &R,
+    what: &str,
+    rounds: u64,
+    size: u64,
+    unit: &str,
+    work: &mut W,
+) -> Result<()> {
+    let times = measure(rt, rounds, work)?;
+    let many = rounds.saturating_mul(size);
+    let least = Hundredths::each(times.least, many);
+    let median = Hundredths::each(times.median, many);
+    println!(rt; "{what}: least {least}, median {median} ns {unit}")?;
+    Ok(())
+}
