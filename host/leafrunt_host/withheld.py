@@ -1,0 +1,301 @@
+"""LSAs that `routerd` can't have, and a box must not wait for: those that it doesn't read
+(docs/PACKETS.md, "Refusals of `read`"), those above its limit of LSAs, and those that it doesn't
+take for a reason that isn't known here.
+
+Other routers may hold such an LSA and describe it. `routerd` would ask for it again and again, and
+stay in Loading, with no route. So it is acknowledged to the neighbor and never passed on, and its
+header is left out of the neighbor's Descriptions. Where `routerd` asks for one already, the
+Database Exchange is begun anew.
+"""
+from __future__ import annotations
+
+import struct
+from collections.abc import Iterable, Iterator
+from dataclasses import dataclass
+from ipaddress import IPv4Address
+
+from leafrunt_host.lsas import MAX_AGE, LsType, is_whole
+from leafrunt_host.packets import HEADER, LSA_HEADER_LENGTH, REQUEST_LENGTH, ROUTER_MTU, chunks
+
+LONGEST_LSA = ROUTER_MTU - HEADER.size - 4
+"""What has room in an Update that `routerd` reads."""
+MOST_LSAS = 16_384
+KEPT_FREE = 64
+"""Of these for what this router originates itself."""
+ROOM_AGAIN = 512
+"""So many LSAs must have room before those that were withheld are asked for."""
+SECONDS_BETWEEN = 15.0
+"""Between two exchanges that are begun anew on one link at least."""
+STUCK_AFTER = 3.5
+"""Seconds for which `routerd` has asked in vain: meanwhile the other LSAs come."""
+GIVEN_IN_VAIN = 5
+"""`routerd` was given an LSA so often, and asks for it again: it doesn't take it."""
+MOST_KEPT = 1024
+"""LSAs that aren't read of which a link keeps notes."""
+MOST_TOLD = 4
+RESERVED = 0x8000_0000
+"""12.1.6: no LSA has this sequence number."""
+HEAD = struct.Struct(">HBB4s4sIHH")
+ROUTER_LINK = struct.Struct(">8xBBH")
+AGE, KEY, INSTANCE = slice(0, 2), slice(3, 12), slice(12, 18)
+FLUSHED = MAX_AGE.to_bytes(2, "big")
+Key = bytes
+"""LS type, Link State ID and advertising router, as in an LSA's header."""
+
+
+def header_fault(header: bytes) -> str | None:
+    """Why `routerd` doesn't read an LSA with this header, as half a sentence; None where it may."""
+    age, _, kind, _, _, sequence, _, length = HEAD.unpack_from(header)
+    if not LsType.ROUTER <= kind <= LsType.EXTERNAL:
+        return f"its type {kind} is none of area 0.0.0.0's usual ones"
+    if age > MAX_AGE:
+        return f"its age {age} is above MaxAge, {MAX_AGE}"
+    if sequence == RESERVED:
+        return "its sequence number 0x80000000 is reserved (RFC 2328, 12.1.6)"
+    if length > LONGEST_LSA:
+        return f"it has {length} bytes, and at most {LONGEST_LSA} are read"
+    return None
+
+
+def body_fault(lsa: bytes) -> str | None:
+    """The same of an LSA's body."""
+    body = lsa[LSA_HEADER_LENGTH:]
+    kind, length = lsa[3], len(body)
+    if kind == LsType.EXTERNAL:
+        if length < 16 or (length - 16) % 12:
+            return f"its body of {length} bytes isn't filled"
+        return None if body[4] in (0, 0x80) else f"the first byte of its metric is {body[4]:#04x}"
+    if kind == LsType.ROUTER:
+        return router_fault(body)
+    if kind == LsType.NETWORK:
+        return None if length >= 4 and not length % 4 else f"its body of {length} bytes isn't filled"
+    if length < 8 or length % 4:
+        return f"its body of {length} bytes isn't filled"
+    return None if not body[4] else f"the byte before its metric is {body[4]:#04x}"
+
+
+def router_fault(body: bytes) -> str | None:
+    """The same of a router-LSA's body."""
+    if len(body) < 4:
+        return f"its body of {len(body)} bytes isn't filled"
+    if body[1]:
+        return f"its reserved byte is {body[1]:#04x}"
+    at = 4
+    for _ in range(int.from_bytes(body[2:4], "big")):
+        if at + ROUTER_LINK.size > len(body):
+            return f"its body of {len(body)} bytes has no room for its links"
+        kind, metrics, _ = ROUTER_LINK.unpack_from(body, at)
+        if not 1 <= kind <= 4:
+            return f"a link of it has the type {kind}"
+        at += ROUTER_LINK.size + 4 * metrics
+    return None if at == len(body) else f"its body of {len(body)} bytes isn't filled"
+
+
+def fault(lsa: bytes) -> str | None:
+    """Why `routerd` doesn't read this LSA, whose checksum holds; None where it does, or where the
+    checksum doesn't hold, so that every router discards it."""
+    said = header_fault(lsa) or body_fault(lsa)
+    return said if said and is_whole(lsa) else None
+
+
+def name_of(key: Key) -> str:
+    """An LSA in words."""
+    try:
+        kind = LsType(key[0]).title
+    except ValueError:
+        kind = f"type {key[0]}"
+    return f"{kind} {IPv4Address(key[1:5])} of {IPv4Address(key[5:9])}"
+
+
+class Database:
+    """The keys of the LSAs that `routerd` has or was given, of all links, each with the moment when
+    it came last: `routerd` refuses an Update that would bring more than its limit. One thread's
+    alone."""
+
+    def __init__(self, most: int = MOST_LSAS - KEPT_FREE) -> None:
+        self._keys: dict[Key, float] = {}
+        self._most = most
+
+    def __len__(self) -> int:
+        return len(self._keys)
+
+    @property
+    def has_room_again(self) -> bool:
+        return len(self._keys) + ROOM_AGAIN <= self._most
+
+    def has(self, key: Key) -> bool:
+        return key in self._keys
+
+    def takes(self, lsa: bytes, now: float) -> bool:
+        """Notes an LSA, or the header of one, that comes from a neighbor; whether there is room
+        for it."""
+        key = lsa[KEY]
+        if lsa[AGE] == FLUSHED:
+            self._keys.pop(key, None)
+            return True
+        if key not in self._keys and len(self._keys) >= self._most:
+            self._let_go(now)
+            if len(self._keys) >= self._most:
+                return False
+        self._keys[key] = now
+        return True
+
+    def sent(self, lsas: Iterable[bytes], now: float) -> None:
+        """Notes what `routerd` sends: what it originates, and what it flushes."""
+        for lsa in lsas:
+            if lsa[AGE] == FLUSHED:
+                self._keys.pop(lsa[KEY], None)
+            else:
+                self._keys[lsa[KEY]] = now
+
+    def forget(self, keys: Iterable[Key]) -> None:
+        for each in keys:
+            self._keys.pop(each, None)
+
+    def _let_go(self, now: float) -> None:
+        """An LSA that wasn't refreshed has reached MaxAge, and is gone from each database (14)."""
+        old = [each for each, moment in self._keys.items() if now - moment > MAX_AGE]
+        self.forget(old)
+
+
+@dataclass
+class _Unread:
+    """An instance of an LSA that isn't read, why, and whether it was flushed since."""
+
+    instance: bytes
+    why: str
+    is_gone: bool = False
+
+
+class Withheld:
+    """What is withheld on one link."""
+
+    def __init__(self, database: Database) -> None:
+        self._database = database
+        self._unread: dict[Key, _Unread] = {}
+        self._above: set[Key] = set()
+        """Those above the limit."""
+        self._promised: set[Key] = set()
+        """Those that were described in this exchange, and haven't come."""
+        self._asked: dict[Key, float] = {}
+        """Those that `routerd`'s last Request asks for, and since when."""
+        self._given: dict[Key, tuple[int, bytes]] = {}
+        """How often each of those was given to it, and which instance."""
+        self._begun = float("-inf")
+        self.news: list[str] = []
+        """What the log has to be told."""
+
+    # -- from the neighbor
+
+    def updated(self, lsas: list[bytes], now: float) -> tuple[list[bytes], list[bytes]]:
+        """Of an Update's LSAs those that are passed on, and the headers of those that are
+        acknowledged in place of `routerd`."""
+        passed: list[bytes] = []
+        withheld: list[bytes] = []
+        for lsa in lsas:
+            if self._is_passed(lsa, now):
+                passed.append(lsa)
+            else:
+                withheld.append(lsa[:LSA_HEADER_LENGTH])
+        return passed, withheld
+
+    def _is_passed(self, lsa: bytes, now: float) -> bool:
+        key, why = lsa[KEY], fault(lsa)
+        if why:
+            self._note(key, lsa[INSTANCE], why, lsa[AGE] == FLUSHED)
+            return False
+        known = self._unread.get(key) if self._unread else None
+        if known and known.instance == lsa[INSTANCE]:
+            return False
+        if known:
+            del self._unread[key]
+        self._promised.discard(key)
+        if not self._has_room(lsa, now):
+            return False
+        if key in self._asked:
+            count, _ = self._given.get(key, (0, b""))
+            self._given[key] = count + 1, lsa[INSTANCE]
+        return True
+
+    def described(self, headers: Iterable[bytes], now: float) -> tuple[bytes, ...]:
+        """The headers of a Description without those of LSAs that `routerd` can't have."""
+        return tuple(each for each in headers if self._is_described(each, now))
+
+    def _is_described(self, header: bytes, now: float) -> bool:
+        key, why = header[KEY], header_fault(header)
+        if why:
+            self._note(key, header[INSTANCE], why)
+            return False
+        known = self._unread.get(key)
+        if known and known.instance == header[INSTANCE]:
+            return False
+        if not self._database.has(key):
+            self._promised.add(key)
+        return self._has_room(header, now)
+
+    def _has_room(self, lsa: bytes, now: float) -> bool:
+        key = lsa[KEY]
+        if self._database.takes(lsa, now):
+            self._above.discard(key)
+            return True
+        if not self._above:
+            self.news.append(self._limit_said())
+        self._above.add(key)
+        return False
+
+    def _note(self, key: Key, instance: bytes, why: str, is_gone: bool = False) -> None:
+        before = self._unread.pop(key, None)
+        if before is None and not is_gone:
+            self.news.append(f"the LSA {name_of(key)} is withheld: {why}")
+        while len(self._unread) >= MOST_KEPT:
+            del self._unread[next(iter(self._unread))]
+        self._unread[key] = _Unread(instance, why, is_gone)
+
+    # -- from `routerd`
+
+    def begun(self) -> None:
+        """An exchange begins: what the last one promised, and didn't bring, isn't there."""
+        self._database.forget(self._promised)
+        self._promised.clear()
+        self._asked.clear()
+        self._given.clear()
+
+    def is_stuck(self, request: bytes, now: float) -> bool:
+        """Whether `routerd` asks for an LSA that it will never have, so that the exchange has to
+        begin anew without that. (A Request's LS types have four bytes: A.3.4.)"""
+        keys = [each[3:12] for each in chunks(request, REQUEST_LENGTH)]
+        self._asked = {each: self._asked.get(each, now) for each in keys}
+        self._given = {each: it for each, it in self._given.items() if each in self._asked}
+        for key, (count, instance) in self._given.items():
+            if count >= GIVEN_IN_VAIN:
+                self._note(key, instance, "routerd doesn't take it, and why isn't known here")
+        waits = (now - self._asked[each] for each in keys if each in self._unread)
+        return max(waits, default=0.0) >= STUCK_AFTER and self._may_begin(now)
+
+    def has_room_again(self, now: float) -> bool:
+        """Whether LSAs that were withheld have room now, so that the exchange has to begin anew."""
+        return bool(self._above) and self._database.has_room_again and self._may_begin(now)
+
+    def _may_begin(self, now: float) -> bool:
+        if now - self._begun < SECONDS_BETWEEN:
+            return False
+        self._begun = now
+        return True
+
+    # -- for the operator
+
+    def _limit_said(self) -> str:
+        return (
+            f"the network has more than {MOST_LSAS} LSAs: this router can't have them all, so "
+            "routes are missing. Withdraw external destinations where they are announced"
+        )
+
+    def remarks(self) -> Iterator[str]:
+        """What is withheld, for `status`."""
+        told = [(key, it.why) for key, it in self._unread.items() if not it.is_gone]
+        for key, why in told[:MOST_TOLD]:
+            yield f"the LSA {name_of(key)} is withheld: {why}"
+        if len(told) > MOST_TOLD:
+            yield f"{len(told) - MOST_TOLD} more LSAs are withheld, since routerd doesn't read them"
+        if self._above:
+            yield f"{self._limit_said()} ({len(self._above)} LSAs are withheld)"

@@ -1,0 +1,269 @@
+"""LSAs that `routerd` can't have: which they are, and that no box waits for them."""
+import logging
+import struct
+import unittest
+from dataclasses import replace
+from ipaddress import IPv4Address
+
+from leafrunt_host.bridge import WITHHELD, Link
+from leafrunt_host.packets import Description, Flags, Packet, PacketType, lsas_of, read
+from leafrunt_host.withheld import (
+    GIVEN_IN_VAIN,
+    MAX_AGE,
+    ROOM_AGAIN,
+    SECONDS_BETWEEN,
+    STUCK_AFTER,
+    Database,
+    Withheld,
+    fault,
+    header_fault,
+)
+from tests.test_bridge import THERE, link, own, own_hello, plain
+from tests.test_topology import EXTERNAL, SUMMARY, router_lsa, sealed
+
+ROUTER = router_lsa("1.1.1.1", (1, "2.2.2.2", "10.0.1.1", 10), (3, "10.0.1.0", "255.255.255.0", 5))
+NETWORK = sealed(EXTERNAL[:3] + b"\2" + EXTERNAL[4:18] + b"\0\x1c" + bytes([255] * 4 + [9] * 4))
+OTHER = sealed(SUMMARY[:4] + bytes([192, 0, 2, 0]) + SUMMARY[8:])
+TWO = IPv4Address("2.2.2.2")
+
+
+def changed(lsa: bytes, at: int, *values: int) -> bytes:
+    """The LSA with other bytes from a place on, and the checksum that belongs to them."""
+    return sealed(lsa[:at] + bytes(values) + lsa[at + len(values) :])
+
+
+def longer(lsa: bytes, more: int) -> bytes:
+    """The LSA with so many bytes of zeros at its end."""
+    length = (len(lsa) + more).to_bytes(2, "big")
+    return sealed(lsa[:18] + length + lsa[20:] + bytes(more))
+
+
+UNREAD = {
+    "its reserved byte is 0x01": changed(ROUTER, 21, 1),
+    "its sequence number 0x80000000 is reserved": changed(EXTERNAL, 12, 0x80, 0, 0, 0),
+    "its body of 20 bytes isn't filled": longer(EXTERNAL, 4),
+    "the first byte of its metric is 0x81": changed(EXTERNAL, 24, 0x81),
+    "a link of it has the type 5": changed(ROUTER, 24 + 8, 5),
+    "its age 3700 is above MaxAge": (3700).to_bytes(2, "big") + EXTERNAL[2:],
+    "its type 9 is none": changed(EXTERNAL, 3, 9),
+    "has no room for its links": changed(ROUTER, 22, 0, 3),
+    "its body of 32 bytes isn't filled": longer(ROUTER, 4),
+    "the byte before its metric is 0x07": changed(SUMMARY, 24, 7),
+    "its body of 9 bytes isn't filled": longer(SUMMARY, 1),
+    "its body of 10 bytes isn't filled": longer(NETWORK, 2),
+    "it has 8165 bytes, and at most 8164 are read": longer(EXTERNAL, 8165 - len(EXTERNAL)),
+}
+"""By the reason: the LSAs that peers take, and others."""
+
+
+def update(*lsas: bytes) -> bytes:
+    """An Update of the neighbor."""
+    body = len(lsas).to_bytes(4, "big") + b"".join(lsas)
+    return replace(plain("BIRD Update"), body=body).encode()
+
+
+def description(*headers: bytes, flags: Flags = Flags(0), sequence: int = 1) -> bytes:
+    body = Description(1500, 2, flags, sequence, headers).encode()
+    return replace(plain("BIRD Description"), body=body).encode()
+
+
+def request(*lsas: bytes) -> bytes:
+    """A Request of `routerd`."""
+    keys = b"".join(struct.pack(">I", each[3]) + each[4:12] for each in lsas)
+    return own(replace(plain("BIRD Update"), type=PacketType.LINK_STATE_REQUEST, body=keys))
+
+
+class Faults(unittest.TestCase):
+    def test_what_is_read(self) -> None:
+        flushed = MAX_AGE.to_bytes(2, "big") + EXTERNAL[2:]
+        several = longer(EXTERNAL, 12)
+        for lsa in (ROUTER, NETWORK, SUMMARY, EXTERNAL, flushed, several, changed(EXTERNAL, 24, 0)):
+            with self.subTest(lsa.hex()):
+                self.assertIsNone(fault(lsa))
+
+    def test_what_is_not_read(self) -> None:
+        for why, lsa in UNREAD.items():
+            with self.subTest(why):
+                self.assertIn(why, str(fault(lsa)))
+
+    def test_a_wrong_checksum(self) -> None:
+        """Every router discards such an LSA, without an acknowledgment (13, step 1)."""
+        for lsa in UNREAD.values():
+            if not header_fault(lsa):
+                self.assertIsNone(fault(lsa[:-1] + bytes([lsa[-1] ^ 1])))
+
+
+class Links(unittest.TestCase):
+    def setUp(self) -> None:
+        self.database = Database(1000)
+        self.link = Link(link().interface, link().authentication._numbers, database=self.database)
+        self.link.from_router(own_hello(), 0)
+        self.sequence = 0
+        logging.disable(logging.WARNING)
+        self.addCleanup(logging.disable, logging.NOTSET)
+
+    def came(self, data: bytes, now: float = 0.0) -> tuple[list[Packet], list[Packet]]:
+        """What is sent to `routerd`, and on the wire."""
+        sent = self.link.from_wire(data, THERE, now)
+        return [read(each) for each in sent.to_router], [read(each) for each in sent.to_wire]
+
+    def test_they_are_acknowledged_and_not_passed_on(self) -> None:
+        for why, lsa in UNREAD.items():
+            with self.subTest(why):
+                to_router, to_wire = self.came(update(lsa, OTHER))
+                self.assertEqual([lsas_of(each.body) for each in to_router], [[OTHER]])
+                (said,) = to_wire
+                kind = PacketType.LINK_STATE_ACKNOWLEDGMENT
+                self.assertEqual((said.type, said.body), (kind, lsa[:20]))
+                self.assertEqual(self.came(update(lsa))[0], [])
+        self.assertEqual(self.link.counters[WITHHELD], 2 * len(UNREAD))
+        said = self.link.reports(0)[0].reasons
+        self.assertEqual(len([each for each in said if "is withheld" in each]), 4)
+        self.assertTrue(any("more LSAs are withheld" in each for each in said))
+
+    def test_strangers(self) -> None:
+        """What another router than the neighbor sends isn't acknowledged, and counts for nothing:
+        `routerd` discards it."""
+        lsa = UNREAD["a link of it has the type 5"]
+        forged = replace(read(update(lsa)), router_id=IPv4Address("4.4.4.4")).encode()
+        to_router, to_wire = self.came(forged)
+        self.assertEqual((len(to_router), to_wire, len(self.database)), (1, [], 0))
+
+    def test_headers(self) -> None:
+        """Those that tell by themselves, and those of instances that came, are left out of
+        Descriptions; a later instance isn't."""
+        bad = UNREAD["the first byte of its metric is 0x81"]
+        reserved = changed(UNREAD["its sequence number 0x80000000 is reserved"], 4, 192, 0, 2, 9)
+        later = changed(bad, 12, 0x80, 0, 0, 9)
+        asked = Flags.I | Flags.M | Flags.MS
+
+        def described() -> list[bytes]:
+            self.sequence += 10
+            opening = description(flags=asked, sequence=self.sequence)
+            self.link.from_router(own(read(opening)), 1)
+            headers = (reserved[:20], bad[:20], later[:20], SUMMARY[:20])
+            (packet,), _ = self.came(description(*headers, sequence=self.sequence))
+            return list(Description.decode(packet.body).headers)
+
+        self.assertEqual(described(), [bad[:20], later[:20], SUMMARY[:20]])
+        self.came(update(bad))
+        self.assertEqual(described(), [later[:20], SUMMARY[:20]])
+        self.came(update(later))
+        self.assertEqual(described(), [bad[:20], SUMMARY[:20]])
+        good = changed(EXTERNAL, 12, 0x80, 0, 0, 10)
+        self.assertEqual(len(self.came(update(good))[0]), 1)
+        self.assertEqual(described(), [bad[:20], later[:20], SUMMARY[:20]])
+
+    def test_routerd_waits_for_one(self) -> None:
+        """It gets a Description out of order once the others have had their time, and so begins
+        the exchange anew, without that header."""
+        bad = UNREAD["its reserved byte is 0x01"]
+        self.came(description(bad[:20], SUMMARY[:20]))
+        asks = request(bad, SUMMARY)
+        self.assertEqual(len(self.link.from_router(asks, 1).to_wire), 1)
+        self.came(update(bad, SUMMARY), 1.1)
+        self.assertEqual(len(self.link.from_router(request(bad), 2).to_wire), 1)
+        sent = self.link.from_router(request(bad), 1 + STUCK_AFTER)
+        self.assertEqual(sent.to_wire, [])
+        (out_of_order,) = map(read, sent.to_router)
+        self.assertEqual((out_of_order.type, out_of_order.router_id), (2, TWO))
+        self.assertNotEqual(Description.decode(out_of_order.body).sequence, 1)
+        opening = description(flags=Flags.I | Flags.M | Flags.MS, sequence=77)
+        (opened,) = self.link.from_router(own(read(opening)), 5).to_wire
+        self.assertEqual(Description.decode(read(opened).body).sequence, 77)
+        self.assertEqual(len(self.link.from_router(request(bad), 6).to_wire), 1)
+
+    def test_one_that_is_asked_for_and_comes(self) -> None:
+        """A Request that is repeated, since packets were lost, begins nothing anew."""
+        for now in range(0, 100, 2):
+            sent = self.link.from_router(request(SUMMARY), now)
+            self.assertEqual((len(sent.to_wire), sent.to_router), (1, []))
+
+    def test_one_that_routerd_does_not_take(self) -> None:
+        """For a reason that isn't known here: it was given again and again."""
+        for now in range(GIVEN_IN_VAIN):
+            self.link.from_router(request(SUMMARY), now)
+            self.assertEqual(len(self.came(update(SUMMARY), now + 0.5)[0]), 1)
+        self.came(description(flags=Flags(0)))
+        sent = self.link.from_router(request(SUMMARY), 60)
+        self.assertEqual((sent.to_wire, len(sent.to_router)), ([], 1))
+        self.assertIn("routerd doesn't take it", str(self.link.reports(60)[0]))
+        (packet,), _ = self.came(description(SUMMARY[:20]))
+        self.assertEqual(Description.decode(packet.body).headers, ())
+
+    def test_what_is_flushed_is_told_of_no_longer(self) -> None:
+        bad = UNREAD["its reserved byte is 0x01"]
+        self.came(update(bad))
+        self.assertIn("is withheld", str(self.link.reports(1)[0]))
+        _, acknowledged = self.came(update(MAX_AGE.to_bytes(2, "big") + bad[2:]))
+        self.assertEqual(len(acknowledged), 1)
+        self.assertFalse(any("is withheld" in str(each) for each in self.link.reports(1)))
+
+
+def external(number: int, age: int = 1) -> bytes:
+    """An AS-external-LSA of its own Link State ID."""
+    net = IPv4Address(0x0A000000 + 256 * number).packed
+    return sealed(age.to_bytes(2, "big") + EXTERNAL[2:4] + net + EXTERNAL[8:])
+
+
+class Limits(unittest.TestCase):
+    def setUp(self) -> None:
+        self.database = Database(ROOM_AGAIN + 10)
+        self.withheld = Withheld(self.database)
+
+    def test_above_the_limit(self) -> None:
+        most = ROOM_AGAIN + 10
+        lsas = [external(number) for number in range(most + 5)]
+        passed, headers = self.withheld.updated(lsas, 0)
+        self.assertEqual((len(passed), len(headers)), (most, 5))
+        self.assertEqual(self.withheld.updated(lsas[:7], 1)[1], [])
+        self.assertIn("more than 16384 LSAs", self.withheld.news[0])
+        self.assertEqual(len(self.withheld.news), 1)
+        (said,) = self.withheld.remarks()
+        self.assertIn("(5 LSAs are withheld)", said)
+        self.assertEqual(len(self.withheld.described([each[:20] for each in lsas], 2)), most)
+
+    def test_the_way_back(self) -> None:
+        """Once there is room, the exchange begins anew, so that the neighbor describes what was
+        withheld; not again and again."""
+        most = ROOM_AGAIN + 10
+        self.withheld.updated([external(number) for number in range(most + 5)], 0)
+        self.assertFalse(self.withheld.has_room_again(10))
+        self.withheld.updated([external(number, MAX_AGE) for number in range(most - 10)], 20)
+        self.assertTrue(self.withheld.has_room_again(30))
+        self.assertFalse(self.withheld.has_room_again(31))
+        self.assertTrue(self.withheld.has_room_again(30 + SECONDS_BETWEEN))
+        headers = [external(number)[:20] for number in range(most, most + 5)]
+        self.assertEqual(len(self.withheld.described(headers, 50)), 5)
+        self.assertEqual((list(self.withheld.remarks()), self.withheld.has_room_again(99)), ([], False))
+
+    def test_those_withheld_are_flushed(self) -> None:
+        most = ROOM_AGAIN + 10
+        self.withheld.updated([external(number) for number in range(most + 5)], 0)
+        self.withheld.updated([external(number, MAX_AGE) for number in range(most, most + 5)], 1)
+        self.assertEqual(list(self.withheld.remarks()), [])
+
+    def test_what_was_only_described(self) -> None:
+        """An exchange that ends in between leaves no room taken."""
+        self.withheld.described([external(number)[:20] for number in range(100)], 0)
+        self.withheld.updated([external(number) for number in range(10)], 1)
+        self.assertEqual(len(self.database), 100)
+        self.withheld.begun()
+        self.assertEqual(len(self.database), 10)
+
+    def test_what_ran_out(self) -> None:
+        """An LSA that nobody refreshes is gone from each database after an hour."""
+        most = ROOM_AGAIN + 10
+        self.withheld.updated([external(number) for number in range(most)], 0)
+        self.assertEqual(len(self.withheld.updated([external(most)], MAX_AGE - 1)[1]), 1)
+        self.assertEqual(len(self.withheld.updated([external(most)], MAX_AGE + 1)[1]), 0)
+
+    def test_what_the_router_originates(self) -> None:
+        self.database.sent([external(1), external(2)], 0)
+        self.assertEqual(len(self.database), 2)
+        self.database.sent([external(1, MAX_AGE)], 1)
+        self.assertEqual(len(self.database), 1)
+
+
+if __name__ == "__main__":
+    unittest.main()
