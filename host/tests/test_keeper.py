@@ -138,10 +138,12 @@ class Keeps(unittest.TestCase):
         self.assertEqual(self.kernel.forwards(), {"172.16.2.0/24": ["10.0.1.2"]})
 
     def test_a_neighbor_that_is_no_longer_full(self) -> None:
-        self.keeper._look(time.monotonic())
+        now = time.monotonic()
+        with mock.patch("time.monotonic", return_value=now):
+            self.keeper._look(now)
         self.router.neighbors[1] = "neighbor 2 3.3.3.3 ExStart"
         with self.assertLogs("leafrunt.box", "INFO") as logged:
-            self.keeper._look(time.monotonic() + 0.01)
+            self.keeper._look(now + 0.01)
         self.assertIn("eth2: 3.3.3.3 Full -> ExStart", logged.output[0])
         self.assertEqual(self.kernel.forwards(), {"172.16.2.0/24": ["10.0.1.2"]})
 
