@@ -125,7 +125,7 @@ are_joined =
 
 -- nothing is announced
 silent : (place : ℕ) → IsAnnouncedAt differing address place → ⊥
-silent place x = none place x.forwarder x.stands _ x.announces.lsa x.announces.its
+silent place x = none place x.forwarder x.stands _ x.announces.tells.lsa x.announces.tells.its
   where
     none : (k : ℕ) (f : Forwarder) → slice_get (left ∷ it ∷ []) k ≡ Some f → (key : Key) (lsa : ExternalLsa) → Says (says_of f.router) key (body.External lsa) → ⊥
     none = two_places (λ k f. (key : Key) (lsa : ExternalLsa) → Says (says_of f.router) key (body.External lsa) → ⊥) left it (no_external row refl) (no_external anew refl)

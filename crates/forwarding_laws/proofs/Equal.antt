@@ -178,8 +178,8 @@ are_joined =
 -- nothing is announced
 silent : (place : ℕ) → IsAnnouncedAt with_equal_addresses address place → ⊥
 silent place x =
-    let P : Said → Type 0 = λ s. Says s (record { ls_type = 5; link_state_id = x.announces.id; advertising_router = x.forwarder.router.id }) (body.External x.announces.lsa) in
-    no_external equal refl _ x.announces.lsa (subst P (all_say place x.forwarder x.stands) x.announces.its)
+    let P : Said → Type 0 = λ s. Says s (record { ls_type = 5; link_state_id = x.announces.tells.id; advertising_router = x.forwarder.router.id }) (body.External x.announces.tells.lsa) in
+    no_external equal refl _ x.announces.tells.lsa (subst P (all_say place x.forwarder x.stands) x.announces.tells.its)
 
 pub equal_addresses : EqualAddressesMayLoop
 equal_addresses = record {

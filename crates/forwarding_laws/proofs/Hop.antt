@@ -6,7 +6,9 @@ use Rattle.std.proofs.lemmas.Option.{slice_get_read}
 use Rattle.words.specs.Interfaces.{has_interface}
 use Rattle.words.specs.Prefixes.{IsUnder, Network}
 use Rattle.words.specs.declared.route.Route.{Route}
-use Rattle.words.specs.declared.route.RouteKind.TheVariants.{Intra}
+use Rattle.words.specs.declared.route.ExternalType.{ExternalType}
+use Rattle.words.specs.declared.route.ExternalType.TheVariants.{Type1, Type2}
+use Rattle.words.specs.declared.route.RouteKind.TheVariants.{Inter, Intra}
 use Rattle.lsa.specs.declared.body.Body.TheVariants as body
 use Rattle.lsa.specs.declared.body.ExternalLsa.{ExternalLsa}
 use Rattle.lsa.specs.declared.body.Link.{Link as RouterLink}
@@ -17,7 +19,7 @@ use Rattle.routes.proofs.Determined.{same_kind}
 use Rattle.routes.specs.Candidates.{IsBest, IsCandidate, Offers, OffersExternal, external_offer}
 use Rattle.routes.specs.Candidates.Offers.{Between, External, Within}
 use Rattle.routes.specs.Links.{Counts, Leads, LeadsTo, Says}
-use Rattle.routes.specs.Offers.{OffersWithin, ReachesBoundaryRouter}
+use Rattle.routes.specs.Offers.{IsPrefix, OffersWithin, ReachesBoundaryRouter}
 use Rattle.routes.specs.Paths.{IsLeastWalk, IsWalk, IsWay, Step, Way, price_of}
 use Rattle.routes.specs.Routes.{IsForwarded, IsRouteAmong, rank}
 use Rattle.routes.specs.Said.{Said}
@@ -39,19 +41,26 @@ use Rattle.forwarding_laws.specs.Premises.{OwnRouterLsasMeetThePremises}
 use Rattle.forwarding_laws.specs.Networks.{EachHopLeadsOn, IsAttached, LeadsOn}
 use Rattle.forwarding_laws.specs.Networks.IsAttached.{ToForwardingAddress, ToNetwork}
 use Rattle.forwarding_laws.specs.Networks.LeadsOn.{AtHome, Further, ToAnnouncer}
-use Rattle.forwarding_laws.specs.Topologies.{Announces, Forwarder, HasConverged, IsAnnouncedAt, StandsAt, Topology, root_of, says_of}
+use Rattle.forwarding_laws.specs.Topologies.{Announces, ComesBefore, Forwarder, HasConverged, IsAnnouncedAt, StandsAt, TellsOf, Topology, root_of, says_of}
+use Rattle.forwarding_laws.proofs.Longest.{same_prefix}
 use Rattle.forwarding_laws.proofs.Members.{IsMember, addresses, is_inside, member, names, none_between, same_says}
 use Rattle.forwarding_laws.proofs.Inside.{LongestInside, from_candidate, is_intra, longest_inside, to_candidate, within_or_not}
 
 prefix_of : (said : Said) (root : Root) (o : Offer) (x : OffersExternal said root o) → o.prefix ≡ x.prefix
 prefix_of said root o x = ap (λ (y : Offer). y.prefix) x.is ∙ external_prefix x.lsa.kind x.prefix x.lsa x.originator x.way
 
--- the router that an external LSA comes from announces each address of its destination
-announced_by : (said : Said) (root : Root) (o : Offer) (x : OffersExternal said root o) (router address : ℕ) → x.originator ≡ router → IsUnder address o.prefix → Announces said router address
-announced_by said root o x router address e under =
+-- the router that an external LSA comes from tells of its destination
+tells_of : (said : Said) (root : Root) (o : Offer) (x : OffersExternal said root o) (router address : ℕ)
+    → x.originator ≡ router → IsUnder address o.prefix → TellsOf said router address o.prefix
+tells_of said root o x router address e under =
     let S : ℕ → Type 0 = λ r. Says said (record { ls_type = 5; link_state_id = x.id; advertising_router = r }) (body.External x.lsa) in
-    let U : Network → Type 0 = λ n. IsUnder address n in
-    record { id = x.id; lsa = x.lsa; its = subst S e x.its; prefix = x.prefix; is_prefix = x.is_prefix; under = subst U (prefix_of said root o x) under }
+    let P : Network → Type 0 = λ n. IsPrefix x.id x.lsa.mask n in
+    record { id = x.id; lsa = x.lsa; its = subst S e x.its; is_prefix = subst P (sym (prefix_of said root o x)) x.is_prefix; under = under }
+
+-- an external destination is of another kind than one between areas
+external_not_inter : (kind : ExternalType) (prefix : Network) (lsa : ExternalLsa) (by : ℕ) (way : Way) → (external_offer kind prefix lsa by way).kind ≡ Inter → ⊥
+external_not_inter Type1 prefix lsa by way e = cc
+external_not_inter Type2 prefix lsa by way e = cc
 
 module _ (topology : Topology) (converged : HasConverged topology) (premises : OwnRouterLsasMeetThePremises) (every : EveryOfferHasACandidate) (cheapest : CandidatesAreCheapestWalks) where
   -- ---- back: where a link leads to a router, each of its networks is known at this end too
@@ -160,21 +169,40 @@ module _ (topology : Topology) (converged : HasConverged topology) (premises : O
               none (known.0, known.1, known.2 ∙ external_prefix x.lsa.kind x.prefix x.lsa x.originator there.way ∙ sym (prefix_of (says_of a.router) (root_of b.router) o x))))
         ]
 
-    here : (address : ℕ) → (Announces (says_of a.router) a.router.id address → ⊥) → (o : Offer) → Offers (says_of a.router) (root_of b.router) o → IsUnder address o.prefix → HasRoute a.table o.prefix
-    here address silent o (Within x) under = let h = within_here o x in (h.route, h.among, h.is_for)
-    here address silent o (Between x) under = absurd (none_between topology converged premises place other a b p q o x)
-    here address silent o (External x) under =
+    here : (address : ℕ) (o : Offer) → (TellsOf (says_of a.router) a.router.id address o.prefix → ⊥) → Offers (says_of a.router) (root_of b.router) o → IsUnder address o.prefix → HasRoute a.table o.prefix
+    here address o silent (Within x) under = let h = within_here o x in (h.route, h.among, h.is_for)
+    here address o silent (Between x) under = absurd (none_between topology converged premises place other a b p q o x)
+    here address o silent (External x) under =
         elim (cases_eq x.originator a.router.id) [
-          | inl e ↦ absurd (silent (announced_by (says_of a.router) (root_of b.router) o x a.router.id address e under))
+          | inl e ↦ absurd (silent (tells_of (says_of a.router) (root_of b.router) o x a.router.id address e under))
           | inr another ↦ external_here o x another
         ]
 
-    pub known_here : (address : ℕ) → (Announces (says_of a.router) a.router.id address → ⊥) → (r : Route) → Contains b.table r → IsUnder address r.prefix → HasRoute a.table r.prefix
-    known_here address silent r t under =
+    known_here : (address : ℕ) (r : Route) → (TellsOf (says_of a.router) a.router.id address r.prefix → ⊥) → Contains b.table r → IsUnder address r.prefix → HasRoute a.table r.prefix
+    known_here address r silent t under =
         let k : IsCandidate (says_of a.router) (root_of b.router) r = ((member topology converged premises place other a b p q).candidates.each r).0 t in
         let U : Network → Type 0 = λ n. IsUnder address n in
-        let h = here address silent k.first k.is_best.offered (subst U (sym k.is_best.is_for) under) in
+        let T : Network → Type 0 = λ n. TellsOf (says_of a.router) a.router.id address n → ⊥ in
+        let h = here address k.first (subst T (sym k.is_best.is_for) silent) k.is_best.offered (subst U (sym k.is_best.is_for) under) in
         (h.0, h.1, h.2 ∙ k.is_best.is_for)
+
+    -- the other router has no route of a longer prefix, unless this one announces the address
+    pub no_longer : (address : ℕ) (r : Route) → IsLongest a.table address r → (Announces a address → ⊥) → (route : Route) → Contains b.table route → IsUnder address route.prefix
+        → route.prefix.length ≤ r.prefix.length
+    no_longer address r longest silent route t under =
+        elim (cases_lt r.prefix.length route.prefix.length) [
+          | inr low ↦ omega (arith, low)
+          | inl less ↦
+              let U : Network → Type 0 = λ n. IsUnder address n in
+              let unheard : TellsOf (says_of a.router) a.router.id address route.prefix → ⊥ = λ tells. silent (record {
+                prefix = route.prefix;
+                tells = tells;
+                before = λ (own : Route) (its : IsLongest a.table address own). inl (let low : own.prefix.length ≤ r.prefix.length = longest.longest own its.among its.under in omega (arith, low, less));
+              }) in
+              let h = known_here address route unheard t under in
+              let low : h.0.prefix.length ≤ r.prefix.length = longest.longest h.0 h.1 (subst U (sym h.2) under) in
+              omega (arith, low, ap (λ (m : Network). m.length) h.2)
+        ]
 
   -- ---- forth
 
@@ -356,18 +384,68 @@ module _ (topology : Topology) (converged : HasConverged topology) (premises : O
             beats = external_beats s.x.lsa.kind s.x.prefix s.x.lsa s.x.originator near far less;
           })))
 
-    external_forth : (place : ℕ) (a : Forwarder) → StandsAt topology place a → (address : ℕ) (r : Route) → Contains a.table r → IsUnder address r.prefix → (i : ℕ) → 0 < i → (n : IsNext place a i) → (o : Offer)
-        → IsBest (says_of a.router) (root_of a.router) r.prefix o → IsTrue (has_interface o.hops i) → IsSent place a o → Forth address r n.other n.next
-    external_forth place a p address r t under i away n o best is_hop s =
-        let k = candidate place a p r t in
+    -- the next router announces the destination of an external route
+    announced_next : (place : ℕ) (a : Forwarder) (p : StandsAt topology place a) (address : ℕ) (r : Route) → IsLongest a.table address r → (Announces a address → ⊥) → (i : ℕ) (n : IsNext place a i) (o : Offer)
+        → IsBest (says_of a.router) (root_of a.router) r.prefix o → (rank o.kind ≡ 0 → ⊥) → (s : IsSent place a o) → n.next.router.id ≡ s.x.originator → IsAnnouncedAt topology address n.other
+    announced_next place a p address r longest silent i n o best far s e =
+        record { forwarder = n.next; stands = n.stands; announces = record { prefix = o.prefix; tells = its_tells; before = before } }
+      where
+        its_said : Said
+        its_said = says_of a.router
+
+        U : Network → Type 0
+        U m = IsUnder address m
+
+        its_tells : TellsOf (says_of n.next.router) n.next.router.id address o.prefix
+        its_tells =
+            let T : Said → Type 0 = λ d. TellsOf d n.next.router.id address o.prefix in
+            subst T (same_says topology converged premises place n.other a n.next p n.stands) (tells_of its_said (root_of a.router) o s.x n.next.router.id address (sym e) (subst U (sym best.is_for) longest.under))
+
+        none_there : (x : Offer) → OffersBetween its_said (root_of n.next.router) x → ⊥
+        none_there = none_between topology converged premises place n.other a n.next p n.stands
+
+        among_theirs : (route : Route) → Contains n.next.table route → IsCandidate its_said (root_of n.next.router) route
+        among_theirs route t = ((member topology converged premises place n.other a n.next p n.stands).candidates.each route).0 t
+
+        -- a route within the area would be known here too
+        not_within : (route : Route) → Contains n.next.table route → route.prefix ≡ r.prefix → route.kind ≡ Intra → ⊥
+        not_within route t same intra =
+            let h = inside_here place n.other a n.next p n.stands n.price i n.link route (from_candidate its_said (root_of n.next.router) none_there route (among_theirs route t) intra) in
+            let B : Network → Type 0 = λ m. IsBest its_said (root_of a.router) m o in
+            let here : IsBest its_said (root_of a.router) h.route.prefix o = subst B (sym (h.is_for ∙ same)) best in
+            far (sym (candidate_is_as_good its_said (root_of a.router) h.route o (candidate place a p h.route h.among) here).kind ∙ ap rank h.intra)
+
+        not_between : (route : Route) → Contains n.next.table route → route.kind ≡ Inter → ⊥
+        not_between route t inter = by_offer k.is_best.offered
+          where
+            k : IsCandidate its_said (root_of n.next.router) route
+            k = among_theirs route t
+
+            by_offer : Offers its_said (root_of n.next.router) k.first → ⊥
+            by_offer (Within x) = (let both : Intra ≡ Inter = sym (ap (λ (y : Offer). y.kind) x.is) ∙ sym k.kind ∙ inter in cc)
+            by_offer (Between x) = none_there k.first x
+            by_offer (External x) = external_not_inter x.lsa.kind x.prefix x.lsa x.originator x.way (sym (ap (λ (y : Offer). y.kind) x.is) ∙ sym k.kind ∙ inter)
+
+        before : (route : Route) → IsLongest n.next.table address route → ComesBefore o.prefix route
+        before route its =
+            let low : route.prefix.length ≤ r.prefix.length = no_longer place n.other a n.next p n.stands n.price i n.link address r longest silent route its.among its.under in
+            let size : o.prefix.length ≡ r.prefix.length = ap (λ (m : Network). m.length) best.is_for in
+            elim (cases_lt route.prefix.length o.prefix.length) [
+              | inl less ↦ inl less
+              | inr least ↦
+                  let long : route.prefix.length ≡ r.prefix.length = omega (arith, least, low, size) in
+                  let same : route.prefix ≡ r.prefix = same_prefix address route.prefix r.prefix its.under longest.under long in
+                  inr (long ∙ sym size, not_within route its.among same, not_between route its.among)
+            ]
+
+    external_forth : (place : ℕ) (a : Forwarder) → StandsAt topology place a → (address : ℕ) (r : Route) → IsLongest a.table address r → (Announces a address → ⊥) → (i : ℕ) → 0 < i → (n : IsNext place a i) → (o : Offer)
+        → IsBest (says_of a.router) (root_of a.router) r.prefix o → (rank o.kind ≡ 0 → ⊥) → IsTrue (has_interface o.hops i) → IsSent place a o → Forth address r n.other n.next
+    external_forth place a p address r longest silent i away n o best far is_hop s =
+        let k = candidate place a p r longest.among in
         let own = names topology converged premises place n.other a n.next p n.stands in
         let its = (member topology converged premises place n.other a n.next p n.stands).candidates in
         elim (cases_eq n.next.router.id s.x.originator) [
-          | inl e ↦
-              let U : Network → Type 0 = λ m. IsUnder address m in
-              let told = announced_by (says_of a.router) (root_of a.router) o s.x n.next.router.id address (sym e) (subst U (sym best.is_for) under) in
-              let A : Said → Type 0 = λ d. Announces d n.next.router.id address in
-              Announcing (record { forwarder = n.next; stands = n.stands; announces = subst A (same_says topology converged premises place n.other a n.next p n.stands) told })
+          | inl e ↦ Announcing (announced_next place a p address r longest silent i n o best far s e)
           | inr other ↦
               elim (cases_eq s.x.lsa.forwarding 0) [
                 | inl direct ↦
@@ -381,14 +459,15 @@ module _ (topology : Topology) (converged : HasConverged topology) (premises : O
               ]
         ]
 
-    forth : (place : ℕ) (a : Forwarder) → StandsAt topology place a → (address : ℕ) (r : Route) → Contains a.table r → IsUnder address r.prefix → (i : ℕ) → 0 < i → IsTrue (has_interface r.hops i) → (n : IsNext place a i)
-        → Forth address r n.other n.next
-    forth place a p address r t under i away is_hop n =
+    forth : (place : ℕ) (a : Forwarder) → StandsAt topology place a → (address : ℕ) (r : Route) → IsLongest a.table address r → (Announces a address → ⊥) → (i : ℕ) → 0 < i → IsTrue (has_interface r.hops i)
+        → (n : IsNext place a i) → Forth address r n.other n.next
+    forth place a p address r longest silent i away is_hop n =
         elim (within_or_not r.kind) [
-          | inl intra ↦ within_forth place a p address r t intra i away is_hop n
+          | inl intra ↦ within_forth place a p address r longest.among intra i away is_hop n
           | inr other ↦
-              let o = ((candidate place a p r t).hops i).0 is_hop in
-              external_forth place a p address r t under i away n o.0 o.1 o.2 (sent place a p o.0 o.1.offered (outside place a p r t other o.0 o.1))
+              let o = ((candidate place a p r longest.among).hops i).0 is_hop in
+              let far = outside place a p r longest.among other o.0 o.1 in
+              external_forth place a p address r longest silent i away n o.0 o.1 far o.2 (sent place a p o.0 o.1.offered far)
         ]
 
     -- ---- the next hop 0
@@ -468,7 +547,7 @@ module _ (topology : Topology) (converged : HasConverged topology) (premises : O
               AtHome itself (at_home place a p r longest.among (subst P itself is_hop))
           | inl away ↦
               let n = next_by place a p r longest.among i away is_hop in
-              on n (forth place a p address r longest.among longest.under i away is_hop n)
+              on n (forth place a p address r longest (λ x. silent (record { forwarder = a; stands = p; announces = x })) i away is_hop n)
         ]
       where
         is_longest : (n : IsNext place a i) → (f : Route) → Contains n.next.table f → f.prefix ≡ r.prefix → IsLongest n.next.table address f
@@ -478,9 +557,8 @@ module _ (topology : Topology) (converged : HasConverged topology) (premises : O
               among = t;
               under = subst U (sym same) longest.under;
               longest = λ other its under.
-                  let h = known_here place n.other a n.next p n.stands n.price i n.link address (λ x. silent (record { forwarder = a; stands = p; announces = x })) other its under in
-                  let low : h.0.prefix.length ≤ r.prefix.length = longest.longest h.0 h.1 (subst U (sym h.2) under) in
-                  omega (arith, low, ap (λ (m : Network). m.length) h.2, ap (λ (m : Network). m.length) same);
+                  let low : other.prefix.length ≤ r.prefix.length = no_longer place n.other a n.next p n.stands n.price i n.link address r longest (λ x. silent (record { forwarder = a; stands = p; announces = x })) other its under in
+                  omega (arith, low, ap (λ (m : Network). m.length) same);
             }
 
         on : (n : IsNext place a i) → Forth address r n.other n.next → LeadsOn topology address place a r i

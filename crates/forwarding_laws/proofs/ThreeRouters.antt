@@ -393,8 +393,8 @@ narrow_longest a b c d e f = record {
 
 silent_row : (across : ℕ → ℕ → Option ℕ) (place : ℕ) → IsAnnouncedAt (record { routers = left ∷ middle ∷ right ∷ []; across = across }) address place → ⊥
 silent_row across place x =
-    let P : Said → Type 0 = λ s. Says s (record { ls_type = 5; link_state_id = x.announces.id; advertising_router = x.forwarder.router.id }) (body.External x.announces.lsa) in
-    no_external row refl _ x.announces.lsa (subst P (says_row place x.forwarder x.stands) x.announces.its)
+    let P : Said → Type 0 = λ s. Says s (record { ls_type = 5; link_state_id = x.announces.tells.id; advertising_router = x.forwarder.router.id }) (body.External x.announces.tells.lsa) in
+    no_external row refl _ x.announces.tells.lsa (subst P (says_row place x.forwarder x.stands) x.announces.tells.its)
 
 left_to_1 : (across : ℕ → ℕ → Option ℕ) → across 0 1 ≡ Some 1 → HandsTo (record { routers = left ∷ middle ∷ right ∷ []; across = across }) address 0 1
 left_to_1 across e = record { forwarder = left; stands = refl; route = narrow 15 2; longest = narrow_longest 10 2 5 1 15 2; interface = 1; away = omega arith; is_hop = refl; is_across = e }

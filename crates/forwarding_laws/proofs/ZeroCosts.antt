@@ -71,7 +71,7 @@ is_row = record { stubs = refl; networks = refl; summaries = refl; left_links = 
 
 -- ---- lists and networks
 
-each_of : {X : Type 0} (P : X → Type 0) (xs : List X) → AllByRecursion P xs → (x : X) → Contains xs x → P x
+pub each_of : {X : Type 0} (P : X → Type 0) (xs : List X) → AllByRecursion P xs → (x : X) → Contains xs x → P x
 each_of P [] all x t = absurd (of_empty x t)
 each_of P (y ∷ ys) all x t =
     elim (of_cons y ys x t) [
@@ -392,9 +392,9 @@ abroad_longest = record {
 -- only the right router announces anything
 not_announced : (place : ℕ) → place ≢ 2 → IsAnnouncedAt with_zero_cost address_abroad place → ⊥
 not_announced place other x =
-    three_places (λ at f. at ≢ 2 → Announces (says_of f.router) f.router.id address_abroad → ⊥) zero_left zero_middle zero_right
-    (λ _ a. let e : left_id ≡ right_id = ap (λ (k : Key). k.advertising_router) (the_one _ a.lsa a.its).0 in omega (arith, e))
-    (λ _ a. let e : middle_id ≡ right_id = ap (λ (k : Key). k.advertising_router) (the_one _ a.lsa a.its).0 in omega (arith, e))
+    three_places (λ at f. at ≢ 2 → Announces f address_abroad → ⊥) zero_left zero_middle zero_right
+    (λ _ a. let e : left_id ≡ right_id = ap (λ (k : Key). k.advertising_router) (the_one _ a.tells.lsa a.tells.its).0 in omega (arith, e))
+    (λ _ a. let e : middle_id ≡ right_id = ap (λ (k : Key). k.advertising_router) (the_one _ a.tells.lsa a.tells.its).0 in omega (arith, e))
     (λ same. absurd (same refl)) place x.forwarder x.stands other x.announces
 
 no_route : (f : Forwarder) → slice_get the_routers 0 ≡ Some f → (route : Route) → IsLongest f.table address_abroad route → ⊥

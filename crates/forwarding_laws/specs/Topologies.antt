@@ -1,11 +1,12 @@
 -- Routers that run, the links between them, and how they forward packets by their routing tables
 -- (RFC 2328, section 11). What the laws of forwarding take for granted of them.
-use Rattle.std.specs.Prelude.{◌≡◌, ℕ, ◌<◌, IsTrue, List, [], ◌∷◌, Option, Some, slice_get}
+use Rattle.std.specs.Prelude.{◌≡◌, ◌≢◌, ◌⊎◌, ℕ, ◌<◌, IsTrue, List, [], ◌∷◌, Option, Some, slice_get}
 use Rattle.words.specs.Interfaces.{has_interface}
 use Rattle.words.specs.Numbers.{InterfaceNumber, RouterNumber}
 use Rattle.words.specs.Prefixes.{IsUnder, Network}
 use Rattle.words.specs.declared.key.Key.{Key}
 use Rattle.words.specs.declared.route.Route.{Route}
+use Rattle.words.specs.declared.route.RouteKind.TheVariants.{Inter, Intra}
 use Rattle.lsa.specs.declared.body.Body.TheVariants as body
 use Rattle.lsa.specs.declared.body.ExternalLsa.{ExternalLsa}
 use Rattle.adjacency.specs.Neighbors.{Neighbor, is_full}
@@ -119,20 +120,35 @@ pub record HandsTo (topology : Topology) (address : ℕ) (from to : ℕ) : Type 
   pub is_hop : IsTrue (has_interface route.hops interface)
   pub is_across : topology.across from interface ≡ Some to
 
--- an external LSA of the router's own tells of a destination that the address lies in
-pub record Announces (said : Said) (router : RouterNumber) (address : ℕ) : Type 0 where
-  pub id : ℕ
-  pub lsa : ExternalLsa
-  pub its : Says said (external_key id router) (body.External lsa)
+-- an external LSA of the router's own tells of this destination, and the address lies in it
+pub record TellsOf (said : Said) (router : RouterNumber) (address : ℕ) (prefix : Network) : Type 0
+  where
+    pub id : ℕ
+    pub lsa : ExternalLsa
+    pub its : Says said (external_key id router) (body.External lsa)
+    pub is_prefix : IsPrefix id lsa.mask prefix
+    pub under : IsUnder address prefix
+
+-- what a router announces comes before its route: it is of a longer prefix, or of as long a one
+-- that the route leads to outside of the autonomous system
+abbrev pub ComesBefore : Network → Route → Type 0
+ComesBefore prefix route =
+    (route.prefix.length < prefix.length)
+    ⊎ ((route.prefix.length ≡ prefix.length) × (route.kind ≢ Intra) × (route.kind ≢ Inter))
+
+-- The router announces the address, and forwards no packet to it by a better route of its own. So
+-- one that announces a default route is no end for packets that it has a longer route for.
+pub record Announces (forwarder : Forwarder) (address : ℕ) : Type 0 where
   pub prefix : Network
-  pub is_prefix : IsPrefix id lsa.mask prefix
-  pub under : IsUnder address prefix
+  pub tells : TellsOf (says_of forwarder.router) forwarder.router.id address prefix
+  pub before : (route : Route) → IsLongest forwarder.table address route
+      → ComesBefore prefix route
 
 -- the router at this place announces the address itself
 pub record IsAnnouncedAt (topology : Topology) (address place : ℕ) : Type 0 where
   pub forwarder : Forwarder
   pub stands : StandsAt topology place forwarder
-  pub announces : Announces (says_of forwarder.router) forwarder.router.id address
+  pub announces : Announces forwarder address
 
 -- Each router but the last hands the packet to the one after it, and doesn't announce the address
 -- itself.

@@ -1,5 +1,5 @@
 -- Worked topologies (RFC 2328, sections 11, 16.1 and 16.4): three routers in a row, along which a
--- packet is handed on; three ways in which packets do come back: where two databases differ, where
+-- packet is handed on, also past a default route; three ways in which packets do come back: where two databases differ, where
 -- a link leads elsewhere than the routers know, and where interfaces of a router have one address;
 -- and one in which a packet is lost: where an interface costs 0.
 use Rattle.std.specs.Prelude.{◌≢◌, ℕ, ◌&&◌, Bool, List, [], ◌∷◌, Option, Some, None, map, nat_eq}
@@ -27,7 +27,7 @@ use Rattle.forwarding_laws.specs.Networks.{IsThere}
 use Rattle.forwarding_laws.specs.Topologies.{AreJoined, AreUpToDate, Forwarder, HandsTo}
 use Rattle.forwarding_laws.specs.Topologies.{HasConverged}
 use Rattle.forwarding_laws.specs.Topologies.{IsCurrentForwarder, IsHandedAlong, IsUpToDate}
-use Rattle.forwarding_laws.specs.Topologies.{SayTheSame, StandsAt, Topology}
+use Rattle.forwarding_laws.specs.Topologies.{SayTheSame, StandsAt, TellsOf, Topology, says_of}
 
 -- ---- three routers in a row, on links of cost 5; the interface of the left one lies in
 -- 192.0.2.0/23, that of the right one in 192.0.2.0/24, and both of the middle one in 10.0.0.0/24
@@ -161,6 +161,51 @@ pub record WorkedTopology : Type 0 where
   pub converged : HasConverged in_a_row
   pub handed_along : IsHandedAlong in_a_row address (0 ∷ 1 ∷ 2 ∷ [])
   pub is_there : IsThere in_a_row address 2
+
+-- ---- the same routers, where the middle one announces a default route of metric 20
+
+abbrev pub default_prefix : Network
+default_prefix = record { address = 0; length = 0 }
+
+abbrev pub default_lsa : ExternalLsa
+default_lsa = record (external Type1 20 0 0) { mask = 0 }
+
+abbrev pub with_default_lsa : Entries
+with_default_lsa =
+    its_copy left_id left_links ∷ its_copy middle_id middle_links ∷ its_copy right_id right_links
+    ∷ of_external 0 middle_id default_lsa ∷ []
+
+-- by the middle router, at the other end of interface 1
+abbrev pub default_route : Route
+default_route = record {
+  prefix = default_prefix;
+  kind = External1;
+  cost = 25;
+  distance = 0;
+  hops = 2;
+  tag = 0;
+}
+
+abbrev pub default_left : Forwarder
+default_left = forwarder left_id left_links with_default_lsa (default_route ∷ left_routes)
+
+abbrev pub default_middle : Forwarder
+default_middle = forwarder middle_id middle_links with_default_lsa middle_routes
+
+abbrev pub default_right : Forwarder
+default_right = forwarder right_id right_links with_default_lsa (default_route ∷ right_routes)
+
+abbrev pub around_a_default : Topology
+around_a_default = record {
+  routers = default_left ∷ default_middle ∷ default_right ∷ [];
+  across = across_row 2;
+}
+
+-- The middle router tells of a destination that each address lies in, and yet hands the packet on
+-- by its longer route: so the laws speak of what becomes of it behind that router.
+pub record DefaultRoutesAreNoEnd : Type 0 where
+  pub tells : TellsOf (says_of default_middle.router) middle_id address default_prefix
+  pub handed_along : IsHandedAlong around_a_default address (0 ∷ 1 ∷ 2 ∷ [])
 
 -- ---- the same routers, where the second interface of the middle one is joined to the left one
 

@@ -5,7 +5,7 @@
 //! end.
 ghost use Rattle.forwarding_laws.specs.Networks.{EachHopLeadsOn, PacketsArrive};
 ghost use Rattle.forwarding_laws.specs.Networks.{RoutersForwardWithoutLoops};
-ghost use Rattle.forwarding_laws.specs.WorkedTopologies.{CrossedLinksMayLoop};
+ghost use Rattle.forwarding_laws.specs.WorkedTopologies.{CrossedLinksMayLoop, DefaultRoutesAreNoEnd};
 ghost use Rattle.forwarding_laws.specs.WorkedTopologies.{DifferingDatabasesMayLoop};
 ghost use Rattle.forwarding_laws.specs.WorkedTopologies.{EqualAddressesMayLoop, WorkedTopology};
 ghost use Rattle.forwarding_laws.specs.WorkedTopologies.{ZeroCostsMayLosePackets};
@@ -54,6 +54,12 @@ pub fn packets_arrive()
 /// of both ends is handed along the row to the smaller one.
 pub fn worked_topology()
     ensures { WorkedTopology }
+{}
+
+/// A router that announces a default route is no end for packets that it has a longer route for:
+/// past the middle router of the row, which announces one, a packet is handed along to the end.
+pub fn default_routes_are_no_end()
+    ensures { DefaultRoutesAreNoEnd }
 {}
 
 /// Links that lead elsewhere are outside of the laws: where an interface is joined to another
