@@ -20,6 +20,14 @@ sent_by_some items moment at e old new (Ok x) is h =
     (old, new, subst (λ (m : Moment). Happens old m (occurrence_of e) (items x) new) is h)
 sent_by_some items moment at e old new (Err x) is h = h
 
+pub taken_then : {V E : Type 0} (items : V → List Out) (moment at : Moment) (e : Event) (old new : Router) (r : Result V E)
+    → at ≡ taken_at e moment old.moment
+    → IfOk r (λ outs. Happens old at (occurrence_of e) (items outs) new)
+    → IfOk r (λ outs. Happens old (taken_at e moment old.moment) (occurrence_of e) (items outs) new)
+taken_then items moment at e old new (Ok x) is h =
+    subst (λ (m : Moment). Happens old m (occurrence_of e) (items x) new) is h
+taken_then items moment at e old new (Err x) is h = h
+
 pub offered_by_some : {V E : Type 0} (candidates : V → List Route) (rows : V → List TableRow) (now : Router) (r : Result V E)
     → IfOk r (λ o. IsOffered now (candidates o) (rows o)) → IfOk r (λ o. IsOfferedBySome (candidates o) (rows o))
 offered_by_some candidates rows now (Ok x) h = (now, h)

@@ -7,8 +7,10 @@ ghost use Rattle.words.specs.Prefixes.{Network};
 ghost use Rattle.words.specs.declared.route.Route.{Route as RouteValue};
 ghost use Rattle.words.specs.declared.route.TableRow.{TableRow};
 ghost use Rattle.book.specs.events.declared.model.Out.{Out};
+ghost use Rattle.book.specs.events.Events.{Happens};
 ghost use Rattle.book.specs.events.Routers.{shown_at};
 ghost use Rattle.book.specs.Event.{Event};
+ghost use Rattle.book.specs.Occurrences.{occurrence_of};
 ghost use Rattle.book.specs.Offers.{AreCandidatesNow, IsOffered};
 ghost use Rattle.book.specs.State.{State};
 ghost use Rattle.turns.specs.Turns.{
@@ -98,7 +100,8 @@ fn taken_at(event: &Event, moment: Second, last: Second) -> Second
 }
 
 /// A book takes an event by [`Book::apply_anew`], an installation at the moment of its last event
-/// where this is later.
+/// where this is later. What is sent is what the event makes of its own router, which is then the
+/// one that the event leaves.
 impl<L: Ledger> Taker<L> for Book<L> {
     ghost took = { λ moment e outs. Sends moment e outs };
 
@@ -115,7 +118,19 @@ impl<L: Ledger> Taker<L> for Book<L> {
         mine: &mut Share<L>,
         moment: Second,
         event: Event,
-    ) -> Result<Vec<Out>, BookError> {
+    ) -> Result<Vec<Out>, BookError>
+        requires { 0 < mine.old.parts }
+        ensures now { IfOk result (λ outs. Happens
+            self.old.current (taken_at event moment self.old.current.moment)
+            (occurrence_of event) outs.items self.new.current) }
+        ensures ok { IfOk result (λ outs. Sends moment event outs.items) }
+        ensures share { OnOk result (mine.new.amount ≡ mine.old.amount + 1) }
+        ensures parts { mine.new.parts ≡ mine.old.parts }
+        ensures err { OnErr result (mine.new.amount ≡ mine.old.amount) }
+        ensures clock { IsInstalling event
+            → result ≡ Err (BookError.Core CoreError.ClockBack)
+            → clock_end ≤ max moment self.old.current.moment }
+    {
         let at = taken_at(&event, moment, self.now().moment());
         self.apply_anew(mine, at, event)
     }
