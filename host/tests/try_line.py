@@ -272,7 +272,7 @@ def too_long_lsa(it: Line, looks: Looks) -> None:
     networks = [f"198.{18 + each // 256}.{each % 256}.0/24" for each in range(700)]
     it.bird.stub_networks = networks
     it.bird.configure()
-    said = "with an LSA above 8192 bytes were left out"
+    said = "is withheld: it has 8448 bytes, and at most 8164 are read"
     looks.timed("one of 8,448 bytes is left out, and told", 20, lambda: is_said(it.box, said))
     it.bird.stub_networks = networks[:400]
     it.bird.configure()
