@@ -7,6 +7,7 @@ import os
 import select
 import threading
 import time
+from collections.abc import Callable
 from ipaddress import IPv4Address, IPv4Network
 
 from leafrunt_host.clock import Clock
@@ -21,6 +22,7 @@ from leafrunt_host.status import Kept, Known, neighbors_of, originated
 from leafrunt_host.statuses import Stopped
 
 log = logging.getLogger("leafrunt.box")
+ENDLESS = float("inf")
 EACH = 0.5
 """Seconds between two looks at the neighbors, whose states timers change too."""
 AFTER = (0.02, 0.03, 0.05, 0.1, 0.15, 1.0)
@@ -34,6 +36,23 @@ REST, LONGEST_REST = 5, 0.25
 """After a look that found another table the keeper rests so many times what it took, and so many
 seconds at most."""
 ANNOUNCED_AGAIN = 5
+SECONDS_SHORT = 60.0
+"""After `routerd` has been out of memory for so long the box ends, so that it is started anew."""
+OUT_OF_MEMORY = (
+    "routerd is out of memory: give the machine more, or the box's control group (MemoryMax=), "
+    "its address space (`ulimit -v`)"
+)
+MEANINGS = {
+    "refused 3": "another destination has its address with another prefix length: withdraw that",
+    "refused 4": "the machine's clock was set back: start the box again",
+    "refused 5": "there would be more than 4,096 own destinations, or 16,384 LSAs: withdraw others",
+    "refused 6": OUT_OF_MEMORY,
+    "out of memory": OUT_OF_MEMORY,
+    "refused 7": "it has handled 2^63 events: start the box again",
+    "refused 8": "the programs were being changed at that moment",
+}
+"""What answers of `routerd` mean, and what to do (docs/OPERATING.md, "Refusals")."""
+MOST_TOLD = 10
 MOST_STEPS = 3
 """Steps of the clock that are told of."""
 SECONDS_TO_STOP = 3.0
@@ -105,8 +124,10 @@ class Keeper:
         kernel: KernelTable | None,
         desk: Desk,
         waker: Waker,
+        give_up: Callable[[], None] = lambda: None,
     ) -> None:
         self._known, self._router = known, router
+        self._give_up, self._short_since = give_up, ENDLESS
         self._kernel, self._desk, self._waker = kernel, desk, waker
         self._ending = threading.Event()
         self._thread = threading.Thread(target=self._keep, name="keeper", daemon=True)
@@ -176,13 +197,16 @@ class Keeper:
     def announce(self) -> None:
         """Announces the configured destinations. One that `routerd` can't take now is tried again."""
         self._announced_at = time.monotonic()
-        waiting = []
+        waiting, said = [], []
         for each in self._to_announce:
             answer = self._desk.passed_on(each.line())[0]
             if answer not in ("originated", "withheld"):
                 waiting.append(each)
-                log.warning("%s: %s: it is tried again", each.line(), answer)
-        self._to_announce = waiting
+                meaning = f": {MEANINGS[answer]}" if answer in MEANINGS else ""
+                said.append(f"{each.prefix} isn't announced: {answer}{meaning}")
+        for line in said[:MOST_TOLD] if said != list(self._known.not_announced) else ():
+            log.warning("%s: it is tried again", line)
+        self._to_announce, self._known.not_announced = waiting, tuple(said)
 
     def _look_at_clock(self) -> None:
         step = self._clock.look()
@@ -224,7 +248,13 @@ class Keeper:
         """Brings the table to the kernel; whether it was another than the last one."""
         table = self._router.ask_bytes("table")
         if table is None:
-            raise Stopped("routerd has no memory for its table")
+            now = time.monotonic()
+            self._short_since = min(self._short_since, now)
+            if now - self._short_since >= SECONDS_SHORT:
+                self._short_since = ENDLESS
+                self._give_up()
+            raise Stopped(OUT_OF_MEMORY)
+        self._short_since = ENDLESS
         is_changed = table != self._table
         if is_changed:
             self._table, self._lines = table, table.splitlines()

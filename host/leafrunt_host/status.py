@@ -13,6 +13,7 @@ from leafrunt_host.forwarding import host_warnings
 from leafrunt_host.kernel import Json
 from leafrunt_host.observing import Adjacencies
 
+MOST_TOLD = 4
 SECONDS_TO_LOOK = 10.0
 """After so long a look of the keeper's hangs."""
 NEIGHBOR = re.compile(r"neighbor (\d+) (\S+) (\w+)")
@@ -64,6 +65,8 @@ class Known:
     kept: Kept = field(default_factory=Kept)
     stopped: tuple[str, ...] = ()
     """Interfaces that `routerd` serves no longer."""
+    not_announced: tuple[str, ...] = ()
+    """What `routerd` refused of the configured destinations, and why."""
     steps: tuple[Step, ...] = ()
     """The last steps of the machine's clock."""
     looked: float | None = None
@@ -86,6 +89,9 @@ def warnings_of(configuration: Configuration) -> list[str]:
 def remarks_of(known: Known, now: float) -> list[str]:
     """What is wrong with the box as a whole, beside its interfaces."""
     said = [each for step in known.steps if (each := step.remark(now))]
+    said += known.not_announced[:MOST_TOLD]
+    if len(known.not_announced) > MOST_TOLD:
+        said.append(f"{len(known.not_announced) - MOST_TOLD} more destinations aren't announced")
     if known.looked is not None and now - known.looked > SECONDS_TO_LOOK:
         said.append(
             f"no look at `routerd` and the kernel's table has ended for {now - known.looked:.0f} s: "

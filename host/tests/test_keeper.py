@@ -5,16 +5,28 @@ import threading
 import time
 import unittest
 from dataclasses import dataclass
-from ipaddress import IPv4Address
+from ipaddress import IPv4Address, IPv4Network
 from typing import Any
 from unittest import mock
 
 from leafrunt_host import keeper
+from leafrunt_host.configuration import Announcement
 from leafrunt_host.desk import Desk
 from leafrunt_host.exchange import Side
 from leafrunt_host.forwarding import KernelTable
-from leafrunt_host.keeper import AFTER, AGAIN, LONGEST_REST, REST, SELDOM, Keeper, Pace, Waker
+from leafrunt_host.keeper import (
+    AFTER,
+    AGAIN,
+    LONGEST_REST,
+    REST,
+    SECONDS_SHORT,
+    SELDOM,
+    Keeper,
+    Pace,
+    Waker,
+)
 from leafrunt_host.packets import Packet, PacketType
+from leafrunt_host.status import remarks_of
 from tests.fake_kernel import FakeKernel, FakeNotices
 from tests.test_desk import TWO, interface, known
 
@@ -110,8 +122,10 @@ class StandInRouter:
         self.silence.wait(30)
         return list(self.neighbors)
 
-    def ask_bytes(self, _line: str) -> bytes:
+    def ask_bytes(self, _line: str) -> bytes | None:
         self.asked += 1
+        if self.table is None:
+            return None
         return b"".join(each + b"\n" for each in self.table)
 
 
@@ -182,6 +196,44 @@ class Keeps(unittest.TestCase):
                 with self.assertLogs("leafrunt.box", "WARNING") as logged:
                     self.keeper.stop()
         self.assertIn("the box ends without it", logged.output[0])
+
+    def test_memory_that_is_refused(self) -> None:
+        """Status and log say it, with what to do; where it stays so, the box ends, and systemd
+        starts it again."""
+        ended: list[int] = []
+        self.keeper._give_up = lambda: ended.append(1)
+        self.router.table = None  # type: ignore[assignment]
+        now = time.monotonic()
+        with self.assertLogs("leafrunt.box", "ERROR") as logged:
+            for _ in range(int(SECONDS_SHORT) + 2):
+                now += 1.0
+                with mock.patch("time.monotonic", return_value=now):
+                    self.assertTrue(self.keeper._looked(now))
+        self.assertIn("routerd is out of memory: give the machine more", logged.output[0])
+        self.assertIn("routerd is out of memory", str(self.known.kept.error))
+        self.assertEqual(ended, [1])
+        self.router.table = []
+        ended.clear()
+        for _ in range(200):
+            now += 1.0
+            with mock.patch("time.monotonic", return_value=now):
+                self.keeper._looked(now)
+        self.assertEqual((ended, self.known.kept.error), ([], None))
+
+    def test_destinations_that_are_refused(self) -> None:
+        """In words, with what to do, for as long as they are."""
+        answers = ["refused 5"]
+        self.keeper._desk.passed_on = lambda line: answers  # type: ignore[assignment]
+        one = Announcement(IPv4Network("203.0.113.0/24"), 20, 2, 0)
+        self.keeper._to_announce = [one]
+        with self.assertLogs("leafrunt.box", "WARNING") as logged:
+            self.keeper.announce()
+        words = "203.0.113.0/24 isn't announced: refused 5: there would be more than 4,096 own"
+        self.assertIn(words, logged.output[0])
+        self.assertIn(words, " ".join(remarks_of(self.known, 0.0)))
+        answers[0] = "originated"
+        self.keeper.announce()
+        self.assertNotIn(words, " ".join(remarks_of(self.known, 0.0)))
 
     def wait(self, is_so: Any) -> None:
         until = time.monotonic() + 60
