@@ -36,9 +36,11 @@ NEW_ROUTE, DELETE_ROUTE, GET_ROUTE = 24, 25, 26
 NEW_NEXT_HOP, DELETE_NEXT_HOP, GET_NEXT_HOP = 104, 105, 106
 REQUEST, ACKNOWLEDGE, INTERRUPTED, DUMP = 0x1, 0x4, 0x10, 0x300
 REPLACE, EXCLUSIVE, CREATE, HAS_WORDS = 0x100, 0x200, 0x400, 0x200
-GROUPS = 0x1 | 0x10 | 0x40 | 0x8000_0000
-"""Notices of links, IPv4 addresses, IPv4 routes and next hops."""
-IFLA_IFNAME, IFLA_MTU = 3, 4
+OF_LINKS = 0x1 | 0x10
+"""Notices of links and IPv4 addresses."""
+OF_ALL = OF_LINKS | 0x40 | 0x8000_0000
+"""Those, and notices of IPv4 routes and next hops."""
+IFLA_IFNAME, IFLA_MTU, IFLA_EXT_MASK, SKIP_STATISTICS = 3, 4, 29, 8
 IFA_ADDRESS, IFA_LOCAL, IFA_FLAGS, IFA_F_SECONDARY = 1, 2, 8, 0x1
 RTA_DST, RTA_OIF, RTA_GATEWAY, RTA_PRIORITY = 1, 4, 5, 6
 RTA_MULTIPATH, RTA_TABLE, RTA_NH_ID = 9, 15, 30
@@ -368,7 +370,8 @@ class Kernel:
         self._socket.close()
 
     def links(self) -> list[Link]:
-        return [link_of(each) for each in self._list(GET_LINK, LINK.pack(0, 0, 0, 0, 0))]
+        head = LINK.pack(0, 0, 0, 0, 0) + number(IFLA_EXT_MASK, SKIP_STATISTICS)
+        return [link_of(each) for each in self._list(GET_LINK, head)]
 
     def addresses(self) -> list[Address]:
         bodies = self._list(GET_ADDRESS, ADDRESS.pack(socket.AF_INET, 0, 0, 0, 0))
@@ -509,14 +512,20 @@ OF_KIND = {
 
 
 class Notices:
-    """What others than this port change of links, addresses, and routes and next hops of the
+    """What others than this port change of links and addresses, and of routes and next hops of the
     protocol number."""
 
-    def __init__(self, port: int, protocol: int, one: socket.socket | None = None) -> None:
+    def __init__(
+        self,
+        port: int = 0,
+        protocol: int = 0,
+        one: socket.socket | None = None,
+        groups: int = OF_ALL,
+    ) -> None:
         try:
-            self._socket = one or netlink(GROUPS)
-            self._port = port
-            if one is None:
+            self._socket = one or netlink(groups)
+            self._port = port or -1
+            if one is None and groups != OF_LINKS:
                 attach_filter(self._socket, filter_of_others(port, protocol))
         except OSError as error:
             words = f"no socket for the kernel's notices: {error.strerror}"

@@ -1,0 +1,52 @@
+"""The kernel's interfaces as the bridge follows them: by rtnetlink, asked for where a notice tells
+of a change."""
+from __future__ import annotations
+
+from dataclasses import dataclass
+from ipaddress import IPv4Address
+
+from leafrunt_host.rtnetlink import OF_LINKS, Kernel, News, Notices
+
+
+@dataclass(frozen=True)
+class KernelState:
+    """What the kernel says of an interface: its index, 0 where there is none, whether it has a
+    carrier, its MTU, and its addresses."""
+
+    index: int = 0
+    is_up: bool = False
+    mtu: int = 0
+    addresses: frozenset[IPv4Address] = frozenset()
+
+
+class Interfaces:
+    """The interfaces of the network namespace that this process is in. `CannotAsk` where the kernel
+    can't be asked, and from `states` where it doesn't answer."""
+
+    def __init__(self, kernel: Kernel | None = None, notices: Notices | None = None) -> None:
+        self._kernel = kernel or Kernel()
+        self._notices = notices or Notices(groups=OF_LINKS)
+
+    def fileno(self) -> int:
+        """Of a socket that can be read where something changed."""
+        return self._notices.fileno()
+
+    def is_changed(self) -> bool:
+        """Whether something changed since the last question."""
+        return self._notices.read() != News.NOTHING
+
+    def states(self) -> dict[str, KernelState]:
+        """The interfaces by their names."""
+        addresses: dict[int, set[IPv4Address]] = {}
+        for each in self._kernel.addresses():
+            addresses.setdefault(each.index, set()).add(each.address.ip)
+        return {
+            link.name: KernelState(
+                link.index, link.is_up, link.mtu, frozenset(addresses.get(link.index, ()))
+            )
+            for link in self._kernel.links()
+        }
+
+    def close(self) -> None:
+        self._notices.close()
+        self._kernel.close()
