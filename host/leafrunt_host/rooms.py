@@ -1,7 +1,9 @@
 """Where a running box keeps its files, and that it is the only one of its name."""
 from __future__ import annotations
 
+import errno
 import fcntl
+import logging
 import os
 import shutil
 import socket
@@ -14,12 +16,14 @@ from typing import TextIO
 
 from leafrunt_host.statuses import Status, Stopped
 
+log = logging.getLogger("leafrunt.room")
 RUN = Path("/run/leafrunt")
 STATE = Path("/var/lib/leafrunt")
 CLAIMS = ".claims"
 """In the folder of running boxes: no box has such a name."""
 NAMESPACE = "/proc/self/ns/net"
 LONGEST_HOLDER = 100
+NO_ROOM = (errno.ENOSPC, errno.EDQUOT, errno.EROFS)
 LONGEST_OBJECT = 16 << 20
 LONGEST_SOCKET_PATH = 107
 """unix(7): `sun_path` has 108 bytes with the zero at its end."""
@@ -66,12 +70,10 @@ def locked(path: Path, holder: str) -> tuple[TextIO | None, str]:
         with lock:
             return None, lock.read(LONGEST_HOLDER).strip()
     try:
-        lock.truncate(0)
-        lock.write(holder)
-        lock.flush()
+        os.truncate(lock.fileno(), 0)
+        os.pwrite(lock.fileno(), holder.encode("ascii", "replace"), 0)
     except OSError as error:
-        lock.close()
-        raise Stopped(f"cannot write {path}: {error.strerror}") from error
+        log.warning("%s: locked, but who holds it can't be written: %s", path, error.strerror)
     return lock, holder
 
 
@@ -84,6 +86,8 @@ class Room:
     state: Path
     _lock: TextIO | None = None
     _claims: list[TextIO] = field(default_factory=list)
+    _lent: Path | None = None
+    _has_state: bool = True
 
     @property
     def socket(self) -> Path:
@@ -92,22 +96,43 @@ class Room:
     @property
     def lent(self) -> Path:
         """What `routerd` may read: it's started there. Other users can't pass the folder above."""
-        return self.run / "routerd"
+        return self._lent or self.run / "routerd"
 
     @property
     def configuration(self) -> Path:
         return self.lent / "routerd.conf"
 
+    def kept(self, name: str) -> Path | None:
+        """A file that is kept over a restart; None where there is no folder for it."""
+        return self.state / name if self._has_state else None
+
     def lend(self, name: str, data: bytes) -> Path:
-        """Writes a file for `routerd`, whatever the umask. `OSError` where it can't be written."""
+        """Writes a file for `routerd`: where the run's folder has no room, beside the state.
+        `OSError` where it can't be written there either."""
+        try:
+            return self._lend(name, data)
+        except OSError as error:
+            if self._lent or not self._has_state or error.errno not in NO_ROOM:
+                raise
+            log.warning("%s: no room for %s: %s", self.run, name, error.strerror)
+        shutil.rmtree(self.lent, ignore_errors=True)
+        self._lent = self.state / "routerd"
+        return self._lend(name, data)
+
+    def _lend(self, name: str, data: bytes) -> Path:
         self.lent.mkdir(exist_ok=True)
         self.lent.chmod(0o755)
         path = self.lent / name
         path.unlink(missing_ok=True)
+        self._write(path, data)
+        return path
+
+    @staticmethod
+    def _write(path: Path, data: bytes) -> None:
+        """Whatever the umask."""
         with open(path, "xb") as it:
             os.fchmod(it.fileno(), 0o644)
             it.write(data)
-        return path
 
     @contextmanager
     def lent_object(self, path: str) -> Iterator[str]:
@@ -137,7 +162,13 @@ class Room:
                 Status.REFUSED,
             )
         own_folder(self.run)
-        own_folder(self.state)
+        try:
+            own_folder(self.state)
+        except Stopped as why:
+            if why.status == Status.REFUSED:
+                raise
+            log.warning("%s: sequence numbers aren't kept over a restart", why)
+            self._has_state = False
         self._lock, holder = locked(self.run / "lock", f"{os.getpid()}\n")
         if self._lock is None:
             process = f" (process {holder})" if holder.isdigit() else ""
@@ -166,14 +197,14 @@ class Room:
         """Removes what nobody needs any more, and gives the name back. The state's folder stays,
         for the next start."""
         for claim in self._claims:
-            claim.truncate(0)
+            os.truncate(claim.fileno(), 0)
             claim.close()
         self._claims.clear()
         if self._lock is None:
             return
         self.socket.unlink(missing_ok=True)
         shutil.rmtree(self.lent, ignore_errors=True)
-        self._lock.truncate(0)
+        os.truncate(self._lock.fileno(), 0)
         self._lock.close()
         self._lock = None
 

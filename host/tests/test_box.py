@@ -623,6 +623,42 @@ class Starts(Boxes):
         self.assertEqual(status, 1)
         self.assertIn("is no folder of this user's", log)
 
+    def test_no_room_for_files(self) -> None:
+        """A full /run, which may have room for names and none for bytes: the lock holds without
+        its text, and what `routerd` reads is where the state is."""
+        room = Room("one", self.run_folder / "one", self.state / "one")
+        full = OSError(errno.ENOSPC, os.strerror(errno.ENOSPC))
+        with mock.patch("os.pwrite", side_effect=full), self.assertLogs("leafrunt.room") as told:
+            room.enter()
+            room.claim([f"interface of process {os.getpid()}"])
+        self.assertIn("No space left on device", told.output[0])
+        other = Room("one", self.run_folder / "one", self.state / "one")
+        with self.assertRaisesRegex(Stopped, "the box one runs already: `leafrunt down`"):
+            other.enter()
+
+        def written(path: Path, data: bytes) -> None:
+            if self.run_folder in path.parents:
+                raise full
+            path.write_bytes(data)
+
+        with mock.patch.object(Room, "_write", side_effect=written):
+            with self.assertLogs("leafrunt.room", "WARNING") as told:
+                path = room.lend("routerd.conf", b"router 1.1.1.1\n")
+        self.assertEqual(path.read_bytes(), b"router 1.1.1.1\n")
+        self.assertEqual((path, path.parent), (room.configuration, self.state / "one" / "routerd"))
+        self.assertIn("no room for", told.output[0])
+        room.leave()
+        self.assertFalse(path.parent.exists())
+
+    def test_a_state_folder_that_cannot_be_made(self) -> None:
+        self.state.write_text("no folder\n")
+        room = Room("one", self.run_folder / "one", self.state / "one")
+        with self.assertLogs("leafrunt.room", "WARNING") as told:
+            room.enter()
+        self.assertIsNone(room.kept("numbers"))
+        self.assertIn("sequence numbers aren't kept over a restart", told.output[0])
+        room.leave()
+
     def test_damaged_state(self) -> None:
         """It is told of, and the box starts."""
         (self.state / "one").mkdir(parents=True)
