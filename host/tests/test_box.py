@@ -26,16 +26,19 @@ from leafrunt_host.client import Client
 from leafrunt_host.commands import main
 from leafrunt_host.configuration import read_configuration
 from leafrunt_host.console import completions
-from leafrunt_host.forwarding import Hop
+from leafrunt_host import rtnetlink
+from leafrunt_host.forwarding import Hop, KernelTable
 from leafrunt_host.isolation import Account
 from leafrunt_host.journal import Kept as KeptLog
-from leafrunt_host.keeper import Keeper, Waker
+from leafrunt_host.keeper import SECONDS_TO_STOP, Keeper, Waker
 from leafrunt_host.rooms import Room, running, socket_path
+from leafrunt_host.rtnetlink import Kernel, Notices
 from leafrunt_host.server import MOST_CLIENTS
 from leafrunt_host.status import neighbors_of
 from leafrunt_host.statuses import Status, Stopped
 from leafrunt_host.words import help_lines
 from tests.run_box import KERNEL
+from tests.test_rtnetlink import Answering
 
 HERE = Path(__file__).parent
 LEAFRUNT = HERE.parent / "leafrunt"
@@ -606,6 +609,45 @@ class Starts(Boxes):
                 self.assertEqual(status, 3)
                 self.assertIn(words, log)
                 self.assertEqual(os.listdir(self.run_folder / "one"), ["lock"])
+
+    def test_a_kernel_that_does_not_answer(self) -> None:
+        """`status` and log say so, and the box ends all the same: it waits for no more than one
+        look and one answer."""
+        path = self.folder / "one.toml"
+        path.write_text(TEXT.format("1.1.1.1").replace("kernel = false\n", ""))
+        room = Room("one", self.run_folder / "one", self.state / "one")
+        box = Box(read_configuration(path, KERNEL), room, KeptLog())
+        said: list[str] = []
+
+        def look_and_end() -> None:
+            within(60, lambda: "one" in running(self.run_folder))
+            client = Client(self.run_folder, "one")
+            within(60, lambda: "hasn't answered" in " ".join(client.ask("status")))
+            said.extend(client.ask("status"))
+            client.close()
+            box._ending.set()
+
+        ender = threading.Thread(target=look_and_end, daemon=True)
+        silent = Kernel(89, 89, Answering(lambda data: []))
+        table = KernelTable(silent, Notices(7, 89, Answering(lambda data: [])))
+        self.addCleanup(table.close)
+        handlers = {number: signal.getsignal(number) for number in SIGNALS}
+        try:
+            with mock.patch("leafrunt_host.box.KernelTable", return_value=table):
+                silent._socket.settimeout(0.2)
+                ender.start()
+                with self.assertLogs("leafrunt") as logged:
+                    status = box.run()
+        finally:
+            for number, handler in handlers.items():
+                signal.signal(number, handler)
+            ender.join(60)
+        self.assertIn("the kernel hasn't answered for", " ".join(said))
+        log = "\n".join(logged.output)
+        self.assertIn("the kernel's routes: the kernel hasn't answered", log)
+        self.assertIn("the neighbors were told that this router leaves", log)
+        self.assertEqual((status, ender.is_alive()), (Status.FAILED, False))
+        self.assertLessEqual(rtnetlink.SECONDS + SECONDS_TO_STOP, 9)
 
     def test_a_mistake_starts_nothing(self) -> None:
         status, log = self.ended(self.begin(more="cost = 0\n"))
