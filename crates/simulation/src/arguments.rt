@@ -55,6 +55,38 @@ Statuses:
   3  the output can't be written
   4  memory was refused";
 
+const PLAY_ABOUT: &str =
+    "Plays what happens at one router, line by line, and prints what goes out and what it has";
+
+const PLAY_MORE: &str = "\
+The first line of the script is `interfaces N`: the router 1.1.1.1 begins at 0 with the interfaces
+10.0.1.1/24 to 10.0.N.1/24, of cost 10, HelloInterval 10, RouterDeadInterval 40, RxmtInterval 5 and
+InfTransDelay 1. Each other line is one of these (empty lines and those with # say nothing):
+  MOMENT tick                     time has passed
+  MOMENT packet I HEX             a packet comes in at interface I; - for one without bytes
+  MOMENT announce A.B.C.D/L N     an external destination is announced with metric N of type 2
+  MOMENT withdraw A.B.C.D/L       it is announced no longer
+  MOMENT down I                   the link at interface I is lost
+  MOMENT install all              each candidate for a route is let in
+  MOMENT install nothing          no candidate has an answer
+  neighbors, table                prints them as a router's console does
+  lsas                            prints how many LSAs the database has
+  lsa TYPE ID ROUTER              prints the LSA's bytes, with its age at the last event
+  announced A.B.C.D/L             prints whether the destination is announced
+  candidates, offered             prints how many candidates there are; and how many rows
+  stale, walks                    prints whether candidates are to be asked about; and how many
+                                  walks events made, and this question
+
+Prints `MOMENT sends I HEX` for each packet that goes out, and `MOMENT refused: ` and why for an
+event that is refused.
+
+Statuses:
+  0  each line was played
+  1  a line says nothing: script refusal line N, and nothing else is printed
+  2  the words are wrong
+  3  the file can't be read, or the output can't be written
+  4  memory was refused";
+
 const SCENARIO: &str = "\
 What happens after the start: start (nothing), link (lost with notice), silent (lost without), \
 restart, flap, partition, announce, withdraw or storm (start)";
@@ -228,13 +260,25 @@ fn without_commands<'a>(alloc: Global) -> Command<'a> {
         .arg_required_else_help(true)
 }
 
+// The command that plays a script.
+fn playing<'a>(alloc: Global) -> Result<Command<'a>, AllocError> {
+    let script = Arg::new(alloc, "SCRIPT")
+        .help("The file of the script")
+        .required(true);
+    Command::new(alloc, "play")
+        .about(PLAY_ABOUT)
+        .after_help(PLAY_MORE)
+        .arg(script)
+}
+
 /// The whole command line.
 ///
 /// # Errors
 /// Where memory is refused.
 pub fn whole<'a>(alloc: Global) -> Result<Command<'a>, AllocError> {
     let with_run = with_command(alloc, without_commands(alloc), &RUN)?;
-    with_command(alloc, with_run, &SEARCH)
+    let with_search = with_command(alloc, with_run, &SEARCH)?;
+    with_search.subcommand(playing(alloc)?)
 }
 
 fn error(alloc: Global, kind: ErrorKind, text: &str) -> Result<Error, AllocError>

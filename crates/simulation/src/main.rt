@@ -1,6 +1,6 @@
 //! `simulation`: networks of many routers in memory. It plays scenarios and tells how long they
 //! take to settle and how often packets go round meanwhile, and searches for histories that end
-//! with Full neighbors whose databases differ.
+//! with Full neighbors whose databases differ. It plays what happens at one router from a file, too.
 #![tactic(auto)]
 
 mod arguments;
@@ -8,6 +8,7 @@ mod fault;
 mod json;
 mod names;
 mod page;
+mod play;
 mod program;
 mod reading;
 mod requests;
@@ -22,7 +23,10 @@ fn main(rt: HostRuntime) -> ExitCode {
     let mut output = io::writer(&rt);
     let mut errors = rt.stderr();
     let status = match arguments_of(&rt) {
-        Ok(words) => program::program(rt.alloc(), &rt, &words, &mut output, &mut errors),
+        Ok(words) => match play::script_in(&words) {
+            Some(script) => play::play_file(&rt, script, &mut output),
+            None => program::program(rt.alloc(), &rt, &words, &mut output, &mut errors),
+        },
         Err(error) => program::end_without_words(rt.alloc(), &error, &mut output, &mut errors),
     };
     ExitCode::from(status)

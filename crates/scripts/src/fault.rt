@@ -1,0 +1,50 @@
+//! Why a script isn't played to its end.
+use flood::ConfigError;
+use hooks::HookError;
+use maps::MapsError;
+use std::alloc::{AllocError, AllocFailed};
+use thiserror::Error;
+
+/// Why a script isn't played to its end.
+#[derive(Clone, Copy, Debug, PartialEq, Eq, Error)]
+pub enum ScriptError {
+    /// The line of this number, from 1 on, names nothing that can happen or be shown.
+    #[error("script refusal line {0}")]
+    Line(usize),
+    /// An allocation was refused.
+    #[error("out of memory")]
+    Memory,
+}
+
+impl From<AllocError> for ScriptError {
+    fn from(_error: AllocError) -> ScriptError {
+        ScriptError::Memory
+    }
+}
+
+impl<T: Drop> From<AllocFailed<T>> for ScriptError {
+    fn from(_error: AllocFailed<T>) -> ScriptError {
+        ScriptError::Memory
+    }
+}
+
+impl From<ConfigError> for ScriptError {
+    fn from(error: ConfigError) -> ScriptError {
+        match error {
+            ConfigError::Interface => ScriptError::Line(1),
+            ConfigError::Memory => ScriptError::Memory,
+        }
+    }
+}
+
+impl From<MapsError> for ScriptError {
+    fn from(_error: MapsError) -> ScriptError {
+        ScriptError::Memory
+    }
+}
+
+impl From<HookError> for ScriptError {
+    fn from(_error: HookError) -> ScriptError {
+        ScriptError::Memory
+    }
+}

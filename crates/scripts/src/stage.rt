@@ -1,0 +1,232 @@
+//! The router of a script, played.
+use crate::fault::ScriptError;
+use crate::line::{Happening, Line, Shown, interfaces_of, line_of};
+use crate::operator::Operator;
+use crate::telling::{
+    push_announced, push_answer, push_candidates, push_lsa, push_neighbors, push_offered,
+    push_table,
+};
+use flood::{Config, Core, Event, Interface};
+use hex::FromHexError;
+use std::alloc::{AllocError, Global};
+use std::fmt::Write;
+use std::sync::Wait;
+use words::{Address, External, RouterId, Second, Sequence};
+
+// The router, who answers its questions, how many walks it had made when that was last looked at,
+// and what was printed so far.
+struct Stage<R: Wait + Drop> {
+    alloc: Global,
+    core: Core,
+    operator: Operator<R>,
+    walks: u64,
+    text: String,
+}
+
+// The interface of this number: 10.0.<number>.1/24.
+fn interface(number: u32) -> Interface {
+    Interface {
+        address: Address::new(0x0a00_0001_u32.wrapping_add(number.wrapping_mul(256))),
+        length: 24,
+        cost: 10,
+        hello_interval: 10,
+        dead_interval: 40,
+        retransmit_interval: 5,
+        delay: 1,
+    }
+}
+
+// 1.1.1.1 with so many interfaces, started at 0.
+fn configured(alloc: Global, interfaces: u32) -> Result<Config, AllocError> {
+    let mut taken = Vec::new(alloc);
+    for number in 0..interfaces {
+        taken.push(interface(number.wrapping_add(1)))?;
+    }
+    Ok(Config {
+        router: RouterId::new(0x0101_0101),
+        start: Second::new(0),
+        interfaces: Sequence::from_vec(taken),
+    })
+}
+
+// The bytes of a word; None where it is none.
+fn bytes_of(alloc: Global, digits: &str) -> Result<Option<Vec<u8>>, AllocError> {
+    if digits == "-" {
+        return Ok(Some(Vec::new(alloc)));
+    }
+    match hex::decode(alloc, digits) {
+        Ok(bytes) => Ok(Some(bytes)),
+        Err(FromHexError::OutOfMemory) => Err(AllocError),
+        Err(_) => Ok(None),
+    }
+}
+
+fn packet(alloc: Global, interface: u16, digits: &str) -> Result<Option<Event>, AllocError> {
+    let Some(bytes) = bytes_of(alloc, digits)? else {
+        return Ok(None);
+    };
+    Ok(Some(Event::Packet(interface, Sequence::from_vec(bytes))))
+}
+
+impl<R: Wait + Drop + Copy> Stage<R> {
+    fn new(alloc: Global, rt: R, interfaces: u32) -> Result<Stage<R>, ScriptError> {
+        let operator = Operator::new(alloc, rt)?;
+        let core = Core::new(alloc, &configured(alloc, interfaces)?)?;
+        Ok(Stage {
+            alloc,
+            core,
+            operator,
+            walks: 0,
+            text: String::new(alloc),
+        })
+    }
+}
+
+impl<R: Wait + Drop> Stage<R> {
+    fn announcement(&mut self, moment: Second, external: &External) -> Result<Event, AllocError> {
+        self.operator.announces(moment, external).ok_or(AllocError)
+    }
+
+    // An Install in which each candidate is let in.
+    fn all_let_in(&mut self, moment: Second) -> Result<Event, AllocError> {
+        let routes = self.core.candidates()?;
+        let mut answers = Vec::new(self.alloc);
+        for route in routes.iter() {
+            answers.push(self.operator.lets_in(moment, route).ok_or(AllocError)?)?;
+        }
+        Ok(Event::Install(Sequence::from_vec(answers)))
+    }
+
+    // The event; None where a packet's digits are none.
+    fn event(
+        &mut self,
+        moment: Second,
+        happening: Happening<'_>,
+    ) -> Result<Option<Event>, AllocError> {
+        match happening {
+            Happening::Tick => Ok(Some(Event::Tick)),
+            Happening::Packet(interface, digits) => packet(self.alloc, interface, digits),
+            Happening::Announce(external) => Ok(Some(self.announcement(moment, &external)?)),
+            Happening::Withdraw(prefix) => Ok(Some(Event::Withdraw(prefix))),
+            Happening::Down(interface) => Ok(Some(Event::LinkDown(interface))),
+            Happening::InstallAll => Ok(Some(self.all_let_in(moment)?)),
+            Happening::InstallNothing => {
+                let none = Vec::new(self.alloc);
+                Ok(Some(Event::Install(Sequence::from_vec(none))))
+            }
+        }
+    }
+
+    // Whether it happens: a packet's digits may be none.
+    fn happens(&mut self, moment: Second, happening: Happening<'_>) -> Result<bool, AllocError> {
+        let Some(event) = self.event(moment, happening)? else {
+            return Ok(false);
+        };
+        let answer = self.core.step(moment, &event);
+        push_answer(&mut self.text, moment, &answer)?;
+        Ok(true)
+    }
+
+    fn show_stale(&mut self) -> Result<(), AllocError> {
+        let told = if self.core.stale()? { "yes" } else { "no" };
+        writeln!(self.text, "stale {told}")
+    }
+
+    fn show_walks(&mut self) -> Result<(), AllocError> {
+        let before = self.core.walks();
+        let _stale = self.core.stale()?;
+        let in_events = before.wrapping_sub(self.walks);
+        self.walks = self.core.walks();
+        let now = self.walks.wrapping_sub(before);
+        writeln!(self.text, "walks {in_events} and {now}")
+    }
+
+    fn show(&mut self, shown: Shown) -> Result<(), AllocError> {
+        match shown {
+            Shown::Neighbors => push_neighbors(&mut self.text, self.alloc, &self.core),
+            Shown::Table => push_table(&mut self.text, self.alloc, &self.core),
+            Shown::Candidates => push_candidates(&mut self.text, &self.core),
+            Shown::Offered => push_offered(&mut self.text, &self.core),
+            Shown::Stale => self.show_stale(),
+            Shown::Walks => self.show_walks(),
+            Shown::Lsas => writeln!(self.text, "lsas {}", self.core.database().len()),
+            Shown::Lsa(key) => push_lsa(&mut self.text, self.alloc, &self.core, &key),
+            Shown::Announced(prefix) => push_announced(&mut self.text, &self.core, prefix),
+        }
+    }
+
+    // Whether the line says anything.
+    fn takes(&mut self, line: &str) -> Result<bool, AllocError> {
+        let words: Vec<&str> = line.split(' ').collect(self.alloc)?;
+        match line_of(&words) {
+            Some(Line::Happens(moment, happening)) => self.happens(moment, happening),
+            Some(Line::Shows(shown)) => {
+                self.show(shown)?;
+                Ok(true)
+            }
+            None => Ok(false),
+        }
+    }
+
+    // Plays the lines behind the first; an empty one and a comment say nothing.
+    fn play_lines(&mut self, lines: &[&str]) -> Result<(), ScriptError> {
+        for (index, line) in lines.iter().enumerate() {
+            let is_left_out = line.is_empty() || line.starts_with('#');
+            if !is_left_out && !self.takes(line)? {
+                return Err(ScriptError::Line(index.saturating_add(2)));
+            }
+        }
+        Ok(())
+    }
+
+    // What was printed; the router is let go.
+    fn close(self) -> String {
+        let Stage {
+            alloc: _,
+            core,
+            operator: _,
+            walks: _,
+            text,
+        } = self;
+        core.close();
+        text
+    }
+}
+
+fn play_behind<R: Wait + Drop + Copy>(
+    alloc: Global,
+    rt: R,
+    interfaces: u32,
+    lines: &[&str],
+) -> Result<String, ScriptError> {
+    let mut stage = Stage::new(alloc, rt, interfaces)?;
+    let played = stage.play_lines(lines);
+    let text = stage.close();
+    played?;
+    Ok(text)
+}
+
+/// Plays the script, and answers what is printed.
+///
+/// The first line is `interfaces N`. Each other line lets something happen (`MOMENT tick`, `MOMENT
+/// packet I HEX`, `MOMENT announce P METRIC`, `MOMENT withdraw P`, `MOMENT down I`, `MOMENT install
+/// all`, `MOMENT install nothing`), or shows something (`neighbors`, `table`, `candidates`,
+/// `offered`, `stale`, `walks`, `lsas`, `lsa TYPE ID ROUTER`, `announced P`). What goes out is
+/// printed as `MOMENT sends I HEX`, a refusal as `MOMENT refused: ` and why.
+///
+/// # Errors
+/// `Line` where a line says nothing of this, `Memory` where an allocation was refused.
+pub fn play<R: Wait + Drop + Copy>(
+    alloc: Global,
+    rt: R,
+    script: &str,
+) -> Result<String, ScriptError> {
+    let lines: Vec<&str> = script.split('\n').collect(alloc)?;
+    let Some((first, behind)) = lines.split_first() else {
+        return Err(ScriptError::Line(1));
+    };
+    match interfaces_of(first) {
+        Some(interfaces) => play_behind(alloc, rt, interfaces, behind),
+        None => Err(ScriptError::Line(1)),
+    }
+}
