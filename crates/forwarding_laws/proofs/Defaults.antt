@@ -1,5 +1,5 @@
 -- A packet is handed on past a router that announces a default route, by the longer route that this has.
-use Rattle.std.proofs.Common.{◌≡◌, ◌≢◌, ℕ, ◌<◌, ◌≤◌, inl, inr, [], ◌∷◌, arith, refl, sym, ap, subst}
+use Rattle.std.proofs.Common.{◌≡◌, ◌≢◌, ℕ, ◌<◌, ◌≤◌, inl, inr, [], ◌∷◌, arith, refl, ap, subst}
 use Rattle.words.specs.Prefixes.{Network}
 use Rattle.words.specs.declared.key.Key.{Key}
 use Rattle.words.specs.declared.route.Route.{Route}
@@ -11,6 +11,7 @@ use Rattle.routes.proofs.Prefixes.{one_prefix}
 use Rattle.routes.specs.Links.{Says}
 use Rattle.routes.specs.Offers.{IsPrefix}
 use Rattle.route_laws.proofs.Entries.{is_said, sayings}
+use Rattle.route_laws.proofs.Made.{says}
 use Rattle.forwarding_laws.specs.Topologies.{Announces, ComesBefore, IsAnnouncedAt, external_key}
 use Rattle.forwarding_laws.specs.Topologies.{says_of}
 use Rattle.forwarding_laws.specs.WorkedTopologies.{DefaultRoutesAreNoEnd, address}
@@ -82,7 +83,7 @@ default_routes_are_no_end = record {
   tells = record {
     id = 0;
     lsa = default_lsa;
-    its = refl;
+    its = says with_default_lsa (external_key 0 middle_id) (body.External default_lsa) refl;
     is_prefix = (omega arith, refl, refl);
     under = refl;
   };
