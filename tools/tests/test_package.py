@@ -26,7 +26,7 @@ class TestPackage(unittest.TestCase):
         unit = (TOP / "host/leafrunt@.service").read_text()
         for old, new in package.UNIT.items():
             unit = package.replaced(unit, old, new, "the unit")
-        self.assertIn("\nUser=leafrunt\n", unit)
+        self.assertIn("ExecStart=/usr/bin/leafrunt up /etc/leafrunt/%i.toml\n", unit)
         self.assertNotIn("/usr/local", unit)
 
     def test_the_configuration_names_the_program_that_is_replaced(self) -> None:
