@@ -1,0 +1,52 @@
+"""tools/check-rooms: pages of proofs whose sections aren't the crates of their room are told of."""
+import pathlib
+import runpy
+import unittest
+
+TOP = pathlib.Path(__file__).resolve().parent.parent.parent
+PAGE = """# The crates
+
+## Packets
+
+What is proved: [docs/proofs/packets.md](../docs/proofs/packets.md).
+
+| Crate | What it is for |
+|---|---|
+| `lsa` | LSAs |
+| `packet` | packets |
+
+## Tests
+
+| Crate | What it is for |
+|---|---|
+| `core_tests` | of `flood` |
+"""
+
+
+TOOL = runpy.run_path(str(TOP / "tools/check-rooms"), run_name="check_rooms")
+
+
+class TestCheckRooms(unittest.TestCase):
+    def faults(self, **pages: str) -> list[str]:
+        texts = {f"docs/proofs/{name}.md": text for name, text in pages.items()}
+        return TOOL["proof_faults"](TOOL["rooms_of"](PAGE), TOOL["pages_of"](PAGE), texts)
+
+    def test_a_section_for_each_crate_of_the_room(self) -> None:
+        self.assertEqual(self.faults(packets="# Packets\n\n## lsa\n\n### Open\n\n## packet\n"), [])
+
+    def test_sections_that_differ(self) -> None:
+        for text, told in [
+            ("## lsa\n", "lacks the section '## packet'"),
+            ("## lsa\n## packet\n## words\n", "has a section '## words'"),
+            ("## packet\n## lsa\n", "in another order"),
+        ]:
+            with self.subTest(text):
+                self.assertIn(told, " ".join(self.faults(packets=text)))
+
+    def test_pages_that_differ(self) -> None:
+        self.assertIn("docs/proofs/packets.md isn't there", self.faults())
+        self.assertIn("no room of crates/README.md names docs/proofs/old.md", self.faults(packets="## lsa\n## packet\n", old=""))
+
+
+if __name__ == "__main__":
+    unittest.main()
