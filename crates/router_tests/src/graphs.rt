@@ -9,10 +9,10 @@ use crate::outcomes::none_is_wrong;
 use crate::texts::{LinkText, Name, router};
 use crate::worked::{TWO, TWO_ADDRESSES};
 use area_routes::follow_graph;
+use candidates::AreaGraph;
 use lsa::Lsa;
 use lsdb::Lsdb;
 use routes::{Root, Vertex};
-use candidates::AreaGraph;
 use std::alloc::Global;
 use std::test::Fail;
 
