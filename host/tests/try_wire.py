@@ -17,6 +17,7 @@ from tests.network import (
     Announce,
     Bird,
     Box,
+    CannotTry,
     End,
     Network,
     Secret,
@@ -38,20 +39,22 @@ SENT_EACH = 20
 
 
 class Pair:
-    """1.1.1.1 at 10.0.1.1 and its neighbor 2.2.2.2, by eth1 each; behind the neighbor is a host,
-    10.9.9.9."""
+    """1.1.1.1 at 10.0.1.1 and its neighbor 2.2.2.2, by eth1 each or an interface of that name here;
+    behind the neighbor is a host, 10.9.9.9."""
 
-    def __init__(self, given: Try, is_box: bool = True, keys: tuple[Secret, ...] = ()) -> None:
+    def __init__(
+        self, given: Try, is_box: bool = True, keys: tuple[Secret, ...] = (), name: str = "eth1"
+    ) -> None:
         self.network = network = given.network
         self.own, self.next, self.far = (network.namespace(each) for each in ("own", "next", "far"))
-        self.ends = End(self.own, "eth1", "10.0.1.1/24"), End(self.next, "eth1", "10.0.1.2/24")
+        self.ends = End(self.own, name, "10.0.1.1/24"), End(self.next, "eth1", "10.0.1.2/24")
         network.link(*self.ends)
         network.link(End(self.next, "eth2", "10.9.9.1/24"), End(self.far, "eth1", "10.9.9.9/24"))
         run("ip", "-n", self.far, "route", "add", "default", "via", "10.9.9.1")
         run("ip", "-n", self.own, "route", "add", "10.9.9.9/32", "via", "10.0.1.2")
         side, behind = Side("eth1", keys), Side("eth2", is_passive=True)
         names = (self.own, self.next)
-        sides = ([side], [side, behind])
+        sides = ([Side(name, keys)], [side, behind])
         routers = [
             Box(network, given.routerd, names[at], f"box{at + 1}", ROUTER_IDS[at], sides[at])
             if (at == 0) == is_box
@@ -196,6 +199,26 @@ def comeback(given: Try) -> None:
     renamed; a link that is lost twice within a HelloInterval."""
     anew(given, lambda: come_back(given))
     anew(given, lambda: lost_again(given))
+
+
+def names(given: Try) -> None:
+    """Interfaces of names that the kernel allows and few have: `check` and the kernel's table take
+    each."""
+    for name in ("wan!0", "e,1", "lan~1", "#"):
+        anew(given, lambda: named(given, name))
+
+
+def named(given: Try, name: str) -> None:
+    looks = given.looks
+    try:
+        it = Pair(given, name=name)
+    except CannotTry as why:
+        print(f"     the system takes no interface of the name {name!r}: {why}")
+        return
+    it.start()
+    looks.timed(f"an interface of the name {name!r}: Full", COMES_UP, it.is_up)
+    looks.timed("and the neighbor's route is in the kernel", 10, lambda: EXTERNAL in it.routes())
+    it.stop()
 
 
 def come_back(given: Try) -> None:
