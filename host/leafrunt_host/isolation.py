@@ -42,6 +42,7 @@ ENVIRONMENT = {
 # Numbers of Linux that Python has no names for.
 CLONE_NEWNET = 0x40000000  # <linux/sched.h>
 PR_SET_NO_NEW_PRIVS = 38  # <linux/prctl.h>
+PR_CAP_AMBIENT, PR_CAP_AMBIENT_CLEAR_ALL = 47, 4  # the same
 SIOCSIFFLAGS = 0x8914  # <linux/sockios.h>
 IFF_UP = 0x1  # <linux/if.h>
 
@@ -70,18 +71,23 @@ class Account:
 
 
 def account_of(name: str | None, box: str) -> Account:
-    """The account of a user, by default of `leafrunt`, and where there is none, one of a number
-    that nobody has. `ValueError`, with half a sentence, where the user isn't there, or is root."""
+    """The account of a user, by default of `leafrunt`, and where there is none, or this process
+    runs as that, one of a number that nobody has. `ValueError`, with half a sentence, where the
+    user isn't there, is root, or is this process's own, whose files and keys aren't `routerd`'s."""
     try:
         found = pwd.getpwnam(name or USER)
     except KeyError:
         if name:
             raise ValueError("which the system doesn't have") from None
-        number = free_number(box)
-        return Account(str(number), number, number)
-    if found.pw_uid == 0:
+        found = None
+    if found and found.pw_uid == 0:
         raise ValueError("who may do everything")
-    return Account(found.pw_name, found.pw_uid, found.pw_gid)
+    if found and found.pw_uid != os.geteuid():
+        return Account(found.pw_name, found.pw_uid, found.pw_gid)
+    if name:
+        raise ValueError("whom leafrunt itself runs as")
+    number = free_number(box)
+    return Account(str(number), number, number)
 
 
 def free_number(box: str) -> int:
@@ -114,11 +120,14 @@ def libc_call(name: str, *numbers: int) -> None:
 
 def enter_namespace() -> None:
     """Takes this thread, alone, into a new network namespace (unshare(2)) whose loopback interface
-    is up, and takes the way to new privileges from it and its children (prctl(2))."""
+    is up, and takes the way to privileges from its children (prctl(2)): new ones, and the ambient
+    capabilities of a `leafrunt` that isn't root (capabilities(7)), which a change of the user
+    leaves."""
     libc_call("unshare", CLONE_NEWNET)
     with socket.socket(socket.AF_INET, socket.SOCK_DGRAM) as any_socket:
         fcntl.ioctl(any_socket, SIOCSIFFLAGS, struct.pack("16sH22x", b"lo", IFF_UP))
     libc_call("prctl", PR_SET_NO_NEW_PRIVS, 1, 0, 0, 0)
+    libc_call("prctl", PR_CAP_AMBIENT, PR_CAP_AMBIENT_CLEAR_ALL, 0, 0, 0)
 
 
 class World:

@@ -34,14 +34,16 @@ def socket_path(run: Path, name: str) -> Path:
     return run / name / "socket"
 
 
-def own_folder(path: Path) -> None:
-    """Makes a folder that only its owner may use. One that is there must be like that."""
+def own_folder(path: Path, may_be_anyones: bool = False) -> None:
+    """Makes a folder that only its owner may use. One that is there must be like that, and may be
+    another's only if that's said."""
     try:
         path.mkdir(mode=0o700, parents=True, exist_ok=True)
         status = path.stat(follow_symlinks=False)
     except OSError as error:
         raise Stopped(f"cannot make the folder {path}: {error.strerror}") from error
-    if not stat.S_ISDIR(status.st_mode) or status.st_uid != os.geteuid():
+    is_own = status.st_uid == os.geteuid() or may_be_anyones
+    if not stat.S_ISDIR(status.st_mode) or not is_own:
         raise Stopped(f"{path} is no folder of this user's", Status.REFUSED)
     if status.st_mode & 0o077:
         try:
@@ -181,9 +183,10 @@ class Room:
     def claim(self, names: Iterable[str]) -> None:
         """Claims interfaces and the kernel's table for this box, in this network namespace: two
         boxes that share one would undo each other's work. A claim is a locked file, in a folder
-        that its owner alone may use, so nobody else can claim anything."""
+        that its owner alone may use, so nobody else can claim anything. Root shares that of boxes
+        that run as another."""
         folder = self.run.parent / CLAIMS
-        own_folder(folder)
+        own_folder(folder, may_be_anyones=os.geteuid() == 0)
         namespace = os.stat(NAMESPACE).st_ino
         for name in names:
             path = folder / f"{namespace} {name}"

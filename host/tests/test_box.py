@@ -576,6 +576,10 @@ class Starts(Boxes):
         modes = [stat.S_IMODE(each.stat().st_mode) for each in (folder, *folder.iterdir())]
         self.assertEqual(modes, [0o700, 0o600])
         room.leave()
+        if os.geteuid() == 0:
+            os.chown(folder, NOBODY, NOBODY)
+            room.claim(["interface eth1"])
+            room.leave()
         shutil.rmtree(folder)
         folder.symlink_to(self.folder)
         with self.assertRaises(Stopped):

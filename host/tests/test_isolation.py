@@ -1,6 +1,7 @@
 """The world that `routerd` is started in. What needs root is skipped without it."""
 import errno
 import os
+import pwd
 import socket
 import stat
 import tempfile
@@ -12,16 +13,20 @@ from leafrunt_host.isolation import (
     ADDRESS_SPACE,
     FIRST_NUMBER,
     LAST_NUMBER,
+    PR_CAP_AMBIENT,
     Account,
     CannotIsolate,
     World,
     account_of,
+    enter_namespace,
     free_number,
+    libc_call,
     running_users,
 )
 from leafrunt_host.rooms import Room
 from leafrunt_host.router import Router
 
+PR_CAP_AMBIENT_IS_SET, CAP_NET_RAW = 1, 13
 NAMESPACE = "/proc/thread-self/ns/net"
 PRINTS = '#!/bin/sh\nexec >&2\ncat /proc/self/status\nulimit -v\ncat "$2"\nenv\n'
 
@@ -38,10 +43,25 @@ def isolated(case: unittest.TestCase) -> World:
 
 class Accounts(unittest.TestCase):
     def test_users(self) -> None:
-        for name, words in (("no such user", "which the system doesn't have"), ("root", "who may")):
+        own = pwd.getpwuid(os.geteuid()).pw_name
+        for name, words in (
+            ("no such user", "which the system doesn't have"),
+            ("root", "who may"),
+            (own, "who"),
+        ):
             with self.assertRaises(ValueError) as raised:
                 account_of(name, "one")
             self.assertIn(words, str(raised.exception))
+
+    def test_the_user_leafrunt(self) -> None:
+        """Where the system has it, and where `leafrunt` runs as that itself."""
+        found = mock.Mock(pw_name="leafrunt", pw_uid=os.geteuid() + 1, pw_gid=7)
+        with mock.patch("leafrunt_host.isolation.pwd.getpwnam", return_value=found):
+            self.assertEqual(account_of(None, "one"), Account("leafrunt", os.geteuid() + 1, 7))
+            found.pw_uid = os.geteuid() or 5
+            with mock.patch("leafrunt_host.isolation.os.geteuid", return_value=found.pw_uid):
+                self.assertNotEqual(account_of(None, "one").user, found.pw_uid)
+                self.assertRaises(ValueError, account_of, "leafrunt", "one")
 
     def test_a_number_that_nobody_has(self) -> None:
         one = free_number("one")
@@ -107,6 +127,21 @@ class Worlds(unittest.TestCase):
             self.assertRaises(TimeoutError, one.recv, 10)
             other.sendto(b"inside", one.getsockname())
             self.assertEqual(one.recv(10), b"inside")
+
+    def test_ambient_capabilities_end_there(self) -> None:
+        """Those of a `leafrunt` that isn't root would go on to each of its children."""
+        world = isolated(self)
+
+        def kept() -> str:
+            libc_call("prctl", PR_CAP_AMBIENT, PR_CAP_AMBIENT_IS_SET, CAP_NET_RAW, 0, 0)
+            return Path("/proc/thread-self/status").read_text()
+
+        self.assertIn("CapAmb:\t0000000000000000", world.do(kept))
+        calls = mock.Mock()
+        with mock.patch("leafrunt_host.isolation.libc_call", calls):
+            with mock.patch("leafrunt_host.isolation.fcntl.ioctl"):
+                enter_namespace()
+        self.assertIn(mock.call("prctl", PR_CAP_AMBIENT, 4, 0, 0, 0), calls.mock_calls)
 
     def test_whom_it_runs_as(self) -> None:
         """A program that prints what it is: no capabilities, no groups, a bounded memory."""
