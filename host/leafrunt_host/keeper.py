@@ -163,6 +163,8 @@ class Keeper:
             until = min(self._pace.due if self._kernel else now + EACH, looked + EACH)
             if waiting.poll(max(0.0, until - now) * 1000) and not self._ending.is_set():
                 self._waker.clear()
+                if self._kernel:
+                    self._kernel.notice()
                 self._pace.woken(time.monotonic())
                 self._ending.wait(AFTER[0])
             if self._ending.is_set():

