@@ -28,6 +28,8 @@ SECONDS_BETWEEN = 15.0
 """Between two exchanges that are begun anew on one link at least."""
 STUCK_AFTER = 3.5
 """Seconds for which `routerd` has asked in vain: meanwhile the other LSAs come."""
+LONG_ASKED = 10.0
+"""Seconds after which it is told what `routerd` asks for, and within which it asks again."""
 GIVEN_IN_VAIN = 5
 """`routerd` was given an LSA so often, and asks for it again: it doesn't take it."""
 MOST_KEPT = 1024
@@ -181,7 +183,7 @@ class Withheld:
         """Those that `routerd`'s last Request asks for, and since when."""
         self._given: dict[Key, tuple[int, bytes]] = {}
         """How often each of those was given to it, and which instance."""
-        self._begun = float("-inf")
+        self._begun = self._last_asked = float("-inf")
         self.news: list[str] = []
         """What the log has to be told."""
 
@@ -264,6 +266,7 @@ class Withheld:
         """Whether `routerd` asks for an LSA that it will never have, so that the exchange has to
         begin anew without that. (A Request's LS types have four bytes: A.3.4.)"""
         keys = [each[3:12] for each in chunks(request, REQUEST_LENGTH)]
+        self._last_asked = now
         self._asked = {each: self._asked.get(each, now) for each in keys}
         self._given = {each: it for each, it in self._given.items() if each in self._asked}
         for key, (count, instance) in self._given.items():
@@ -290,8 +293,8 @@ class Withheld:
             "routes are missing. Withdraw external destinations where they are announced"
         )
 
-    def remarks(self) -> Iterator[str]:
-        """What is withheld, for `status`."""
+    def remarks(self, now: float) -> Iterator[str]:
+        """What is withheld, and what `routerd` waits for, for `status`."""
         told = [(key, it.why) for key, it in self._unread.items() if not it.is_gone]
         for key, why in told[:MOST_TOLD]:
             yield f"the LSA {name_of(key)} is withheld: {why}"
@@ -299,3 +302,9 @@ class Withheld:
             yield f"{len(told) - MOST_TOLD} more LSAs are withheld, since routerd doesn't read them"
         if self._above:
             yield f"{self._limit_said()} ({len(self._above)} LSAs are withheld)"
+        asked = [each for each, since in self._asked.items() if now - since >= LONG_ASKED]
+        if asked and now - self._last_asked < LONG_ASKED:
+            said = f"{len(asked)} LSA{'s' * (len(asked) > 1)} for more than {LONG_ASKED:.0f} s"
+            names = ", ".join(map(name_of, asked[:MOST_TOLD]))
+            more = " and more" * (len(asked) > MOST_TOLD)
+            yield f"routerd has asked for {said}, and hasn't got them: {names}{more}"

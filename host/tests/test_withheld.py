@@ -179,6 +179,15 @@ class Links(unittest.TestCase):
             sent = self.link.from_router(request(SUMMARY), now)
             self.assertEqual((len(sent.to_wire), sent.to_router), (1, []))
 
+    def test_one_that_does_not_come(self) -> None:
+        """`status` names what `routerd` asks for again and again, while it does."""
+        for now in range(0, 14, 2):
+            self.link.from_router(request(SUMMARY, OTHER), now)
+        said = str(self.link.reports(13)[0])
+        self.assertIn("routerd has asked for 2 LSAs for more than 10 s, and hasn't got them: ", said)
+        self.assertIn("summary 198.51.100.0 of 2.2.2.2", said)
+        self.assertNotIn("has asked for", str(self.link.reports(40)[0]))
+
     def test_one_that_routerd_does_not_take(self) -> None:
         """For a reason that isn't known here: it was given again and again."""
         for now in range(GIVEN_IN_VAIN):
@@ -219,7 +228,7 @@ class Limits(unittest.TestCase):
         self.assertEqual(self.withheld.updated(lsas[:7], 1)[1], [])
         self.assertIn("more than 16384 LSAs", self.withheld.news[0])
         self.assertEqual(len(self.withheld.news), 1)
-        (said,) = self.withheld.remarks()
+        (said,) = self.withheld.remarks(3)
         self.assertIn("(5 LSAs are withheld)", said)
         self.assertEqual(len(self.withheld.described([each[:20] for each in lsas], 2)), most)
 
@@ -235,13 +244,13 @@ class Limits(unittest.TestCase):
         self.assertTrue(self.withheld.has_room_again(30 + SECONDS_BETWEEN))
         headers = [external(number)[:20] for number in range(most, most + 5)]
         self.assertEqual(len(self.withheld.described(headers, 50)), 5)
-        self.assertEqual((list(self.withheld.remarks()), self.withheld.has_room_again(99)), ([], False))
+        self.assertEqual((list(self.withheld.remarks(99)), self.withheld.has_room_again(99)), ([], False))
 
     def test_those_withheld_are_flushed(self) -> None:
         most = ROOM_AGAIN + 10
         self.withheld.updated([external(number) for number in range(most + 5)], 0)
         self.withheld.updated([external(number, MAX_AGE) for number in range(most, most + 5)], 1)
-        self.assertEqual(list(self.withheld.remarks()), [])
+        self.assertEqual(list(self.withheld.remarks(99)), [])
 
     def test_what_was_only_described(self) -> None:
         """An exchange that ends in between leaves no room taken."""
