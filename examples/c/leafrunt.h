@@ -6,6 +6,9 @@ typedef unsigned short u16;
 typedef unsigned int u32;
 typedef unsigned long long u64;
 
+/* In front of a function: it is a program for this hook, as SEC("veto"). hooktool build makes an object of each. */
+#define SEC(hook) __attribute__((section(hook), used))
+
 /* ---- the contexts (docs/FORMATS.md, "Contexts"): what the program is asked about, for reading only */
 
 /* count: a datagram, before it is read. What the program answers isn't used. */

@@ -1,3 +1,4 @@
+pub mod Built
 pub mod Explained
 pub mod Found
 pub mod InARow

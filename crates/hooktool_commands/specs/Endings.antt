@@ -10,6 +10,7 @@ use Rattle.hooktool_line.specs.Requests.{Asks, IsRefusal}
 use Rattle.hooktool_line.specs.declared.requests.Request.{Request}
 use Rattle.hooktool_line.specs.declared.requests.Request.TheVariants as requests
 use Rattle.hooktool_commands.specs.Annotations.{IsAnnotated}
+use Rattle.hooktool_commands.specs.Builds.{IsBuilt}
 use Rattle.hooktool_commands.specs.Explanations.{IsExplained}
 use Rattle.hooktool_commands.specs.Statuses.{status_of, status_of_words}
 use Rattle.hooktool_commands.specs.Trials.{IsTried, PacketIs}
@@ -21,6 +22,8 @@ use Rattle.hooktool_commands.specs.declared.report.Report.{Report}
 abbrev pub IsMadeOf : Request → Report → Type 0
 IsMadeOf (requests.Annotate hook code object fuel) report =
     (file : List ℕ) × IsAnnotated hook fuel file report
+IsMadeOf (requests.Build file folder hook fuel) report = (bytes : List ℕ)
+    × IsBuilt bytes (record { folder = folder.now; hook = hook; fuel = fuel }) report
 IsMadeOf (requests.Explain object) report = (bytes : List ℕ) × IsExplained bytes report
 IsMadeOf (requests.Try object question) report =
     (bytes packet : List ℕ) × PacketIs question.packet packet × IsTried bytes packet question report

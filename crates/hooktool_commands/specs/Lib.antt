@@ -1,4 +1,6 @@
 pub mod Annotations
+pub mod Builds
+pub mod Orders
 pub mod Endings
 pub mod Explanations
 pub mod Runs

@@ -106,7 +106,7 @@ fn uncounted<'a>(error: CountError) -> Fault<'a> {
 }
 
 /// What is told where nothing was accepted.
-fn shortfall<'a>(alloc: Global, shortfall: Shortfall) -> Result<Report, Fault<'a>>
+pub(crate) fn shortfall<'a>(alloc: Global, shortfall: Shortfall) -> Result<Report, Fault<'a>>
     ensures { IfOk result (λ report. report.is_refused ≡ true) }
 {
     match shortfall {

@@ -3,10 +3,13 @@
 
 mod annotating;
 mod answers;
+mod building;
 mod explaining;
 mod fault;
 mod files;
+mod names;
 pub mod program;
+mod relocated;
 mod report;
 mod traps;
 mod trials;

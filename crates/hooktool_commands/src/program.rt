@@ -8,6 +8,7 @@ ghost use Rattle.hooktool_commands.specs.Endings.{TellsWords};
 ghost use Rattle.hooktool_commands.specs.Statuses.{status_of_usage};
 
 use crate::annotating::annotate;
+use crate::building::{Order, build};
 use crate::explaining::explain;
 use crate::fault::{DONE, Fault, REFUSED, USAGE};
 use crate::report::Report;
@@ -98,6 +99,12 @@ fn made_of<'a, R: Files + AllocGlobal>(rt: &R, request: Request<'a>) -> Result<R
             object,
             fuel,
         } => annotate(rt, hook, code, object, fuel),
+        Request::Build {
+            file,
+            folder,
+            hook,
+            fuel,
+        } => build(rt, file, Order { folder, hook, fuel }),
         Request::Explain { object } => explain(rt, object),
         Request::Try { object, question } => try_question(rt, object, &question),
     }

@@ -15,7 +15,7 @@ use Rattle.std.specs.Box.{box_value}
 use Rattle.isa.specs.Hooks.{hook_name}
 use Rattle.isa.specs.declared.hook.Hook.{Hook}
 use Rattle.hooktool_line.specs.Questions.{HasQuestion}
-use Rattle.hooktool_line.specs.Requests.{HasFuel, HasWord, IsMade, IsWrong, IsWrongWord, MadeBy, Makes, MakesNone, command_of}
+use Rattle.hooktool_line.specs.Requests.{HasFuel, HasHook, HasWord, IsMade, IsWrong, IsWrongWord, MadeBy, Makes, MakesNone, command_of}
 use Rattle.hooktool_line.specs.Words.{ReadsOrLacks}
 use Rattle.hooktool_line.specs.declared.requests.Question.{Question}
 use Rattle.hooktool_line.specs.declared.values.NotRead.{NotRead}
@@ -28,6 +28,15 @@ some≢none x e = cc
 
 pub some_is : {X : Type 0} {x y : X} → Some x ≡ Some y → x ≡ y
 some_is e = cc
+
+annotate≢build : codes "build" ≡ codes "annotate" → ⊥
+annotate≢build e = let bad : ◌≡◌ {A = ℕ} 98 97 = ap (λ (t : List ℕ). slice_index t 0) e in absurd (omega arith)
+
+build≢explain : codes "explain" ≡ codes "build" → ⊥
+build≢explain e = let bad : ◌≡◌ {A = ℕ} 101 98 = ap (λ (t : List ℕ). slice_index t 0) e in absurd (omega arith)
+
+build≢try : codes "try" ≡ codes "build" → ⊥
+build≢try e = let bad : ◌≡◌ {A = ℕ} 116 98 = ap (λ (t : List ℕ). slice_index t 0) e in absurd (omega arith)
 
 annotate≢explain : codes "explain" ≡ codes "annotate" → ⊥
 annotate≢explain e = let bad : ◌≡◌ {A = ℕ} 101 97 = ap (λ (t : List ℕ). slice_index t 0) e in absurd (omega arith)
@@ -43,17 +52,29 @@ pub no_annotate : (rows : List Row)
     → HasWord rows (codes "OBJECT") object → HasFuel rows fuel → ⊥)
     → MadeBy (codes "annotate") rows None
 no_annotate rows none (requests.Annotate hook code object fuel) named has = none hook code.now object.now fuel has.0 has.1 has.2 has.3
+no_annotate rows none (requests.Build file folder hook fuel) named has = absurd (annotate≢build named)
 no_annotate rows none (requests.Explain object) named has = absurd (annotate≢explain named)
 no_annotate rows none (requests.Try object question) named has = absurd (annotate≢try named)
 
+pub no_build : (rows : List Row)
+    → ((file folder : Text) (hook : Option Hook) (fuel : Option ℕ) → HasWord rows (codes "FILE") file → HasWord rows (codes "FOLDER") folder
+    → HasHook rows hook → HasFuel rows fuel → ⊥)
+    → MadeBy (codes "build") rows None
+no_build rows none (requests.Annotate hook code object fuel) named has = absurd (annotate≢build (sym named))
+no_build rows none (requests.Build file folder hook fuel) named has = none file.now folder.now hook fuel has.0 has.1 has.2 has.3
+no_build rows none (requests.Explain object) named has = absurd (build≢explain named)
+no_build rows none (requests.Try object question) named has = absurd (build≢try named)
+
 pub no_explain : (rows : List Row) → ((object : Text) → HasWord rows (codes "OBJECT") object → ⊥) → MadeBy (codes "explain") rows None
 no_explain rows none (requests.Annotate hook code object fuel) named has = absurd (annotate≢explain (sym named))
+no_explain rows none (requests.Build file folder hook fuel) named has = absurd (build≢explain (sym named))
 no_explain rows none (requests.Explain object) named has = none object.now has
 no_explain rows none (requests.Try object question) named has = absurd (explain≢try named)
 
 pub no_try : (rows : List Row) → ((object : Text) (question : Question) → HasWord rows (codes "OBJECT") object → HasQuestion rows question → ⊥)
     → MadeBy (codes "try") rows None
 no_try rows none (requests.Annotate hook code object fuel) named has = absurd (annotate≢try (sym named))
+no_try rows none (requests.Build file folder hook fuel) named has = absurd (build≢try (sym named))
 no_try rows none (requests.Explain object) named has = absurd (explain≢try (sym named))
 no_try rows none (requests.Try object question) named has = none object.now question has.0 has.1
 
@@ -63,10 +84,11 @@ no_question rows not_read.Meaningless none = no_try rows (λ object question a h
 no_question rows not_read.OutOfMemory none = tt
 
 -- a command of another name makes nothing
-pub no_other : (rows : List Row) (name : Text) → name ≢ codes "annotate" → name ≢ codes "explain" → name ≢ codes "try" → MadeBy name rows None
-no_other rows name annotate explain try (requests.Annotate hook code object fuel) named has = annotate (sym named)
-no_other rows name annotate explain try (requests.Explain object) named has = explain (sym named)
-no_other rows name annotate explain try (requests.Try object question) named has = try (sym named)
+pub no_other : (rows : List Row) (name : Text) → name ≢ codes "annotate" → name ≢ codes "build" → name ≢ codes "explain" → name ≢ codes "try" → MadeBy name rows None
+no_other rows name annotate build explain try (requests.Annotate hook code object fuel) named has = annotate (sym named)
+no_other rows name annotate build explain try (requests.Build file folder hook fuel) named has = build (sym named)
+no_other rows name annotate build explain try (requests.Explain object) named has = explain (sym named)
+no_other rows name annotate build explain try (requests.Try object question) named has = try (sym named)
 
 -- what the command makes that was named
 pub named_makes : (name : Text) (rows : List Row) (request : Request) → MadeBy name rows (Some request) → Makes (Some (name, rows)) request

@@ -26,6 +26,13 @@ annotate =
     (required_word (codes "HOOK") ∷ required_word (codes "CODE") ∷ required_word (codes "OBJECT")
     ∷ option (codes "fuel") ∷ [])
 
+-- build FILE FOLDER [--hook HOOK] [--fuel N]
+abbrev pub build : Shape
+build =
+    command (codes "build")
+    (required_word (codes "FILE") ∷ required_word (codes "FOLDER") ∷ option (codes "hook")
+    ∷ option (codes "fuel") ∷ [])
+
 -- explain OBJECT
 abbrev pub explain : Shape
 explain = command (codes "explain") (required_word (codes "OBJECT") ∷ [])
@@ -53,5 +60,5 @@ line = record {
   top =
       record (new_shape (codes "hooktool"))
       { is_leaf = false; subcommand_required = true; arg_required_else_help = true };
-  subs = annotate ∷ explain ∷ try ∷ [];
+  subs = annotate ∷ build ∷ explain ∷ try ∷ [];
 }

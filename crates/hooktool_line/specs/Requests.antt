@@ -9,6 +9,7 @@ use Rattle.clap.specs.declared.error.Error.{Error}
 use Rattle.clap.specs.declared.error.kind.ErrorKind.TheVariants as kinds
 use Rattle.clap.specs.declared.parser.matches.ArgMatches.{ArgMatches}
 use Rattle.isa.specs.Hooks.{hook_name}
+use Rattle.isa.specs.declared.hook.Hook.{Hook}
 use Rattle.hooktool_line.specs.CommandLine.{line}
 use Rattle.hooktool_line.specs.Questions.{HasQuestion}
 use Rattle.hooktool_line.specs.Words.{IsNumber, OrElse}
@@ -20,6 +21,7 @@ use Rattle.hooktool_line.specs.declared.values.NotRead.TheVariants as not_read
 -- the command that makes the request
 abbrev pub command_of : Request → Text
 command_of (requests.Annotate hook code object fuel) = codes "annotate"
+command_of (requests.Build file folder hook fuel) = codes "build"
 command_of (requests.Explain object) = codes "explain"
 command_of (requests.Try object question) = codes "try"
 
@@ -35,11 +37,22 @@ IsFuel word None = ⊥
 abbrev pub HasFuel : List Row → Option ℕ → Type 0
 HasFuel rows fuel = OrElse (first_of (codes "fuel") rows) (fuel ≡ None) (λ word. IsFuel word fuel)
 
+-- the hook that a word names
+abbrev pub IsHook : Text → Option Hook → Type 0
+IsHook word (Some hook) = word ≡ hook_name hook
+IsHook word None = ⊥
+
+abbrev pub HasHook : List Row → Option Hook → Type 0
+HasHook rows hook = OrElse (first_of (codes "hook") rows) (hook ≡ None) (λ word. IsHook word hook)
+
 -- The words of the request's command are those of the request.
 abbrev pub HasWordsOf : List Row → Request → Type 0
 HasWordsOf rows (requests.Annotate hook code object fuel) =
     HasWord rows (codes "HOOK") (hook_name hook) × HasWord rows (codes "CODE") code.now
     × HasWord rows (codes "OBJECT") object.now × HasFuel rows fuel
+HasWordsOf rows (requests.Build file folder hook fuel) =
+    HasWord rows (codes "FILE") file.now × HasWord rows (codes "FOLDER") folder.now
+    × HasHook rows hook × HasFuel rows fuel
 HasWordsOf rows (requests.Explain object) = HasWord rows (codes "OBJECT") object.now
 HasWordsOf rows (requests.Try object question) =
     HasWord rows (codes "OBJECT") object.now × HasQuestion rows question

@@ -43,6 +43,30 @@ Statuses:
 
 docs/HOOKTOOL.md says which C is accepted, and what to write instead of what isn't.";
 
+const BUILD_ABOUT: &str =
+    "Makes an object of each function that clang compiled for a hook, as annotate does of bare code";
+
+const BUILD_MORE: &str = "\
+Example: hooktool build bogons.elf objects
+
+where bogons.elf is made of C by
+  clang -O2 -target bpf -mcpu=v3 -c bogons.c -o bogons.elf
+
+(tools/hooktool-build calls both.) A function is for the hook that its section is named by, as
+SEC(\"veto\") in C, and its object is FOLDER/FUNCTION.o. With --hook also the functions of .text,
+those without SEC, are programs, for that hook. With --fuel N as in annotate.
+
+Prints for each function FOLDER/FUNCTION.o: HOOK, accepted bound N, and it was written; or why it
+isn't: what the code uses or calls that a program doesn't have, by its name and the slot, or what
+the verifier refuses. FOLDER has to be there.
+
+Statuses:
+  0  each function was accepted, and its object written
+  1  one wasn't, or FILE isn't what clang writes
+  2  the words are wrong
+  3  FILE can't be read, or an object or the output can't be written
+  4  memory was refused";
+
 const EXPLAIN_ABOUT: &str =
     "Prints the program of an object file slot by slot, with all that the verifier knows there, \
         and where and why it refuses";
@@ -105,6 +129,7 @@ const TIMES: &str = "How many runs in a row, on the same counters and cells, 1 t
 const WORKED: &str = "\
 Examples:
   hooktool annotate price price.bin price.o    prints accepted bound 42, and writes price.o
+  hooktool build programs.elf objects          the same of what clang wrote, for each function
   hooktool explain price.o                     prints what the verifier knows at each slot
   hooktool try price.o --metric 50             prints metric 20, used 12 of 42
 
@@ -157,6 +182,33 @@ const ANNOTATE_WORDS: [Word; 4] = [
         name: "OBJECT",
         value: "OBJECT",
         help: "The object file that is written",
+    },
+    Word {
+        given: Given::Once,
+        name: "fuel",
+        value: "N",
+        help: FUEL,
+    },
+];
+
+const BUILD_WORDS: [Word; 4] = [
+    Word {
+        given: Given::Required,
+        name: "FILE",
+        value: "FILE",
+        help: "The ELF file that clang wrote",
+    },
+    Word {
+        given: Given::Required,
+        name: "FOLDER",
+        value: "FOLDER",
+        help: "The folder that the objects are written to",
+    },
+    Word {
+        given: Given::Once,
+        name: "hook",
+        value: "HOOK",
+        help: "The hook of functions in .text: count, tag, price or veto",
     },
     Word {
         given: Given::Once,
@@ -261,6 +313,13 @@ const ANNOTATE: Form = Form {
     words: &ANNOTATE_WORDS,
 };
 
+const BUILD: Form = Form {
+    name: "build",
+    about: BUILD_ABOUT,
+    more: BUILD_MORE,
+    words: &BUILD_WORDS,
+};
+
 const EXPLAIN: Form = Form {
     name: "explain",
     about: EXPLAIN_ABOUT,
@@ -353,7 +412,7 @@ fn line_of<'a>(alloc: Global, forms: &[&Form]) -> Result<Command<'a>, AllocError
 pub(crate) fn whole<'a>(alloc: Global) -> Result<Command<'a>, AllocError>
     ensures { IfOk result (λ c. app_of c ≡ line.line) }
 {
-    let forms = [&ANNOTATE, &EXPLAIN, &TRY];
+    let forms = [&ANNOTATE, &BUILD, &EXPLAIN, &TRY];
     line_of(alloc, &forms)
 }
 

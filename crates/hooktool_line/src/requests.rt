@@ -7,8 +7,8 @@ ghost use Rattle.clap.specs.Values.{kind_of};
 ghost use Rattle.clap.specs.Walk.{rows_of};
 ghost use Rattle.clap.specs.declared.error.kind.ErrorKind.TheVariants as kinds;
 ghost use Rattle.hooktool_line.specs.Questions.{HasAsked, HasQuestion, asked_of};
-ghost use Rattle.hooktool_line.specs.Requests.{HasFuel, IsFuel, IsMade, IsWrong, IsWrongWord};
-ghost use Rattle.hooktool_line.specs.Requests.{MadeBy, Makes};
+ghost use Rattle.hooktool_line.specs.Requests.{HasFuel, HasHook, IsFuel, IsHook, IsMade, IsWrong};
+ghost use Rattle.hooktool_line.specs.Requests.{IsWrongWord, MadeBy, Makes};
 ghost use Rattle.hooktool_line.specs.Words.{Reads, ReadsOrLacks};
 
 use crate::arguments::{no_command, wrong_value};
@@ -49,6 +49,14 @@ pub enum Request<'a> {
         hook: Hook,
         code: &'a str,
         object: &'a str,
+        fuel: Option<u32>,
+    },
+    /// Make an object of each function of an ELF file that is for a hook, in the folder. `hook` is
+    /// that of functions outside of the sections that hooks name.
+    Build {
+        file: &'a str,
+        folder: &'a str,
+        hook: Option<Hook>,
         fuel: Option<u32>,
     },
     /// Tell what the verifier knows of an object's program.
@@ -165,6 +173,49 @@ fn annotate_request<'a>(matches: &ArgMatches<'a>) -> Result<Request<'a>, NotRead
     }
 }
 
+/// The hook that a word names.
+fn named_hook(word: &str) -> Option<Option<Hook>>
+    ensures { Reads (IsHook word.now) result }
+{
+    match Hook::from_name(word) {
+        Some(hook) => Some(Some(hook)),
+        None => None,
+    }
+}
+
+/// The hook of functions in no hook's section, where that is told. None where the word is no hook.
+fn hook_of(matches: &ArgMatches<'_>) -> Option<Option<Hook>>
+    ensures { Reads (HasHook (rows_of (found_of matches.now))) result }
+{
+    match word_of(matches, "hook") {
+        None => Some(None),
+        Some(word) => named_hook(word),
+    }
+}
+
+fn build_request<'a>(matches: &ArgMatches<'a>) -> Result<Request<'a>, NotRead>
+    ensures { IsMade (codes "build") (rows_of (found_of matches.now)) result }
+{
+    let Some(file) = word_of(matches, "FILE") else {
+        return Err(NotRead::Meaningless);
+    };
+    let Some(folder) = word_of(matches, "FOLDER") else {
+        return Err(NotRead::Meaningless);
+    };
+    let Some(hook) = hook_of(matches) else {
+        return Err(NotRead::Meaningless);
+    };
+    match fuel_of(matches) {
+        Some(fuel) => Ok(Request::Build {
+            file,
+            folder,
+            hook,
+            fuel,
+        }),
+        None => Err(NotRead::Meaningless),
+    }
+}
+
 fn explain_request<'a>(matches: &ArgMatches<'a>) -> Result<Request<'a>, NotRead>
     ensures { IsMade (codes "explain") (rows_of (found_of matches.now)) result }
 {
@@ -192,6 +243,7 @@ fn made_by<'a>(alloc: Global, name: &str, matches: &ArgMatches<'a>) -> Result<Re
 {
     match name {
         "annotate" => annotate_request(matches),
+        "build" => build_request(matches),
         "explain" => explain_request(matches),
         "try" => try_request(alloc, matches),
         _ => Err(NotRead::Meaningless),
@@ -224,6 +276,10 @@ fn wrong_word(name: &str, matches: &ArgMatches<'_>) -> &'static str {
     match name {
         "annotate" => match fuel_of(matches) {
             Some(_) => "HOOK is none of count, tag, price and veto",
+            None => "--fuel is no number from 1 to 999999",
+        },
+        "build" => match fuel_of(matches) {
+            Some(_) => "--hook is none of count, tag, price and veto",
             None => "--fuel is no number from 1 to 999999",
         },
         _ => wrong_option(matches),

@@ -1,0 +1,151 @@
+-- Lines of functions and sections that were built, one behind the other.
+use Rattle.std.proofs.Common.{◌≡◌, ◌∙◌, ◌+◌, ◌||◌, ◌∷◌, ◌++◌, ap, subst, sym, refl, ℕ, List, [], Bool, true, false, Option, Some, None, codes, inl, inr, length, add-one, append_assoc}
+use Rattle.std.specs.Prelude.{◌⊎◌, IfSome, MatchBool, slice_get, string_bytes}
+use Rattle.annotations.specs.Annotated.{IsAnnotation}
+use Rattle.elf.specs.Files.{IsObjectFile, section_count, section_name}
+use Rattle.elf.specs.Lists.{HasBytes, HasSymbol, functions_of, relocations_of, symbol_bytes, symbol_name}
+use Rattle.elf.specs.declared.lists.LinkedSymbol.{LinkedSymbol}
+use Rattle.isa.specs.Hooks.{hook_name}
+use Rattle.object.specs.Objects.{ObjectParts}
+use Rattle.verifier.specs.Programs.{Program}
+use Rattle.isa.specs.declared.hook.Hook.{Hook}
+use Rattle.hooktool_commands.specs.Builds.{AreBuiltFunctions, AreBuiltSections, IsBuilt, IsBuiltAt, IsBuiltFunction, IsBuiltSection, IsHookOf, Wanted, built_line, is_program_section}
+use Rattle.hooktool_commands.specs.Orders.{IsBuiltCode}
+use Rattle.hooktool_commands.specs.declared.report.Report.{Report}
+
+-- what is told of a function's code is told of the function
+pub function_built : (file : List ℕ) (wanted : Wanted) (hook : Hook) (function : LinkedSymbol) (name code : List ℕ) (report : Report)
+    → HasSymbol file function.table function.index → name ≡ symbol_name file function.table function.index → HasBytes file function.symbol
+    → code ≡ symbol_bytes file function.symbol → IsBuiltCode wanted hook name code report
+    → (report.is_refused ≡ true) ⊎ IsBuiltFunction file wanted hook function (string_bytes report.text)
+function_built file wanted hook function name code report named name_is has code_is built = elim built [
+  | inl refused ↦ inl refused
+  | inr found ↦ inr (record {
+    named = named;
+    has_code = has;
+    object = found.object;
+    bytes = found.bytes;
+    accepted = found.accepted;
+    annotation = subst (λ (c : List ℕ). IsAnnotation hook wanted.fuel c found.object found.bytes found.accepted) code_is found.annotation;
+    told = found.told ∙ ap (λ (n : List ℕ). built_line wanted.folder n hook found.accepted.bound) name_is;
+  })
+]
+
+first_true : (a b : Bool) → a ≡ true → (a || b) ≡ true
+first_true true b h = refl
+first_true false b h = absurd cc
+
+second_true : (a b : Bool) → b ≡ true → (a || b) ≡ true
+second_true true b h = refl
+second_true false b h = h
+
+-- a line more
+pub functions_more : (file : List ℕ) (wanted : Wanted) (hook : Hook) (functions : List LinkedSymbol) (function : LinkedSymbol) (n : ℕ) (before more after : Report)
+    → slice_get functions n ≡ Some function
+    → (before.is_refused ≡ true) ⊎ AreBuiltFunctions file wanted hook functions n (string_bytes before.text)
+    → (more.is_refused ≡ true) ⊎ IsBuiltFunction file wanted hook function (string_bytes more.text)
+    → string_bytes after.text ≡ string_bytes before.text ++ string_bytes more.text → after.is_refused ≡ (before.is_refused || more.is_refused)
+    → (after.is_refused ≡ true) ⊎ AreBuiltFunctions file wanted hook functions (n + 1) (string_bytes after.text)
+functions_more file wanted hook functions function n before more after at so_far built text refused = elim so_far [
+  | inl was ↦ inl (refused ∙ first_true before.is_refused more.is_refused was)
+  | inr lines ↦ elim built [
+    | inl is ↦ inl (refused ∙ second_true before.is_refused more.is_refused is)
+    | inr line ↦ inr (rw add-one (string_bytes before.text, string_bytes more.text, function, lines, at, line, text))
+  ]
+]
+
+-- the lines of a section more
+pub sections_more : (file : List ℕ) (wanted : Wanted) (i : ℕ) (before more after : Report)
+    → (before.is_refused ≡ true) ⊎ AreBuiltSections file wanted i (string_bytes before.text)
+    → (more.is_refused ≡ true) ⊎ IsBuiltAt file wanted i (string_bytes more.text)
+    → string_bytes after.text ≡ string_bytes before.text ++ string_bytes more.text → after.is_refused ≡ (before.is_refused || more.is_refused)
+    → (after.is_refused ≡ true) ⊎ AreBuiltSections file wanted (i + 1) (string_bytes after.text)
+sections_more file wanted i before more after so_far built text refused = elim so_far [
+  | inl was ↦ inl (refused ∙ first_true before.is_refused more.is_refused was)
+  | inr lines ↦ elim built [
+    | inl is ↦ inl (refused ∙ second_true before.is_refused more.is_refused is)
+    | inr section ↦ inr (rw add-one (string_bytes before.text, string_bytes more.text, lines, section, text))
+  ]
+]
+
+-- what is told of a section, where it has instructions
+pub with_instructions : (file : List ℕ) (wanted : Wanted) (i : ℕ) (report : Report) → is_program_section file i ≡ true
+    → (report.is_refused ≡ true) ⊎ IsBuiltSection file wanted i (string_bytes report.text)
+    → (report.is_refused ≡ true) ⊎ IsBuiltAt file wanted i (string_bytes report.text)
+with_instructions file wanted i report program built = elim built [
+  | inl refused ↦ inl refused
+  | inr section ↦ inr (subst (λ (b : Bool). MatchBool b (IsBuiltSection file wanted i (string_bytes report.text)) (string_bytes report.text ≡ [])) (sym program) section)
+]
+
+pub without_instructions : (file : List ℕ) (wanted : Wanted) (i : ℕ) (lines : List ℕ) → is_program_section file i ≡ false → lines ≡ [] → IsBuiltAt file wanted i lines
+without_instructions file wanted i lines none empty =
+    subst (λ (b : Bool). MatchBool b (IsBuiltSection file wanted i lines) (lines ≡ [])) (sym none) empty
+
+-- a section whose functions were built
+pub section_built : (file : List ℕ) (wanted : Wanted) (i : ℕ) (hook : Hook) (functions : List LinkedSymbol) (report : Report)
+    → IsHookOf wanted.hook (section_name file i) hook → relocations_of file i ≡ [] → functions ≡ functions_of file i
+    → (report.is_refused ≡ true) ⊎ AreBuiltFunctions file wanted hook functions (length functions) (string_bytes report.text)
+    → (report.is_refused ≡ true) ⊎ IsBuiltSection file wanted i (string_bytes report.text)
+section_built file wanted i hook functions report hook_is none are built = elim built [
+  | inl refused ↦ inl refused
+  | inr lines ↦ inr (record {
+    hook = hook;
+    hook_is = hook_is;
+    relocations = none;
+    functions = subst (λ (fs : List LinkedSymbol). AreBuiltFunctions file wanted hook fs (length fs) (string_bytes report.text)) are lines;
+  })
+]
+
+-- what is told of a whole file
+pub file_built : (file bytes : List ℕ) (wanted : Wanted) (report : Report) → file ≡ bytes → IsObjectFile bytes
+    → (report.is_refused ≡ true) ⊎ AreBuiltSections file wanted (section_count file) (string_bytes report.text) → IsBuilt bytes wanted report
+file_built file bytes wanted report is object built = elim built [
+  | inl refused ↦ inl refused
+  | inr sections ↦ inr (object, subst (λ (f : List ℕ). AreBuiltSections f wanted (section_count f) (string_bytes report.text)) is sections)
+]
+
+-- the hook of .text is the asked one
+pub asked_hook : (asked : Option Hook) (section : List ℕ) → section ≡ codes ".text" → IfSome asked (IsHookOf asked section)
+asked_hook None section is = tt
+asked_hook (Some hook) section is = inr (is, refl)
+
+pub own_hook : (asked found : Option Hook) (section : List ℕ) → IfSome found (λ hook. section ≡ hook_name hook) → IfSome found (IsHookOf asked section)
+own_hook asked None section is = tt
+own_hook asked (Some hook) section is = inl is
+
+-- the same of a name that is the section's
+pub hook_found : (asked found : Option Hook) (name section : List ℕ) → name ≡ section → IfSome found (IsHookOf asked name) → IfSome found (IsHookOf asked section)
+hook_found asked found name section is has = subst (λ (n : List ℕ). IfSome found (IsHookOf asked n)) is has
+
+-- a path and what is told of it are one line
+pub whole_line : (folder function rest : List ℕ) → (folder ++ (codes "/" ++ (function ++ codes ".o"))) ++ (codes ": " ++ rest)
+    ≡ folder ++ (codes "/" ++ (function ++ (codes ".o: " ++ rest)))
+whole_line folder function rest =
+    append_assoc folder (codes "/" ++ (function ++ codes ".o")) (codes ": " ++ rest)
+    ∙ ap (λ (t : List ℕ). folder ++ (47 ∷ t)) (append_assoc function (codes ".o") (codes ": " ++ rest))
+
+-- behind the last function
+pub functions_all : (file : List ℕ) (wanted : Wanted) (hook : Hook) (functions : List LinkedSymbol) (n : ℕ) (report : Report) → n ≡ length functions
+    → (report.is_refused ≡ true) ⊎ AreBuiltFunctions file wanted hook functions n (string_bytes report.text)
+    → (report.is_refused ≡ true) ⊎ AreBuiltFunctions file wanted hook functions (length functions) (string_bytes report.text)
+functions_all file wanted hook functions n report all so_far =
+    subst (λ (m : ℕ). (report.is_refused ≡ true) ⊎ AreBuiltFunctions file wanted hook functions m (string_bytes report.text)) all so_far
+
+-- behind the last section
+pub sections_all : (file : List ℕ) (wanted : Wanted) (n : ℕ) (report : Report) → n ≡ section_count file
+    → (report.is_refused ≡ true) ⊎ AreBuiltSections file wanted n (string_bytes report.text)
+    → (report.is_refused ≡ true) ⊎ AreBuiltSections file wanted (section_count file) (string_bytes report.text)
+sections_all file wanted n report all so_far =
+    subst (λ (m : ℕ). (report.is_refused ≡ true) ⊎ AreBuiltSections file wanted m (string_bytes report.text)) all so_far
+
+-- the code of a function whose object was written
+pub code_built : (wanted : Wanted) (hook : Hook) (shown name code : List ℕ) (object : ObjectParts) (bytes : List ℕ) (accepted : Program) (report : Report)
+    → IsAnnotation hook wanted.fuel code object bytes accepted → shown ≡ name
+    → string_bytes report.text ≡ built_line wanted.folder shown hook accepted.bound → IsBuiltCode wanted hook name code report
+code_built wanted hook shown name code object bytes accepted report annotation is told = inr (record {
+  object = object;
+  bytes = bytes;
+  accepted = accepted;
+  annotation = annotation;
+  told = told ∙ ap (λ (n : List ℕ). built_line wanted.folder n hook accepted.bound) is;
+})

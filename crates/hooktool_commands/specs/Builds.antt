@@ -1,0 +1,82 @@
+-- What is told of an ELF file whose functions were built: a line for each, in the order of the file.
+use Rattle.std.specs.Prelude.{◌≡◌, ◌⊎◌, ◌==◌, ◌&&◌, ℕ, zero, suc, List, [], ◌∷◌, ◌++◌, Option, Some, Bool, true, not, codes}
+use Rattle.std.specs.Prelude.{MatchBool, length, slice_get, string_bytes}
+use Rattle.isa.specs.declared.hook.Hook.{Hook}
+use Rattle.isa.specs.Hooks.{hook_name}
+use Rattle.object.specs.Objects.{ObjectParts}
+use Rattle.verifier.specs.Programs.{Program}
+use Rattle.annotations.specs.Annotated.{IsAnnotation}
+use Rattle.elf.specs.declared.lists.LinkedSymbol.{LinkedSymbol}
+use Rattle.elf.specs.Entries.{is_code}
+use Rattle.elf.specs.Files.{IsObjectFile, contents_of, section_at, section_count, section_name}
+use Rattle.elf.specs.Lists.{HasBytes, HasSymbol, functions_of, relocations_of, symbol_bytes, symbol_name}
+use Rattle.hooktool_commands.specs.Annotations.{accepted_line}
+use Rattle.hooktool_commands.specs.declared.report.Report.{Report}
+
+-- what was asked for: the folder, the hook of functions in .text, the turns of loops
+pub record Wanted : Type 0 where
+  pub folder : List ℕ
+  pub hook : Option Hook
+  pub fuel : Option ℕ
+
+-- FOLDER/FUNCTION.o: HOOK, accepted bound N
+abbrev pub built_line : (folder function : List ℕ) → Hook → (bound : ℕ) → List ℕ
+built_line folder function hook bound = folder ++ (codes "/" ++ (function ++ (codes ".o: "
+    ++ (hook_name hook ++ (codes ", " ++ accepted_line bound)))))
+
+-- A section is for the hook that it is named by, and .text for the one that was asked for.
+abbrev pub IsHookOf : Option Hook → List ℕ → Hook → Type 0
+IsHookOf asked section hook = (section ≡ hook_name hook)
+    ⊎ ((section ≡ codes ".text") × (asked ≡ Some hook))
+
+-- An object was found of the function's code (with --fuel, of that code with its turns counted) that
+-- the verifier accepts, and the line tells its bound.
+pub record IsBuiltFunction (file : List ℕ) (wanted : Wanted) (hook : Hook) (function : LinkedSymbol)
+    (line : List ℕ) : Type 0 where
+  pub named : HasSymbol file function.table function.index
+  pub has_code : HasBytes file function.symbol
+  pub object : ObjectParts
+  pub bytes : List ℕ
+  pub accepted : Program
+  pub annotation : IsAnnotation hook wanted.fuel (symbol_bytes file function.symbol) object bytes
+      accepted
+  pub told : line ≡ built_line wanted.folder (symbol_name file function.table function.index) hook
+      accepted.bound
+
+-- The lines are those of the first n functions.
+abbrev pub AreBuiltFunctions : List ℕ → Wanted → Hook → List LinkedSymbol → ℕ → List ℕ → Type 0
+AreBuiltFunctions file wanted hook functions zero lines = lines ≡ []
+AreBuiltFunctions file wanted hook functions (suc n) lines = (before line : List ℕ)
+    × (function : LinkedSymbol) × AreBuiltFunctions file wanted hook functions n before
+    × (slice_get functions n ≡ Some function) × IsBuiltFunction file wanted hook function line
+    × (lines ≡ before ++ line)
+
+-- Each function of section i was built. No linker would change the section.
+pub record IsBuiltSection (file : List ℕ) (wanted : Wanted) (i : ℕ) (lines : List ℕ) : Type 0 where
+  pub hook : Hook
+  pub hook_is : IsHookOf wanted.hook (section_name file i) hook
+  pub relocations : relocations_of file i ≡ []
+  pub functions : AreBuiltFunctions file wanted hook (functions_of file i)
+      (length (functions_of file i)) lines
+
+-- a section with instructions
+abbrev pub is_program_section : List ℕ → ℕ → Bool
+is_program_section file i = is_code (section_at file i) && not (length (contents_of file i) == 0)
+
+-- What is told of section i: of one without instructions nothing.
+abbrev pub IsBuiltAt : List ℕ → Wanted → ℕ → List ℕ → Type 0
+IsBuiltAt file wanted i lines =
+    MatchBool (is_program_section file i) (IsBuiltSection file wanted i lines) (lines ≡ [])
+
+-- The lines are those of the first n sections.
+abbrev pub AreBuiltSections : List ℕ → Wanted → ℕ → List ℕ → Type 0
+AreBuiltSections file wanted zero lines = lines ≡ []
+AreBuiltSections file wanted (suc i) lines = (before more : List ℕ)
+    × AreBuiltSections file wanted i before × IsBuiltAt file wanted i more
+    × (lines ≡ before ++ more)
+
+-- Each function of each section with instructions was built, and nothing else is told. Or something
+-- is told that wasn't.
+abbrev pub IsBuilt : List ℕ → Wanted → Report → Type 0
+IsBuilt file wanted report = (report.is_refused ≡ true)
+    ⊎ (IsObjectFile file × AreBuiltSections file wanted (section_count file) (string_bytes report.text))

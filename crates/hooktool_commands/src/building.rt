@@ -1,0 +1,418 @@
+//! `build`: an object for each function that clang compiled for a hook.
+
+ghost use Rattle.std.specs.Prelude.{◌≡◌, ◌⊎◌, ◌++◌, ◌||◌, ◌<◌, ℕ, List, true, Some, IfOk, IfSome};
+ghost use Rattle.std.specs.Prelude.{OnOk, codes, length, string_bytes};
+ghost use Rattle.isa.specs.Hooks.{hook_name};
+ghost use Rattle.object_verdicts.specs.Verdicts.{Accepts};
+ghost use Rattle.elf.specs.Files.{IsObjectFile, section_count, section_name};
+ghost use Rattle.elf.specs.Lists.{HasBytes, HasSymbol, functions_of, symbol_bytes, symbol_name};
+ghost use Rattle.hooktool_commands.specs.Annotations.{accepted_line};
+ghost use Rattle.hooktool_commands.specs.Builds.{AreBuiltFunctions, AreBuiltSections, IsBuilt};
+ghost use Rattle.hooktool_commands.specs.Builds.{IsBuiltAt, IsBuiltFunction, IsBuiltSection};
+ghost use Rattle.hooktool_commands.specs.Builds.{IsHookOf, built_line, is_program_section};
+ghost use Rattle.hooktool_commands.specs.Orders.{IsBuiltCode, wanted_of};
+
+use crate::annotating::shortfall;
+use crate::fault::Fault;
+use crate::files;
+use crate::names::{as_file_name, shown};
+use crate::relocated::{Section, relocation_report};
+use crate::report::Report;
+use annotations::{Annotated, annotate_file};
+use elf::{LinkedSymbol, ObjectFile};
+use explanations::Text;
+use isa::Hook;
+use std::alloc::{AllocError, Global};
+use std::rt::Files;
+
+/// Where objects go, the hook of functions in `.text`, and the turns of loops.
+#[derive(Clone, Copy)]
+pub(crate) struct Order<'a> {
+    pub folder: &'a str,
+    pub hook: Option<Hook>,
+    pub fuel: Option<u32>,
+}
+
+/// A function's name, and that of its section.
+#[derive(Clone, Copy)]
+struct Names<'f> {
+    section: &'f [u8],
+    function: &'f [u8],
+}
+
+/// What a text tells as a refusal.
+pub(crate) fn refusal(text: Text) -> Result<Report, AllocError>
+    ensures { IfOk result (λ report. report.is_refused ≡ true) }
+{
+    Ok(Report {
+        text: text.finish()?,
+        is_refused: true,
+    })
+}
+
+/// Adds what else is told.
+fn join(report: &mut Report, more: &Report) -> Result<(), AllocError>
+    ensures text { OnOk result (string_bytes report.new.text
+        ≡ string_bytes report.old.text ++ string_bytes more.now.text) }
+    ensures refused { OnOk result (report.new.is_refused
+        ≡ (report.old.is_refused || more.now.is_refused)) }
+{
+    report.text.push_str(more.text.as_str())?;
+    report.is_refused = report.is_refused || more.is_refused;
+    Ok(())
+}
+
+/// The beginning of a line about a function.
+pub(crate) fn about(alloc: Global, section: &[u8], function: &[u8]) -> Text {
+    let mut text = Text::new(alloc);
+    text.push("section ");
+    text.push(shown(section));
+    text.push(", function ");
+    text.push(shown(function));
+    text
+}
+
+/// The hook of the functions of a section: the one that it is named by, or for `.text` the given
+/// one.
+fn hook_of(given: Option<Hook>, section: &str) -> Option<Hook>
+    ensures { IfSome result (IsHookOf given section.now) }
+{
+    if section == ".text" {
+        return given;
+    }
+    Hook::from_name(section)
+}
+
+/// The hook of the functions of a section with this name, which may be any bytes.
+fn hook_in(given: Option<Hook>, section: &[u8]) -> Option<Hook>
+    ensures { IfSome result (IsHookOf given section.now) }
+{
+    match str::from_utf8(section) {
+        Ok(name) => hook_of(given, name),
+        Err(_) => None,
+    }
+}
+
+/// Why bytes are no code, by the number of the refusal.
+fn code_words(number: u8) -> &'static str {
+    match number {
+        1 => ": it is not of whole instructions\n",
+        2 => ": an instruction that the machine doesn't have, as those of __sync_ and atomic \
+                functions\n",
+        4 => ": an instruction that the machine doesn't have, as a call of a function of the file: \
+                make that function static inline\n",
+        5 => ": it ends inside an instruction of two slots\n",
+        6 => ": it is longer than 4096 slots\n",
+        _ => ": an instruction that the machine doesn't have\n",
+    }
+}
+
+/// What is told of a function for which nothing was accepted.
+fn function_refusal<'a>(
+    alloc: Global,
+    names: Names<'_>,
+    why: Result<Report, Fault<'a>>,
+) -> Result<Report, Fault<'a>>
+    ensures { IfOk result (λ report. report.is_refused ≡ true) }
+{
+    let mut text = about(alloc, names.section, names.function);
+    match why {
+        Ok(told) => {
+            text.push(": not accepted\n");
+            text.push(told.text.as_str());
+        }
+        Err(Fault::Memory) => return Err(Fault::Memory),
+        Err(Fault::Code { number, slot }) => {
+            text.numbered(", slot ", slot, code_words(number));
+        }
+        Err(Fault::Uncounted { reason }) => text.line(": ", reason),
+        Err(_) => text.push(": it is no code\n"),
+    }
+    Ok(refusal(text)?)
+}
+
+/// The line of an object that is written.
+fn line_of(alloc: Global, path: &str, hook: Hook, bound: u64) -> Result<String, AllocError>
+    ensures { IfOk result (λ line. string_bytes line ≡ path.now ++ (codes ": "
+        ++ (hook_name hook ++ (codes ", " ++ accepted_line bound)))) }
+{
+    let hook = hook.name();
+    format!(in alloc; "{path}: {hook}, accepted bound {bound}\n")
+}
+
+/// Writes the object of a function, which the verifier accepted, and tells its bound.
+fn write_function<'a, R: Files + AllocGlobal>(
+    rt: &R,
+    order: &Order<'a>,
+    hook: Hook,
+    function: &str,
+    annotated: &Annotated,
+) -> Result<Report, Fault<'a>>
+    requires { Accepts annotated.now.bytes.items annotated.now.accepted }
+    ensures { IfOk result (λ report. string_bytes report.text
+        ≡ built_line order.now.folder.now function.now hook annotated.now.accepted.bound) }
+{
+    let folder = order.folder;
+    let path = format!(in rt.alloc(); "{folder}/{function}.o")?;
+    let text = line_of(rt.alloc(), path.as_str(), hook, annotated.accepted.bound())?;
+    match files::write_accepted(rt, path.as_str(), &annotated.bytes) {
+        Ok(()) => Ok(Report {
+            text,
+            is_refused: false,
+        }),
+        Err(Fault::Memory) => Err(Fault::Memory),
+        Err(_) => Err(Fault::Write { path: folder }),
+    }
+}
+
+/// Makes the object of a function with this code, or tells why there is none.
+fn build_code<'a, R: Files + AllocGlobal>(
+    rt: &R,
+    order: &Order<'a>,
+    hook: Hook,
+    names: Names<'_>,
+    code: &[u8],
+) -> Result<Report, Fault<'a>>
+    ensures { IfOk result (IsBuiltCode (wanted_of order.now) hook names.entry.function.now
+        code.now) }
+{
+    let Some(name) = as_file_name(names.function) else {
+        let mut text = about(rt.alloc(), names.section, names.function);
+        text.push(": its name can't be a file's\n");
+        return Ok(refusal(text)?);
+    };
+    match annotate_file(rt.alloc(), hook, code, order.fuel) {
+        Ok(annotated) => Ok(write_function(rt, order, hook, name, &annotated)?),
+        Err(error) => {
+            let why = shortfall(rt.alloc(), error);
+            Ok(function_refusal(rt.alloc(), names, why)?)
+        }
+    }
+}
+
+/// Makes the object of a function of the file, or tells why there is none.
+fn build_function<'a, R: Files + AllocGlobal>(
+    rt: &R,
+    order: &Order<'a>,
+    hook: Hook,
+    file: &ObjectFile<'_>,
+    section: &[u8],
+    function: &LinkedSymbol,
+) -> Result<Report, Fault<'a>>
+    ensures { IfOk result (λ report. (report.is_refused ≡ true)
+        ⊎ IsBuiltFunction file.now (wanted_of order.now) hook function.now
+        (string_bytes report.text)) }
+{
+    let Some(name) = file.symbol_name(function.table, function.index) else {
+        return Ok(refusal(about(rt.alloc(), section, b""))?);
+    };
+    let Some(code) = file.symbol_bytes(function.symbol) else {
+        let mut text = about(rt.alloc(), section, name);
+        text.push(": its code isn't in the section\n");
+        return Ok(refusal(text)?);
+    };
+    let names = Names {
+        section,
+        function: name,
+    };
+    let report = build_code(rt, order, hook, names, code)?;
+    Ok(report)
+}
+
+/// What is told of a section with instructions that is for no hook.
+fn section_refusal(alloc: Global, section: &[u8]) -> Result<Report, AllocError>
+    ensures { IfOk result (λ report. report.is_refused ≡ true) }
+{
+    let mut text = Text::new(alloc);
+    text.push("section ");
+    text.push(shown(section));
+    text.push(
+        ": it has functions, and names no hook: write SEC(\"veto\"), or of count, tag and price, \
+            before a program, static inline before another function",
+    );
+    match section {
+        b".text" => text.push("; or --hook\n"),
+        _ => text.push("\n"),
+    }
+    refusal(text)
+}
+
+/// What is told of a section whose instructions are no function's.
+fn nothing_refusal(alloc: Global, section: &[u8]) -> Result<Report, AllocError>
+    ensures { IfOk result (λ report. report.is_refused ≡ true) }
+{
+    let mut text = Text::new(alloc);
+    text.push("section ");
+    text.push(shown(section));
+    text.push(": it has instructions and no function\n");
+    refusal(text)
+}
+
+/// Makes the objects of these functions of a section.
+fn build_functions<'a, R: Files + AllocGlobal>(
+    rt: &R,
+    order: &Order<'a>,
+    hook: Hook,
+    file: &ObjectFile<'_>,
+    section: &[u8],
+    functions: &[LinkedSymbol],
+) -> Result<Report, Fault<'a>>
+    ensures { IfOk result (λ report. (report.is_refused ≡ true)
+        ⊎ AreBuiltFunctions file.now (wanted_of order.now) hook functions.now (length functions.now)
+        (string_bytes report.text)) }
+{
+    let mut report = Report {
+        text: String::new(rt.alloc()),
+        is_refused: false,
+    };
+    for function in functions {
+        let built = build_function(rt, order, hook, file, section, function)?;
+        join(&mut report, &built)?;
+    }
+    Ok(report)
+}
+
+/// Makes the objects of the functions of a section with instructions, or tells why there are none.
+fn build_section<'a, R: Files + AllocGlobal>(
+    rt: &R,
+    order: &Order<'a>,
+    file: &ObjectFile<'_>,
+    index: usize,
+) -> Result<Report, Fault<'a>>
+    requires { index < section_count file.now }
+    ensures { IfOk result (λ report. (report.is_refused ≡ true)
+        ⊎ IsBuiltSection file.now (wanted_of order.now) index (string_bytes report.text)) }
+{
+    let name = file.section_name(index);
+    let Some(hook) = hook_in(order.hook, name) else {
+        return Ok(section_refusal(rt.alloc(), name)?);
+    };
+    let functions = file.functions(rt.alloc(), index)?;
+    if functions.is_empty() {
+        return Ok(nothing_refusal(rt.alloc(), name)?);
+    }
+    let relocations = file.relocations(rt.alloc(), index)?;
+    if !relocations.is_empty() {
+        let contents = file.contents(index);
+        let section = Section { name, contents };
+        let told = relocation_report(rt.alloc(), file, section, &functions, &relocations)?;
+        return Ok(told);
+    }
+    let report = build_functions(rt, order, hook, file, name, &functions)?;
+    Ok(report)
+}
+
+/// Tells whether a section has instructions.
+fn is_program_section(file: &ObjectFile<'_>, index: usize) -> bool
+    requires { index < section_count file.now }
+    ensures { result ≡ is_program_section file.now index }
+{
+    file.section(index).is_code() && !file.contents(index).is_empty()
+}
+
+/// Makes the objects of a section, if it has instructions.
+fn build_at<'a, R: Files + AllocGlobal>(
+    rt: &R,
+    order: &Order<'a>,
+    file: &ObjectFile<'_>,
+    index: usize,
+) -> Result<Report, Fault<'a>>
+    requires { index < section_count file.now }
+    ensures { IfOk result (λ report. (report.is_refused ≡ true)
+        ⊎ IsBuiltAt file.now (wanted_of order.now) index (string_bytes report.text)) }
+{
+    if is_program_section(file, index) {
+        let report = build_section(rt, order, file, index)?;
+        return Ok(report);
+    }
+    Ok(Report {
+        text: String::new(rt.alloc()),
+        is_refused: false,
+    })
+}
+
+/// Makes the objects of all sections with instructions.
+fn build_sections<'a, R: Files + AllocGlobal>(
+    rt: &R,
+    order: &Order<'a>,
+    file: &ObjectFile<'_>,
+) -> Result<Report, Fault<'a>>
+    ensures { IfOk result (λ report. (report.is_refused ≡ true)
+        ⊎ AreBuiltSections file.now (wanted_of order.now) (section_count file.now)
+        (string_bytes report.text)) }
+{
+    let mut report = Report {
+        text: String::new(rt.alloc()),
+        is_refused: false,
+    };
+    for index in 0..file.section_count() {
+        let built = build_at(rt, order, file, index)?;
+        join(&mut report, &built)?;
+    }
+    Ok(report)
+}
+
+/// What is told of a file that isn't what clang writes.
+fn no_elf<'a>(alloc: Global, path: &str, fault: elf::Fault) -> Result<Report, Fault<'a>>
+    ensures { IfOk result (λ report. report.is_refused ≡ true) }
+{
+    let hint = match fault {
+        elf::Fault::NotElf =>
+            "  compile C first: clang -O2 -target bpf -mcpu=v3 -c PROGRAM.c -o FILE (Debian's \
+                package clang), or tools/hooktool-build PROGRAM.c\n",
+        _ => "",
+    };
+    Ok(Report {
+        text: format!(in alloc; "{path}: {fault}\n{hint}")?,
+        is_refused: true,
+    })
+}
+
+/// What is told of a file without a program.
+fn no_program<'a>(alloc: Global, path: &str) -> Result<Report, Fault<'a>>
+    ensures { IfOk result (λ report. report.is_refused ≡ true) }
+{
+    Ok(Report {
+        text: format!(in alloc; "{path}: it has no function\n")?,
+        is_refused: true,
+    })
+}
+
+/// Makes an object of each function in these bytes of a file that is in the section of a hook.
+fn build_bytes<'a, R: Files + AllocGlobal>(
+    rt: &R,
+    order: &Order<'a>,
+    path: &str,
+    bytes: &[u8],
+) -> Result<Report, Fault<'a>>
+    ensures { IfOk result (IsBuilt bytes.now (wanted_of order.now)) }
+{
+    match elf::read(bytes) {
+        Ok(file) => {
+            let report = build_sections(rt, order, &file)?;
+            if report.text.is_empty() {
+                return Ok(no_program(rt.alloc(), path)?);
+            }
+            Ok(report)
+        }
+        Err(fault) => Ok(no_elf(rt.alloc(), path, fault)?),
+    }
+}
+
+/// Makes an object of each function of the ELF file at `path` that is in the section of a hook, in
+/// the folder, if the verifier accepts it. What is told of each is in the order of the file.
+///
+/// A fault where a file can't be read or written, or memory is refused.
+pub(crate) fn build<'a, R: Files + AllocGlobal>(
+    rt: &R,
+    path: &'a str,
+    order: Order<'a>,
+) -> Result<Report, Fault<'a>>
+    ensures { IfOk result (λ report. (bytes : List ℕ)
+        × IsBuilt bytes (wanted_of order.entry) report) }
+{
+    match files::read(rt, path) {
+        Ok(bytes) => Ok(build_bytes(rt, &order, path, bytes.as_slice())?),
+        Err(fault) => Err(fault),
+    }
+}

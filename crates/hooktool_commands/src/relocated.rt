@@ -1,0 +1,172 @@
+//! What is told of code that a linker would change: it uses data, or calls a function.
+
+ghost use Rattle.std.specs.Prelude.{◌≡◌, true, IfOk};
+
+use crate::building::{about, refusal};
+use crate::names::shown;
+use crate::report::Report;
+use elf::{LinkedRelocation, LinkedSymbol, ObjectFile, SymbolKind};
+use explanations::Text;
+use std::alloc::{AllocError, Global};
+
+// The relocation of a call: R_BPF_64_32.
+const CALL: u32 = 10;
+
+// How many places of a section are told one by one.
+const MOST_TOLD: usize = 16;
+
+/// A section's name, and its bytes.
+#[derive(Clone, Copy)]
+pub(crate) struct Section<'f> {
+    pub name: &'f [u8],
+    pub contents: &'f [u8],
+}
+
+/// The function that has the place of a section, if one has.
+fn function_at(functions: &[LinkedSymbol], offset: u64) -> Option<LinkedSymbol> {
+    for function in functions {
+        let symbol = function.symbol;
+        if symbol.value <= offset && offset - symbol.value < symbol.size {
+            return Some(*function);
+        }
+    }
+    None
+}
+
+/// The symbol's name, or none.
+fn name_of<'a>(file: &ObjectFile<'a>, table: usize, index: usize) -> &'a [u8] {
+    match file.symbol_name(table, index) {
+        Some(name) => name,
+        None => b"",
+    }
+}
+
+/// The number in the last four bytes of the instruction at a place: of a wide load the lower half of
+/// its number, of a call its distance.
+fn number_at(contents: &[u8], offset: u64) -> Option<u32> {
+    let start = offset as usize;
+    let end = start.checked_add(8)?;
+    match contents.get(start..end)? {
+        [_, _, _, _, a, b, c, d] => Some(u32::from_le_bytes([*a, *b, *c, *d])),
+        _ => None,
+    }
+}
+
+/// The place in the section that the code names by its number: of data the number itself, of a
+/// function what a call's distance comes to from the section's first slot.
+fn named_place(kind: u32, number: u32) -> u64 {
+    if kind == CALL {
+        8 * u64::from(number.wrapping_add(1))
+    } else {
+        u64::from(number)
+    }
+}
+
+/// The name of the function or the data of the table that has this place of the section.
+fn name_at<'a>(file: &ObjectFile<'a>, table: usize, section: u16, place: u64) -> Option<&'a [u8]> {
+    for index in 0..usize::MAX {
+        let symbol = file.symbol(table, index)?;
+        let is_named = matches!(symbol.kind, SymbolKind::Function | SymbolKind::Object);
+        let is_there = symbol.value <= place && place - symbol.value < symbol.size;
+        if is_named && is_there && symbol.section == section {
+            return file.symbol_name(table, index);
+        }
+    }
+    None
+}
+
+/// The name of what the relocation names: a symbol's. Of a section's symbol what is there in the
+/// section, by the number in the code, or the section's.
+fn target_name<'a>(
+    file: &ObjectFile<'a>,
+    contents: &[u8],
+    relocation: &LinkedRelocation,
+) -> &'a [u8] {
+    let it = relocation.relocation;
+    let index = it.symbol as usize;
+    if let Some(symbol) = file.symbol(relocation.table, index) {
+        let section = symbol.section as usize;
+        if symbol.kind == SymbolKind::Section && section < file.section_count() {
+            let number = number_at(contents, it.offset).unwrap_or(0);
+            let place = named_place(it.kind, number);
+            return match name_at(file, relocation.table, symbol.section, place) {
+                Some(name) => name,
+                None => file.section_name(section),
+            };
+        }
+    }
+    name_of(file, relocation.table, index)
+}
+
+/// The beginning of the line about a place: its function and slot, or its offset in the section.
+fn place(
+    alloc: Global,
+    file: &ObjectFile<'_>,
+    section: &[u8],
+    functions: &[LinkedSymbol],
+    offset: u64,
+) -> Text {
+    match function_at(functions, offset) {
+        Some(function) => {
+            let name = name_of(file, function.table, function.index);
+            let mut text = about(alloc, section, name);
+            let slot = offset.saturating_sub(function.symbol.value) / 8;
+            text.numbered(", slot ", slot, ": ");
+            text
+        }
+        None => {
+            let mut text = Text::new(alloc);
+            text.push("section ");
+            text.push(shown(section));
+            text.numbered(", offset ", offset, ": ");
+            text
+        }
+    }
+}
+
+/// Adds what the place does, and what an author can do.
+fn push_use(text: &mut Text, kind: u32, target: &str) {
+    if kind == CALL {
+        text.push("it calls ");
+        text.push(target);
+        text.push(": a program has no functions to call, make each one static inline\n");
+    } else {
+        text.push("it uses ");
+        text.push(target);
+        text.push(
+            ": a program has no data of its own, write tables as code or keep them in cells\n",
+        );
+    }
+}
+
+/// What is told of the places of a section that a linker would change: what code uses and calls
+/// there. Of more than sixteen the number of the others.
+pub(crate) fn relocation_report(
+    alloc: Global,
+    file: &ObjectFile<'_>,
+    section: Section<'_>,
+    functions: &[LinkedSymbol],
+    relocations: &[LinkedRelocation],
+) -> Result<Report, AllocError>
+    ensures { IfOk result (λ report. report.is_refused ≡ true) }
+{
+    let mut text = Text::new(alloc);
+    for relocation in relocations.iter().take(MOST_TOLD) {
+        let offset = relocation.relocation.offset;
+        let mut line = place(alloc, file, section.name, functions, offset);
+        let target = shown(target_name(file, section.contents, relocation));
+        push_use(&mut line, relocation.relocation.kind, target);
+        text.take(&mut line);
+    }
+    if relocations.len() > MOST_TOLD {
+        text.push("section ");
+        text.push(shown(section.name));
+        let others = relocations.len() - MOST_TOLD;
+        text.numbered(
+            ": and ",
+            others as u64,
+            " places more that are like these\n",
+        );
+    }
+    refusal(text)
+}

@@ -1,0 +1,37 @@
+use Rattle.std.proofs.Common.{refl, codes}
+use Rattle.clap.specs.Matches.{found_of}
+use Rattle.clap.specs.Walk.{rows_of}
+use Rattle.hooktool_line.proofs.Made.{has_none, has_word, no_build}
+use Rattle.hooktool_line.proofs.requests.build_request.Goals as goal
+
+pub returns-in_default : goal.returns-in_default
+returns-in_default c =
+    let rows = rows_of (found_of c.args.matches.now) in
+    no_build rows (λ file folder hook fuel has a b d. has_none rows (codes "FILE") c.in_default.ensures file has)
+
+pub returns-in_default-word_of : goal.returns-in_default-word_of
+returns-in_default-word_of c =
+    let rows = rows_of (found_of c.args.matches.now) in
+    no_build rows (λ file folder hook fuel a has b d. has_none rows (codes "FOLDER") c.in_default-word_of.ensures folder has)
+
+pub returns-in_default-hook_of : goal.returns-in_default-hook_of
+returns-in_default-hook_of c =
+    let rows = rows_of (found_of c.args.matches.now) in
+    no_build rows (λ file folder hook fuel a b has d. c.in_default-hook_of.ensures hook has)
+
+pub returns-in-None : goal.returns-in-None
+returns-in-None c =
+    let rows = rows_of (found_of c.args.matches.now) in
+    no_build rows (λ file folder hook fuel a b d has. c.in-None.ensures fuel has)
+
+pub returns-in-Some-fuel_of : goal.returns-in-Some-fuel_of
+returns-in-Some-fuel_of c =
+    let rows = rows_of (found_of c.args.matches.now) in (
+      refl,
+      (
+        has_word rows (codes "FILE") c.in-Some.file c.in-Some.ensures,
+        has_word rows (codes "FOLDER") c.in-Some-word_of.folder c.in-Some-word_of.ensures,
+        c.in-Some-hook_of.ensures,
+        c.in-Some-fuel_of.ensures,
+      ),
+    )
