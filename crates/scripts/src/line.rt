@@ -105,7 +105,7 @@ fn with_two<'a>(name: &str, first: &str, second: &'a str) -> Option<Happening<'a
 }
 
 // What a single word shows.
-fn shown(name: &str) -> Option<Shown> {
+fn shown_by(name: &str) -> Option<Shown> {
     match name {
         "neighbors" => Some(Shown::Neighbors),
         "table" => Some(Shown::Table),
@@ -139,7 +139,7 @@ fn of_four<'a>(first: &str, second: &str, third: &str, fourth: &'a str) -> Optio
 /// What the words of a line say, if it is anything.
 pub fn line_of<'a>(words: &[&'a str]) -> Option<Line<'a>> {
     match *words {
-        [a] => Some(Line::Shows(shown(a)?)),
+        [a] => Some(Line::Shows(shown_by(a)?)),
         [a, b] => of_two(a, b),
         [a, b, c] => Some(Line::Happens(moment(a)?, with_one(b, c)?)),
         [a, b, c, d] => of_four(a, b, c, d),
