@@ -4,11 +4,11 @@ use words::{External, ExternalType, Key, LinkStateId, Prefix, RouterId, Second};
 
 /// What happens at the router.
 #[derive(Clone, Copy)]
-pub enum Happening<'a> {
+pub enum Happening {
     /// `tick`: time has passed.
     Tick,
-    /// `packet I HEX`: the packet comes in at interface I; `-` stands for no bytes.
-    Packet(u16, &'a str),
+    /// `packet I HEX`: the packet of the last word comes in at interface I; `-` stands for no bytes.
+    Packet(u16),
     /// `announce P METRIC`: the destination is announced, with a metric of type 2 and no tag.
     Announce(External),
     /// `withdraw P`
@@ -47,9 +47,9 @@ pub enum Shown {
 
 /// A line.
 #[derive(Clone, Copy)]
-pub enum Line<'a> {
+pub enum Line {
     /// `MOMENT ..`: at this moment this happens.
-    Happens(Second, Happening<'a>),
+    Happens(Second, Happening),
     Shows(Shown),
 }
 
@@ -85,7 +85,7 @@ fn key(ls_type: &str, link_state_id: &str, router: &str) -> Option<Key> {
 }
 
 // What a name and a word behind it let happen.
-fn with_one<'a>(name: &str, word: &'a str) -> Option<Happening<'a>> {
+fn with_one(name: &str, word: &str) -> Option<Happening> {
     match (name, word) {
         ("withdraw", _) => Some(Happening::Withdraw(read_prefix(word)?)),
         ("down", _) => Some(Happening::Down(interface(word)?)),
@@ -96,9 +96,9 @@ fn with_one<'a>(name: &str, word: &'a str) -> Option<Happening<'a>> {
 }
 
 // What a name and two words behind it let happen.
-fn with_two<'a>(name: &str, first: &str, second: &'a str) -> Option<Happening<'a>> {
+fn with_two(name: &str, first: &str, second: &str) -> Option<Happening> {
     match name {
-        "packet" => Some(Happening::Packet(interface(first)?, second)),
+        "packet" => Some(Happening::Packet(interface(first)?)),
         "announce" => Some(Happening::Announce(destination(first, second)?)),
         _ => None,
     }
@@ -119,7 +119,7 @@ fn shown_by(name: &str) -> Option<Shown> {
 }
 
 // What two words say.
-fn of_two<'a>(first: &str, second: &str) -> Option<Line<'a>> {
+fn of_two(first: &str, second: &str) -> Option<Line> {
     match (first, second) {
         ("announced", _) => Some(Line::Shows(Shown::Announced(read_prefix(second)?))),
         (_, "tick") => Some(Line::Happens(moment(first)?, Happening::Tick)),
@@ -128,7 +128,7 @@ fn of_two<'a>(first: &str, second: &str) -> Option<Line<'a>> {
 }
 
 // What four words say.
-fn of_four<'a>(first: &str, second: &str, third: &str, fourth: &'a str) -> Option<Line<'a>> {
+fn of_four(first: &str, second: &str, third: &str, fourth: &str) -> Option<Line> {
     if first == "lsa" {
         return Some(Line::Shows(Shown::Lsa(key(second, third, fourth)?)));
     }
@@ -137,7 +137,7 @@ fn of_four<'a>(first: &str, second: &str, third: &str, fourth: &'a str) -> Optio
 }
 
 /// What the words of a line say, if it is anything.
-pub fn line_of<'a>(words: &[&'a str]) -> Option<Line<'a>> {
+pub fn line_of(words: &[&str]) -> Option<Line> {
     match *words {
         [a] => Some(Line::Shows(shown_by(a)?)),
         [a, b] => of_two(a, b),

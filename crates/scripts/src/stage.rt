@@ -68,6 +68,11 @@ fn packet(alloc: Global, interface: u16, digits: &str) -> Result<Option<Event>, 
     Ok(Some(Event::Packet(interface, Sequence::from_vec(bytes))))
 }
 
+// An Install with no answers.
+fn nothing_installed(alloc: Global) -> Event {
+    Event::Install(Sequence::from_vec(Vec::new(alloc)))
+}
+
 impl<R: Wait + Drop + Copy> Stage<R> {
     fn new(alloc: Global, rt: R, interfaces: u32) -> Result<Stage<R>, ScriptError> {
         let operator = Operator::new(alloc, rt)?;
@@ -97,34 +102,43 @@ impl<R: Wait + Drop> Stage<R> {
         Ok(Event::Install(Sequence::from_vec(answers)))
     }
 
-    // The event; None where a packet's digits are none.
+    // The event, a packet's with these digits; None where they are none.
     fn event(
         &mut self,
         moment: Second,
-        happening: Happening<'_>,
+        happening: Happening,
+        digits: &str,
     ) -> Result<Option<Event>, AllocError> {
         match happening {
             Happening::Tick => Ok(Some(Event::Tick)),
-            Happening::Packet(interface, digits) => packet(self.alloc, interface, digits),
+            Happening::Packet(interface) => packet(self.alloc, interface, digits),
             Happening::Announce(external) => Ok(Some(self.announcement(moment, &external)?)),
             Happening::Withdraw(prefix) => Ok(Some(Event::Withdraw(prefix))),
             Happening::Down(interface) => Ok(Some(Event::LinkDown(interface))),
             Happening::InstallAll => Ok(Some(self.all_let_in(moment)?)),
-            Happening::InstallNothing => {
-                let none = Vec::new(self.alloc);
-                Ok(Some(Event::Install(Sequence::from_vec(none))))
-            }
+            Happening::InstallNothing => Ok(Some(nothing_installed(self.alloc))),
         }
     }
 
+    fn step(&mut self, moment: Second, event: &Event) -> Result<(), AllocError> {
+        let answer = self.core.step(moment, event);
+        push_answer(&mut self.text, moment, &answer)
+    }
+
     // Whether it happens: a packet's digits may be none.
-    fn happens(&mut self, moment: Second, happening: Happening<'_>) -> Result<bool, AllocError> {
-        let Some(event) = self.event(moment, happening)? else {
-            return Ok(false);
-        };
-        let answer = self.core.step(moment, &event);
-        push_answer(&mut self.text, moment, &answer)?;
-        Ok(true)
+    fn happens(
+        &mut self,
+        moment: Second,
+        happening: Happening,
+        digits: &str,
+    ) -> Result<bool, AllocError> {
+        match self.event(moment, happening, digits)? {
+            Some(event) => {
+                self.step(moment, &event)?;
+                Ok(true)
+            }
+            None => Ok(false),
+        }
     }
 
     fn show_stale(&mut self) -> Result<(), AllocError> {
@@ -155,15 +169,23 @@ impl<R: Wait + Drop> Stage<R> {
         }
     }
 
-    // Whether the line says anything.
-    fn takes(&mut self, line: &str) -> Result<bool, AllocError> {
-        let words: Vec<&str> = line.split(' ').collect(self.alloc)?;
-        match line_of(&words) {
-            Some(Line::Happens(moment, happening)) => self.happens(moment, happening),
-            Some(Line::Shows(shown)) => {
+    // Does what a line says, whose last word is this; whether it could be done.
+    fn does(&mut self, line: Line, last: &str) -> Result<bool, AllocError> {
+        match line {
+            Line::Happens(moment, happening) => self.happens(moment, happening, last),
+            Line::Shows(shown) => {
                 self.show(shown)?;
                 Ok(true)
             }
+        }
+    }
+
+    // Whether the line says anything.
+    fn takes(&mut self, line: &str) -> Result<bool, AllocError> {
+        let words: Vec<&str> = line.split(' ').collect(self.alloc)?;
+        let last = words.last().copied().unwrap_or("");
+        match line_of(&words) {
+            Some(said) => self.does(said, last),
             None => Ok(false),
         }
     }
