@@ -200,6 +200,18 @@ class Links(unittest.TestCase):
         (packet,), _ = self.came(description(SUMMARY[:20]))
         self.assertEqual(Description.decode(packet.body).headers, ())
 
+    def test_links_share_their_limit(self) -> None:
+        """It is `routerd`'s, of all links together."""
+        database = Database(1)
+        links = [
+            Link(link().interface, link().authentication._numbers, database=database)
+            for _ in range(2)
+        ]
+        for each, lsa in zip(links, (SUMMARY, OTHER)):
+            each.from_router(own_hello(), 0)
+            each.from_wire(update(lsa), THERE, 0)
+        self.assertEqual([each.counters[WITHHELD] for each in links], [0, 1])
+
     def test_what_is_flushed_is_told_of_no_longer(self) -> None:
         bad = UNREAD["its reserved byte is 0x01"]
         self.came(update(bad))
