@@ -1,0 +1,87 @@
+"""tools/run-trials over a program that prints its words: what it finds, and what it takes for no row."""
+import pathlib
+import subprocess
+import tempfile
+import unittest
+
+TOOL = pathlib.Path(__file__).resolve().parents[1] / "run-trials"
+PRINTS = """#!/bin/sh
+[ "$1" = fail ] && { echo "usage" >&2; exit 2; }
+[ "$1" = read ] && { cat "$2"; exit 0; }
+echo "$@"
+"""
+
+
+class RunTrials(unittest.TestCase):
+    def setUp(self):
+        room = tempfile.TemporaryDirectory()
+        self.addCleanup(room.cleanup)
+        self.room = pathlib.Path(room.name)
+        for name in ("routerd", "hooktool", "simulation"):
+            program = self.room / name
+            program.write_text(PRINTS)
+            program.chmod(0o755)
+
+    def play(self, rows, *words):
+        (self.room / "some.rows").write_text(rows)
+        ran = subprocess.run([TOOL, "--bin", self.room, *words, self.room / "some.rows"], capture_output=True, text=True, check=False)
+        return ran.returncode, ran.stdout + ran.stderr
+
+    def test_what_is_as_expected_is_right(self):
+        rows = """let SIX 060606
+== all words
+file bytes hex 0102*2 {SIX}
+length bytes 7
+holds bytes at 3 hex 0206
+copy bytes front 2
+holds front hex 0102
+change bytes at 0 hex ff
+holds bytes at 0 hex ff02
+file text
+| one
+|*2 address {address 10.0.0.0 256}
+$ routerd read text
+> one
+> address 10.0.0.0
+> address 10.0.{n}.0
+= 0
+$ routerd a b
+~ a b
+- c
+= 0
+$ routerd fail
+! usage
+= 2
+folder new
+remove new
+nothing new
+"""
+        self.assertEqual(self.play(rows), (0, "run-trials: 1 cases, 3 commands, 0 wrong\n"))
+
+    def test_what_is_otherwise_is_told(self):
+        for wrong in ("> 8\n= 0", "> 7\n= 1", "~ 8\n= 0", "- 7\n= 0", "= 0", "> 7\n! usage\n= 0"):
+            with self.subTest(wrong):
+                status, told = self.play(f"== seven\n$ routerd 7\n{wrong}\n")
+                self.assertEqual(status, 1)
+                self.assertIn("some.rows: seven: line 2", told)
+                self.assertIn("1 cases, 1 commands, 1 wrong", told)
+        for wrong in ("holds it hex 08", "length it 2", "nothing it", "same it other"):
+            with self.subTest(wrong):
+                self.assertEqual(self.play(f"== files\nfile it hex 07\nfile other hex 08\n{wrong}\n")[0], 1)
+
+    def test_lines_that_say_nothing_end_it(self):
+        for line in ("fly", "file it bits 01", "$ nobody", "holds it hex 0", "$ routerd 7\n> 7"):
+            with self.subTest(line):
+                status, told = self.play(f"== none\nfile it hex 07\n{line}\n")
+                self.assertEqual((status, "run-trials: " in told), (2, True))
+        self.assertEqual(self.play("file it hex 07\n")[0], 2)
+
+    def test_planted_faults_are_found(self):
+        rows = "== seven\n$ routerd 7 8\n> 7 8\n= 0\nfile it hex 07\nholds it hex 07\n"
+        self.assertEqual(self.play(rows, "--plant", "3"), (0, "run-trials: 3 of 3 planted faults found\n"))
+        status, told = self.play("== any\n$ routerd 7 8\n> 7 {n}\n- 9\n= 0\n".replace("> 7 {n}", "> {any}7 {n}"), "--plant", "2")
+        self.assertEqual((status, told), (0, "run-trials: 2 of 2 planted faults found\n"))
+
+
+if __name__ == "__main__":
+    unittest.main()
