@@ -24,7 +24,7 @@ KEPT_FREE = 64
 """Of these for what this router originates itself."""
 ROOM_AGAIN = 512
 """So many LSAs must have room before those that were withheld are asked for."""
-SECONDS_BETWEEN = 15.0
+SECONDS_BETWEEN = 5.0
 """Between two exchanges that are begun anew on one link at least."""
 STUCK_AFTER = 3.5
 """Seconds for which `routerd` has asked in vain: meanwhile the other LSAs come."""
@@ -116,6 +116,8 @@ class Database:
 
     def __init__(self, most: int = MOST_LSAS - KEPT_FREE) -> None:
         self._keys: dict[Key, float] = {}
+        self._oldest = float("-inf")
+        """No key came last before that moment."""
         self._most = most
 
     def __len__(self) -> int:
@@ -155,9 +157,13 @@ class Database:
             self._keys.pop(each, None)
 
     def _let_go(self, now: float) -> None:
-        """An LSA that wasn't refreshed has reached MaxAge, and is gone from each database (14)."""
+        """An LSA that wasn't refreshed has reached MaxAge, and is gone from each database (14).
+        Nothing is looked through before the oldest one may have."""
+        if now - self._oldest <= MAX_AGE:
+            return
         old = [each for each, moment in self._keys.items() if now - moment > MAX_AGE]
         self.forget(old)
+        self._oldest = min(self._keys.values(), default=now)
 
 
 @dataclass

@@ -4,6 +4,7 @@ import struct
 import unittest
 from dataclasses import replace
 from ipaddress import IPv4Address
+from unittest import mock
 
 from leafrunt_host.bridge import WITHHELD, Link
 from leafrunt_host.packets import Description, Flags, Packet, PacketType, lsas_of, read
@@ -252,7 +253,7 @@ class Limits(unittest.TestCase):
         self.assertFalse(self.withheld.has_room_again(10))
         self.withheld.updated([external(number, MAX_AGE) for number in range(most - 10)], 20)
         self.assertTrue(self.withheld.has_room_again(30))
-        self.assertFalse(self.withheld.has_room_again(31))
+        self.assertFalse(self.withheld.has_room_again(30 + SECONDS_BETWEEN / 2))
         self.assertTrue(self.withheld.has_room_again(30 + SECONDS_BETWEEN))
         headers = [external(number)[:20] for number in range(most, most + 5)]
         self.assertEqual(len(self.withheld.described(headers, 50)), 5)
@@ -278,6 +279,16 @@ class Limits(unittest.TestCase):
         self.withheld.updated([external(number) for number in range(most)], 0)
         self.assertEqual(len(self.withheld.updated([external(most)], MAX_AGE - 1)[1]), 1)
         self.assertEqual(len(self.withheld.updated([external(most)], MAX_AGE + 1)[1]), 0)
+
+    def test_the_limit_costs_little(self) -> None:
+        """Its keys aren't looked through for each LSA above it."""
+        most = ROOM_AGAIN + 10
+        self.withheld.updated([external(number) for number in range(most)], 0)
+        looked = mock.Mock(wraps=self.database.forget)
+        with mock.patch.object(self.database, "forget", looked):
+            for number in range(100):
+                self.withheld.updated([external(most + number)], 1 + number / 10)
+        self.assertLessEqual(looked.call_count, 1)
 
     def test_what_the_router_originates(self) -> None:
         self.database.sent([external(1), external(2)], 0)
