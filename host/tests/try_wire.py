@@ -12,7 +12,6 @@ from pathlib import Path
 from tests.network import (
     COMES_UP,
     HOST,
-    NOT_FULL,
     SHA,
     Announce,
     Bird,
@@ -290,9 +289,14 @@ def lost_again(given: Try) -> None:
     it.start()
     looks.timed("HelloInterval 10: Full", 60, it.is_up)
     for _ in range(4):
+        before = len(it.tried.log_lines())
         run("ip", "-n", it.next, "link", "set", "eth1", "down")
-        what = "a link is lost: told within 1 s"
-        looks.timed(what, 1, lambda: it.tried.neighbors().get("2.2.2.2") in NOT_FULL, 0.1)
+
+        def is_told() -> bool:
+            # (its log: to ask by the console takes seconds on a busy machine)
+            return any("2.2.2.2 Full ->" in each for each in it.tried.log_lines()[before:])
+
+        looks.timed("a link is lost: told within 2 s", 2, is_told, 0.05)
         run("ip", "-n", it.next, "link", "set", "eth1", "up")
         within(60, lambda: is_full(it.tried, "2.2.2.2"), 0.1)
     it.stop()
