@@ -3,14 +3,14 @@ use Rattle.std.proofs.Common.{◌≡◌, ℕ, ◌≤◌, ◌<◌, Bool, true, fa
 use Rattle.std.specs.Prelude.{nat_lt}
 use Rattle.std.specs.declared.cmp.Ordering.{Ordering}
 use Rattle.std.specs.declared.cmp.Ordering.TheVariants.{Less, Equal, Greater}
-use Rattle.std.specs.Ordering.{int_cmp, is_ge, nat_cmp, ordering_then}
+use Rattle.std.specs.Ordering.{bool_cmp, int_cmp, is_ge, nat_cmp, ordering_then}
 use Rattle.std.proofs.lemmas.Bool.{eq-eqb, eqb-true, ltb-false, ltb-true}
 use Rattle.lsdb.specs.Copies.{DatabaseCopy, age_now, copy_header, copy_now, has_just_aged_out, is_aged_out}
 use Rattle.lsdb.specs.Headers.{Header}
 use Rattle.lsdb.specs.Instances.{ListEntry, aged_header, instance_of, listed_now}
 use Rattle.lsdb.specs.Order.{age_at, is_max_age}
 use Rattle.lsdb.specs.declared.order.Instance.{Instance}
-use Rattle.agreement_laws.specs.Ranks.{compare_max_age, is_at_least}
+use Rattle.agreement_laws.specs.Ranks.{is_at_least}
 use Rattle.agreement_laws.proofs.Ranks.{itself_at_least}
 
 -- ---- ages
@@ -39,7 +39,7 @@ max_age_later age at before now later is = eq-eqb (age_at age at now) 3600 (late
 -- ---- ranks
 
 by_max_age : (r s : Ordering) (p q p' q' : Bool) → (p ≡ true → p' ≡ true) → (q' ≡ true → q ≡ true)
-    → is_ge (ordering_then r (ordering_then s (compare_max_age p q))) ≡ true → is_ge (ordering_then r (ordering_then s (compare_max_age p' q'))) ≡ true
+    → is_ge (ordering_then r (ordering_then s (bool_cmp p q))) ≡ true → is_ge (ordering_then r (ordering_then s (bool_cmp p' q'))) ≡ true
 by_max_age Less s p q p' q' more less e = absurd cc
 by_max_age Greater s p q p' q' more less e = refl
 by_max_age Equal Less p q p' q' more less e = absurd cc

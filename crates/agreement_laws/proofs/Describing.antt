@@ -28,6 +28,7 @@ use Rattle.agreement_laws.specs.Ranks.{is_at_least}
 use Rattle.agreement_laws.proofs.Ages.{described_at_least, noted_at_least}
 use Rattle.agreement_laws.proofs.Lists.{is_listed, left_or_taken, put_there}
 use Rattle.agreement_laws.proofs.Ranks.{itself_at_least}
+use Rattle.agreement_laws.proofs.Verdicts.{as_slave_or_master, first_two, mismatch_or_accepted}
 use Rattle.agreement_laws.proofs.Settling.{AreSaid, Has, HasAny, Known, Saying, Settled, Settling, mismatched, settling_more}
 
 -- the instance of a copy, if there is one
@@ -158,25 +159,6 @@ module _ (key : Key) (now : ℕ) (Of : ℕ → Type 0) (Said : Saying) where
 
       abbrev Does : Neighbor → Verdict → Type 0
       Does m v = OfStep (held now key db) (act v now db d m)
-
-      first_two : (V : Verdict → Type 0) (a b : Bool) (v : Verdict) → V Verdict.Discarded → V Verdict.Repeated → V v → V (cond a Verdict.Discarded (cond b Verdict.Repeated v))
-      first_two V true b v discards repeats rest = discards
-      first_two V false true v discards repeats rest = repeats
-      first_two V false false v discards repeats rest = rest
-
-      mismatch_or_accepted : (V : Verdict → Type 0) → V Verdict.Mismatch → V Verdict.Accepted → (a b c e : Bool)
-          → V (cond a Verdict.Mismatch (cond b Verdict.Mismatch (cond c Verdict.Mismatch (cond e Verdict.Mismatch Verdict.Accepted))))
-      mismatch_or_accepted V mismatch accepts true b c e = mismatch
-      mismatch_or_accepted V mismatch accepts false true c e = mismatch
-      mismatch_or_accepted V mismatch accepts false false true e = mismatch
-      mismatch_or_accepted V mismatch accepts false false false true = mismatch
-      mismatch_or_accepted V mismatch accepts false false false false = accepts
-
-      as_slave_or_master : (V : Verdict → Type 0) → V Verdict.NegotiatedAsSlave → V Verdict.NegotiatedAsMaster → V Verdict.Discarded → (a b : Bool)
-          → V (cond a Verdict.NegotiatedAsSlave (cond b Verdict.NegotiatedAsMaster Verdict.Discarded))
-      as_slave_or_master V follows leads discards true b = follows
-      as_slave_or_master V follows leads discards false true = leads
-      as_slave_or_master V follows leads discards false false = discards
 
       module _ (own_id : ℕ) where
         -- in ExStart, with nothing requested

@@ -2,8 +2,13 @@ mod Ranks
 mod Lists
 mod Ages
 mod Settling
+mod Verdicts
 mod Describing
 mod Parts
 mod Sent
 mod Walk
+mod Done
 mod Runs
+mod Climbing
+mod WorkedRanks
+mod WorkedExchanges

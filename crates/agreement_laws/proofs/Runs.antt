@@ -1,4 +1,4 @@
--- After every run, what is held and isn't owed to a neighbor is known to both.
+-- After every run, of what is held and isn't owed to a neighbor one that is as new was exchanged.
 use Rattle.std.proofs.Common.{◌≡◌, ℕ, zero, suc, ◌≤◌, Bool, true, false, cond, ◌&&◌, ◌⊎◌, inl, inr, List, [], ◌∷◌, map, Option, None, Some, is_some, refl, sym, ap, subst, ◌∙◌}
 use Rattle.std.specs.Prelude.{slice_get}
 use Rattle.std.specs.FinMap as finite
@@ -7,6 +7,7 @@ use Rattle.words.specs.declared.key.Key.{Key}
 use Rattle.lsa.specs.declared.body.Body.{Body as LsaBody}
 use Rattle.lsdb.specs.Copies.{DatabaseCopy, age_out, copy_now, install_originated, is_aged_out}
 use Rattle.lsdb.specs.Headers.{Lsa, key_of, lsa_aged}
+use Rattle.lsdb.specs.Keys.{ByKey, key_cmp}
 use Rattle.lsdb.specs.Instances.{ListEntry, listed_now}
 use Rattle.lsdb.specs.declared.order.Instance.{Instance}
 use Rattle.packet.specs.declared.model.Body.TheVariants as body
@@ -30,9 +31,10 @@ use Rattle.flood_laws.specs.InOrder.{IsInOrder}
 use Rattle.flood_laws.proofs.Acknowledged.{routers_stay_in_order}
 use Rattle.flood_laws.proofs.Leaving.{stepped_kept}
 use Rattle.agreement_laws.specs.Exchanged.{ClockRunsOn, Conversation, Converses, GoesOn, IsExchanged, WasExchanged, conversation_with}
-use Rattle.agreement_laws.specs.HeldWasTold.{IsKnownToBoth, IsNotOwed, WhatIsHeldWasTold}
+use Rattle.agreement_laws.specs.HeldWasTold.{FullNeighborsWereTold, WasExchangedAsNew, IsNotOwed, WhatIsHeldWasTold, is_exchange_done}
 use Rattle.agreement_laws.specs.Ranks.{is_at_least}
 use Rattle.agreement_laws.proofs.Describing.{held, instance_at}
+use Rattle.agreement_laws.proofs.Done.{nothing_is_left}
 use Rattle.agreement_laws.proofs.Parts.{SaidBy}
 use Rattle.agreement_laws.proofs.Parts as parts
 use Rattle.agreement_laws.proofs.Sent.{goes_out}
@@ -204,17 +206,17 @@ module _ (c : Config) (steps : List Step) (r : Router) (run : Run (initial c) st
       subst (λ (x : Option DatabaseCopy). Settling key r.moment walk.Anybody Said (instance_at r.moment x) n) there
       (subst (λ (o : Option Neighbor). Holds (Settling key r.moment walk.Anybody Said (held r.moment key r.area.database)) o) at all_settled)
 
-  known : Settling key r.moment walk.Anybody Said (Some (copy_now r.moment copy)) n → IsKnownToBoth number (conversation_with n) key (copy_now r.moment copy) (initial c) steps r
+  known : Settling key r.moment walk.Anybody Said (Some (copy_now r.moment copy)) n → WasExchangedAsNew number (conversation_with n) key (copy_now r.moment copy) (initial c) steps r
   known (inl before) = let no : true ≡ false = sym on ∙ before in absurd cc
   known (inr s) = by_place s.2
     where
       by_saying : (l : ListEntry) → is_at_least (listed_now r.moment l) (copy_now r.moment copy) ≡ true
-          → Said (conversation_with n) l → IsKnownToBoth number (conversation_with n) key (copy_now r.moment copy) (initial c) steps r
+          → Said (conversation_with n) l → WasExchangedAsNew number (conversation_with n) key (copy_now r.moment copy) (initial c) steps r
       by_saying l new (inl k) = absurd k.0
       by_saying l new (inr k) = record { entry = l; of_key = k.0; as_new = new; exchanged = k.1 }
 
       by_place : HasAny key r.moment walk.Anybody Said (Some (copy_now r.moment copy)) n.retransmissions n.summary (conversation_with n)
-          → IsKnownToBoth number (conversation_with n) key (copy_now r.moment copy) (initial c) steps r
+          → WasExchangedAsNew number (conversation_with n) key (copy_now r.moment copy) (initial c) steps r
       by_place (inl listed) = let no : true ≡ false = sym listed ∙ free.acknowledged in absurd cc
       by_place (inr (inl k)) = let no : true ≡ false = sym (ap is_some k.1) ∙ free.described in absurd cc
       by_place (inr (inr k)) = by_saying k.0 k.2 k.1
@@ -222,3 +224,11 @@ module _ (c : Config) (steps : List Step) (r : Router) (run : Run (initial c) st
 pub held_was_told : WhatIsHeldWasTold
 held_was_told c steps r run clock number n at on key copy there free =
     known c steps r run clock number n at on key copy there free (its_settled c steps r run clock number n at on key copy there free)
+
+-- ---- of a Full neighbor
+
+pub full_told : FullNeighborsWereTold
+full_told c steps r run clock number n at full key copy there free =
+    let empty : n.summary ≡ finite.empty = nothing_is_left c steps r run number n at (ap is_exchange_done full) in
+    held_was_told c steps r run clock number n at (ap is_exchange_or_later full) key copy there
+    (record { acknowledged = free; described = ap (λ (l : ByKey ListEntry). finite.contains_key l key) empty ∙ ap is_some (finite.get-empty {X = ListEntry} key_cmp key) })

@@ -2,7 +2,7 @@
 -- its copies is on a neighbor's retransmission list, or is still to be described to it; or, in
 -- their present conversation, it was described to the neighbor, or the neighbor told an instance
 -- that is as new. Whatever comes in: nothing is supposed of what is lost, repeated or late.
-use Rattle.std.specs.Prelude.{◌≡◌, true, false, List, Some}
+use Rattle.std.specs.Prelude.{◌≡◌, Bool, true, false, List, Some}
 use Rattle.std.specs.FinMap as finite
 use Rattle.words.specs.Numbers.{InterfaceNumber}
 use Rattle.words.specs.declared.key.Key.{Key}
@@ -10,6 +10,9 @@ use Rattle.lsdb.specs.Copies.{DatabaseCopy, copy_now}
 use Rattle.lsdb.specs.Headers.{key_of}
 use Rattle.lsdb.specs.Instances.{ListEntry, listed_now}
 use Rattle.lsdb.specs.declared.order.Instance.{Instance}
+use Rattle.adjacency.specs.declared.state.State.{State}
+use Rattle.adjacency.specs.declared.state.State.TheVariants.{Exchange, ExStart, Full, Init}
+use Rattle.adjacency.specs.declared.state.State.TheVariants.{Loading}
 use Rattle.adjacency.specs.Neighbors.{Neighbor, is_exchange_or_later}
 use Rattle.received.specs.Links.{neighbor_at}
 use Rattle.events.specs.declared.model.Config.{Config}
@@ -21,7 +24,7 @@ use Rattle.agreement_laws.specs.Ranks.{is_at_least}
 
 -- a header of the key that was exchanged in the conversation is, with its age by now, as new as the
 -- instance
-pub record IsKnownToBoth (number : InterfaceNumber) (with_it : Conversation) (key : Key)
+pub record WasExchangedAsNew (number : InterfaceNumber) (with_it : Conversation) (key : Key)
     (instance : Instance) (old : Router) (steps : List Step) (new : Router) : Type 0 where
   pub entry : ListEntry
   pub of_key : key_of entry.header ≡ key
@@ -33,7 +36,8 @@ pub record IsNotOwed (n : Neighbor) (key : Key) : Type 0 where
   pub acknowledged : finite.contains_key n.retransmissions key ≡ false
   pub described : finite.contains_key n.summary key ≡ false
 
--- after every run: what is held and isn't owed to a neighbor in Exchange or later is known to both
+-- after every run: of what is held and isn't owed to a neighbor in Exchange or later, an instance
+-- that is as new was exchanged
 abbrev pub WhatIsHeldWasTold : Type 0
 WhatIsHeldWasTold =
     (c : Config) (steps : List Step) (r : Router) → Run (initial c) steps r
@@ -42,4 +46,33 @@ WhatIsHeldWasTold =
     → is_exchange_or_later n.state ≡ true
     → (key : Key) (copy : DatabaseCopy) → finite.get r.area.database key ≡ Some copy
     → IsNotOwed n key
-    → IsKnownToBoth number (conversation_with n) key (copy_now r.moment copy) (initial c) steps r
+    → WasExchangedAsNew number (conversation_with n) key (copy_now r.moment copy) (initial c) steps r
+
+-- ---- Full neighbors
+
+-- in Loading and Full all Descriptions have been exchanged
+abbrev pub is_exchange_done : State → Bool
+is_exchange_done Init = false
+is_exchange_done ExStart = false
+is_exchange_done Exchange = false
+is_exchange_done Loading = true
+is_exchange_done Full = true
+
+-- after every run: nothing is left to be described to a neighbor in Loading or Full
+abbrev pub NothingIsLeftToDescribe : Type 0
+NothingIsLeftToDescribe =
+    (c : Config) (steps : List Step) (r : Router) → Run (initial c) steps r
+    → (number : InterfaceNumber) (n : Neighbor) → neighbor_at number r.area.links ≡ Some n
+    → is_exchange_done n.state ≡ true → n.summary ≡ finite.empty
+
+-- so of what is held and isn't on the retransmission list of a Full neighbor one that is as new was
+-- exchanged
+abbrev pub FullNeighborsWereTold : Type 0
+FullNeighborsWereTold =
+    (c : Config) (steps : List Step) (r : Router) → Run (initial c) steps r
+    → ClockRunsOn c.start steps
+    → (number : InterfaceNumber) (n : Neighbor) → neighbor_at number r.area.links ≡ Some n
+    → n.state ≡ Full
+    → (key : Key) (copy : DatabaseCopy) → finite.get r.area.database key ≡ Some copy
+    → finite.contains_key n.retransmissions key ≡ false
+    → WasExchangedAsNew number (conversation_with n) key (copy_now r.moment copy) (initial c) steps r

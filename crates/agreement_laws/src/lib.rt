@@ -2,8 +2,12 @@
 //! how new instances are, and that what a router holds was told to its neighbors.
 #![tactic(auto)]
 
-ghost use Rattle.agreement_laws.specs.HeldWasTold.{WhatIsHeldWasTold};
+ghost use Rattle.agreement_laws.specs.CopiesClimb.{CopiesClimb};
+ghost use Rattle.agreement_laws.specs.HeldWasTold.{FullNeighborsWereTold};
+ghost use Rattle.agreement_laws.specs.HeldWasTold.{NothingIsLeftToDescribe, WhatIsHeldWasTold};
 ghost use Rattle.agreement_laws.specs.Ranks.{RanksFollowTheComparison};
+ghost use Rattle.agreement_laws.specs.WorkedExchanges.{WorkedExchanges};
+ghost use Rattle.agreement_laws.specs.WorkedRanks.{WorkedRanks};
 
 /// How new an instance is, whatever its age below MaxAge, is an order that the comparison of
 /// instances refines: what is newer is of no lower rank, and what is the same is of the same rank
@@ -19,4 +23,36 @@ pub fn ranks_follow_the_comparison()
 /// and 13.7).
 pub fn what_is_held_was_told()
     ensures { WhatIsHeldWasTold }
+{}
+
+/// After every run: nothing is left to be described to a neighbor in Loading or Full, so that its
+/// database summary list is empty (RFC 2328, section 10.3, ExchangeDone).
+pub fn nothing_is_left_to_describe()
+    ensures { NothingIsLeftToDescribe }
+{}
+
+/// So of Full neighbors: what a router holds, and isn't on the neighbor's retransmission list, was
+/// described to it in their present conversation, or the neighbor told an instance that is as new.
+pub fn full_neighbors_were_told()
+    ensures { FullNeighborsWereTold }
+{}
+
+/// In each event a copy stays, or one that is as new takes its place, or it leaves the database, at
+/// MaxAge and off all retransmission lists (RFC 2328, sections 12.1.6, 13 and 14). It asks that the
+/// router is in order, as it is in every run.
+pub fn copies_climb()
+    ensures { CopiesClimb }
+{}
+
+/// Worked cases of how new instances are: by sequence number, then checksum, then MaxAge; other
+/// ages don't count, though section 13.1 of RFC 2328 goes by them, which by itself is no order.
+pub fn worked_ranks()
+    ensures { WorkedRanks }
+{}
+
+/// Worked cases of what counts as exchanged in a conversation: each header of the Description that
+/// a router answers an opening Description with, and each that a packet of the neighbor tells;
+/// nothing without an event, and nothing once the conversation is over.
+pub fn worked_exchanges()
+    ensures { WorkedExchanges }
 {}

@@ -1,0 +1,61 @@
+-- Worked cases of what counts as exchanged in a conversation (RFC 2328, sections 10.6, 10.8 and
+-- 13.7).
+use Rattle.std.specs.Prelude.{◌≡◌, ℕ, true, nat_lt, List, [], ◌∷◌}
+use Rattle.std.specs.List.{Contains}
+use Rattle.words.specs.Numbers.{InterfaceNumber}
+use Rattle.words.specs.declared.key.Key.{Key}
+use Rattle.lsdb.specs.Headers.{Header}
+use Rattle.lsdb.specs.Instances.{ListEntry}
+use Rattle.packet.specs.declared.model.Body.TheVariants as body
+use Rattle.packet.specs.declared.model.Hello.{Hello}
+use Rattle.packet.specs.Text.{PacketText}
+use Rattle.packet.specs.declared.model.Packet.{Packet}
+use Rattle.adjacency.specs.Adjacencies.{initial_description}
+use Rattle.adjacency.specs.Descriptions.{young_copies}
+use Rattle.received.specs.Links.{Link}
+use Rattle.events.specs.declared.model.Out.{Out}
+use Rattle.events.specs.Events.{Happens, Run, Step}
+use Rattle.events.specs.Routers.{Occurrence, Router}
+use Rattle.flood_laws.specs.InOrder.{AnnouncesItsOwn}
+use Rattle.conversations.specs.WorkedAdjacency.{IsNamingHello, NothingAges, lonely}
+use Rattle.conversations.specs.WorkedExchange.{reply}
+use Rattle.conversations.specs.WorkedRun.{receives}
+use Rattle.agreement_laws.specs.Exchanged.{Conversation, Converses, WasExchanged, headers_told}
+
+pub record WorkedExchanges : Type 0 where
+  -- a run of a router with one interface: a Hello of a neighbor with a larger Router ID, then its
+  -- opening Description: each header of the Description that this router answers with is exchanged
+  pub described : (r new : Router) (link : Link) (moment later from sequence : ℕ)
+      (hello_bytes bytes : List ℕ) (h : Hello) (outs answers : List Out)
+      → NothingAges r moment → IsNamingHello r link hello_bytes from h → nat_lt r.id from ≡ true
+      → PacketText bytes (record {
+        router = from;
+        body = body.Description (initial_description sequence);
+      })
+      → AnnouncesItsOwn (lonely r link)
+      → (run : Run (lonely r link)
+      (receives moment hello_bytes outs ∷ receives later bytes answers ∷ []) new)
+      → NothingAges run.0 later
+      → (with_it : Conversation) → Converses 1 with_it new
+      → (header : Header)
+      → Contains (reply later sequence (young_copies later run.0.area.database)).headers header
+      → WasExchanged 1 with_it (record { header = header; at = later }) (lonely r link)
+      (receives moment hello_bytes outs ∷ receives later bytes answers ∷ []) new
+  -- an event: each header that a packet of the neighbor tells is exchanged
+  pub told : (old new : Router) (step : Step) (number : InterfaceNumber) (bytes : List ℕ)
+      (packet : Packet) → Happens old step.moment step.event step.outs new
+      → step.event ≡ Occurrence.Packet number bytes → PacketText bytes packet
+      → (with_it : Conversation) → packet.router ≡ with_it.router → Converses number with_it new
+      → (header : Header) → Contains (headers_told packet.body) header
+      → WasExchanged number with_it (record { header = header; at = step.moment }) old (step ∷ [])
+      new
+  -- Hellos and Requests tell no header
+  pub hellos : (hello : Hello) → headers_told (body.Hello hello) ≡ []
+  pub requests : (keys : List Key) → headers_told (body.Request keys) ≡ []
+  -- without an event nothing is exchanged
+  pub nothing : (old new : Router) (number : InterfaceNumber) (with_it : Conversation)
+      (entry : ListEntry) → WasExchanged number with_it entry old [] new → ⊥
+  -- what was exchanged counts only while the conversation stands
+  pub stands : (old new : Router) (steps : List Step) (number : InterfaceNumber)
+      (with_it : Conversation) (entry : ListEntry)
+      → WasExchanged number with_it entry old steps new → Converses number with_it new
