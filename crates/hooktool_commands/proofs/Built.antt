@@ -27,7 +27,7 @@ function_built file wanted hook function name code report named name_is has code
     bytes = found.bytes;
     accepted = found.accepted;
     annotation = subst (λ (c : List ℕ). IsAnnotation hook wanted.fuel c found.object found.bytes found.accepted) code_is found.annotation;
-    told = found.told ∙ ap (λ (n : List ℕ). built_line wanted.folder n hook found.accepted.bound) name_is;
+    told = found.told ∙ ap (λ (n : List ℕ). built_line wanted.folder n (hook_name hook) found.accepted.bound) name_is;
   })
 ]
 
@@ -41,12 +41,12 @@ second_true false b h = h
 
 -- a line more
 pub functions_more : (file : List ℕ) (wanted : Wanted) (hook : Hook) (functions : List LinkedSymbol) (function : LinkedSymbol) (n : ℕ) (before more after : Report)
-    → slice_get functions n ≡ Some function
     → (before.is_refused ≡ true) ⊎ AreBuiltFunctions file wanted hook functions n (string_bytes before.text)
     → (more.is_refused ≡ true) ⊎ IsBuiltFunction file wanted hook function (string_bytes more.text)
+    → slice_get functions n ≡ Some function
     → string_bytes after.text ≡ string_bytes before.text ++ string_bytes more.text → after.is_refused ≡ (before.is_refused || more.is_refused)
     → (after.is_refused ≡ true) ⊎ AreBuiltFunctions file wanted hook functions (n + 1) (string_bytes after.text)
-functions_more file wanted hook functions function n before more after at so_far built text refused = elim so_far [
+functions_more file wanted hook functions function n before more after so_far built at text refused = elim so_far [
   | inl was ↦ inl (refused ∙ first_true before.is_refused more.is_refused was)
   | inr lines ↦ elim built [
     | inl is ↦ inl (refused ∙ second_true before.is_refused more.is_refused is)
@@ -67,19 +67,6 @@ sections_more file wanted i before more after so_far built text refused = elim s
     | inr section ↦ inr (rw add-one (string_bytes before.text, string_bytes more.text, lines, section, text))
   ]
 ]
-
--- what is told of a section, where it has instructions
-pub with_instructions : (file : List ℕ) (wanted : Wanted) (i : ℕ) (report : Report) → is_program_section file i ≡ true
-    → (report.is_refused ≡ true) ⊎ IsBuiltSection file wanted i (string_bytes report.text)
-    → (report.is_refused ≡ true) ⊎ IsBuiltAt file wanted i (string_bytes report.text)
-with_instructions file wanted i report program built = elim built [
-  | inl refused ↦ inl refused
-  | inr section ↦ inr (subst (λ (b : Bool). MatchBool b (IsBuiltSection file wanted i (string_bytes report.text)) (string_bytes report.text ≡ [])) (sym program) section)
-]
-
-pub without_instructions : (file : List ℕ) (wanted : Wanted) (i : ℕ) (lines : List ℕ) → is_program_section file i ≡ false → lines ≡ [] → IsBuiltAt file wanted i lines
-without_instructions file wanted i lines none empty =
-    subst (λ (b : Bool). MatchBool b (IsBuiltSection file wanted i lines) (lines ≡ [])) (sym none) empty
 
 -- a section whose functions were built
 pub section_built : (file : List ℕ) (wanted : Wanted) (i : ℕ) (hook : Hook) (functions : List LinkedSymbol) (report : Report)
@@ -117,13 +104,6 @@ own_hook asked (Some hook) section is = inl is
 pub hook_found : (asked found : Option Hook) (name section : List ℕ) → name ≡ section → IfSome found (IsHookOf asked name) → IfSome found (IsHookOf asked section)
 hook_found asked found name section is has = subst (λ (n : List ℕ). IfSome found (IsHookOf asked n)) is has
 
--- a path and what is told of it are one line
-pub whole_line : (folder function rest : List ℕ) → (folder ++ (codes "/" ++ (function ++ codes ".o"))) ++ (codes ": " ++ rest)
-    ≡ folder ++ (codes "/" ++ (function ++ (codes ".o: " ++ rest)))
-whole_line folder function rest =
-    append_assoc folder (codes "/" ++ (function ++ codes ".o")) (codes ": " ++ rest)
-    ∙ ap (λ (t : List ℕ). folder ++ (47 ∷ t)) (append_assoc function (codes ".o") (codes ": " ++ rest))
-
 -- behind the last function
 pub functions_all : (file : List ℕ) (wanted : Wanted) (hook : Hook) (functions : List LinkedSymbol) (n : ℕ) (report : Report) → n ≡ length functions
     → (report.is_refused ≡ true) ⊎ AreBuiltFunctions file wanted hook functions n (string_bytes report.text)
@@ -141,11 +121,11 @@ sections_all file wanted n report all so_far =
 -- the code of a function whose object was written
 pub code_built : (wanted : Wanted) (hook : Hook) (shown name code : List ℕ) (object : ObjectParts) (bytes : List ℕ) (accepted : Program) (report : Report)
     → IsAnnotation hook wanted.fuel code object bytes accepted → shown ≡ name
-    → string_bytes report.text ≡ built_line wanted.folder shown hook accepted.bound → IsBuiltCode wanted hook name code report
+    → string_bytes report.text ≡ built_line wanted.folder shown (hook_name hook) accepted.bound → IsBuiltCode wanted hook name code report
 code_built wanted hook shown name code object bytes accepted report annotation is told = inr (record {
   object = object;
   bytes = bytes;
   accepted = accepted;
   annotation = annotation;
-  told = told ∙ ap (λ (n : List ℕ). built_line wanted.folder n hook accepted.bound) is;
+  told = told ∙ ap (λ (n : List ℕ). built_line wanted.folder n (hook_name hook) accepted.bound) is;
 })

@@ -1,6 +1,6 @@
 -- What is told of an ELF file whose functions were built: a line for each, in the order of the file.
-use Rattle.std.specs.Prelude.{◌≡◌, ◌⊎◌, ◌==◌, ◌&&◌, ℕ, zero, suc, List, [], ◌∷◌, ◌++◌, Option, Some, Bool, true, not, codes}
-use Rattle.std.specs.Prelude.{MatchBool, length, slice_get, string_bytes}
+use Rattle.std.specs.Prelude.{◌≡◌, ◌⊎◌, ◌==◌, ◌&&◌, ℕ, zero, suc, List, [], ◌∷◌, ◌++◌, Option, Some, Bool, true, false, not, codes}
+use Rattle.std.specs.Prelude.{length, slice_get, string_bytes}
 use Rattle.isa.specs.declared.hook.Hook.{Hook}
 use Rattle.isa.specs.Hooks.{hook_name}
 use Rattle.object.specs.Objects.{ObjectParts}
@@ -20,9 +20,9 @@ pub record Wanted : Type 0 where
   pub fuel : Option ℕ
 
 -- FOLDER/FUNCTION.o: HOOK, accepted bound N
-abbrev pub built_line : (folder function : List ℕ) → Hook → (bound : ℕ) → List ℕ
+abbrev pub built_line : (folder function hook : List ℕ) → (bound : ℕ) → List ℕ
 built_line folder function hook bound = folder ++ (codes "/" ++ (function ++ (codes ".o: "
-    ++ (hook_name hook ++ (codes ", " ++ accepted_line bound)))))
+    ++ (hook ++ (codes ", " ++ accepted_line bound)))))
 
 -- A section is for the hook that it is named by, and .text for the one that was asked for.
 abbrev pub IsHookOf : Option Hook → List ℕ → Hook → Type 0
@@ -40,8 +40,8 @@ pub record IsBuiltFunction (file : List ℕ) (wanted : Wanted) (hook : Hook) (fu
   pub accepted : Program
   pub annotation : IsAnnotation hook wanted.fuel (symbol_bytes file function.symbol) object bytes
       accepted
-  pub told : line ≡ built_line wanted.folder (symbol_name file function.table function.index) hook
-      accepted.bound
+  pub told : line ≡ built_line wanted.folder (symbol_name file function.table function.index)
+      (hook_name hook) accepted.bound
 
 -- The lines are those of the first n functions.
 abbrev pub AreBuiltFunctions : List ℕ → Wanted → Hook → List LinkedSymbol → ℕ → List ℕ → Type 0
@@ -66,7 +66,8 @@ is_program_section file i = is_code (section_at file i) && not (length (contents
 -- What is told of section i: of one without instructions nothing.
 abbrev pub IsBuiltAt : List ℕ → Wanted → ℕ → List ℕ → Type 0
 IsBuiltAt file wanted i lines =
-    MatchBool (is_program_section file i) (IsBuiltSection file wanted i lines) (lines ≡ [])
+    (is_program_section file i ≡ true → IsBuiltSection file wanted i lines)
+    × (is_program_section file i ≡ false → lines ≡ [])
 
 -- The lines are those of the first n sections.
 abbrev pub AreBuiltSections : List ℕ → Wanted → ℕ → List ℕ → Type 0

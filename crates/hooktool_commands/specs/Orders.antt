@@ -1,6 +1,7 @@
 -- What an order wants, and what is told of the code of one function.
 use Rattle.std.specs.Prelude.{◌≡◌, ◌⊎◌, ℕ, List, true, string_bytes}
 use Rattle.isa.specs.declared.hook.Hook.{Hook}
+use Rattle.isa.specs.Hooks.{hook_name}
 use Rattle.object.specs.Objects.{ObjectParts}
 use Rattle.verifier.specs.Programs.{Program}
 use Rattle.annotations.specs.Annotated.{IsAnnotation}
@@ -18,7 +19,8 @@ pub record IsFoundCode (wanted : Wanted) (hook : Hook) (function code : List ℕ
   pub bytes : List ℕ
   pub accepted : Program
   pub annotation : IsAnnotation hook wanted.fuel code object bytes accepted
-  pub told : string_bytes report.text ≡ built_line wanted.folder function hook accepted.bound
+  pub told : string_bytes report.text ≡ built_line wanted.folder function (hook_name hook)
+      accepted.bound
 
 -- Or none was, and that is told.
 abbrev pub IsBuiltCode : Wanted → Hook → (function code : List ℕ) → Report → Type 0

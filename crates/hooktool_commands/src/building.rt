@@ -1,12 +1,11 @@
 //! `build`: an object for each function that clang compiled for a hook.
 
 ghost use Rattle.std.specs.Prelude.{◌≡◌, ◌⊎◌, ◌++◌, ◌||◌, ◌<◌, ℕ, List, true, Some, IfOk, IfSome};
-ghost use Rattle.std.specs.Prelude.{OnOk, codes, length, string_bytes};
+ghost use Rattle.std.specs.Prelude.{OnOk, length, string_bytes};
 ghost use Rattle.isa.specs.Hooks.{hook_name};
 ghost use Rattle.object_verdicts.specs.Verdicts.{Accepts};
 ghost use Rattle.elf.specs.Files.{IsObjectFile, section_count, section_name};
 ghost use Rattle.elf.specs.Lists.{HasBytes, HasSymbol, functions_of, symbol_bytes, symbol_name};
-ghost use Rattle.hooktool_commands.specs.Annotations.{accepted_line};
 ghost use Rattle.hooktool_commands.specs.Builds.{AreBuiltFunctions, AreBuiltSections, IsBuilt};
 ghost use Rattle.hooktool_commands.specs.Builds.{IsBuiltAt, IsBuiltFunction, IsBuiltSection};
 ghost use Rattle.hooktool_commands.specs.Builds.{IsHookOf, built_line, is_program_section};
@@ -132,12 +131,18 @@ fn function_refusal<'a>(
 }
 
 /// The line of an object that is written.
-fn line_of(alloc: Global, path: &str, hook: Hook, bound: u64) -> Result<String, AllocError>
-    ensures { IfOk result (λ line. string_bytes line ≡ path.now ++ (codes ": "
-        ++ (hook_name hook ++ (codes ", " ++ accepted_line bound)))) }
+fn line_of(
+    alloc: Global,
+    folder: &str,
+    function: &str,
+    hook: &str,
+    bound: u64,
+) -> Result<String, AllocError>
+    ensures { IfOk result (λ line. string_bytes line
+        ≡ built_line folder.now function.now hook.now bound) }
 {
-    let hook = hook.name();
-    format!(in alloc; "{path}: {hook}, accepted bound {bound}\n")
+    let line = format!(in alloc; "{folder}/{function}.o: {hook}, accepted bound {bound}\n")?;
+    Ok(line)
 }
 
 /// Writes the object of a function, which the verifier accepted, and tells its bound.
@@ -150,11 +155,13 @@ fn write_function<'a, R: Files + AllocGlobal>(
 ) -> Result<Report, Fault<'a>>
     requires { Accepts annotated.now.bytes.items annotated.now.accepted }
     ensures { IfOk result (λ report. string_bytes report.text
-        ≡ built_line order.now.folder.now function.now hook annotated.now.accepted.bound) }
+        ≡ built_line order.now.folder.now function.now (hook_name hook)
+        annotated.now.accepted.bound) }
 {
     let folder = order.folder;
     let path = format!(in rt.alloc(); "{folder}/{function}.o")?;
-    let text = line_of(rt.alloc(), path.as_str(), hook, annotated.accepted.bound())?;
+    let bound = annotated.accepted.bound();
+    let text = line_of(rt.alloc(), folder, function, hook.name(), bound)?;
     match files::write_accepted(rt, path.as_str(), &annotated.bytes) {
         Ok(()) => Ok(Report {
             text,

@@ -1,0 +1,18 @@
+use Rattle.std.proofs.Common.{◌<◌, length, arith}
+use Rattle.std.proofs.lemmas.Option.{slice_get-get_or}
+use Rattle.hooktool_commands.proofs.Built.{functions_all, functions_more}
+use Rattle.hooktool_commands.specs.Orders.{wanted_of}
+use Rattle.hooktool_commands.proofs.building.build_functions.Goals as goal
+
+pub loop-function-preserved : goal.loop-function-preserved
+loop-function-preserved g c =
+    let functions = c.args.functions.now in
+    let n = c.loop-function.function-index in
+    let within : n < length functions = c.loop-function-test.true in
+    functions_more c.args.file.now (wanted_of c.args.order.now) c.args.hook functions _ n c.loop-function.report c.in_ok-built.built c.join.new.report c.loop-function.invariant
+    c.in_ok-built.ensures (slice_get-get_or functions n _ within) c.in_ok-join.ensures.text c.in_ok-join.ensures.refused
+
+pub returns : goal.returns
+returns g c =
+    functions_all c.args.file.now (wanted_of c.args.order.now) c.args.hook c.args.functions.now c.loop-function.function-index c.loop-function.report (omega arith)
+    c.loop-function.invariant
