@@ -1,6 +1,6 @@
 -- Lines of functions and sections that were built, one behind the other.
-use Rattle.std.proofs.Common.{◌≡◌, ◌∙◌, ◌+◌, ◌||◌, ◌∷◌, ◌++◌, ap, subst, sym, refl, ℕ, List, [], Bool, true, false, Option, Some, None, codes, inl, inr, length, add-one, append_assoc}
-use Rattle.std.specs.Prelude.{◌⊎◌, IfSome, MatchBool, slice_get, string_bytes}
+use Rattle.std.proofs.Common.{◌≡◌, ◌∙◌, ◌+◌, ◌||◌, ◌++◌, ap, subst, refl, ℕ, List, [], Bool, true, false, Option, Some, None, codes, inl, inr, length, add-one}
+use Rattle.std.specs.Prelude.{◌⊎◌, IfSome, slice_get, string_bytes}
 use Rattle.annotations.specs.Annotated.{IsAnnotation}
 use Rattle.elf.specs.Files.{IsObjectFile, section_count, section_name}
 use Rattle.elf.specs.Lists.{HasBytes, HasSymbol, functions_of, relocations_of, symbol_bytes, symbol_name}
@@ -9,7 +9,7 @@ use Rattle.isa.specs.Hooks.{hook_name}
 use Rattle.object.specs.Objects.{ObjectParts}
 use Rattle.verifier.specs.Programs.{Program}
 use Rattle.isa.specs.declared.hook.Hook.{Hook}
-use Rattle.hooktool_commands.specs.Builds.{AreBuiltFunctions, AreBuiltSections, IsBuilt, IsBuiltAt, IsBuiltFunction, IsBuiltSection, IsHookOf, Wanted, built_line, is_program_section}
+use Rattle.hooktool_commands.specs.Builds.{AreBuiltFunctions, AreBuiltSections, IsBuilt, IsBuiltAt, IsBuiltFunction, IsBuiltSection, IsHookOf, Wanted, built_line}
 use Rattle.hooktool_commands.specs.Orders.{IsBuiltCode}
 use Rattle.hooktool_commands.specs.declared.report.Report.{Report}
 

@@ -1,5 +1,5 @@
 -- What is told of an ELF file whose functions were built: a line for each, in the order of the file.
-use Rattle.std.specs.Prelude.{◌≡◌, ◌⊎◌, ◌==◌, ◌&&◌, ℕ, zero, suc, List, [], ◌∷◌, ◌++◌, Option, Some, Bool, true, false, not, codes}
+use Rattle.std.specs.Prelude.{◌≡◌, ◌⊎◌, ◌==◌, ◌&&◌, ℕ, zero, suc, List, [], ◌++◌, Option, Some, Bool, true, false, not, codes}
 use Rattle.std.specs.Prelude.{length, slice_get, string_bytes}
 use Rattle.isa.specs.declared.hook.Hook.{Hook}
 use Rattle.isa.specs.Hooks.{hook_name}

@@ -4,8 +4,8 @@ ghost use Rattle.std.specs.Prelude.{◌≡◌, ◌⊎◌, ◌++◌, ◌||◌, �
 ghost use Rattle.std.specs.Prelude.{OnOk, length, string_bytes};
 ghost use Rattle.isa.specs.Hooks.{hook_name};
 ghost use Rattle.object_verdicts.specs.Verdicts.{Accepts};
-ghost use Rattle.elf.specs.Files.{IsObjectFile, section_count, section_name};
-ghost use Rattle.elf.specs.Lists.{HasBytes, HasSymbol, functions_of, symbol_bytes, symbol_name};
+ghost use Rattle.elf.specs.Files.{section_count, section_name};
+ghost use Rattle.elf.specs.Lists.{symbol_bytes, symbol_name};
 ghost use Rattle.hooktool_commands.specs.Builds.{AreBuiltFunctions, AreBuiltSections, IsBuilt};
 ghost use Rattle.hooktool_commands.specs.Builds.{IsBuiltAt, IsBuiltFunction, IsBuiltSection};
 ghost use Rattle.hooktool_commands.specs.Builds.{IsHookOf, built_line, is_program_section};
