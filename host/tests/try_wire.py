@@ -296,7 +296,11 @@ def lost_again(given: Try) -> None:
             # (its log: to ask by the console takes seconds on a busy machine)
             return any("2.2.2.2 Full ->" in each for each in it.tried.log_lines()[before:])
 
-        looks.timed("a link is lost: told within 2 s", 2, is_told, 0.05)
+        def is_full_again() -> bool:
+            # (its log too: a look by the console may see what the box hasn't looked at yet)
+            return any("-> Full" in each for each in it.tried.log_lines()[before:])
+
+        looks.timed("a link is lost: told within 1 s", 1, is_told, 0.05)
         run("ip", "-n", it.next, "link", "set", "eth1", "up")
-        within(60, lambda: is_full(it.tried, "2.2.2.2"), 0.1)
+        within(60, is_full_again, 0.1)
     it.stop()
