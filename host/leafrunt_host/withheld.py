@@ -22,6 +22,8 @@ LONGEST_LSA = ROUTER_MTU - HEADER.size - 4
 MOST_LSAS = 16_384
 KEPT_FREE = 64
 """Of these for what this router originates itself."""
+NO_EXTERNALS = 1_024
+"""Of these for LSAs of the area."""
 ROOM_AGAIN = 512
 """So many LSAs must have room before those that were withheld are asked for."""
 SECONDS_BETWEEN = 5.0
@@ -114,8 +116,11 @@ class Database:
     it came last: `routerd` refuses an Update that would bring more than its limit. One thread's
     alone."""
 
-    def __init__(self, most: int = MOST_LSAS - KEPT_FREE) -> None:
+    def __init__(self, most: int = MOST_LSAS - KEPT_FREE, no_externals: int = 0) -> None:
+        """So many of these places no AS-external-LSA takes: without a router-LSA on the way no
+        destination is reached."""
         self._keys: dict[Key, float] = {}
+        self._most_externals = most - no_externals
         self._oldest = float("-inf")
         """No key came last before that moment."""
         self._most = most
@@ -125,7 +130,7 @@ class Database:
 
     @property
     def has_room_again(self) -> bool:
-        return len(self._keys) + ROOM_AGAIN <= self._most
+        return len(self._keys) + ROOM_AGAIN <= self._most_externals
 
     def has(self, key: Key) -> bool:
         return key in self._keys
@@ -137,9 +142,10 @@ class Database:
         if lsa[AGE] == FLUSHED:
             self._keys.pop(key, None)
             return True
-        if key not in self._keys and len(self._keys) >= self._most:
+        most = self._most_externals if key[0] == LsType.EXTERNAL else self._most
+        if key not in self._keys and len(self._keys) >= most:
             self._let_go(now)
-            if len(self._keys) >= self._most:
+            if len(self._keys) >= most:
                 return False
         self._keys[key] = now
         return True

@@ -228,6 +228,16 @@ def external(number: int, age: int = 1) -> bytes:
     return sealed(age.to_bytes(2, "big") + EXTERNAL[2:4] + net + EXTERNAL[8:])
 
 
+class Places(unittest.TestCase):
+    def test_externals_leave_places_for_the_area(self) -> None:
+        """However many externals come first: without router-LSAs there is no route to any."""
+        database = Database(10, no_externals=4)
+        taken = [database.takes(external(number), 0) for number in range(8)]
+        self.assertEqual(taken, [True] * 6 + [False] * 2)
+        self.assertTrue(database.takes(SUMMARY, 0))
+        self.assertFalse(database.takes(external(9), 0))
+
+
 class Limits(unittest.TestCase):
     def setUp(self) -> None:
         self.database = Database(ROOM_AGAIN + 10)

@@ -109,7 +109,7 @@ def full(given: Try) -> None:
         row.middle.start()
         row.box.start()
         looks.timed("20,000 LSAs: Full", 60, lambda: is_full(row.box, "2.2.2.2"))
-        most = 16_000
+        most = 15_000
         looks.timed("routes for most", 60, lambda: len(row.box.kernel_routes()) > most, 1)
         looks.look("it says what is wrong", is_said(row.box, "the network has more than 16384 LSAs"))
         row.middle.externals = prefixes(51, 10_000)
