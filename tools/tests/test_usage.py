@@ -1,6 +1,8 @@
 """Each tool says what it is for when asked, and refuses what it doesn't know, before it does anything."""
+import os
 import pathlib
 import subprocess
+import tempfile
 import unittest
 
 TOP = pathlib.Path(__file__).resolve().parent.parent.parent
@@ -32,6 +34,25 @@ class Usage(unittest.TestCase):
                 self.assertEqual((said.returncode, said.stdout), (2, ""))
                 self.assertNotEqual(said.stderr, "")
                 self.assertNotIn("Traceback", said.stderr)
+
+    def test_a_file_that_is_not_there_is_told_before_anything_is_done(self) -> None:
+        for words in (["try-elf", "/nowhere"], ["try-elf", "/bin/true", "/nowhere"], ["try-hooktool", "/nowhere"],
+                      ["try-package", "/nowhere"], ["check-answers", "/nowhere"], ["check-names", "/nowhere"]):
+            with self.subTest(words=words), tempfile.TemporaryDirectory() as room:
+                said = subprocess.run([TOP / "tools" / words[0], *words[1:]], cwd=room, env={**os.environ, "TMPDIR": room},
+                                      stdin=subprocess.DEVNULL, capture_output=True, text=True, timeout=20)
+                self.assertEqual((said.returncode, said.stdout), (2, ""), said.stderr)
+                self.assertIn("/nowhere", said.stderr.splitlines()[-1])
+                self.assertNotIn("Traceback", said.stderr)
+                self.assertEqual(os.listdir(room), [])
+
+    def test_a_crate_is_checked_from_outside_of_the_repository_by_no_traceback(self) -> None:
+        with tempfile.TemporaryDirectory() as room:
+            said = subprocess.run([TOP / "tools/check-crate", "words"], cwd=room, stdin=subprocess.DEVNULL, capture_output=True,
+                                  text=True, timeout=20)
+        self.assertNotEqual(said.returncode, 0)
+        self.assertNotIn("Traceback", said.stderr)
+        self.assertIn("repository", said.stderr)
 
 
 if __name__ == "__main__":
