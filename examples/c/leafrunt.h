@@ -9,7 +9,7 @@ typedef unsigned long long u64;
 /* In front of a function: it is a program for this hook, as SEC("veto"). hooktool build makes an object of each. */
 #define SEC(hook) __attribute__((section(hook), used))
 
-/* ---- the contexts (docs/FORMATS.md, "Contexts"): what the program is asked about, for reading only */
+/* ---- the contexts (docs/reference/FORMATS.md, "Contexts"): what the program is asked about, for reading only */
 
 /* count: a datagram, before it is read. What the program answers isn't used. */
 struct datagram {
@@ -40,7 +40,7 @@ enum { INTRA_AREA = 1, INTER_AREA = 2, EXTERNAL_1 = 3, EXTERNAL_2 = 4 };	/* kind
 /* A packet's type (RFC 2328, A.3.1). */
 enum { HELLO = 1, DATABASE_DESCRIPTION = 2, REQUEST = 3, UPDATE = 4, ACKNOWLEDGMENT = 5 };
 
-/* ---- the helpers (docs/MACHINE.md, "Helpers") */
+/* ---- the helpers (docs/reference/MACHINE.md, "Helpers") */
 
 /* Adds an amount below 2^24 to a counter, 0 to 255. 1 where it wasn't added. */
 static u64 (*const counter_add)(u64 counter, u64 amount) = (void *)1;

@@ -21,7 +21,7 @@ from leafrunt_host.version import Version
 
 ABOUT = """A box that routes: `routerd`, an OSPF router, on this host, among BIRD, FRR and others.
 
-docs/HOST.md tells how to set up a network with it. Statuses: 0 done; 1 refused; 2 wrong words;
+docs/use/HOST.md tells how to set up a network with it. Statuses: 0 done; 1 refused; 2 wrong words;
 3 a file, a socket or a program failed; 4 out of memory."""
 EXAMPLES = {
     "up": "leafrunt up /etc/leafrunt/one.toml",

@@ -342,7 +342,7 @@ class _Reader:
         try:
             key = Key(number, algorithm, secret, lifetime)
         except ValueError as error:
-            table.note("", str(error), "a key as docs/HOST.md describes it")
+            table.note("", str(error), "a key as docs/use/HOST.md describes it")
             return None
         advice = key.advice()
         if advice:
@@ -645,7 +645,7 @@ def why_not_private(status: os.stat_result) -> str | None:
 
 
 def object_hook(path: Path) -> tuple[str, str]:
-    """Why a file is no object, and the hook of one that is (docs/FORMATS.md, 'Object files')."""
+    """Why a file is no object, and the hook of one that is (docs/reference/FORMATS.md, 'Object files')."""
     if re.search(r"\s", str(path)) or not str(path).isprintable():
         return "a path with spaces, which `routerd`'s console can't be given", ""
     try:

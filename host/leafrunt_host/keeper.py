@@ -51,7 +51,7 @@ MEANINGS = {
     "refused 7": "it has handled 2^63 events: start the box again",
     "refused 8": "the programs were being changed at that moment",
 }
-"""What answers of `routerd` mean, and what to do (docs/OPERATING.md, "Refusals")."""
+"""What answers of `routerd` mean, and what to do (docs/use/OPERATING.md, "Refusals")."""
 MOST_TOLD = 10
 MOST_STEPS = 3
 """Steps of the clock that are told of."""

@@ -1,5 +1,5 @@
 """LSAs that `routerd` can't have, and a box must not wait for: those that it doesn't read
-(docs/PACKETS.md, "Refusals of `read`"), those above its limit of LSAs, and those that it doesn't
+(docs/reference/PACKETS.md, "Refusals of `read`"), those above its limit of LSAs, and those that it doesn't
 take for a reason that isn't known here.
 
 Other routers may hold such an LSA and describe it. `routerd` would ask for it again and again, and

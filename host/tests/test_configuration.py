@@ -768,7 +768,7 @@ class Reading(Files):
             self.assertEqual(toml.loads(text), tomllib.loads(text))
 
     def test_the_examples(self) -> None:
-        """The files of docs/HOST.md's first network."""
+        """The files of docs/use/HOST.md's first network."""
         examples = Path(__file__).parents[2] / "examples" / "host"
         self.write("keys.toml", (examples / "keys.toml").read_bytes(), 0o600)
         kernel = {
@@ -788,8 +788,8 @@ class Reading(Files):
             )
 
     def test_the_documents_have_each_key(self) -> None:
-        """docs/HOST.md's table of keys against the keys that are read."""
-        document = (Path(__file__).parents[2] / "docs" / "HOST.md").read_text(encoding="utf-8")
+        """docs/use/HOST.md's table of keys against the keys that are read."""
+        document = (Path(__file__).parents[2] / "docs" / "use" / "HOST.md").read_text(encoding="utf-8")
         for (
             each
         ) in f"{TOP_KEYS}, keys, {INTERFACE_KEYS}, prefix, metric, type, tag, object, {KEY_FIELDS}".split(

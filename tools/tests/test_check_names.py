@@ -38,21 +38,21 @@ class TestCheckNames(unittest.TestCase):
 
     def test_headings_that_a_page_lacks(self) -> None:
         for text, name in [
-            ("docs/proofs/verifier.md#no_such_crate says it.", "docs/proofs/verifier.md#no_such_crate"),
-            ("See [there](docs/GLOSSARY.md#nowhere).", "docs/GLOSSARY.md#nowhere"),
+            ("docs/proof/rooms/verifier.md#no_such_crate says it.", "docs/proof/rooms/verifier.md#no_such_crate"),
+            ("See [there](docs/reference/GLOSSARY.md#nowhere).", "docs/reference/GLOSSARY.md#nowhere"),
             ("docs/NOWHERE.md#verifier", "docs/NOWHERE.md#verifier"),
         ]:
             with self.subTest(text):
                 self.refused(text, name)
 
     def test_headings_that_a_page_has(self) -> None:
-        ran = check("docs/proofs/verifier.md#segments, and CONTRIBUTING.md#how-a-rule-is-changed.\n")
+        ran = check("docs/proof/rooms/verifier.md#segments, and CONTRIBUTING.md#how-a-rule-is-changed.\n")
         self.assertEqual((ran.returncode, ran.stderr), (0, ""))
 
     def test_files_that_a_clone_has_or_makes(self) -> None:
         ran = check(
-            "docs/GATE.md, `tools/check-names`, examples/c/*.c, crates/routerd/out/routerd, crates/NAME/src,\n"
-            "and (docs/HOST.md). In crates/isa/.. is more; host/ too.\n"
+            "docs/work/GATE.md, `tools/check-names`, examples/c/*.c, crates/routerd/out/routerd, crates/NAME/src,\n"
+            "and (docs/use/HOST.md). In crates/isa/.. is more; host/ too.\n"
         )
         self.assertEqual((ran.returncode, ran.stderr), (0, ""))
 

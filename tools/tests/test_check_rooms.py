@@ -8,7 +8,7 @@ PAGE = """# The crates
 
 ## Packets
 
-What is proved: [docs/proofs/packets.md](../docs/proofs/packets.md).
+What is proved: [docs/proof/rooms/packets.md](../docs/proof/rooms/packets.md).
 
 | Crate | What it is for |
 |---|---|
@@ -28,7 +28,7 @@ TOOL = runpy.run_path(str(TOP / "tools/check-rooms"), run_name="check_rooms")
 
 class TestCheckRooms(unittest.TestCase):
     def faults(self, **pages: str) -> list[str]:
-        texts = {f"docs/proofs/{name}.md": text for name, text in pages.items()}
+        texts = {f"docs/proof/rooms/{name}.md": text for name, text in pages.items()}
         return TOOL["proof_faults"](TOOL["rooms_of"](PAGE), TOOL["pages_of"](PAGE), texts)
 
     def test_a_section_for_each_crate_of_the_room(self) -> None:
@@ -44,8 +44,8 @@ class TestCheckRooms(unittest.TestCase):
                 self.assertIn(told, " ".join(self.faults(packets=text)))
 
     def test_pages_that_differ(self) -> None:
-        self.assertIn("docs/proofs/packets.md isn't there", self.faults())
-        self.assertIn("no room of crates/README.md names docs/proofs/old.md", self.faults(packets="## lsa\n## packet\n", old=""))
+        self.assertIn("docs/proof/rooms/packets.md isn't there", self.faults())
+        self.assertIn("no room of crates/README.md names docs/proof/rooms/old.md", self.faults(packets="## lsa\n## packet\n", old=""))
 
 
 if __name__ == "__main__":
