@@ -9,11 +9,11 @@ import threading
 from collections.abc import Callable
 from ipaddress import IPv4Address, IPv4Network
 
+from leafrunt_host.announcements import Announcements
 from leafrunt_host.area import area_of
 from leafrunt_host.area_map import Destination, map_lines
 from leafrunt_host.bridge import Bridge
 from leafrunt_host.capture import Capture
-from leafrunt_host.configuration import Announcement
 from leafrunt_host.journal import Kept, where_it_failed
 from leafrunt_host.kernel import KernelRoute, kernel_route
 from leafrunt_host.router import Router, RouterGone
@@ -24,8 +24,8 @@ from leafrunt_host.topology import Topology, database_lines, whole_lines
 
 log = logging.getLogger("leafrunt.console")
 LOG_LINES = 40
-CHANGES = ("attach", "detach", "add", "withdraw")
-ADDED = re.compile(r"add (\S+) (\d+) ([12]) (\d+)")
+OF_PROGRAMS = ("attach", "detach")
+OF_ANNOUNCEMENTS = ("add", "withdraw")
 ATTACHED = re.compile(r"attached (\w+) bound (\d+)")
 
 
@@ -40,12 +40,14 @@ class Desk:
         self,
         known: Known,
         router: Router,
+        announcements: Announcements,
         bridge: Bridge,
         topology: Topology,
         log: Kept,
         end: Callable[[], None],
     ) -> None:
         self._known, self._router, self._bridge = known, router, bridge
+        self._announcements = announcements
         self._topology, self._log, self._end = topology, log, end
         self._changing = threading.Lock()
         self._capture: Capture | None = None
@@ -86,7 +88,9 @@ class Desk:
         word = line.partition(" ")[0]
         if word == "quit":
             return ["unknown"]
-        if word not in CHANGES:
+        if word in OF_ANNOUNCEMENTS:
+            return [self._announcements.by_hand(line)]
+        if word not in OF_PROGRAMS:
             return self._router.ask(line)
         with self._changing:
             answer = self._router.ask(line)
@@ -94,16 +98,7 @@ class Desk:
             return answer
 
     def _note(self, line: str, answer: str) -> None:
-        added, attached = ADDED.fullmatch(line), ATTACHED.fullmatch(answer)
-        if added and answer in ("originated", "withheld"):
-            prefix = IPv4Network(added[1])
-            one = Announcement(prefix, int(added[2]), int(added[3]), int(added[4]))
-            self._known.announced = {**self._known.announced, prefix: (one, answer)}
-        if answer == "withdrawn":
-            gone = IPv4Network(line.split(" ")[1])
-            self._known.announced = {
-                each: said for each, said in self._known.announced.items() if each != gone
-            }
+        attached = ATTACHED.fullmatch(answer)
         if attached:
             path = line.partition(" ")[2]
             self._known.programs = {**self._known.programs, attached[1]: (path, int(attached[2]))}
@@ -146,8 +141,8 @@ class Desk:
         none_after("announced", rest)
         announced = self._known.announced
         return [
-            f"{announced[each][0].line().removeprefix('add ')} {announced[each][1]}"
-            for each in sorted(announced)
+            f"{it.announcement.line().removeprefix('add ')} {it.answer} {it.owner}"
+            for _, it in sorted(announced.items())
         ]
 
     def _programs(self, rest: str) -> list[str]:

@@ -10,9 +10,8 @@ import time
 from collections.abc import Callable
 from ipaddress import IPv4Address, IPv4Network
 
+from leafrunt_host.announcements import OUT_OF_MEMORY
 from leafrunt_host.clock import Clock
-from leafrunt_host.configuration import Announcement
-from leafrunt_host.desk import Desk
 from leafrunt_host.exchange import Side
 from leafrunt_host.forwarding import CannotKeep, Hop, KernelTable
 from leafrunt_host.journal import where_it_failed
@@ -35,24 +34,8 @@ SELDOM = 5.0
 REST, LONGEST_REST = 5, 0.25
 """After a look that found another table the keeper rests so many times what it took, and so many
 seconds at most."""
-ANNOUNCED_AGAIN = 5
 SECONDS_SHORT = 60.0
 """After `routerd` has been out of memory for so long the box ends, so that it is started anew."""
-OUT_OF_MEMORY = (
-    "routerd is out of memory: give the machine more, or the box's control group (MemoryMax=), "
-    "its address space (`ulimit -v`)"
-)
-MEANINGS = {
-    "refused 3": "another destination has its address with another prefix length: withdraw that",
-    "refused 4": "the machine's clock was set back: start the box again",
-    "refused 5": "there would be more than 4,096 own destinations, or 16,384 LSAs: withdraw others",
-    "refused 6": OUT_OF_MEMORY,
-    "out of memory": OUT_OF_MEMORY,
-    "refused 7": "it has handled 2^63 events: start the box again",
-    "refused 8": "the programs were being changed at that moment",
-}
-"""What answers of `routerd` mean, and what to do (docs/use/OPERATING.md, "Refusals")."""
-MOST_TOLD = 10
 MOST_STEPS = 3
 """Steps of the clock that are told of."""
 SECONDS_TO_STOP = 3.0
@@ -122,17 +105,14 @@ class Keeper:
         known: Known,
         router: Router,
         kernel: KernelTable | None,
-        desk: Desk,
         waker: Waker,
         give_up: Callable[[], None] = lambda: None,
     ) -> None:
         self._known, self._router = known, router
         self._give_up, self._short_since = give_up, ENDLESS
-        self._kernel, self._desk, self._waker = kernel, desk, waker
+        self._kernel, self._waker = kernel, waker
         self._ending = threading.Event()
         self._thread = threading.Thread(target=self._keep, name="keeper", daemon=True)
-        self._to_announce: list[Announcement] = list(known.configuration.announcements)
-        self._announced_at = 0.0
         self._pace = Pace(time.monotonic())
         self._table, self._lines = b"", list[bytes]()
         self._neighbors: list[str] = []
@@ -196,20 +176,6 @@ class Keeper:
         self._said = error
         self._known.kept.error = error
 
-    def announce(self) -> None:
-        """Announces the configured destinations. One that `routerd` can't take now is tried again."""
-        self._announced_at = time.monotonic()
-        waiting, said = [], []
-        for each in self._to_announce:
-            answer = self._desk.passed_on(each.line())[0]
-            if answer not in ("originated", "withheld"):
-                waiting.append(each)
-                meaning = f": {MEANINGS[answer]}" if answer in MEANINGS else ""
-                said.append(f"{each.prefix} isn't announced: {answer}{meaning}")
-        for line in said[:MOST_TOLD] if said != list(self._known.not_announced) else ():
-            log.warning("%s: it is tried again", line)
-        self._to_announce, self._known.not_announced = waiting, tuple(said)
-
     def _look_at_clock(self) -> None:
         step = self._clock.look()
         if step:
@@ -218,8 +184,6 @@ class Keeper:
 
     def _look(self, now: float) -> None:
         self._look_at_clock()
-        if self._to_announce and now - self._announced_at >= ANNOUNCED_AGAIN:
-            self.announce()
         if self._look_at_neighbors(now):
             self._pace.woken(now - AFTER[0])
         if self._kernel and now >= self._pace.due:

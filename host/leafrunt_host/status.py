@@ -6,14 +6,14 @@ import time
 from dataclasses import dataclass, field
 from ipaddress import IPv4Address, IPv4Network
 
+from leafrunt_host.announcements import Announced
 from leafrunt_host.bridge import Link
 from leafrunt_host.clock import Step, moment_text
-from leafrunt_host.configuration import Announcement, Configuration, InterfaceSettings
+from leafrunt_host.configuration import Configuration, InterfaceSettings
 from leafrunt_host.forwarding import host_warnings
 from leafrunt_host.kernel import Json
 from leafrunt_host.observing import Adjacencies
 
-MOST_TOLD = 4
 SECONDS_TO_LOOK = 10.0
 """After so long a look of the keeper's hangs."""
 NEIGHBOR = re.compile(r"neighbor (\d+) (\S+) (\w+)")
@@ -58,25 +58,30 @@ class Known:
     routerd: int
     started: float = field(default_factory=time.time)
     neighbors: dict[int, Neighbor] = field(default_factory=dict)
-    announced: dict[IPv4Network, tuple[Announcement, str]] = field(default_factory=dict)
-    """The destinations that were given, each with `routerd`'s answer."""
+    announced: dict[IPv4Network, Announced] = field(default_factory=dict)
+    """The destinations that `routerd` has taken."""
     programs: dict[str, tuple[str, int]] = field(default_factory=dict)
     """By hook the object file and the bound."""
     kept: Kept = field(default_factory=Kept)
     stopped: tuple[str, ...] = ()
     """Interfaces that `routerd` serves no longer."""
     not_announced: tuple[str, ...] = ()
-    """What `routerd` refused of the configured destinations, and why."""
+    """What isn't announced of what is asked for, and why: some lines."""
     steps: tuple[Step, ...] = ()
     """The last steps of the machine's clock."""
     looked: float | None = None
     """When the keeper's last look ended, by the clock that nobody sets."""
 
+    def publish(
+        self, announced: dict[IPv4Network, Announced], not_announced: tuple[str, ...]
+    ) -> None:
+        self.announced, self.not_announced = announced, not_announced
+
 
 def originated(known: Known) -> frozenset[IPv4Network]:
     """The destinations that this router announces: those that a price withholds aren't."""
     announced = known.announced.items()
-    return frozenset(prefix for prefix, (_, answer) in announced if answer == "originated")
+    return frozenset(prefix for prefix, it in announced if it.answer == "originated")
 
 
 def warnings_of(configuration: Configuration) -> list[str]:
@@ -89,9 +94,7 @@ def warnings_of(configuration: Configuration) -> list[str]:
 def remarks_of(known: Known, now: float) -> list[str]:
     """What is wrong with the box as a whole, beside its interfaces."""
     said = [each for step in known.steps if (each := step.remark(now))]
-    said += known.not_announced[:MOST_TOLD]
-    if len(known.not_announced) > MOST_TOLD:
-        said.append(f"{len(known.not_announced) - MOST_TOLD} more destinations aren't announced")
+    said += known.not_announced
     if known.looked is not None and now - known.looked > SECONDS_TO_LOOK:
         said.append(
             f"no look at `routerd` and the kernel's table has ended for {now - known.looked:.0f} s: "

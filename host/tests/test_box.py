@@ -215,10 +215,16 @@ class Consoles(Boxes):
         self.assertEqual(client.ask("add 10.5.0.0/16 1 1 1"), ["refused 5"])
         self.assertEqual(
             other.ask("announced"),
-            ["10.0.0.0/8 7 1 9 originated", "203.0.113.0/24 20 2 0 originated", "end"],
+            [
+                "10.0.0.0/8 7 1 9 originated console",
+                "203.0.113.0/24 20 2 0 originated configuration",
+                "end",
+            ],
         )
         self.assertEqual(other.ask("withdraw 10.0.0.0/8"), ["withdrawn"])
-        self.assertEqual(client.ask("announced"), ["203.0.113.0/24 20 2 0 originated", "end"])
+        self.assertEqual(
+            client.ask("announced"), ["203.0.113.0/24 20 2 0 originated configuration", "end"]
+        )
         self.assertEqual(client.ask("attach /x/veto.o"), ["attached veto bound 7"])
         self.assertEqual(other.ask("programs"), ["veto bound 7 /x/veto.o", "end"])
         self.assertEqual(client.ask("detach veto"), ["detached veto"])
@@ -764,7 +770,7 @@ class Hops(unittest.TestCase):
             links=links,
             configuration=SimpleNamespace(announcements=()),
         )
-        keeper = Keeper(known, None, None, None, Waker())
+        keeper = Keeper(known, None, None, Waker())
         self.assertEqual(keeper._hops(), {1: Hop(IPv4Address("2.2.2.2"), "eth1")})
 
 

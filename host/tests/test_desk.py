@@ -13,6 +13,7 @@ from pathlib import Path
 from unittest import mock
 
 from leafrunt_host import capture as captures
+from leafrunt_host.announcements import Announced
 from leafrunt_host.capture import MOST_WAITING, Capture
 from leafrunt_host.configuration import Announcement, Configuration, InterfaceSettings
 from leafrunt_host.journal import Kept as KeptLog
@@ -132,7 +133,7 @@ class Statuses(unittest.TestCase):
         it = known()
         for prefix, answer in (("10.0.0.0/8", "originated"), ("11.0.0.0/8", "withheld")):
             net = IPv4Network(prefix)
-            it.announced[net] = (Announcement(net, 1, 2, 0), answer)
+            it.announced[net] = Announced(Announcement(net, 1, 2, 0), answer)
         self.assertEqual(originated(it), frozenset([IPv4Network("10.0.0.0/8")]))
 
 

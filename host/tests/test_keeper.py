@@ -5,13 +5,11 @@ import threading
 import time
 import unittest
 from dataclasses import dataclass
-from ipaddress import IPv4Address, IPv4Network
+from ipaddress import IPv4Address
 from typing import Any
 from unittest import mock
 
 from leafrunt_host import keeper
-from leafrunt_host.configuration import Announcement
-from leafrunt_host.desk import Desk
 from leafrunt_host.exchange import Side
 from leafrunt_host.forwarding import KernelTable
 from leafrunt_host.keeper import (
@@ -26,7 +24,6 @@ from leafrunt_host.keeper import (
     Waker,
 )
 from leafrunt_host.packets import Packet, PacketType
-from leafrunt_host.status import remarks_of
 from tests.fake_kernel import FakeKernel, FakeNotices
 from tests.test_desk import TWO, interface, known
 
@@ -140,8 +137,7 @@ class Keeps(unittest.TestCase):
         self.known.links = self.links  # type: ignore[assignment]
         table = KernelTable(self.kernel, FakeNotices(self.kernel))
         self.waker = Waker()
-        desk = mock.create_autospec(Desk)
-        self.keeper = Keeper(self.known, self.router, table, desk, self.waker)  # type: ignore
+        self.keeper = Keeper(self.known, self.router, table, self.waker)  # type: ignore
 
     def test_next_hops_of_links_that_are_down(self) -> None:
         self.keeper._look(time.monotonic())
@@ -219,21 +215,6 @@ class Keeps(unittest.TestCase):
             with mock.patch("time.monotonic", return_value=now):
                 self.keeper._looked(now)
         self.assertEqual((ended, self.known.kept.error), ([], None))
-
-    def test_destinations_that_are_refused(self) -> None:
-        """In words, with what to do, for as long as they are."""
-        answers = ["refused 5"]
-        self.keeper._desk.passed_on = lambda line: answers  # type: ignore[assignment]
-        one = Announcement(IPv4Network("203.0.113.0/24"), 20, 2, 0)
-        self.keeper._to_announce = [one]
-        with self.assertLogs("leafrunt.box", "WARNING") as logged:
-            self.keeper.announce()
-        words = "203.0.113.0/24 isn't announced: refused 5: there would be more than 4,096 own"
-        self.assertIn(words, logged.output[0])
-        self.assertIn(words, " ".join(remarks_of(self.known, 0.0)))
-        answers[0] = "originated"
-        self.keeper.announce()
-        self.assertNotIn(words, " ".join(remarks_of(self.known, 0.0)))
 
     def wait(self, is_so: Any) -> None:
         until = time.monotonic() + 60
