@@ -2,14 +2,21 @@
 from __future__ import annotations
 
 import socket
+import time
 from pathlib import Path
 
 from leafrunt_host.configuration import BOX_NAME
 from leafrunt_host.rooms import LONGEST_SOCKET_PATH, running, socket_path
 from leafrunt_host.statuses import Status, Stopped
+from leafrunt_host.tables import shown
 
 REFUSED = "refused: "
 """What the answer begins with where the box can't do what a line of its own asks for."""
+LONGEST_ANSWER = 64 << 20
+"""Bytes: a table of 16,384 routes has one."""
+SECONDS_TO_ANSWER = 150.0
+"""`routerd` is given 120 by the box."""
+PIECE = 1 << 18
 
 
 def chosen_box(run: Path, name: str | None) -> str:
@@ -41,11 +48,16 @@ class Client:
                 f"{path}: a socket's path has at most {LONGEST_SOCKET_PATH} bytes", Status.USAGE
             )
         self._socket = connected(path, self.box)
-        self._reader = self._socket.makefile("r", encoding="utf-8", newline="\n")
+        self._data = bytearray()
+        """What came and belongs to no answer yet."""
 
-    def ask(self, line: str, descriptor: int | None = None) -> list[str]:
-        """The answer's lines. A file's descriptor may go with the line."""
+    def ask(
+        self, line: str, descriptor: int | None = None, seconds: float = SECONDS_TO_ANSWER
+    ) -> list[str]:
+        """The answer's lines. A file's descriptor may go with the line. `Stopped` where the box has
+        ended, where the answer isn't whole after so many seconds, and where it is too long."""
         data = line.encode("utf-8", "replace") + b"\n"
+        self._socket.settimeout(seconds)
         try:
             if descriptor is None:
                 self._socket.sendall(data)
@@ -53,22 +65,44 @@ class Client:
                 socket.send_fds(self._socket, [data], [descriptor])
         except OSError:
             pass  # what it said before it went is still to be read
-        return self.answer()
+        return self.answer(seconds)
 
-    def answer(self) -> list[str]:
-        """The lines up to the empty one."""
-        lines: list[str] = []
+    def answer(self, seconds: float | None = None) -> list[str]:
+        """The lines up to the empty one, however long they take where no time is given."""
+        until = None if seconds is None else time.monotonic() + seconds
+        searched = 0
+        while (end := self._end(searched)) is None:
+            searched = len(self._data)
+            self._receive(until)
+            if len(self._data) > LONGEST_ANSWER:
+                raise Stopped(f"the box {self.box} answers more than {LONGEST_ANSWER} bytes")
+        data, self._data = bytes(self._data[:end]), self._data[end + 1 :]
+        return data.decode("utf-8", "replace").removesuffix("\n").split("\n") if data else []
+
+    def _end(self, searched: int) -> int | None:
+        """Where the empty line begins that ends the answer; None where it hasn't come yet."""
+        if self._data.startswith(b"\n"):
+            return 0
+        at = self._data.find(b"\n\n", max(0, searched - 1))
+        return None if at < 0 else at + 1
+
+    def _receive(self, until: float | None) -> None:
+        """Waits for more."""
+        left = None if until is None else until - time.monotonic()
         try:
-            for line in self._reader:
-                if line == "\n":
-                    return lines
-                lines.append(line.rstrip("\n"))
+            if left is not None and left <= 0:
+                raise TimeoutError
+            self._socket.settimeout(left)
+            data = self._socket.recv(PIECE)
+        except TimeoutError:
+            raise Stopped(f"the box {self.box} doesn't answer") from None
         except OSError:
-            pass  # told below
-        raise Stopped(f"the box {self.box} has ended")
+            data = b""
+        if not data:
+            raise Stopped(f"the box {self.box} has ended")
+        self._data += data
 
     def close(self) -> None:
-        self._reader.close()
         self._socket.close()
 
 
@@ -95,3 +129,15 @@ def own_answer(answer: list[str]) -> list[str]:
     if answer and answer[0].startswith(REFUSED):
         raise Stopped(answer[0].removeprefix(REFUSED), Status.REFUSED)
     return answer[:-1] if answer and answer[-1] == "end" else answer
+
+
+def list_of(answer: list[str]) -> list[str]:
+    """The lines of a list, `routerd`'s or the box's, without its `end`. `Stopped` where it was
+    refused, where `routerd` was out of memory, and where it is no list."""
+    lines = own_answer(answer)
+    if len(lines) < len(answer):
+        return lines
+    said = " ".join(answer)
+    if said == "out of memory":
+        raise Stopped("routerd is out of memory", Status.MEMORY)
+    raise Stopped(f"the box answers no list: {shown(said)}")

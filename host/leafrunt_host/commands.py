@@ -2,9 +2,9 @@
 from __future__ import annotations
 
 import argparse
-import json
 import os
 import sys
+from contextlib import AbstractContextManager, closing
 from ipaddress import IPv4Address, IPv4Network
 from pathlib import Path
 
@@ -12,13 +12,16 @@ from leafrunt_host import console
 from leafrunt_host.box import Box
 from leafrunt_host.client import Client, own_answer
 from leafrunt_host.configuration import Configuration, read_configuration
-from leafrunt_host.journal import start_log
+from leafrunt_host.journal import one_line, start_log
 from leafrunt_host.kernel import kernel_interfaces
+from leafrunt_host.listing import DOCUMENTS, listed
 from leafrunt_host.rooms import RUN, STATE, Room
 from leafrunt_host.status import warnings_of
 from leafrunt_host.statuses import Status, Stopped
 from leafrunt_host.version import Version
 
+LISTS = ("status", *DOCUMENTS, "database")
+"""What lists something of a box, and takes `--json`."""
 ABOUT = """A box that routes: `routerd`, an OSPF router, on this host, among BIRD, FRR and others.
 
 docs/use/HOST.md tells how to set up a network with it. Statuses: 0 done; 1 refused; 2 wrong words;
@@ -27,7 +30,13 @@ EXAMPLES = {
     "up": "leafrunt up /etc/leafrunt/one.toml",
     "console": "leafrunt console\n  leafrunt console -c table -c neighbors\n  echo table | leafrunt console --box one",
     "status": "leafrunt status\n  leafrunt status --json | jq .interfaces[0].neighbor",
-    "database": "leafrunt database\n  leafrunt database 203.0.113.0",
+    "table": "leafrunt table\n  leafrunt table --json | jq -r '.routes[] | select(.path_type == \"ext2\").prefix'",
+    "neighbors": "leafrunt neighbors\n  leafrunt neighbors --json | jq -r '.neighbors[] | select(.state != \"Full\").interface'",
+    "interfaces": "leafrunt interfaces\n  leafrunt interfaces --json | jq '.interfaces[] | {name, counters}'",
+    "announced": "leafrunt announced\n  leafrunt announced --json | jq '.announced | length'",
+    "programs": "leafrunt programs\n  leafrunt programs --json | jq -r .programs[].object",
+    "counters": "leafrunt counters\n  leafrunt counters --json | jq '.counters[] | {name, value}'",
+    "database": "leafrunt database\n  leafrunt database 203.0.113.0\n  leafrunt database --json | jq .lsas[0]",
     "map": "leafrunt map | dot -Tsvg >area.svg\n  leafrunt map --to 203.0.113.0/24 | dot -Tsvg >way.svg",
     "check": "leafrunt check /etc/leafrunt/one.toml",
     "down": "leafrunt down --box one",
@@ -36,6 +45,12 @@ TITLES = {
     "up": "start a box by its configuration, in the foreground; SIGTERM, SIGINT and `down` end it in order",
     "console": "ask a box that runs, line by line: `help` there lists what can be asked",
     "status": "say how a box is: its interfaces and neighbors, and why a neighbor isn't heard",
+    "table": "list the routes of a box's routing table",
+    "neighbors": "list the neighbors that aren't Down, with their states",
+    "interfaces": "list the interfaces, and what passed through each",
+    "announced": "list the external destinations that a box announces",
+    "programs": "list the programs at the hooks",
+    "counters": "list the programs' counters that are above 0; in JSON those with a name too",
     "database": "list the LSAs that a box knows, as BIRD's `show ospf lsadb` does; with an ID those, whole",
     "map": "print the area as a Graphviz graph, for `dot`",
     "check": "say what is wrong with a configuration, and start nothing",
@@ -82,8 +97,9 @@ def with_own_words(one: argparse.ArgumentParser, name: str) -> None:
         one.add_argument(
             "-c", dest="lines", action="append", default=[], metavar="LINE", help=about
         )
-    if name == "status":
-        one.add_argument("--json", action="store_true", help="for a program: one value in JSON")
+    if name in LISTS:
+        about = f"for a program: one JSON object, by the schema schemas/{name}.json"
+        one.add_argument("--json", action="store_true", help=about)
     if name == "database":
         one.add_argument("id", nargs="?", type=address, metavar="ID", help="a Link State ID")
     if name == "map":
@@ -135,59 +151,46 @@ def checked_lines(path: Path, configuration: Configuration) -> list[str]:
     return [said, *(f"warning: {each}" for each in warnings_of(configuration))]
 
 
-def asked(words: argparse.Namespace, line: str) -> list[str]:
-    """A box's answer to a word of its own."""
-    client = Client(words.run_directory, words.box)
-    try:
-        return own_answer(client.ask(line))
-    finally:
-        client.close()
+def client_of(words: argparse.Namespace) -> AbstractContextManager[Client]:
+    """A connection to the box that is meant."""
+    return closing(Client(words.run_directory, words.box))
 
 
 def say(lines: list[str]) -> Status:
-    print(*lines, sep="\n")
+    """Prints what a box says; no byte of it acts on a terminal."""
+    for each in lines:
+        print(one_line(each))
     return Status.DONE
 
 
-def status(words: argparse.Namespace) -> Status:
-    if not words.json:
-        return say(asked(words, "status"))
-    (line,) = asked(words, "status json")
-    return say([json.dumps(json.loads(line), indent=2)])
-
-
-def database(words: argparse.Namespace) -> Status:
-    return say(asked(words, f"database {words.id}" if words.id else "database"))
+def list_what_is_there(words: argparse.Namespace) -> Status:
+    with client_of(words) as client:
+        lines = listed(client, words)
+    return say([line for each in lines for line in each.split("\n")])
 
 
 def area_map(words: argparse.Namespace) -> Status:
-    return say(asked(words, f"map {words.to}" if words.to else "map"))
+    with client_of(words) as client:
+        return say(own_answer(client.ask(f"map {words.to}" if words.to else "map")))
 
 
 def talk(words: argparse.Namespace) -> Status:
-    client = Client(words.run_directory, words.box)
-    try:
+    with client_of(words) as client:
         return console.run(client, words.lines)
-    finally:
-        client.close()
 
 
 def down(words: argparse.Namespace) -> Status:
-    client = Client(words.run_directory, words.box)
-    try:
+    with client_of(words) as client:
         own_answer(client.ask("down"))
-        ended = client.answer()[0]
-    finally:
-        client.close()
-    say([f"the box {client.box} has {ended}"])
+        ended = " ".join(client.answer())
+        say([f"the box {client.box} has {ended}"])
     return Status.DONE if ended.endswith(" 0") else Status.FAILED
 
 
 COMMANDS = {
     "up": up,
     "console": talk,
-    "status": status,
-    "database": database,
+    **dict.fromkeys(LISTS, list_what_is_there),
     "map": area_map,
     "check": check,
     "down": down,

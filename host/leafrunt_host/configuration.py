@@ -10,12 +10,13 @@ import re
 import stat
 import subprocess
 from collections.abc import Callable, Mapping
-from dataclasses import dataclass
+from dataclasses import dataclass, field
 from ipaddress import IPv4Address, IPv4Interface, IPv4Network
 from pathlib import Path
 from typing import Any
 
 from leafrunt_host.authentication import MD5_KEY_LENGTH, Algorithm, Key, Lifetime
+from leafrunt_host.counter_names import counter_names
 from leafrunt_host.isolation import USER, Account, account_of
 from leafrunt_host.kernel import KernelInterface
 from leafrunt_host.rooms import LONGEST_OBJECT
@@ -98,6 +99,8 @@ class Configuration:
     """What isn't wrong, and yet should be known."""
     account: Account | None = None
     """Whom `routerd` runs as, in a world of its own; None: as this process, and beside it."""
+    counters: Mapping[str, int] = field(default_factory=dict)
+    """Names of the programs' counters, each with its number."""
 
     def text(self, ports: list[tuple[int, int]]) -> str:
         """The configuration of `routerd`: an interface's datagrams come to the first port of its
@@ -233,6 +236,7 @@ class _Reader:
         interfaces = self._interfaces(keys)
         announcements = self._announcements()
         programs = self._programs(routerd)
+        counters = counter_names(self._top.table("counters"))
         self._top.end()
         if self._mistakes or router_id is None or routerd is None:
             return None
@@ -247,6 +251,7 @@ class _Reader:
             tuple(programs),
             tuple(self._advice),
             account,
+            counters,
         )
 
     def _box_name(self) -> None:

@@ -14,6 +14,7 @@ from leafrunt_host.area import area_of
 from leafrunt_host.area_map import Destination, map_lines
 from leafrunt_host.bridge import Bridge
 from leafrunt_host.capture import Capture
+from leafrunt_host.documents import database_of
 from leafrunt_host.journal import Kept, where_it_failed
 from leafrunt_host.kernel import KernelRoute, kernel_route
 from leafrunt_host.router import Router, RouterGone
@@ -116,7 +117,7 @@ class Desk:
         neighbors = self._router.ask_list("neighbors")
         if neighbors is not None:
             self._known.neighbors = neighbors_of(neighbors)
-        status = status_of(self._known)
+        status = status_of(self._known, self._topology.counts())
         return [json.dumps(status)] if rest else status_lines(status)
 
     def _interfaces(self, rest: str) -> list[str]:
@@ -153,16 +154,32 @@ class Desk:
         ]
 
     def _database(self, rest: str) -> list[str]:
-        if not rest:
-            return database_lines(self._topology)
+        words = rest.split(" ") if rest else []
+        is_json = words[:1] == ["json"]
         try:
-            identity = IPv4Address(rest)
+            (identity,) = map(IPv4Address, words[is_json:]) if words[is_json:] else (None,)
         except ValueError:
-            raise Refused("after `database` comes nothing, or a Link State ID: A.B.C.D") from None
+            raise Refused(
+                "after `database` comes `json` or nothing, and then a Link State ID, A.B.C.D, or nothing"
+            ) from None
+        if is_json:
+            return [self._database_json(identity)]
+        if identity is None:
+            return database_lines(self._topology)
         lines = whole_lines(self._topology, identity)
         if not lines:
             raise Refused(f"no LSA has the Link State ID {identity}")
         return lines
+
+    def _database_json(self, identity: IPv4Address | None) -> str:
+        """The LSAs, or those with this Link State ID, whole."""
+        entries = self._topology.entries()
+        if identity is not None:
+            entries = [each for each in entries if each[0].key.id == identity]
+            if not entries:
+                raise Refused(f"no LSA has the Link State ID {identity}")
+        name, left_out = self._known.configuration.name, self._topology.left_out
+        return json.dumps(database_of(name, entries, left_out, is_whole=identity is not None))
 
     def _map(self, rest: str) -> list[str]:
         area = area_of((header.key, entry.body) for header, entry in self._topology.entries())

@@ -3,6 +3,7 @@ from __future__ import annotations
 
 import re
 import time
+from collections.abc import Mapping
 from dataclasses import dataclass, field
 from ipaddress import IPv4Address, IPv4Network
 
@@ -10,6 +11,7 @@ from leafrunt_host.announcements import Announced
 from leafrunt_host.bridge import Link
 from leafrunt_host.clock import Step, moment_text
 from leafrunt_host.configuration import Configuration, InterfaceSettings
+from leafrunt_host.documents import schema_of
 from leafrunt_host.forwarding import host_warnings
 from leafrunt_host.kernel import Json
 from leafrunt_host.observing import Adjacencies
@@ -117,6 +119,11 @@ def interface_status(known: Known, number: int, each: InterfaceSettings) -> Json
         "address": str(each.address),
         "mtu": each.mtu,
         "cost": each.cost,
+        "hello_interval_seconds": each.hello_interval,
+        "dead_interval_seconds": each.dead_interval,
+        "retransmit_interval_seconds": each.retransmit_interval,
+        "transmit_delay_seconds": each.transmit_delay,
+        "key_ids": [key.id for key in each.keys],
         "passive": each.passive,
         "neighbor": None,
         "remarks": [],
@@ -147,11 +154,12 @@ def interface_status(known: Known, number: int, each: InterfaceSettings) -> Json
     return said
 
 
-def status_of(known: Known) -> Json:
-    """The whole, as values that JSON has."""
+def status_of(known: Known, lsas: Mapping[str, int] | None = None) -> Json:
+    """The whole, as values that JSON has; `lsas` says how many LSAs of each type there are."""
     configuration = known.configuration
     kept = known.kept
     return {
+        "schema": schema_of("status"),
         "box": configuration.name,
         "router_id": str(configuration.router_id),
         "since": known.started,
@@ -163,6 +171,8 @@ def status_of(known: Known) -> Json:
             "without_next_hop": [each.decode() for each in kept.without_hop],
             "error": kept.error,
         },
+        "lsas": dict(lsas or {}),
+        "counter_names": dict(configuration.counters),
         "warnings": [*remarks_of(known, time.monotonic()), *warnings_of(configuration)],
         "interfaces": [
             interface_status(known, number, each)

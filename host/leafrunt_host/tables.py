@@ -232,6 +232,17 @@ class Table:
             for at, each in enumerate(value, 1)
         ]
 
+    def table(self, key: str) -> Table:
+        """The table of this name, `[key]` in the file, empty where there is none."""
+        value = self._value(
+            key, f"a table, begun with [{key}]", {}, lambda each: isinstance(each, dict)
+        )
+        return Table(self._file, key, value if isinstance(value, dict) else {}, self._mistakes)
+
+    def keys(self) -> list[str]:
+        """All keys of the table, in their order."""
+        return list(self._items)
+
     def end(self) -> None:
         """Notes the keys that were never asked for."""
         for key in self._items:

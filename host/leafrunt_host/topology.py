@@ -11,7 +11,7 @@ import logging
 import queue
 import threading
 import time
-from collections import OrderedDict
+from collections import Counter, OrderedDict
 from collections.abc import Callable
 from dataclasses import replace
 from ipaddress import IPv4Address
@@ -195,6 +195,15 @@ class Topology:
             if not is_flushed or now - before.moment < SECONDS_UNSETTLED:
                 return
         self._entries[entry.data[KEY]] = entry
+
+    def counts(self) -> dict[str, int]:
+        """How many LSAs there are of each type, by its name."""
+        now = self._clock()
+        with self._one_at_a_time:
+            kinds = Counter(
+                key[0] for key, each in self._entries.items() if each.age_at(now) < MAX_AGE
+            )
+        return {each.title: kinds[each] for each in LsType}
 
     def entries(self) -> list[tuple[LsHeader, Entry]]:
         """The LSAs with their headers of now, in the order of their keys; those that are flushed or

@@ -57,6 +57,9 @@ tag = 6
 prefix = "0.0.0.0/0"
 [[program]]
 object = "veto.o"
+[counters]
+martians = 5
+_2 = 255
 """
 KEYS = """[new]
 id = 2
@@ -75,8 +78,9 @@ PEER = "the neighbor's address, A.B.C.D in quotes"
 PREFIX = "A.B.C.D/L whose bits after the first L are 0"
 OBJECT = "the path of an object file that `routerd verify` accepts, without a space in it"
 TABLES = "tables, each begun with [[{}]]"
+COUNTER_NAME = "1 to 64 letters, digits and `_`, first no digit"
 TOML = "TOML 1.0, as toml.io describes it"
-TOP_KEYS = "router_id, isolated, user, routerd, kernel, interface, announce, program"
+TOP_KEYS = "router_id, isolated, user, routerd, kernel, interface, announce, program, counters"
 INTERFACE_KEYS = "name, passive, address, cost, hello_interval, dead_interval, retransmit_interval, transmit_delay, keys, peer"
 OF_ETH1 = "interface 1 (eth1), "
 KERNEL_NAMES = f"the name of an interface of the kernel: {NAMES}"
@@ -321,6 +325,27 @@ MISTAKES = [
     (
         'isolated = false\nuser = "nobody"\n' + TOP + INTERFACE,
         (("user", '"nobody"', "none where isolated = false"),),
+    ),
+    (TOP + "counters = 1\n" + INTERFACE, (("counters", "1", "a table, begun with [counters]"),)),
+    (
+        f"{TOP}{INTERFACE}[counters]\na-b = 1\n'' = 1\n2x = 1\n"
+        "many = 256\none = 0\ntwo = 0\nfew = true\n",
+        (
+            ('counters, "a-b"', "this name", COUNTER_NAME),
+            ('counters, ""', "this name", COUNTER_NAME),
+            ('counters, "2x"', "this name", COUNTER_NAME),
+            ("counters, many", "256", NUMBERS.format(0, 255)),
+            ("counters, two", "0, as one has", "each counter's number once"),
+            ("counters, few", "true", NUMBERS.format(0, 255)),
+        ),
+    ),
+    (
+        f'{TOP}{INTERFACE}[counters]\n"a\\n# EOF" = 1\n{"x" * 65} = 2\n"\u0661" = 3\n',
+        (
+            ('counters, "a\\n# EOF"', "this name", COUNTER_NAME),
+            (f'counters, "{"x" * 59}.." (65 characters)', "this name", COUNTER_NAME),
+            ('counters, "\\u0661"', "this name", COUNTER_NAME),
+        ),
     ),
     (TOP + INTERFACE + "passive = 1\n", ((OF_ETH1 + "passive", "1", "true or false"),)),
     (TOP + INTERFACE + "cost = 0\n", ((OF_ETH1 + "cost", "0", NUMBERS.format(1, 65535)),)),
@@ -606,6 +631,7 @@ class Reading(Files):
             (read.name, str(read.router_id), read.routerd, read.kernel),
             ("one", "1.1.1.1", self.folder / "routerd", False),
         )
+        self.assertEqual(read.counters, {"martians": 5, "_2": 255})
         one, two, loopback = read.interfaces
         self.assertEqual((one.name, one.address, one.mtu, one.cost), ("eth1", ONE, 1500, 7))
         self.assertEqual(

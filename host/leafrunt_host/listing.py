@@ -1,0 +1,67 @@
+"""The commands that list what a box has: the console's lines, or with `--json` a document."""
+from __future__ import annotations
+
+import argparse
+import json
+from collections.abc import Callable, Iterable, Iterator
+from contextlib import contextmanager
+
+from leafrunt_host import documents
+from leafrunt_host.client import Client, list_of, own_answer
+from leafrunt_host.kernel import Json
+from leafrunt_host.statuses import Stopped
+
+DOCUMENTS: dict[str, Callable[[Json, Iterable[str]], Json]] = {
+    "table": documents.table_of,
+    "neighbors": documents.neighbors_of,
+    "interfaces": lambda status, _lines: documents.interfaces_of(status),
+    "announced": documents.announced_of,
+    "programs": documents.programs_of,
+    "counters": documents.counters_of,
+}
+"""The document of each list, made of the box's status and the lines of the console."""
+
+
+def json_answer(client: Client, line: str) -> Json:
+    """A box's answer in JSON, which is one line. `Stopped` where it is no object of JSON."""
+    lines = own_answer(client.ask(line))
+    try:
+        read = json.loads("".join(lines))
+    except (ValueError, RecursionError):
+        read = None
+    if not isinstance(read, dict):
+        raise Stopped(documents.OTHER_VERSION.format(client.box))
+    return read
+
+
+def box_status(client: Client) -> Json:
+    """A box's status."""
+    return documents.status_read(client.box, json_answer(client, "status json"))
+
+
+@contextmanager
+def understood(box: str) -> Iterator[None]:
+    """A box that says something in a form that nobody expects is an error like any other."""
+    try:
+        yield
+    except (AttributeError, KeyError, TypeError, ValueError) as error:
+        said = f"the box {box} says something that leafrunt doesn't know"
+        raise Stopped(f"{said} ({type(error).__name__}: {error})") from error
+
+
+def document_of(client: Client, kind: str, rest: list[str]) -> Json:
+    """The document of a list; `rest` is what the command was given after its name."""
+    if kind not in DOCUMENTS:
+        return json_answer(client, " ".join([kind, "json", *rest]))
+    lines = list_of(client.ask(kind))
+    with understood(client.box):
+        return DOCUMENTS[kind](box_status(client), lines)
+
+
+def listed(client: Client, words: argparse.Namespace) -> list[str]:
+    """What a command prints that lists something: the words of the command line say what."""
+    kind = str(words.command)
+    rest = [str(words.id)] if kind == "database" and words.id else []
+    if words.json:
+        return [json.dumps(document_of(client, kind, rest), indent=2)]
+    return list_of(client.ask(" ".join([kind, *rest])))
