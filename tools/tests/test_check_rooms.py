@@ -1,4 +1,4 @@
-"""tools/check-rooms: pages of proofs whose sections aren't the crates of their room are told of."""
+"""tools/check-rooms: rows and sections that aren't those of crates.txt are told of."""
 import pathlib
 import runpy
 import unittest
@@ -30,6 +30,17 @@ class TestCheckRooms(unittest.TestCase):
     def faults(self, **pages: str) -> list[str]:
         texts = {f"docs/proof/rooms/{name}.md": text for name, text in pages.items()}
         return TOOL["proof_faults"](TOOL["rooms_of"](PAGE), TOOL["pages_of"](PAGE), texts)
+
+    def test_rows_that_differ_from_the_list(self) -> None:
+        for lines, told in [
+            ("# Packets\nlsa: words\npacket: lsa\n\n# Tests\ncore_tests may_wait=1: flood\n", None),
+            ("# Packets\nlsa: words\n\n# Tests\ncore_tests: flood\n", "crates.txt has no line for `packet`"),
+            ("# Packets\nlsa:\npacket:\nelf:\n# Tests\ncore_tests:\n", "crates/README.md has no row for `elf`"),
+            ("# Packets\npacket:\nlsa:\n# Tests\ncore_tests:\n", "another order than crates.txt"),
+        ]:
+            with self.subTest(lines):
+                found = " ".join(TOOL["faults"](TOOL["rooms_of"](PAGE), f"# The crates.\n\n{lines}"))
+                self.assertEqual(found, "") if told is None else self.assertIn(told, found)
 
     def test_a_section_for_each_crate_of_the_room(self) -> None:
         self.assertEqual(self.faults(packets="# Packets\n\n## lsa\n\n### Open\n\n## packet\n"), [])
