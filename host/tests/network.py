@@ -423,7 +423,7 @@ class Frr:
         self._ran: list[subprocess.Popen[str]] = []
 
     def _interface(self, side: Side) -> list[str]:
-        lines = [f"interface {side.name}", "ip ospf area 0"]
+        lines = [f"interface {side.name}", "ip ospf area 0", f"ip ospf cost {side.cost}"]
         if side.is_passive:
             return [*lines, "ip ospf passive", "exit"]
         lines += ["ip ospf network point-to-point", f"ip ospf hello-interval {side.hello}"]

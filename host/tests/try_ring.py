@@ -259,7 +259,7 @@ def ring_ended(it: Ring, looks: Looks) -> None:
         took = None if took is None else time.monotonic() - start
         measured = "not within 10 s" if took is None else f"after {took:.1f} s"
         looks.look(
-            f"a box is ended by SIGTERM: {name} drops it within 2 s", took and took <= 2, measured
+            f"a box is ended by SIGTERM: {name} drops it within 5 s", took and took <= 5, measured
         )
     status = box.wait()
     measured = f"status {status}, after {time.monotonic() - start:.1f} s"

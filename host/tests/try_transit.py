@@ -1,0 +1,178 @@
+"""A router in the middle is started, ended and changed, beside BIRD and FRR in the same place: how
+many packets through it are lost. See `try-network`."""
+from __future__ import annotations
+
+import subprocess
+import sys
+import time
+from collections.abc import Callable, Iterable
+from pathlib import Path
+
+from tests.network import (
+    COMES_UP,
+    HOST,
+    Bird,
+    Box,
+    CannotTry,
+    End,
+    Frr,
+    Network,
+    Side,
+    Try,
+    is_full,
+    output,
+    run,
+    within,
+)
+
+NAMES = {"left": "2.2.2.2", "other": "4.4.4.4", "right": "3.3.3.3"}
+"""BIRDs around the router that is tried, 1.1.1.1: packets go by it from left to right, or by the
+other way."""
+FROM, TO = "172.16.2.2", "172.16.3.2"
+SETTLED = 4.0
+"""Seconds after which no router changes its routes any more."""
+
+
+class Losses:
+    """Echo requests every 5 ms from a host to another, until `end`."""
+
+    def __init__(self, network: Network, namespace: str) -> None:
+        words = [sys.executable, str(HOST / "tests" / "losses.py"), FROM, TO]
+        self._network = network
+        log = network.work / "losses"
+        self._ran = network.start(namespace, words, log, subprocess.PIPE, subprocess.PIPE)
+        self._line()
+        self._start = time.monotonic()
+
+    def _line(self) -> str:
+        assert self._ran.stdout
+        return self._ran.stdout.readline()
+
+    def end(self) -> tuple[int, str]:
+        """How many were lost, and when and how many at a time, in words."""
+        assert self._ran.stdin
+        self._ran.stdin.close()
+        gaps, line = [], self._line()
+        while line and not line.startswith("sent "):
+            at, count = line.split()
+            gaps.append(f"{count} at {float(at):.2f} s")
+            line = self._line()
+        words = line.split()
+        self._ran.stdin = None
+        self._network.stop(self._ran)
+        if len(words) != 4:
+            raise CannotTry("the packets weren't counted")
+        lost = int(words[3])
+        said = f"{lost} of {words[1]} packets ({lost * 5} ms)"
+        return lost, f"{said}: {', '.join(gaps[:6])}" if gaps else said
+
+
+class Transit:
+    """A host - 2.2.2.2 - 1.1.1.1 - 3.3.3.3 - a host, and a longer way by 4.4.4.4 where `is_only`
+    isn't set."""
+
+    def __init__(self, given: Try, kind: str, is_only: bool = False) -> None:
+        self.network = network = Network()
+        self.kind = kind
+        names = ["tried", "left", "right", *([] if is_only else ["other"]), "h1", "h2"]
+        self.spaces = {each: network.namespace(each, each[0] != "h") for each in names}
+        self._link("left", "right", "tried", "left", "10.0.1")
+        self._link("tried", "right", "right", "left", "10.0.2")
+        sides = {"left": [Side("right")], "right": [Side("left")]}
+        if not is_only:
+            self._link("left", "other", "other", "left", "10.0.3")
+            self._link("other", "right", "right", "other", "10.0.4")
+            sides["left"].append(Side("other", cost=100))
+            sides["right"].append(Side("other", cost=100))
+            sides["other"] = [Side("left", cost=100), Side("right", cost=100)]
+        for name, host, number in (("left", "h1", 2), ("right", "h2", 3)):
+            near = End(self.spaces[name], "hosts", f"172.16.{number}.1/24")
+            network.link(near, End(self.spaces[host], "eth0", f"172.16.{number}.2/24"))
+            run("ip", "-n", self.spaces[host], "route", "add", "default", "via", near.ip)
+            sides[name].append(Side("hosts", is_passive=True))
+        self.birds = [self._bird(name, sides[name]) for name in sides]
+        self.tried = self._tried(given)
+
+    def _link(self, one: str, its: str, other: str, others: str, network: str) -> None:
+        ends = End(self.spaces[one], its, f"{network}.1/24"), End(
+            self.spaces[other], others, f"{network}.2/24"
+        )
+        self.network.link(*ends)
+
+    def _bird(self, name: str, sides: Iterable[Side]) -> Bird:
+        bird = Bird(self.network, self.spaces[name], NAMES[name], sides)
+        bird.folder = self.network.work / name
+        bird.folder.mkdir()
+        return bird
+
+    def _tried(self, given: Try) -> Box | Bird | Frr:
+        sides, space = [Side("left"), Side("right")], self.spaces["tried"]
+        if self.kind == "a box":
+            return Box(self.network, given.routerd, space, "tried", "1.1.1.1", sides)
+        if self.kind == "FRR":
+            return Frr(self.network, space, "1.1.1.1", sides)
+        return Bird(self.network, space, "1.1.1.1", sides)
+
+    def start(self) -> None:
+        for each in self.birds:
+            each.start()
+        within(COMES_UP, lambda: self.is_connected("other"))
+        self.tried.start()
+
+    def losses(self) -> Losses:
+        return Losses(self.network, self.spaces["h1"])
+
+    def way(self) -> str:
+        """The interface by which the packets leave the left router."""
+        words = output("ip", "-n", self.spaces["left"], "route", "get", TO).split()
+        return words[words.index("dev") + 1] if "dev" in words else ""
+
+    def is_connected(self, way: str) -> bool:
+        """Whether the packets go that way, both ways."""
+        back = output("ip", "-n", self.spaces["right"], "route", "get", FROM).split()
+        there = {"right": "left", "other": "other"}[way]
+        return self.way() == way and back[2:5:2] == [back[2], there]
+
+    def is_by_tried(self) -> bool:
+        return self.is_connected("right")
+
+    def lost_in(self, act: Callable[[], object], seconds: float) -> tuple[int, str]:
+        """What is lost from before an act until so many seconds after it."""
+        losses = self.losses()
+        time.sleep(0.5)
+        act()
+        time.sleep(seconds)
+        return losses.end()
+
+
+def transit(given: Try) -> None:
+    """A router that others send by is ended and started again while there is another way: how many
+    packets are lost, counted every 5 ms, with a box, BIRD and FRR in its place."""
+    for kind in ("a box", "BIRD", "FRR"):
+        it = Transit(given, kind)
+        given.network = it.network
+        try:
+            ended_and_started(it, given)
+        finally:
+            it.network.close()
+
+
+def ended_and_started(it: Transit, given: Try) -> None:
+    looks, is_box = given.looks, isinstance(it.tried, Box)
+    it.start()
+    looks.timed(f"{it.kind}: the packets go by it", COMES_UP, it.is_by_tried)
+    time.sleep(SETTLED)
+
+    def told(what: str, lost: int, said: str) -> None:
+        if is_box:
+            looks.look(f"a box: {what}: nothing is lost", not lost, said)
+        else:
+            print(f"     {it.kind}: {what}: {said}", flush=True)
+
+    told("ended in order", *it.lost_in(it.tried.stop, SETTLED))
+
+    def start_again() -> None:
+        it.tried.start()
+        within(COMES_UP, it.is_by_tried, 0.1)
+
+    told("started again", *it.lost_in(start_again, SETTLED))
