@@ -2,6 +2,7 @@
 from __future__ import annotations
 
 import argparse
+import io
 import os
 import sys
 from contextlib import AbstractContextManager, closing
@@ -15,6 +16,7 @@ from leafrunt_host.configuration import Configuration, read_configuration
 from leafrunt_host.journal import one_line, start_log
 from leafrunt_host.kernel import kernel_interfaces
 from leafrunt_host.listing import DOCUMENTS, listed
+from leafrunt_host.metrics import FORMATS, metrics_of
 from leafrunt_host.rooms import RUN, STATE, Room
 from leafrunt_host.status import warnings_of
 from leafrunt_host.statuses import Status, Stopped
@@ -37,6 +39,7 @@ EXAMPLES = {
     "programs": "leafrunt programs\n  leafrunt programs --json | jq -r .programs[].object",
     "counters": "leafrunt counters\n  leafrunt counters --json | jq '.counters[] | {name, value}'",
     "database": "leafrunt database\n  leafrunt database 203.0.113.0\n  leafrunt database --json | jq .lsas[0]",
+    "metrics": "leafrunt metrics\n  leafrunt metrics --format prometheus | sponge /var/lib/prometheus/node-exporter/leafrunt.prom",
     "map": "leafrunt map | dot -Tsvg >area.svg\n  leafrunt map --to 203.0.113.0/24 | dot -Tsvg >way.svg",
     "check": "leafrunt check /etc/leafrunt/one.toml",
     "down": "leafrunt down --box one",
@@ -52,6 +55,7 @@ TITLES = {
     "programs": "list the programs at the hooks",
     "counters": "list the programs' counters that are above 0; in JSON those with a name too",
     "database": "list the LSAs that a box knows, as BIRD's `show ospf lsadb` does; with an ID those, whole",
+    "metrics": "print what a box is doing as OpenMetrics text, for Prometheus (needs python3-prometheus-client)",
     "map": "print the area as a Graphviz graph, for `dot`",
     "check": "say what is wrong with a configuration, and start nothing",
     "down": "end a box in order, and wait until it has ended",
@@ -102,6 +106,9 @@ def with_own_words(one: argparse.ArgumentParser, name: str) -> None:
         one.add_argument("--json", action="store_true", help=about)
     if name == "database":
         one.add_argument("id", nargs="?", type=address, metavar="ID", help="a Link State ID")
+    if name == "metrics":
+        about = "openmetrics (so if none is given), or Prometheus' older text, for node_exporter"
+        one.add_argument("--format", choices=FORMATS, default="openmetrics", help=about)
     if name == "map":
         about = "mark the way that the kernel takes there"
         one.add_argument("--to", type=prefix, metavar="PREFIX", help=about)
@@ -169,6 +176,15 @@ def list_what_is_there(words: argparse.Namespace) -> Status:
     return say([line for each in lines for line in each.split("\n")])
 
 
+def metrics(words: argparse.Namespace) -> Status:
+    with client_of(words) as client:
+        text = metrics_of(client, words.format)
+    if isinstance(sys.stdout, io.TextIOWrapper):
+        sys.stdout.reconfigure(encoding="utf-8")
+    sys.stdout.write(text)
+    return Status.DONE
+
+
 def area_map(words: argparse.Namespace) -> Status:
     with client_of(words) as client:
         return say(own_answer(client.ask(f"map {words.to}" if words.to else "map")))
@@ -191,6 +207,7 @@ COMMANDS = {
     "up": up,
     "console": talk,
     **dict.fromkeys(LISTS, list_what_is_there),
+    "metrics": metrics,
     "map": area_map,
     "check": check,
     "down": down,
