@@ -331,10 +331,12 @@ def refusal_of(message: Message) -> Refusal | None:
 
 
 def netlink(groups: int = 0) -> socket.socket:
-    """A socket to the kernel of the network namespace that this thread is in."""
+    """A socket to the kernel of the network namespace that this thread is in. It's connected, so
+    that the kernel refuses what other programs send to it."""
     one = socket.socket(socket.AF_NETLINK, socket.SOCK_RAW, socket.NETLINK_ROUTE)
     try:
         one.bind((0, groups))
+        one.connect((0, 0))
         try:
             one.setsockopt(socket.SOL_SOCKET, SO_RCVBUFFORCE, RECEIVE_BUFFER)
         except PermissionError:

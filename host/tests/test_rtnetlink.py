@@ -1,3 +1,4 @@
+import contextlib
 import socket
 import struct
 import sys
@@ -8,6 +9,8 @@ from unittest import mock
 
 from leafrunt_host import rtnetlink
 from leafrunt_host.rtnetlink import (
+    NEW_LINK,
+    OF_LINKS,
     AddRoute,
     Address,
     CannotAsk,
@@ -268,6 +271,17 @@ class Noticed(unittest.TestCase):
             self.assertEqual(notices.read(), news)
         kernel.send(numbered(bytes.fromhex(ROUTE_DELETED), 1).replace(b"\1\0\0\0\2", b"\7\0\0\0\2"))
         self.assertEqual(notices.read(), News.NOTHING)
+
+    def test_notices_of_other_programs(self) -> None:
+        """As root, who may send to any port: another user is refused for that."""
+        with contextlib.closing(Notices(groups=OF_LINKS)) as notices:
+            port = notices._socket.getsockname()[0]
+            kind = socket.AF_NETLINK, socket.SOCK_RAW, socket.NETLINK_ROUTE
+            with contextlib.closing(socket.socket(*kind)) as forger:
+                forger.bind((0, 0))
+                with self.assertRaises((ConnectionRefusedError, PermissionError)):
+                    forger.sendto(struct.pack("=IHHII", 16, NEW_LINK, 0, 0, 0), (port, 0))
+            self.assertEqual(notices.read(), News.NOTHING)
 
     def test_the_kernels_own(self) -> None:
         """A socket to the real kernel, which any user may have."""
