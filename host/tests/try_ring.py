@@ -311,11 +311,24 @@ def ring_externals(it: Ring, looks: Looks) -> None:
     what = "`leafrunt database` of each box has just what `show ospf lsadb` has"
     if not looks.look(what, took is not None, f"{len(it.bird.database())} LSAs"):
         print(f"     {it.unequal()}")
-    looks.look("all adjacencies stay Full", it.is_up())
+    stays_full(it, looks)
     it.bird.externals = []
     it.bird.configure()
     looks.timed("and they leave it", 120, lambda: have(0), 0.5)
-    looks.look("all adjacencies stay Full", it.is_up())
+    stays_full(it, looks)
+
+
+def stays_full(it: Ring, looks: Looks) -> None:
+    """Where they don't, the logs say what came before."""
+    if not looks.look("all adjacencies stay Full", it.is_up()):
+        print(f"     {it.not_up()}")
+        for box in it.boxes.values():
+            lines = box.log_lines()
+            print(*(f"     {box.router_id}: {each}" for each in lines[-12:]), sep="\n")
+            print(f"     {box.router_id}: {box.ask('interfaces')}")
+        for name, log in (("BIRD", it.bird.folder / "log"), ("FRR", it.frr.folder / "ospfd.log")):
+            lines = log.read_text(errors="replace").splitlines()
+            print(*(f"     {name}: {each[:200]}" for each in lines[-8:]), sep="\n")
 
 
 def ring_replays(it: Ring, looks: Looks) -> None:
