@@ -15,7 +15,10 @@ from ipaddress import IPv4Address, IPv4Interface, IPv4Network
 from pathlib import Path
 from typing import Any
 
+from leafrunt_host import bfd_session, bfd_settings
 from leafrunt_host.authentication import MD5_KEY_LENGTH, Algorithm, Key, Lifetime
+from leafrunt_host.bfd_packets import BfdKey, KeyType
+from leafrunt_host.bfd_settings import AnyKey
 from leafrunt_host.counter_names import counter_names
 from leafrunt_host.isolation import USER, Account, account_of
 from leafrunt_host.kernel import KernelInterface
@@ -59,6 +62,7 @@ class InterfaceSettings:
     """What the neighbor's address is in; None on an unnumbered link, where it may be any."""
     peer: IPv4Address | None = None
     """The neighbor's address, where it's configured."""
+    bfd: bfd_session.Settings | None = None
 
 
 @dataclass(frozen=True)
@@ -300,7 +304,7 @@ class _Reader:
 
     # -- keys
 
-    def _keys(self) -> dict[str, Key] | None:
+    def _keys(self) -> dict[str, AnyKey] | None:
         """The keys by their names; None where their file is mistaken."""
         if not self._top.has("keys"):
             return {}
@@ -327,7 +331,7 @@ class _Reader:
                 keys[name] = key
         return keys if len(self._mistakes) == before else None
 
-    def _key(self, path: Path, name: str, items: object) -> Key | None:
+    def _key(self, path: Path, name: str, items: object) -> AnyKey | None:
         where = name if KEY_NAME.fullmatch(name) else shown(name)
         if not isinstance(items, dict) or not KEY_NAME.fullmatch(name):
             found = "no table" if not isinstance(items, dict) else "this name"
@@ -336,8 +340,11 @@ class _Reader:
             return None
         table = Table(path.name, where, items, self._mistakes)
         number = table.whole("id", 0, 255)
-        algorithms = {each.value[0]: each for each in Algorithm}
+        algorithms: dict[str, Algorithm | KeyType] = {each.value[0]: each for each in Algorithm}
+        algorithms |= {each.value: each for each in KeyType}
         algorithm = algorithms.get(table.one_of("algorithm", algorithms) or "")
+        if isinstance(algorithm, KeyType):
+            return bfd_settings.key_of(table, number, algorithm)
         most = MD5_KEY_LENGTH if algorithm is Algorithm.KEYED_MD5 else LONGEST_SECRET
         secret = table.secret("secret", most, f"a text of 1 to {most} bytes")
         lifetime = self._lifetime(table)
@@ -373,7 +380,7 @@ class _Reader:
 
     # -- interfaces
 
-    def _interfaces(self, keys: dict[str, Key] | None) -> list[InterfaceSettings]:
+    def _interfaces(self, keys: dict[str, AnyKey] | None) -> list[InterfaceSettings]:
         tables = self._top.tables("interface", interface_title)
         if tables is not None and not 1 <= len(tables) <= MOST_INTERFACES:
             self._top.note(
@@ -400,7 +407,7 @@ class _Reader:
             read.append(one)
         return read
 
-    def _interface(self, table: Table, keys: dict[str, Key] | None) -> InterfaceSettings | None:
+    def _interface(self, table: Table, keys: dict[str, AnyKey] | None) -> InterfaceSettings | None:
         inside = self._kernel_interface(table)
         passive = table.truth("passive", False)
         address = self._address(table, inside)
@@ -410,6 +417,7 @@ class _Reader:
         retransmit = table.whole("retransmit_interval", 1, 65535, 5)
         delay = table.whole("transmit_delay", 1, 3600, 1)
         chosen = self._chosen_keys(table, keys, passive)
+        bfd = bfd_settings.settings_of(table, keys, passive)
         peer = self._peer(table, address, passive)
         if dead <= hello and not table.is_wrong("hello_interval"):
             table.note("dead_interval", str(dead), f"more than hello_interval, which is {hello}")
@@ -435,6 +443,7 @@ class _Reader:
             chosen,
             self._network(inside, address, passive or peer is not None),
             peer,
+            bfd,
         )
 
     @staticmethod
@@ -509,7 +518,7 @@ class _Reader:
         return inside.addresses[0]
 
     def _chosen_keys(
-        self, table: Table, keys: dict[str, Key] | None, passive: bool
+        self, table: Table, keys: dict[str, AnyKey] | None, passive: bool
     ) -> tuple[Key, ...] | None:
         """The keys of an interface, of which the first signs."""
         known = (
@@ -525,6 +534,10 @@ class _Reader:
             key = keys.get(name)
             if key is None:
                 table.note("keys", shown(name), known)
+                return None
+            if isinstance(key, BfdKey):
+                found = f"{shown(name)}, whose algorithm {key.type.value} is BFD's"
+                table.note("keys", found, "names of keys with another algorithm")
                 return None
             if any(key.id == other.id for other in chosen):
                 table.note(

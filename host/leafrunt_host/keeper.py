@@ -11,6 +11,8 @@ from collections.abc import Callable
 from ipaddress import IPv4Address, IPv4Network
 
 from leafrunt_host.announcements import OUT_OF_MEMORY
+from leafrunt_host.bfd import Neighbor as BfdNeighbor
+from leafrunt_host.bfd import Sessions
 from leafrunt_host.clock import Clock
 from leafrunt_host.exchange import Side
 from leafrunt_host.forwarding import CannotKeep, Hop, KernelTable
@@ -36,6 +38,9 @@ REST, LONGEST_REST = 5, 0.25
 seconds at most."""
 SECONDS_SHORT = 60.0
 """After `routerd` has been out of memory for so long the box ends, so that it is started anew."""
+TWO_WAY = ("ExStart", "Exchange", "Loading", "Full")
+"""The states of a neighbor that hears this router (RFC 2328, 10.1): on a point-to-point link none
+stays in 2-Way."""
 MOST_STEPS = 3
 """Steps of the clock that are told of."""
 SECONDS_TO_STOP = 3.0
@@ -186,6 +191,8 @@ class Keeper:
         self._look_at_clock()
         if self._look_at_neighbors(now):
             self._pace.woken(now - AFTER[0])
+        if self._known.sessions:
+            self._follow_sessions(self._known.sessions)
         if self._kernel and now >= self._pace.due:
             self._keep_kernel(self._kernel)
 
@@ -201,6 +208,17 @@ class Keeper:
         for line in known.adjacencies.look(neighbors, names, now):
             log.info("%s", line)
         return True
+
+    def _follow_sessions(self, sessions: Sessions) -> None:
+        """Says which neighbors there are, to those that BFD watches."""
+        for number in sessions.settings:
+            neighbor, link = self._known.neighbors.get(number), self._known.links[number]
+            address = link.next_hop(neighbor.router_id) if neighbor else None
+            who = BfdNeighbor(address, link.index) if address else None
+            state = neighbor.state if neighbor else "Down"
+            sessions.follow(number, who, state in TWO_WAY)
+            if state != "Full":
+                sessions.is_known(number)
 
     def _keep_kernel(self, kernel: KernelTable) -> None:
         began, is_changed = time.monotonic(), True
@@ -238,13 +256,14 @@ class Keeper:
         return self._own
 
     def _hops(self) -> dict[int, Hop]:
-        """The next hop at each interface that is up and whose neighbor is Full."""
-        found = {}
+        """The next hop at each interface that is up and whose neighbor is Full, and wasn't lost a
+        moment ago."""
+        found, sessions = {}, self._known.sessions
         for number, neighbor in self._known.neighbors.items():
             link = self._known.links.get(number)
             if link is None or neighbor.state != "Full" or not link.is_usable:
                 continue
             address = link.next_hop(neighbor.router_id)
-            if address:
+            if address and not (sessions and sessions.is_cut(number)):
                 found[number] = Hop(address, link.interface.name)
         return found

@@ -8,6 +8,8 @@ from dataclasses import dataclass, field
 from ipaddress import IPv4Address, IPv4Network
 
 from leafrunt_host.announcements import Announced
+from leafrunt_host.bfd import Sessions
+from leafrunt_host.bfd_packets import Diagnostic, diagnostic_text
 from leafrunt_host.bridge import Link
 from leafrunt_host.clock import Step, moment_text
 from leafrunt_host.configuration import Configuration, InterfaceSettings
@@ -16,6 +18,7 @@ from leafrunt_host.forwarding import host_warnings
 from leafrunt_host.kernel import Json
 from leafrunt_host.observing import Adjacencies
 
+NO_DIAGNOSTIC = diagnostic_text(Diagnostic.NONE)
 SECONDS_TO_LOOK = 10.0
 """After so long a look of the keeper's hangs."""
 NEIGHBOR = re.compile(r"neighbor (\d+) (\S+) (\w+)")
@@ -71,6 +74,8 @@ class Known:
     """What isn't announced of what is asked for, and why: some lines."""
     steps: tuple[Step, ...] = ()
     """The last steps of the machine's clock."""
+    sessions: Sessions | None = None
+    """BFD's, where an interface asks for it."""
     looked: float | None = None
     """When the keeper's last look ended, by the clock that nobody sets."""
 
@@ -126,6 +131,7 @@ def interface_status(known: Known, number: int, each: InterfaceSettings) -> Json
         "key_ids": [key.id for key in each.keys],
         "passive": each.passive,
         "neighbor": None,
+        "bfd": known.sessions.report(number) if known.sessions else None,
         "remarks": [],
         "counters": {},
     }
@@ -207,6 +213,22 @@ def remark_lines(name: str, remarks: list[Json]) -> list[str]:
     return lines
 
 
+def bfd_lines(name: str, session: Json | None) -> list[str]:
+    """How the BFD session of an interface is."""
+    if session is None:
+        return []
+    said = f"  {name}: BFD with {session['neighbor']} {session['state']}"
+    said += f" since {moment_text(session['since'])}"
+    if session["detection_time_seconds"]:
+        said += f", detection time {session['detection_time_seconds']:g} s"
+    if session["diagnostic"] != NO_DIAGNOSTIC:
+        said += f", last: {session['diagnostic']}"
+    if session["state"] != "Up":
+        counted = ", ".join(f"{why} {count}" for why, count in session["discarded"].items())
+        said += f"; discarded: {counted}" if counted else ""
+    return [f"{said}; {session['error']}" if session["error"] else said]
+
+
 def interface_lines(each: Json) -> list[str]:
     head = f"{each['name']}: {each['address']}, MTU {each['mtu']}"
     if each["passive"]:
@@ -217,7 +239,8 @@ def interface_lines(each: Json) -> list[str]:
     at = f" ({neighbor['address']})" if neighbor["address"] else ""
     began = f" since {moment_text(neighbor['since'])}" if neighbor["since"] else ""
     state = f"{neighbor['router_id']}{at} {neighbor['state']}{began}"
-    return [f"{head}: {state}", *remark_lines(each["name"], each["remarks"])]
+    session = bfd_lines(each["name"], each["bfd"])
+    return [f"{head}: {state}", *session, *remark_lines(each["name"], each["remarks"])]
 
 
 def status_lines(status: Json) -> list[str]:

@@ -108,6 +108,15 @@ class Table:
         """Whether no mistake has been noted in this table."""
         return not self._wrong
 
+    @property
+    def where(self) -> str:
+        """Where in the file it stands."""
+        return self._where
+
+    def spoil(self, key: str) -> None:
+        """A mistake was noted in what stands at this key."""
+        self._wrong.add(key)
+
     def is_wrong(self, key: str) -> bool:
         """Whether a mistake has been noted at this key."""
         return key in self._wrong
@@ -215,6 +224,15 @@ class Table:
                 return None
             texts.append(each)
         return None if value is None else texts
+
+    def switch(self, key: str, title: str) -> Table | None:
+        """A table, or `true` for one in which nothing is said; None for `false`, and where the key
+        isn't there. `title` says where it stands."""
+        allowed = f"true, false or a table [{key}]"
+        value = self._value(key, allowed, False, lambda each: isinstance(each, bool | dict))
+        if isinstance(value, dict):
+            return Table(self._file, title, value, self._mistakes)
+        return Table(self._file, title, {}, self._mistakes) if value is True else None
 
     def tables(self, key: str, title: Callable[[int, dict[str, Any]], str]) -> list[Table] | None:
         """The tables of a list, `[[key]]` in the file, empty where there is none; `title` says

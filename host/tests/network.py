@@ -113,6 +113,24 @@ class Secret:
 
 
 @dataclass(frozen=True)
+class Bfd:
+    """BFD at an interface: the intervals in milliseconds, and a key, where it has one."""
+
+    interval: int = 300
+    multiplier: int = 3
+    key: Secret | None = None
+
+    def of_bird(self, name: str) -> str:
+        """As BIRD's `protocol bfd` has it."""
+        said = f"min rx interval {self.interval} ms; min tx interval {self.interval} ms;"
+        said += f" multiplier {self.multiplier};"
+        if self.key:
+            password = f'password "{self.key.secret}" {{ id {self.key.id}; }};'
+            said += f" authentication {self.key.algorithm}; {password}"
+        return f'interface "{name}" {{ {said} }};'
+
+
+@dataclass(frozen=True)
 class Side:
     """A router's interface: its name, and what is said of it there."""
 
@@ -122,6 +140,7 @@ class Side:
     dead: int = DEAD_INTERVAL
     is_passive: bool = False
     cost: int = 10
+    bfd: Bfd | None = None
 
 
 SHA = Secret(5, "hmac sha256", "a secret for BIRD")
@@ -139,6 +158,7 @@ class Network:
         self._namespaces: list[str] = []
         self._running: list[subprocess.Popen[str]] = []
         self._pairs: list[str] = []
+        self._bridges = 0
         self._wires: subprocess.Popen[str] | None = None
 
     def name(self, short: str) -> str:
@@ -185,6 +205,29 @@ class Network:
             run("ip", "-n", self.name("wires"), "link", "set", wire, "up")
         self._pairs.append(":".join(ends))
         return number
+
+    def bridged(self, one: End, other: End) -> int:
+        """A link by way of a kernel's bridge, which `silence` may stop without a loss of carrier; its
+        number."""
+        if not self._pairs and not self._bridges:
+            self.namespace("wires", forwards=False)
+        self._bridges += 1
+        wires = self.name("wires")
+        run("ip", "-n", wires, "link", "add", f"br{self._bridges}", "type", "bridge")
+        run("ip", "-n", wires, "link", "set", f"br{self._bridges}", "up")
+        for end, wire in zip((one, other), (f"b{self._bridges}a", f"b{self._bridges}b")):
+            run(
+                *("ip", "link", "add", end.interface, "netns", end.namespace, "type"),
+                *("veth", "peer", "name", wire, "netns", wires),
+            )
+            self._up(end)
+            run("ip", "-n", wires, "link", "set", wire, "master", f"br{self._bridges}", "up")
+        return self._bridges
+
+    def silence(self, number: int, is_silent: bool = True) -> None:
+        """Nothing passes that bridge, and both ends keep their carrier; or it passes again."""
+        words = ("nomaster",) if is_silent else ("master", f"br{number}")
+        run("ip", "-n", self.name("wires"), "link", "set", f"b{number}b", *words)
 
     def start_wires(self) -> None:
         words = [sys.executable, str(HOST / "tests" / "wire.py"), *self._pairs]
@@ -358,6 +401,7 @@ class Bird:
         if side.keys:
             keys = " ".join(key.of_bird() for key in side.keys)
             said += f" authentication cryptographic; {keys}"
+        said += " bfd yes;" if side.bfd else ""
         return f'interface "{side.name}" {{ type pointopoint; {said} }};'
 
     def configure(self) -> None:
@@ -365,7 +409,9 @@ class Bird:
         stubs = " ".join(f"stubnet {each};" for each in self.stub_networks)
         interfaces = "\n".join(self._interface(side) for side in self.sides)
         routes = "\n".join(f"route {each} blackhole;" for each in self.externals)
+        bfd = " ".join(side.bfd.of_bird(side.name) for side in self.sides if side.bfd)
         (self.folder / "conf").write_text(
+            f"protocol bfd {{ {bfd} }}\n"
             f'log "{self.folder}/log" all; router id {self.router_id}; protocol device {{ scan time 1; }}\n'
             "protocol kernel { ipv4 { export where source != RTS_STATIC; import none; }; }\n"
             f"protocol static {{ ipv4; {routes} }}\n"
@@ -434,6 +480,7 @@ class Frr:
             lines += [
                 f"ip ospf message-digest-key {each.id} md5 {each.secret}" for each in side.keys
             ]
+        lines += ["ip ospf bfd"] if side.bfd else []
         return [*lines, "exit"]
 
     def start(self) -> None:
@@ -445,7 +492,8 @@ class Frr:
         self.folder.mkdir(exist_ok=True)
         (self.folder / "conf").write_text("\n".join(lines) + "\n")
         shutil.chown(self.folder, "frr", "frr")
-        for daemon in ("zebra", "ospfd"):
+        has_bfd = any(side.bfd for side in self.sides)
+        for daemon in ("zebra", *(("bfdd",) if has_bfd else ()), "ospfd"):
             self._start(daemon)
             within(10, (self.folder / f"{daemon}.vty").exists)
 
@@ -531,6 +579,11 @@ class Box:
             lines += ["passive = true"] if side.is_passive else []
             if side.keys:
                 lines.append(f"keys = {[keys[key] for key in side.keys]}".replace("'", '"'))
+            if side.bfd:
+                lines += ["[interface.bfd]", f"transmit_interval = {side.bfd.interval}"]
+                lines += [f"receive_interval = {side.bfd.interval}"]
+                lines += [f"detect_multiplier = {side.bfd.multiplier}"]
+                lines += [f'keys = ["{keys[side.bfd.key]}"]'] if side.bfd.key else []
         for each in self.announced:
             lines += ["", "[[announce]]", f'prefix = "{each.prefix}"', f"metric = {each.metric}"]
             lines += [f"type = {each.type}", f"tag = {each.tag}"]
@@ -541,7 +594,8 @@ class Box:
         path.write_text("\n".join(secrets))
 
     def _secrets(self) -> list[Secret]:
-        return list(dict.fromkeys(key for side in self.sides for key in side.keys))
+        bfd = [side.bfd.key for side in self.sides if side.bfd and side.bfd.key]
+        return list(dict.fromkeys([*(key for side in self.sides for key in side.keys), *bfd]))
 
     def start(self) -> None:
         self.configure()

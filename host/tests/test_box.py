@@ -769,6 +769,7 @@ class Hops(unittest.TestCase):
             neighbors=neighbors_of(lines),
             links=links,
             configuration=SimpleNamespace(announcements=()),
+            sessions=None,
         )
         keeper = Keeper(known, None, None, Waker())
         self.assertEqual(keeper._hops(), {1: Hop(IPv4Address("2.2.2.2"), "eth1")})

@@ -81,7 +81,7 @@ TABLES = "tables, each begun with [[{}]]"
 COUNTER_NAME = "1 to 64 letters, digits and `_`, first no digit"
 TOML = "TOML 1.0, as toml.io describes it"
 TOP_KEYS = "router_id, isolated, user, routerd, kernel, interface, announce, program, counters"
-INTERFACE_KEYS = "name, passive, address, cost, hello_interval, dead_interval, retransmit_interval, transmit_delay, keys, peer"
+INTERFACE_KEYS = "name, passive, address, cost, hello_interval, dead_interval, retransmit_interval, transmit_delay, keys, bfd, peer"
 OF_ETH1 = "interface 1 (eth1), "
 KERNEL_NAMES = f"the name of an interface of the kernel: {NAMES}"
 KNOWN_KEYS = "names of keys: new, old"
@@ -524,7 +524,10 @@ MISTAKES = [
     ),
 ]
 ONE_KEY = '[a]\nid = 1\nalgorithm = "hmac sha256"\nsecret = "s"\n'
-ALGORITHMS = 'one of "keyed md5", "hmac sha1", "hmac sha256", "hmac sha384", "hmac sha512"'
+ALGORITHMS = (
+    'one of "keyed md5", "hmac sha1", "hmac sha256", "hmac sha384", "hmac sha512", '
+    '"keyed sha1", "meticulous keyed sha1"'
+)
 MOMENT = "a date and time with its offset, such as 2027-01-01T00:00:00Z"
 KEY_FIELDS = "id, algorithm, secret, generate_from, generate_to, accept_from, accept_to"
 KEY_TABLE = "a table for each key, begun with its name: [letters, digits, `_`, `-`]"

@@ -100,6 +100,7 @@ class Wakes(unittest.TestCase):
 class StandInLink:
     interface: Any
     is_usable: bool = True
+    index: int = 5
 
     def next_hop(self, router_id: IPv4Address) -> IPv4Address:
         return IPv4Address("10.0.1.2") if router_id == TWO else IPv4Address("10.0.2.2")

@@ -1,0 +1,434 @@
+"""BFD (RFC 5880 to 5882) as a box has it: the sessions that are wanted, one for each neighbor at an
+interface that asks for it, the process that holds them (`bfd_helper`), and what comes of changes.
+
+A session that goes from Up to Down has lost its neighbor. One that the neighbor ends, or whose
+process is gone, changes nothing, and neither does a neighbor that doesn't speak BFD.
+"""
+from __future__ import annotations
+
+import json
+import logging
+import os
+import secrets
+import socket
+import subprocess
+import sys
+import time
+from collections.abc import Callable, Iterable
+from dataclasses import dataclass, field
+from ipaddress import IPv4Address
+from pathlib import Path
+from threading import RLock
+from typing import Protocol
+
+from leafrunt_host.bfd_helper import KEPT_SIZE, LARGEST_MESSAGE, message_of
+from leafrunt_host.bfd_packets import LARGEST_NUMBER, State, diagnostic_text
+from leafrunt_host.bfd_session import MICROSECONDS, Session, Settings, kept_of
+from leafrunt_host.bfd_sockets import CONTROL_PORT, hearing_socket, sending_socket
+from leafrunt_host.isolation import free_number
+from leafrunt_host.kernel import Json
+from leafrunt_host.observing import Limiter
+from leafrunt_host.sockets import Place
+
+log = logging.getLogger("leafrunt.bfd")
+CODE = (
+    "import sys; sys.path.insert(0, sys.argv[1]); "
+    "from leafrunt_host.bfd_helper import main; sys.exit(main(sys.argv[2:]))"
+)
+FIRST_WAIT, LONGEST_WAIT = 1.0, 60.0
+"""Seconds until the process is started again, doubled each time."""
+LASTS = 10.0
+"""After so many seconds it counts as one that runs well: if it ends then, the next is started at
+once and goes on with its sessions."""
+OPENED_AGAIN = 10.0
+"""Seconds after which sockets that couldn't be had are tried again."""
+CUT_SECONDS = 5.0
+"""For so long after a loss there is no next hop while `routerd` hasn't said that it knows."""
+SECONDS_TO_END = 2.0
+
+
+class CannotHold(Exception):
+    """The process of the sessions doesn't run; the text says why."""
+
+
+class Bridge(Protocol):
+    """What waits for the process's messages, in the thread that passes on packets."""
+
+    def follow(self, file: socket.socket, act: Callable[[], None]) -> None: ...
+
+    def leave(self, file: socket.socket) -> None: ...
+
+
+@dataclass(frozen=True)
+class Neighbor:
+    """Whom a session is with, and the index of the kernel's interface there."""
+
+    address: IPv4Address
+    index: int
+
+
+@dataclass
+class Held:
+    """A session that is wanted: its own discriminator, what the process said of it last, and why it
+    has no sockets."""
+
+    neighbor: Neighbor
+    discriminator: int = 0
+    hears: socket.socket | None = None
+    sends: socket.socket | None = None
+    report: Json = field(default_factory=lambda: dict(NOTHING))
+    since: float = field(default_factory=time.time)
+    """The moment of its last change, in seconds since 1970."""
+    error: str | None = None
+    tried: float = 0.0
+
+    def close(self) -> None:
+        for each in (self.hears, self.sends):
+            if each:
+                each.close()
+        self.hears = self.sends = None
+
+
+def state_of(value: object) -> State:
+    """A state from a message. `ValueError` where it's none."""
+    return State(value)
+
+
+def change_of(said: Json) -> tuple[State, State, int, bool, State]:
+    """A change of state from a message; `KeyError` or `ValueError` where it's none."""
+    before, after, remote = (state_of(said[each]) for each in ("before", "after", "remote"))
+    diagnostic, is_lost = said["diagnostic"], said["is_lost"]
+    if not isinstance(diagnostic, int) or not isinstance(is_lost, bool):
+        raise ValueError(said)
+    return before, after, diagnostic, is_lost, remote
+
+
+def report_of(said: Json) -> Json:
+    """What is said of a session, for `status`; `KeyError` or `ValueError` where it's nothing."""
+    numbers = ("diagnostic", "remote_diagnostic", "detection_time", "transmit_interval", "late")
+    if not all(type(said[each]) is int and said[each] >= 0 for each in numbers):
+        raise ValueError(said)
+    discarded = {str(why): int(count) for why, count in said["discarded"].items()}
+    return {
+        "state": str(state_of(said["state"])),
+        "remote_state": str(state_of(said["remote_state"])),
+        "diagnostic": diagnostic_text(said["diagnostic"]),
+        "remote_diagnostic": diagnostic_text(said["remote_diagnostic"]),
+        "detection_time_seconds": said["detection_time"] / MICROSECONDS,
+        "transmit_interval_seconds": said["transmit_interval"] / MICROSECONDS,
+        "late_seconds": said["late"] / MICROSECONDS,
+        "discarded": discarded,
+    }
+
+
+NOTHING = report_of(
+    {
+        "state": State.ADMIN_DOWN,
+        "remote_state": State.DOWN,
+        "diagnostic": 0,
+        "remote_diagnostic": 0,
+        "detection_time": 0,
+        "transmit_interval": 0,
+        "late": 0,
+        "discarded": {},
+    }
+)
+"""Of a session that no process holds."""
+
+
+class Helper:
+    """The process, from its start to its end. `CannotHold` where it can't be started."""
+
+    def __init__(self, box: str, memory: int) -> None:
+        self.own, other = socket.socketpair(socket.AF_UNIX, socket.SOCK_SEQPACKET)
+        self.began = time.monotonic()
+        folder = str(Path(__file__).resolve().parent.parent)
+        words = [sys.executable, "-I", "-c", CODE, folder]
+        words += map(str, (other.fileno(), memory, free_number(f"{box} bfd")))
+        try:
+            self._ran = subprocess.Popen(
+                words,
+                stdin=subprocess.DEVNULL,
+                pass_fds=(other.fileno(), memory),
+                env={"LANG": "C.UTF-8"},
+                start_new_session=True,
+            )
+        except OSError as error:
+            self.own.close()
+            raise CannotHold(f"{sys.executable} can't be run: {error.strerror}") from error
+        finally:
+            other.close()
+        self.own.setblocking(False)
+
+    def say(self, said: Json, files: Iterable[socket.socket] = ()) -> None:
+        """`OSError` where it's gone."""
+        socket.send_fds(self.own, [json.dumps(said).encode()], [each.fileno() for each in files])
+
+    def heard(self) -> Json | None:
+        """Its next message; None where there is none now. `CannotHold` where it's gone."""
+        try:
+            data = self.own.recv(LARGEST_MESSAGE)
+        except BlockingIOError:
+            return None
+        except OSError:
+            data = b""
+        if not data:
+            raise CannotHold(self._end())
+        said = json.loads(data)
+        if not isinstance(said, dict):
+            raise ValueError("no message")
+        return said
+
+    def _end(self, seconds: float = SECONDS_TO_END) -> str:
+        """Waits for its end, and says how it was."""
+        try:
+            status = self._ran.wait(seconds)
+        except subprocess.TimeoutExpired:
+            self._ran.kill()
+            status = self._ran.wait()
+        return f"killed by signal {-status}" if status < 0 else f"status {status}"
+
+    def quit(self) -> None:
+        """Ends it in order: it tells the neighbors."""
+        try:
+            self.say({"do": "end"})
+        except OSError:
+            pass  # it has ended
+        self._end()
+        self.own.close()
+
+
+class Sessions:
+    """The sessions of a box. `follow` is for the thread of routes; the rest is the bridge's."""
+
+    def __init__(
+        self,
+        box: str,
+        places: dict[int, Place],
+        settings: dict[int, Settings],
+        bridge: Bridge,
+        lost: Callable[[int], None],
+        clock: Callable[[], float] = time.monotonic,
+    ) -> None:
+        """Interfaces by their numbers; `lost` is called with that of a neighbor that is lost."""
+        self._box, self._places, self.settings = box, places, settings
+        self._bridge, self._lost, self._clock = bridge, lost, clock
+        self._lock = RLock()
+        self._held: dict[int, Held] = {}
+        self._cut: dict[int, float] = {}
+        self._helper: Helper | None = None
+        self._memory = os.memfd_create("bfd")
+        """What each session's variables are, in case the process ends."""
+        self._again, self._wait = 0.0, FIRST_WAIT
+        self._limiter = Limiter()
+        self.error: str | None = None
+
+    # -- what is wanted
+
+    def follow(self, number: int, neighbor: Neighbor | None, is_two_way: bool) -> None:
+        """Says what neighbor an interface has: a session begins once it's 2-Way (RFC 5882, 4.1),
+        and goes on until the neighbor is gone."""
+        with self._lock:
+            held = self._held.get(number)
+            if held and held.neighbor != neighbor:
+                self._remove(number)
+                held = None
+            if held is None and neighbor and is_two_way:
+                self._held[number] = Held(neighbor)
+                self._add(number)
+
+    def _add(self, number: int) -> None:
+        """Gives a session to the process: one that has its sockets goes on."""
+        held, helper = self._held[number], self._helper
+        if helper is None:
+            return
+        resumes = held.hears is not None
+        try:
+            hears, sends = self._opened(number, held)
+        except OSError as error:
+            held.close()
+            held.error = f"no socket for UDP port {CONTROL_PORT}: {error.strerror}"
+            self._tell(number, held.error, logging.ERROR)
+            return
+        said = {
+            "do": "add",
+            "number": number,
+            "neighbor": str(held.neighbor.address),
+            "discriminator": held.discriminator,
+            "resumes": resumes,
+            **message_of(self.settings[number]),
+        }
+        try:
+            helper.say(said, (hears, sends))
+        except OSError:
+            pass  # its end is seen where its messages are read
+
+    def _opened(self, number: int, held: Held) -> tuple[socket.socket, socket.socket]:
+        """The sockets of a session. `OSError` where they can't be had."""
+        place, held.tried, held.error = self._places[number], self._clock(), None
+        if held.hears is None:
+            held.discriminator = 1 + secrets.randbelow(LARGEST_NUMBER)
+            held.hears = hearing_socket(place, held.neighbor.address, held.discriminator)
+        if held.sends is None:
+            held.sends = sending_socket(place)
+        return held.hears, held.sends
+
+    def _remove(self, number: int) -> None:
+        held = self._held.pop(number)
+        held.close()
+        if self._helper:
+            try:
+                self._helper.say({"do": "remove", "number": number})
+            except OSError:
+                pass  # its end is seen where its messages are read
+
+    # -- the neighbor's loss
+
+    def is_cut(self, number: int) -> bool:
+        """Whether the neighbor there was lost a moment ago, and `routerd` may not know it yet."""
+        return self._clock() - self._cut.get(number, float("-inf")) < CUT_SECONDS
+
+    def is_known(self, number: int) -> None:
+        """`routerd` doesn't have that neighbor as Full."""
+        self._cut.pop(number, None)
+
+    # -- the process
+
+    def tick(self) -> None:
+        """Starts the process where it doesn't run, and tries again what couldn't be had."""
+        with self._lock:
+            now = self._clock()
+            if self._helper is None and now >= self._again:
+                self._start(now)
+            for number, held in self._held.items():
+                if held.error and now - held.tried >= OPENED_AGAIN:
+                    self._add(number)
+
+    def _start(self, now: float) -> None:
+        self._again, self._wait = now + self._wait, min(2 * self._wait, LONGEST_WAIT)
+        try:
+            self._helper = Helper(self._box, self._memory)
+        except CannotHold as why:
+            self.error = str(why)
+            log.error("BFD: %s", why)
+            return
+        self.error = None
+        self._bridge.follow(self._helper.own, self._read)
+        for number in self._held:
+            self._add(number)
+
+    def _read(self) -> None:
+        """Takes what the process has to say."""
+        with self._lock:
+            helper = self._helper
+            try:
+                while helper and (said := helper.heard()) is not None:
+                    self._take(said)
+            except CannotHold as why:
+                if helper:
+                    self._ended(helper, str(why))
+            except (ValueError, KeyError, TypeError, AttributeError) as error:
+                log.error("BFD: a message of its process: %.200r", error)
+
+    def _ended(self, helper: Helper, how: str) -> None:
+        """The process is gone. One that ran well is started again before a neighbor notices; else
+        the neighbors are told that the path hasn't failed."""
+        self._bridge.leave(helper.own)
+        helper.own.close()
+        self._helper, self.error = None, f"its process has ended ({how})"
+        if self._clock() - helper.began >= LASTS:
+            self._wait = FIRST_WAIT
+            log.error("BFD: %s: the next one goes on with its sessions", self.error)
+            self._start(self._clock())
+            return
+        for number, held in self._held.items():
+            self._say_farewell(number, held)
+            held.close()
+            held.report = dict(NOTHING)
+        wait = max(0.0, self._again - self._clock())
+        log.error("BFD: %s: it's started again in %.0f s", self.error, wait)
+
+    def _say_farewell(self, number: int, held: Held) -> None:
+        """Ends a session in place of the process that held it."""
+        if held.sends is None:
+            return
+        session = Session(self.settings[number], held.discriminator, self._clock())
+        try:
+            data = os.pread(self._memory, KEPT_SIZE, number * KEPT_SIZE)
+            session.resume(kept_of(data), self._clock())
+            held.sends.sendto(session.farewell(), (str(held.neighbor.address), CONTROL_PORT))
+        except (OSError, ValueError):
+            pass  # it held none, or as if it were lost on the wire
+
+    def _take(self, said: Json) -> None:
+        if "started" in said:
+            self._tell_class(said)
+            return
+        if "failed" in said:
+            log.error("BFD: %s", str(said["failed"])[:200])
+            return
+        number = said["number"]
+        held = self._held.get(number)
+        if held is None or held.discriminator != said["discriminator"]:
+            return
+        if "before" in said:
+            self._changed(number, held, said)
+        else:
+            held.report = report_of(said)
+
+    @staticmethod
+    def _tell_class(said: Json) -> None:
+        if said["class"]:
+            log.warning(
+                "BFD: process %d has no real-time class (%.80s): on a busy machine it may be late, "
+                "and sessions fall",
+                int(said["started"]),
+                str(said["class"]),
+            )
+        else:
+            log.info("BFD: process %d, of a real-time class", int(said["started"]))
+
+    def _changed(self, number: int, held: Held, said: Json) -> None:
+        before, after, diagnostic, is_lost, remote = change_of(said)
+        held.since = time.time()
+        if is_lost:
+            self._cut[number] = self._clock()
+            self._lost(number)
+        elif after is State.UP:
+            self._cut.pop(number, None)
+        why = f": {diagnostic_text(diagnostic)}" if after is State.DOWN else ""
+        if after is State.DOWN and not is_lost and before is State.UP:
+            why += f" ({remote} there, so the adjacency stays)"
+        self._tell(number, f"{before} -> {after}{why}", logging.INFO)
+
+    def _tell(self, number: int, text: str, level: int) -> None:
+        held = self._held[number]
+        line = f"{self._places[number].name}: BFD with {held.neighbor.address}: {text}"
+        for each in self._limiter.passing("BFD", [line], self._clock()):
+            log.log(level, "%s", each)
+
+    def report(self, number: int) -> Json | None:
+        """What `status` says of an interface's session; None where there is none."""
+        with self._lock:
+            held = self._held.get(number)
+            if held is None:
+                return None
+            keys = self.settings[number].keys
+            return {
+                "neighbor": str(held.neighbor.address),
+                "since": held.since,
+                "authentication": keys[0].type.value if keys else None,
+                "error": held.error or self.error,
+                **held.report,
+            }
+
+    def close(self) -> None:
+        """Ends all sessions in order; no bridge waits for them any more."""
+        with self._lock:
+            helper, self._helper = self._helper, None
+            if helper:
+                helper.quit()
+            for held in self._held.values():
+                held.close()
+            self._held.clear()
+            os.close(self._memory)

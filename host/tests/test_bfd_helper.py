@@ -1,0 +1,330 @@
+"""The process of BFD's sessions, and how a box holds it: by sockets of the loopback interface."""
+from __future__ import annotations
+
+import json
+import logging
+import os
+import select
+import signal
+import socket
+import time
+import unittest
+from collections.abc import Callable
+from dataclasses import dataclass
+from ipaddress import IPv4Address, IPv4Interface
+from typing import Any
+from unittest import mock
+
+from leafrunt_host import bfd
+from leafrunt_host.bfd import Neighbor, Sessions, change_of, report_of
+from leafrunt_host.bfd_helper import KEPT_SIZE, Helper, message_of, settings_of
+from leafrunt_host.bfd_packets import BfdKey, ControlPacket, KeyType, State, decode
+from leafrunt_host.bfd_session import Settings, kept_of
+from leafrunt_host.bfd_sockets import (
+    CONTROL_PORT,
+    FIRST_PORT,
+    TTL,
+    hearing_socket,
+    sending_socket,
+)
+
+THEIRS = 77
+HERE, THERE, STRANGER = "127.0.0.1", "127.0.0.2", "127.0.0.3"
+
+
+@dataclass(frozen=True)
+class Loopback:
+    name: str = "lo"
+    address: IPv4Interface = IPv4Interface(f"{HERE}/8")
+
+
+def neighbor_socket(address: str = THERE, ttl: int = TTL) -> socket.socket:
+    """A neighbor's: it hears at the usual port."""
+    one = socket.socket(socket.AF_INET, socket.SOCK_DGRAM)
+    one.setsockopt(socket.IPPROTO_IP, socket.IP_TTL, ttl)
+    one.bind((address, CONTROL_PORT if address == THERE else 0))
+    one.settimeout(5)
+    return one
+
+
+def said_by_neighbor(state: State, yours: int = 0) -> bytes:
+    return ControlPacket(state, 3, THEIRS, yours, 300_000, 300_000).encode()
+
+
+class OneHelper:
+    """A helper in this process, with one session."""
+
+    def __init__(self, test: unittest.TestCase, settings: Settings = Settings()) -> None:
+        self.box, self.own = socket.socketpair(socket.AF_UNIX, socket.SOCK_SEQPACKET)
+        self.memory = os.memfd_create("test")
+        self.neighbor = neighbor_socket()
+        for each in (self.box.close, self.own.close, self.neighbor.close, self.end):
+            test.addCleanup(each)
+        test.addCleanup(os.close, self.memory)
+        self.helper = Helper(self.own, self.memory)
+        self.settings, self.discriminator = settings, 4242
+        self.add()
+
+    def end(self) -> None:
+        """As if the process were killed."""
+        for each in self.helper._ends.values():
+            each.hears.close()
+            each.sends.close()
+
+    def add(self, resumes: bool = False) -> None:
+        place = Loopback()
+        with hearing_socket(place, IPv4Address(THERE), self.discriminator) as hears:
+            with sending_socket(place) as sends:
+                said = {"do": "add", "number": 1, "neighbor": THERE, "resumes": resumes}
+                said |= {"discriminator": self.discriminator, **message_of(self.settings)}
+                files = [hears.fileno(), sends.fileno()]
+                socket.send_fds(self.box, [json.dumps(said).encode()], files)
+        self.helper.turn()
+        self.helper.turn()
+
+    def told(self) -> list[dict[str, Any]]:
+        """What the box has been told since."""
+        found = []
+        try:
+            while data := self.box.recv(8192, socket.MSG_DONTWAIT):
+                found.append(json.loads(data))
+        except BlockingIOError:
+            pass
+        return found
+
+    def come_up(self) -> None:
+        for state in (State.DOWN, State.INIT):
+            self.neighbor.sendto(said_by_neighbor(state, self.discriminator), (HERE, CONTROL_PORT))
+            self.helper.turn()
+
+    @property
+    def state(self) -> State:
+        return self.helper._ends[1].session.variables.session_state
+
+
+class InThisProcess(unittest.TestCase):
+    def setUp(self) -> None:
+        try:
+            hearing_socket(Loopback(), IPv4Address(THERE), 1).close()
+        except PermissionError as error:
+            self.skipTest(f"no socket of one interface: {error}")
+
+    def test_up_and_told(self) -> None:
+        it = OneHelper(self)
+        data, (_, port) = it.neighbor.recvfrom(100)
+        self.assertEqual(decode(data)[0].my_discriminator, it.discriminator)
+        self.assertGreaterEqual(port, FIRST_PORT)
+        it.come_up()
+        changes = [each for each in it.told() if "before" in each]
+        self.assertEqual([(each["before"], each["after"]) for each in changes], [(1, 2), (2, 3)])
+        it.neighbor.sendto(said_by_neighbor(State.DOWN, it.discriminator), (HERE, CONTROL_PORT))
+        it.helper.turn()
+        change = next(each for each in it.told() if "before" in each)
+        self.assertEqual(change_of(change)[:4], (State.UP, State.DOWN, 3, True))
+
+    def test_packets_that_dont_count(self) -> None:
+        """Of another source, over a router, of another session: none reaches the session."""
+        for source, ttl, discriminator in ((STRANGER, TTL, 0), (THERE, 254, 0), (THERE, TTL, 9)):
+            with self.subTest(source=source, ttl=ttl, discriminator=discriminator):
+                it = OneHelper(self)
+                it.come_up()
+                it.neighbor.setsockopt(socket.IPPROTO_IP, socket.IP_TTL, ttl)
+                with neighbor_socket(STRANGER) as stranger:
+                    sender = stranger if source == STRANGER else it.neighbor
+                    data = said_by_neighbor(State.DOWN, discriminator)
+                    sender.sendto(data, (HERE, CONTROL_PORT))
+                it.helper.turn()
+                self.assertEqual(it.state, State.UP)
+                it.helper._remove(1, is_told=False)
+                it.neighbor.close()
+
+    def test_the_filter_is_not_alone(self) -> None:
+        """Where the kernel would let such a packet through the process doesn't."""
+        with mock.patch("leafrunt_host.bfd_sockets.attach"):
+            it = OneHelper(self)
+        it.come_up()
+        it.neighbor.setsockopt(socket.IPPROTO_IP, socket.IP_TTL, 254)
+        data = said_by_neighbor(State.DOWN, it.discriminator)
+        it.neighbor.sendto(data, (HERE, CONTROL_PORT))
+        it.helper.turn()
+        with neighbor_socket(STRANGER) as stranger:
+            stranger.sendto(data, (HERE, CONTROL_PORT))
+            it.helper.turn()
+        self.assertEqual(it.state, State.UP)
+        counted = {why.name: count for why, count in it.helper._ends[1].session.discarded.items()}
+        self.assertEqual(counted, {"TTL": 1, "SOURCE": 1})
+
+    def test_a_flood_leaves_time(self) -> None:
+        it = OneHelper(self)
+        it.come_up()
+        for _ in range(40):
+            it.neighbor.sendto(said_by_neighbor(State.UP), (HERE, CONTROL_PORT))
+        it.helper.turn()
+        self.assertGreater(it.helper._rests_until, time.monotonic() - 0.002)
+        began = time.monotonic()
+        it.helper.turn()
+        self.assertGreater(time.monotonic() - began, 0.0005)
+        self.assertEqual(it.state, State.UP)
+
+    def test_removed(self) -> None:
+        """The neighbor is told that the path hasn't failed, and nothing is kept."""
+        it = OneHelper(self)
+        it.come_up()
+        it.neighbor.settimeout(0.2)
+        it.box.send(json.dumps({"do": "remove", "number": 1}).encode())
+        self.assertTrue(it.helper.turn())
+        states = []
+        try:
+            while True:
+                states.append(decode(it.neighbor.recv(100))[0].state)
+        except TimeoutError:
+            pass
+        self.assertEqual(states[-3:], [State.ADMIN_DOWN] * 3)
+        self.assertEqual(os.pread(it.memory, KEPT_SIZE, KEPT_SIZE).strip(b"\0"), b"")
+        it.box.close()
+        self.assertFalse(it.helper.turn())
+
+    def test_goes_on(self) -> None:
+        it = OneHelper(self)
+        it.come_up()
+        before = kept_of(os.pread(it.memory, KEPT_SIZE, KEPT_SIZE))
+        self.assertEqual(before.session_state, State.UP)
+        it.end()
+        it.helper = Helper(it.own, it.memory)
+        it.add(resumes=True)
+        self.assertEqual(it.state, State.UP)
+        self.assertEqual(it.helper._ends[1].session.variables.remote_discr, THEIRS)
+
+    def test_messages(self) -> None:
+        key = BfdKey(3, KeyType.METICULOUS_KEYED_SHA1, b"\xffsecret")
+        for settings in (Settings(), Settings(50_000, 70_000, 9, (key,))):
+            self.assertEqual(settings_of(json.loads(json.dumps(message_of(settings)))), settings)
+        for said in ({}, {"before": 1, "after": 9, "remote": 1, "diagnostic": 0, "is_lost": True}):
+            with self.subTest(said), self.assertRaises((KeyError, ValueError)):
+                change_of(said)
+        with self.assertRaises((KeyError, ValueError)):
+            report_of({"diagnostic": "1"})
+
+
+class StandInBridge:
+    """What a box's bridge does for it."""
+
+    def __init__(self) -> None:
+        self.waiting: dict[int, Callable[[], None]] = {}
+
+    def follow(self, file: socket.socket, act: Callable[[], None]) -> None:
+        self.waiting[file.fileno()] = act
+
+    def leave(self, file: socket.socket) -> None:
+        del self.waiting[file.fileno()]
+
+    def turn(self) -> None:
+        ready, _, _ = select.select(list(self.waiting), [], [], 0.02)
+        for each in ready:
+            self.waiting[each]()
+
+
+class AsAProcess(unittest.TestCase):
+    def setUp(self) -> None:
+        logging.disable(logging.CRITICAL)
+        self.addCleanup(logging.disable, logging.NOTSET)
+        self.neighbor = neighbor_socket()
+        self.addCleanup(self.neighbor.close)
+        self.bridge, self.lost = StandInBridge(), list[int]()
+        self.sessions = Sessions(
+            "test", {1: Loopback()}, {1: Settings()}, self.bridge, self.lost.append
+        )
+        self.addCleanup(self.sessions.close)
+        self.sessions.tick()
+
+    def until(self, succeeds: Callable[[], object], seconds: float = 20) -> None:
+        end = time.monotonic() + seconds
+        while not succeeds():
+            self.assertLess(time.monotonic(), end, "not in time")
+            self.bridge.turn()
+            self.sessions.tick()
+
+    def state(self) -> str | None:
+        said = self.sessions.report(1)
+        return said["state"] if said else None
+
+    def come_up(self) -> int:
+        """The session is Up; its discriminator."""
+        self.sessions.follow(1, Neighbor(IPv4Address(THERE), 1), is_two_way=True)
+        self.until(lambda: self.state() == "Down")
+        mine = self.sessions._held[1].discriminator
+        for state in (State.DOWN, State.INIT):
+            self.neighbor.sendto(said_by_neighbor(state, mine), (HERE, CONTROL_PORT))
+        self.until(lambda: self.state() == "Up")
+        return mine
+
+    def test_a_loss_is_told_once(self) -> None:
+        self.sessions.follow(1, Neighbor(IPv4Address(THERE), 1), is_two_way=False)
+        self.assertIsNone(self.state())
+        self.come_up()
+        self.assertFalse(self.lost or self.sessions.is_cut(1))
+        self.until(lambda: self.lost)
+        self.assertTrue(self.sessions.is_cut(1))
+        self.sessions.is_known(1)
+        self.assertFalse(self.sessions.is_cut(1))
+        said = self.sessions.report(1)
+        assert said
+        self.assertEqual(said["diagnostic"], "control detection time expired")
+        self.sessions.follow(1, None, is_two_way=False)
+        self.assertIsNone(self.state())
+        self.assertEqual(self.lost, [1])
+
+    def test_the_neighbors_wish_is_no_loss(self) -> None:
+        mine = self.come_up()
+        self.neighbor.sendto(said_by_neighbor(State.ADMIN_DOWN, mine), (HERE, CONTROL_PORT))
+        self.until(lambda: self.state() == "Down")
+        self.assertEqual(self.lost, [])
+
+    def test_a_process_that_is_killed(self) -> None:
+        """Where it ran well the next one goes on; else the neighbor is told, and nothing is lost."""
+        with mock.patch.object(bfd, "LASTS", 0.0):
+            mine = self.come_up()
+            helper = self.sessions._helper
+            assert helper
+            os.kill(helper._ran.pid, signal.SIGKILL)
+            self.until(lambda: self.sessions._helper not in (helper, None))
+            while decode(self.neighbor.recv(100))[0].state != State.UP:
+                pass
+        self.until(lambda: self.state() == "Up")
+        self.neighbor.sendto(said_by_neighbor(State.UP, mine), (HERE, CONTROL_PORT))
+        helper = self.sessions._helper
+        assert helper
+        os.kill(helper._ran.pid, signal.SIGKILL)
+        self.until(lambda: self.sessions._helper is None)
+        self.assertEqual(self.state(), "AdminDown")
+        while decode(self.neighbor.recv(100))[0].state != State.ADMIN_DOWN:
+            pass
+        self.assertEqual(self.lost, [])
+        self.until(lambda: self.state() == "Down")
+
+    def test_a_process_without_privileges(self) -> None:
+        helper = self.sessions._helper
+        assert helper
+        self.until(lambda: "leafrunt-bfd" in self.status_of(helper._ran.pid))
+        self.until(lambda: "NoNewPrivs:\t1" in self.status_of(helper._ran.pid))
+        self.assertIn("CapEff:\t0000000000000000", self.status_of(helper._ran.pid))
+        if os.geteuid() == 0:
+            self.assertNotIn("Uid:\t0", self.status_of(helper._ran.pid))
+
+    @staticmethod
+    def status_of(process: int) -> str:
+        with open(f"/proc/{process}/status", encoding="ascii") as it:
+            return it.read()
+
+    def test_a_port_that_another_has(self) -> None:
+        with mock.patch.object(bfd, "hearing_socket", side_effect=OSError(98, "Address in use")):
+            self.sessions.follow(1, Neighbor(IPv4Address(THERE), 1), is_two_way=True)
+        said = self.sessions.report(1)
+        assert said
+        self.assertIn("Address in use", said["error"])
+        with mock.patch.object(bfd, "OPENED_AGAIN", 0.0):
+            self.until(lambda: self.state() == "Down")
+
+
+if __name__ == "__main__":
+    unittest.main()
