@@ -9,11 +9,10 @@ import re
 import threading
 import time
 from collections.abc import Callable, Iterable, Mapping
-from enum import IntEnum
 from ipaddress import IPv4Network
 from typing import NamedTuple
 
-from leafrunt_host.configuration import MOST_EXTERNALS, Announcement
+from leafrunt_host.destinations import MOST_EXTERNALS, Announcement, Owner
 from leafrunt_host.observing import Limiter
 
 log = logging.getLogger("leafrunt.announcements")
@@ -22,6 +21,9 @@ TAKEN = ("originated", "withheld")
 """What `routerd` answers where it has taken an announcement."""
 TRIED_AGAIN = 5.0
 """Seconds after which what `routerd` refused is given again."""
+TRIED_SOON = 1.0
+"""The same where it took others of that turn: it may have room again soon, as LSAs that were
+flushed are acknowledged."""
 LEAST_INTERVAL = 5.0
 """Seconds between two `add`s of a redistributed destination, as of MinLSInterval (RFC 2328, B): one
 that comes and goes is withdrawn at once, and announced again after that."""
@@ -47,25 +49,6 @@ MEANINGS = {
     "refused 8": "the programs were being changed at that moment",
 }
 """What answers of `routerd` mean, and what to do (docs/use/OPERATING.md, "Refusals")."""
-
-
-class Owner(IntEnum):
-    """Who asks for an announcement. Of those of one address the first owner's is announced, and of
-    one owner's the one with the shortest prefix."""
-
-    CONSOLE = 0
-    CONFIGURATION = 1
-    DEFAULT = 2
-    CONNECTED = 3
-    STATIC = 4
-    KERNEL = 5
-
-    @property
-    def is_redistributed(self) -> bool:
-        return self >= Owner.DEFAULT
-
-    def __str__(self) -> str:
-        return self.name.lower()
 
 
 class Announced(NamedTuple):
@@ -99,6 +82,8 @@ class Announcements:
         self._ask, self._publish = ask, publish
         self.changed: Callable[[], None] = lambda: None
         """Is called where `give` has something to do."""
+        self.trouble = ""
+        """What keeps the owners from asking, for the log and `status`; empty where nothing does."""
         self._lock = threading.Lock()
         self._wanted: dict[Owner, dict[IPv4Network, Announcement]] = {each: {} for each in Owner}
         self._withdrawn: set[IPv4Network] = set()
@@ -121,13 +106,18 @@ class Announcements:
     # -- what is asked for
 
     def want(self, all_of: Mapping[Owner, Iterable[Announcement]]) -> None:
-        """From now on these owners ask for these announcements, and for no others. `give` brings
-        that to `routerd`."""
+        """From now on these owners ask for these announcements, and for no others. That is brought
+        to `routerd` soon."""
+        self.take(all_of)
+        self.changed()
+
+    def take(self, all_of: Mapping[Owner, Iterable[Announcement]]) -> None:
+        """The same, for whoever calls `give` then."""
         with self._lock:
             for owner, announcements in all_of.items():
-                self._wanted[owner] = {each.prefix: each for each in announcements}
-            self._chosen = None
-        self.changed()
+                wanted = {each.prefix: each for each in announcements}
+                if wanted != self._wanted[owner]:
+                    self._wanted[owner], self._chosen = wanted, None
 
     def by_hand(self, line: str) -> str:
         """`routerd`'s answer to a line `add` or `withdraw` of the console, as it is."""
@@ -190,6 +180,7 @@ class Announcements:
                 later.append(pause)
             if self._refused.get(prefix, CLASHES) != CLASHES:
                 self._waiting = len(to_do) - at
+                later.append(TRIED_SOON if at > 1 else TRIED_AGAIN)
                 break
         with self._lock:
             if self._left_out and self._room() > len(self._choice()):
@@ -298,7 +289,7 @@ class Announcements:
     def _lines(self) -> list[str]:
         """What isn't announced, and why: some by their names, and how many more."""
         self._choice()
-        lines = []
+        lines = [self.trouble] if self.trouble else []
         for prefix, answer in list(self._refused.items())[:MOST_TOLD]:
             meaning = f": {MEANINGS[answer]}" if answer in MEANINGS else ""
             lines.append(f"{prefix} isn't announced: {answer}{meaning}")

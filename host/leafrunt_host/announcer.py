@@ -1,5 +1,5 @@
-"""Brings `routerd` what is to be announced: in a thread of its own, which is woken where that
-changes."""
+"""Brings `routerd` what is to be announced, and follows what is redistributed: in a thread of its
+own, which is woken where either changes."""
 from __future__ import annotations
 
 import logging
@@ -10,18 +10,26 @@ import time
 from leafrunt_host.announcements import TRIED_AGAIN, Announcements
 from leafrunt_host.journal import where_it_failed
 from leafrunt_host.keeper import SECONDS_TO_STOP, Waker
+from leafrunt_host.redistributor import Redistributor
 from leafrunt_host.router import RouterGone
+from leafrunt_host.rtnetlink import CannotAsk
 
 log = logging.getLogger("leafrunt.announcements")
 TOGETHER = 0.1
 """Seconds that changes are waited for after the first one: they are brought together."""
+REST = 5
+"""After a turn the thread rests so many times what it took of a processor: a storm of changes costs
+a sixth of one at most."""
 
 
 class Announcer:
     """The thread."""
 
-    def __init__(self, announcements: Announcements) -> None:
+    def __init__(
+        self, announcements: Announcements, redistributor: Redistributor | None = None
+    ) -> None:
         self._announcements, self._waker = announcements, Waker()
+        self._redistributor = redistributor
         self._ending = threading.Event()
         self._thread = threading.Thread(target=self._announce, name="announcer", daemon=True)
         announcements.changed = self._waker.wake
@@ -35,20 +43,43 @@ class Announcer:
         self._waker.wake()
         if self._thread.is_alive():
             self._thread.join(SECONDS_TO_STOP)
+        if self._redistributor and not self._thread.is_alive():
+            self._redistributor.close()
 
     def _announce(self) -> None:
         waiting = select.poll()
-        waiting.register(self._waker, select.POLLIN)
+        for each in filter(None, (self._waker, self._redistributor)):
+            waiting.register(each.fileno(), select.POLLIN)
         pause: float | None = 0.0
-        while not self._ending.is_set():
+        while True:
             waiting.poll(None if pause is None else pause * 1000)
             if self._ending.wait(TOGETHER):
                 return
             self._waker.clear()
+            began = time.thread_time()
             try:
-                pause = self._announcements.give(time.monotonic())
+                pause = self._turn()
             except RouterGone:
                 return
             except Exception as error:  # told, and tried again
                 log.error("%s", where_it_failed(error))
                 pause = TRIED_AGAIN
+            if self._ending.wait(REST * (time.thread_time() - began)):
+                return
+
+    def _turn(self) -> float | None:
+        """Brings what changed; after how many seconds there is something to do without a change."""
+        pauses = [self._follow(self._redistributor)] if self._redistributor else []
+        pauses.append(self._announcements.give(time.monotonic()))
+        return min((each for each in pauses if each is not None), default=None)
+
+    def _follow(self, redistributor: Redistributor) -> float | None:
+        if not redistributor.is_changed():
+            return None
+        try:
+            self._announcements.take(redistributor.asked_for())
+            self._announcements.trouble = ""
+            return None
+        except CannotAsk as error:
+            self._announcements.trouble = f"what is redistributed isn't followed: {error}"
+            return TRIED_AGAIN

@@ -20,20 +20,20 @@ from leafrunt_host.authentication import MD5_KEY_LENGTH, Algorithm, Key, Lifetim
 from leafrunt_host.bfd_packets import BfdKey, KeyType
 from leafrunt_host.bfd_settings import AnyKey
 from leafrunt_host.counter_names import counter_names
+from leafrunt_host.destinations import MOST_EXTERNALS, Announcement
 from leafrunt_host.isolation import USER, Account, account_of
 from leafrunt_host.kernel import KernelInterface
+from leafrunt_host.redistribution import Redistribution, redistribution_of, source_of
 from leafrunt_host.rooms import LONGEST_OBJECT
 from leafrunt_host.statuses import Status, Stopped
 from leafrunt_host.tables import Mistake, Table, shown, toml_of
 
 LONGEST_FILE = 1 << 20
 MOST_INTERFACES = 63
-MOST_EXTERNALS = 4096
 LEAST_MTU, MOST_MTU = 576, 65535
 ALONE = 32
 """The length of a prefix that has one address alone."""
 LONGEST_SECRET = 256
-LARGEST_METRIC = 16_777_214
 BOX_NAME = re.compile(r"[A-Za-z0-9][A-Za-z0-9._-]{0,63}")
 INTERFACE_NAME = re.compile(r"(?!\.{1,2}$)[^\s/:%]{1,15}")
 KEY_NAME = re.compile(r"[A-Za-z0-9_-]{1,64}")
@@ -66,20 +66,6 @@ class InterfaceSettings:
 
 
 @dataclass(frozen=True)
-class Announcement:
-    """A destination that the router announces as an external one (RFC 2328, 12.4.4)."""
-
-    prefix: IPv4Network
-    metric: int
-    type: int
-    tag: int
-
-    def line(self) -> str:
-        """The line of `routerd`'s console that announces it."""
-        return f"add {self.prefix} {self.metric} {self.type} {self.tag}"
-
-
-@dataclass(frozen=True)
 class Program:
     """An object file, to be attached at its hook."""
 
@@ -105,6 +91,7 @@ class Configuration:
     """Whom `routerd` runs as, in a world of its own; None: as this process, and beside it."""
     counters: Mapping[str, int] = field(default_factory=dict)
     """Names of the programs' counters, each with its number."""
+    redistribution: Redistribution = Redistribution()
 
     def text(self, ports: list[tuple[int, int]]) -> str:
         """The configuration of `routerd`: an interface's datagrams come to the first port of its
@@ -241,6 +228,8 @@ class _Reader:
         announcements = self._announcements()
         programs = self._programs(routerd)
         counters = counter_names(self._top.table("counters"))
+        networks = [each.address.network for each in interfaces]
+        redistribution = redistribution_of(self._top, networks)
         self._top.end()
         if self._mistakes or router_id is None or routerd is None:
             return None
@@ -256,6 +245,7 @@ class _Reader:
             tuple(self._advice),
             account,
             counters,
+            redistribution,
         )
 
     def _box_name(self) -> None:
@@ -569,9 +559,7 @@ class _Reader:
         for table in tables or []:
             allowed = "A.B.C.D/L whose bits after the first L are 0"
             prefix = table.parsed("prefix", allowed, prefix_of)
-            metric = table.whole("metric", 0, LARGEST_METRIC, 20)
-            kind = table.whole("type", 1, 2, 2)
-            tag = table.whole("tag", 0, 0xFFFFFFFF, 0)
+            source = source_of(table)
             table.end()
             if prefix is not None and prefix.network_address in prefixes:
                 other = prefixes[prefix.network_address]
@@ -584,7 +572,7 @@ class _Reader:
             elif prefix is not None:
                 prefixes[prefix.network_address] = prefix
             if table.is_sound and prefix is not None:
-                read.append(Announcement(prefix, metric, kind, tag))
+                read.append(source.announcement(prefix))
         return read
 
     def _programs(self, routerd: Path | None) -> list[Program]:

@@ -40,13 +40,18 @@ OF_LINKS = 0x1 | 0x10
 """Notices of links and IPv4 addresses."""
 OF_ALL = OF_LINKS | 0x40 | 0x8000_0000
 """Those, and notices of IPv4 routes and next hops."""
-IFLA_IFNAME, IFLA_MTU, IFLA_EXT_MASK, SKIP_STATISTICS = 3, 4, 29, 8
+IFLA_IFNAME, IFLA_MTU, IFLA_MASTER, IFLA_LINKINFO = 3, 4, 10, 18
+IFLA_EXT_MASK, SKIP_STATISTICS = 29, 8
+IFLA_INFO_KIND, IFLA_INFO_DATA, IFLA_VRF_TABLE = 1, 2, 1
 IFA_ADDRESS, IFA_LOCAL, IFA_FLAGS, IFA_F_SECONDARY = 1, 2, 8, 0x1
 RTA_DST, RTA_OIF, RTA_GATEWAY, RTA_PRIORITY = 1, 4, 5, 6
 RTA_MULTIPATH, RTA_TABLE, RTA_NH_ID = 9, 15, 30
-NHA_ID, NHA_GROUP, NHA_OIF, NHA_GATEWAY = 1, 2, 5, 6
+NHA_ID, NHA_GROUP, NHA_BLACKHOLE, NHA_OIF, NHA_GATEWAY = 1, 2, 4, 5, 6
 NLMSGERR_ATTR_MSG = 1
 MAIN, UNICAST, UNIVERSE, ONLINK = 254, 1, 0, 4
+BLACKHOLE, UNREACHABLE, PROHIBIT = 6, 7, 8
+DEAD, LINK_DOWN = 1, 16
+NO_ENTRY = 2
 SOL_NETLINK, CAP_ACK, EXT_ACK, STRICT_CHECK = 270, 10, 11, 12
 SO_ATTACH_FILTER, SO_RCVBUFFORCE = 26, 33
 IFF_UP, IFF_RUNNING = 0x1, 0x40
@@ -63,7 +68,12 @@ INSTRUCTION = struct.Struct("=HBBI")
 
 
 class CannotAsk(Exception):
-    """The kernel doesn't answer, or not in this form; the text is a sentence."""
+    """The kernel doesn't answer, or not in this form; the text is a sentence, and the number that
+    of the kernel's error, or 0."""
+
+    def __init__(self, text: str, number: int = 0) -> None:
+        super().__init__(text)
+        self.number = number
 
 
 class Link(NamedTuple):
@@ -74,6 +84,10 @@ class Link(NamedTuple):
     mtu: int
     is_up: bool
     """Whether it is up and has a carrier."""
+    master: int = 0
+    """The index of the interface that it's enslaved to; 0 where it is to none."""
+    vrf_table: int = 0
+    """Of a VRF device the number of its table; 0 where it is none."""
 
 
 class Address(NamedTuple):
@@ -93,18 +107,24 @@ class NextHop(NamedTuple):
     index: int = 0
     gateway: bytes = b""
     members: tuple[int, ...] = ()
+    is_discard: bool = False
+    """Whether it drops what goes by it."""
 
 
 class Route(NamedTuple):
-    """A route of the main table: its prefix (the four bytes of the address, then the length), the
-    number of its next hop object, 0 where it has none, and its paths: the gateway, empty where the
-    destination is on the link, and the interface's index."""
+    """A route: its prefix (the four bytes of the address, then the length), the number of its next
+    hop object, 0 where it has none, and its paths: the gateway, empty where the destination is on
+    the link or the gateway no IPv4 address, and the interface's index."""
 
     prefix: bytes
     protocol: int
     metric: int
     next_hop: int
     paths: tuple[tuple[bytes, int], ...]
+    type: int = UNICAST
+    tos: int = 0
+    live: tuple[int, ...] = ()
+    """The indexes of the interfaces of those paths that aren't dead."""
 
 
 class SetNextHop(NamedTuple):
@@ -221,7 +241,11 @@ def link_of(body: bytes) -> Link:
     said = attributes(body, LINK.size)
     name = said.get(IFLA_IFNAME, b"").rstrip(b"\0").decode("utf-8", "surrogateescape")
     is_up = flags & (IFF_UP | IFF_RUNNING) == IFF_UP | IFF_RUNNING
-    return Link(index, name, number_of(said.get(IFLA_MTU)), is_up)
+    master, kind = number_of(said.get(IFLA_MASTER)), attributes(said.get(IFLA_LINKINFO, b""))
+    vrf_table = 0
+    if kind.get(IFLA_INFO_KIND, b"").rstrip(b"\0") == b"vrf":
+        vrf_table = number_of(attributes(kind.get(IFLA_INFO_DATA, b"")).get(IFLA_VRF_TABLE))
+    return Link(index, name, number_of(said.get(IFLA_MTU)), is_up, master, vrf_table)
 
 
 def address_of(body: bytes) -> Address | None:
@@ -237,32 +261,34 @@ def address_of(body: bytes) -> Address | None:
     return Address(index, address, bool(flags & IFA_F_SECONDARY), peer)
 
 
-def route_of(body: bytes) -> Route | None:
-    """A route, from the body of a message of it; None where it is none of IPv4 in the main
-    table."""
-    family, length, _, _, table, protocol, *_ = ROUTE.unpack_from(body)
+def route_of(body: bytes, table: int = MAIN) -> Route | None:
+    """A route, from the body of a message of it; None where it is none of IPv4 in that table."""
+    family, length, _, tos, its_table, protocol, _, kind, flags = ROUTE.unpack_from(body)
     said = attributes(body, ROUTE.size)
     if family != socket.AF_INET:
         return None
-    if (number_of(said.get(RTA_TABLE)) or table) != MAIN:
+    if (number_of(said.get(RTA_TABLE)) or its_table) != table:
         return None
-    paths = tuple(paths_of(said))
+    paths = list(paths_of(said, flags))
     prefix = said.get(RTA_DST, bytes(4)) + bytes([length])
     metric, next_hop = number_of(said.get(RTA_PRIORITY)), number_of(said.get(RTA_NH_ID))
-    return Route(prefix, protocol, metric, next_hop, paths)
+    both = tuple((gateway, index) for gateway, index, _ in paths)
+    live = tuple(index for _, index, its in paths if not its & (DEAD | LINK_DOWN))
+    return Route(prefix, protocol, metric, next_hop, both, kind, tos, live)
 
 
-def paths_of(said: dict[int, bytes]) -> Iterator[tuple[bytes, int]]:
-    """The paths among a route's attributes."""
+def paths_of(said: dict[int, bytes], flags: int = 0) -> Iterator[tuple[bytes, int, int]]:
+    """The paths among a route's attributes, with their flags; those of a single one are the
+    route's."""
     if RTA_OIF in said:
-        yield said.get(RTA_GATEWAY, b""), number_of(said[RTA_OIF])
+        yield said.get(RTA_GATEWAY, b""), number_of(said[RTA_OIF]), flags
     several, at = said.get(RTA_MULTIPATH, b""), 0
     while at + PATH.size <= len(several):
-        length, _, _, index = PATH.unpack_from(several, at)
+        length, its_flags, _, index = PATH.unpack_from(several, at)
         if not PATH.size <= length <= len(several) - at:
             return
         of_path = attributes(several[at : at + length], PATH.size)
-        yield of_path.get(RTA_GATEWAY, b""), index
+        yield of_path.get(RTA_GATEWAY, b""), index, its_flags
         at += (length + 3) & ~3
 
 
@@ -271,7 +297,8 @@ def next_hop_of(body: bytes) -> NextHop:
     said = attributes(body, NEXT_HOP.size)
     members = tuple(each[0] for each in MEMBER.iter_unpack(said.get(NHA_GROUP, b"")))
     index, gateway = number_of(said.get(NHA_OIF)), said.get(NHA_GATEWAY, b"")
-    return NextHop(number_of(said.get(NHA_ID)), index, gateway, members)
+    identity, is_discard = number_of(said.get(NHA_ID)), NHA_BLACKHOLE in said
+    return NextHop(identity, index, gateway, members, is_discard)
 
 
 def next_hop_body(it: NextHop, protocol: int) -> bytes:
@@ -289,23 +316,33 @@ def next_hop_body(it: NextHop, protocol: int) -> bytes:
 ROUTE_BODY = struct.Struct("=BBBBBBBBI HH4s HHI HHI")
 
 
-def route_body(prefix: bytes, next_hop: int, protocol: int, metric: int) -> bytes:
+def in_table(table: int) -> tuple[int, bytes]:
+    """A table's number, as a message says it: in a byte, or in an attribute."""
+    return (table, b"") if table < 256 else (0, number(RTA_TABLE, table))
+
+
+def route_body(prefix: bytes, next_hop: int, protocol: int, metric: int, table: int) -> bytes:
     """The body of a message that makes, or without a next hop removes, a route."""
-    return ROUTE_BODY.pack(
-        *(socket.AF_INET, prefix[4], 0, 0, MAIN, protocol, UNIVERSE, UNICAST, 0),
+    its_byte, attribute_of_table = in_table(table)
+    body = ROUTE_BODY.pack(
+        *(socket.AF_INET, prefix[4], 0, 0, its_byte, protocol, UNIVERSE, UNICAST, 0),
         *(8, RTA_DST, prefix[:4], 8, RTA_PRIORITY, metric, 8, RTA_NH_ID, next_hop),
     )[: None if next_hop else -8]
+    return body + attribute_of_table if attribute_of_table else body
 
 
-def request(change: Change, protocol: int, metric: int) -> tuple[int, int, bytes]:
+def request(
+    change: Change, protocol: int, metric: int, table: int = MAIN
+) -> tuple[int, int, bytes]:
     """Kind, flags and body of the message for a change."""
     match change:
         case AddRoute(prefix, next_hop):
-            return NEW_ROUTE, CREATE | EXCLUSIVE, route_body(prefix, next_hop, protocol, metric)
+            body = route_body(prefix, next_hop, protocol, metric, table)
+            return NEW_ROUTE, CREATE | EXCLUSIVE, body
         case ReplaceRoute(prefix, next_hop):
-            return NEW_ROUTE, REPLACE, route_body(prefix, next_hop, protocol, metric)
+            return NEW_ROUTE, REPLACE, route_body(prefix, next_hop, protocol, metric, table)
         case DeleteRoute(prefix):
-            return DELETE_ROUTE, 0, route_body(prefix, 0, protocol, metric)
+            return DELETE_ROUTE, 0, route_body(prefix, 0, protocol, metric, table)
         case SetNextHop(it):
             return NEW_NEXT_HOP, CREATE | EXCLUSIVE, next_hop_body(it, protocol)
         case ReplaceNextHop(it):
@@ -316,13 +353,15 @@ def request(change: Change, protocol: int, metric: int) -> tuple[int, int, bytes
 
 
 def refusal_of(message: Message) -> Refusal | None:
-    """What an answer says; None where the change was made."""
+    """What an answer, or the end of a list, says; None where the change was made, or the list is
+    whole."""
     (answer,) = struct.unpack_from("=i", message.body)
-    if not answer:
+    if answer >= 0:
         return None
     words = os.strerror(-answer)
     if message.flags & HAS_WORDS:
-        said = attributes(message.body, 4 + HEADER.size).get(NLMSGERR_ATTR_MSG)
+        of_error = HEADER.size if message.kind == ERROR else 0
+        said = attributes(message.body, 4 + of_error).get(NLMSGERR_ATTR_MSG)
         words = said.rstrip(b"\0").decode("utf-8", "replace") if said else words
     return Refusal(-answer, words)
 
@@ -351,10 +390,16 @@ def netlink(groups: int = 0) -> socket.socket:
 
 class Kernel:
     """Questions and changes. The routes and next hops that it makes have one protocol number and
-    one metric. `CannotAsk` from each call that the kernel doesn't answer."""
+    one metric, and are in one table. `CannotAsk` from each call that the kernel doesn't answer."""
 
-    def __init__(self, protocol: int = 0, metric: int = 0, one: socket.socket | None = None):
-        self.protocol, self.metric = protocol, metric
+    def __init__(
+        self,
+        protocol: int = 0,
+        metric: int = 0,
+        one: socket.socket | None = None,
+        table: int = MAIN,
+    ):
+        self.protocol, self.metric, self.table = protocol, metric, table
         try:
             self._socket = one or netlink()
         except OSError as error:
@@ -380,9 +425,20 @@ class Kernel:
         return [each for each in map(address_of, bodies) if each]
 
     def routes(self, protocol: int = 0) -> list[Route]:
-        """The routes of the main table, of one protocol number where one is given."""
-        head = ROUTE.pack(socket.AF_INET, 0, 0, 0, MAIN, protocol, 0, 0, 0)
-        return [each for each in map(route_of, self._list(GET_ROUTE, head)) if each]
+        """The routes of the table, of one protocol number where one is given."""
+        bodies = self.route_bodies(protocol)
+        return [each for body in bodies if (each := route_of(body, self.table))]
+
+    def route_bodies(self, protocol: int = 0) -> list[bytes]:
+        """The same as the bodies of messages. A table without routes isn't there."""
+        its_byte, attribute_of_table = in_table(self.table)
+        head = ROUTE.pack(socket.AF_INET, 0, 0, 0, its_byte, protocol, 0, 0, 0)
+        try:
+            return self._list(GET_ROUTE, head + attribute_of_table)
+        except CannotAsk as error:
+            if error.number == NO_ENTRY:
+                return []
+            raise
 
     def own_routes(self) -> list[Route]:
         return [each for each in self.routes(self.protocol) if each.metric == self.metric]
@@ -404,7 +460,7 @@ class Kernel:
     def _changed(self, changes: list[Change]) -> list[Refusal | None]:
         first, data = self._sequence + 1, []
         for at, each in enumerate(changes, 1):
-            kind, flags, body = request(each, self.protocol, self.metric)
+            kind, flags, body = request(each, self.protocol, self.metric, self.table)
             flags |= REQUEST | (ACKNOWLEDGE if at == len(changes) else 0)
             length = HEADER.size + len(body)
             data.append(HEADER.pack(length, kind, flags, self._sequence + at, 0) + body)
@@ -439,12 +495,14 @@ class Kernel:
                 if message.sequence != self._sequence:
                     continue
                 is_whole = is_whole and not message.flags & INTERRUPTED
+                refusal = refusal_of(message) if message.kind in (DONE, ERROR) else None
+                if refusal:
+                    words = f"the kernel can't be asked: {refusal.words}"
+                    raise CannotAsk(words, refusal.number)
+                if message.kind == ERROR:
+                    raise CannotAsk("the kernel can't be asked: an answer of no use")
                 if message.kind == DONE:
                     return bodies, is_whole
-                if message.kind == ERROR:
-                    refusal = refusal_of(message)
-                    words = refusal.words if refusal else "an answer of no use"
-                    raise CannotAsk(f"the kernel can't be asked: {words}")
                 bodies.append(message.body)
 
     def _send(self, data: bytes) -> None:

@@ -251,11 +251,13 @@ class Table:
         ]
 
     def table(self, key: str) -> Table:
-        """The table of this name, `[key]` in the file, empty where there is none."""
+        """The table of this name, `[key]` in the file, empty where there is none; of one in a
+        table `[table.key]`."""
+        where = ".".join(filter(None, (self._where, key)))
         value = self._value(
-            key, f"a table, begun with [{key}]", {}, lambda each: isinstance(each, dict)
+            key, f"a table, begun with [{where}]", {}, lambda each: isinstance(each, dict)
         )
-        return Table(self._file, key, value if isinstance(value, dict) else {}, self._mistakes)
+        return Table(self._file, where, value if isinstance(value, dict) else {}, self._mistakes)
 
     def keys(self) -> list[str]:
         """All keys of the table, in their order."""

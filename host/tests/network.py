@@ -561,6 +561,8 @@ class Box:
         self.network, self.routerd, self.namespace = network, routerd, namespace
         self.name, self.router_id, self.sides = name, router_id, list(sides)
         self.announced: list[Announce] = []
+        self.more = ""
+        """More of its configuration: tables."""
         self.folder = network.work / f"box-{name}"
         self.folder.mkdir(mode=0o700)
         self.log = self.folder / "log"
@@ -587,7 +589,8 @@ class Box:
         for each in self.announced:
             lines += ["", "[[announce]]", f'prefix = "{each.prefix}"', f"metric = {each.metric}"]
             lines += [f"type = {each.type}", f"tag = {each.tag}"]
-        (self.folder / f"{self.name}.toml").write_text("\n".join(lines) + "\n")
+        text = "\n".join([*lines, self.more]) + "\n"
+        (self.folder / f"{self.name}.toml").write_text(text)
         secrets = [key.of_box(name) for key, name in keys.items()]
         path = self.folder / "keys.toml"
         path.touch(mode=0o600)

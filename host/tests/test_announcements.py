@@ -11,12 +11,12 @@ from leafrunt_host import announcer as announcers
 from leafrunt_host.announcements import (
     LEAST_INTERVAL,
     TRIED_AGAIN,
+    TRIED_SOON,
     Announced,
     Announcements,
-    Owner,
 )
 from leafrunt_host.announcer import Announcer
-from leafrunt_host.configuration import MOST_EXTERNALS, Announcement
+from leafrunt_host.destinations import MOST_EXTERNALS, Announcement, Owner
 from leafrunt_host.router import RouterGone
 from tests.fake_router import FakeRouter
 
@@ -198,11 +198,11 @@ class Refusals(Cases):
         """One line in five seconds is tried then, and not each of them."""
         self.router.most = 10
         with self.assertLogs("leafrunt.announcements", "WARNING"):
-            self.assertEqual(self.want(Owner.STATIC, *many(1000)), TRIED_AGAIN)
+            self.assertEqual(self.want(Owner.STATIC, *many(1000)), TRIED_SOON)
         self.assertEqual(len(self.router.lines), 11)
         for _ in range(5):
             self.now += TRIED_AGAIN
-            self.announcements.give(self.now)
+            self.assertEqual(self.announcements.give(self.now), TRIED_AGAIN)
         self.assertEqual(len(self.router.lines), 16)
         self.router.most = MOST_EXTERNALS
         self.assertIsNone(self.announcements.give(self.now))

@@ -15,7 +15,8 @@ from unittest import mock
 from leafrunt_host import capture as captures
 from leafrunt_host.announcements import Announced
 from leafrunt_host.capture import MOST_WAITING, Capture
-from leafrunt_host.configuration import Announcement, Configuration, InterfaceSettings
+from leafrunt_host.configuration import Configuration, InterfaceSettings
+from leafrunt_host.destinations import Announcement
 from leafrunt_host.journal import Kept as KeptLog
 from leafrunt_host.journal import one_line
 from leafrunt_host.observing import Adjacencies, Report

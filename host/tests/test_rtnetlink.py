@@ -171,9 +171,10 @@ class Kernels(unittest.TestCase):
     def test_routes(self) -> None:
         kernel = self.kernel(listing(ROUTES))
         first, second = bytes([10, 0, 1, 3]), bytes([10, 0, 1, 4])
-        by_object = Route(PREFIX, 89, 89, 91, ((first, 3),))
-        by_itself = Route(bytes([1, 2, 5, 0, 24]), 89, 89, 0, ((first, 3), (second, 3)))
-        default = Route(bytes(5), 3, 0, 0, ((bytes([10, 0, 1, 9]), 3),))
+        by_object = Route(PREFIX, 89, 89, 91, ((first, 3),), live=(3,))
+        both = ((first, 3), (second, 3))
+        by_itself = Route(bytes([1, 2, 5, 0, 24]), 89, 89, 0, both, live=(3, 3))
+        default = Route(bytes(5), 3, 0, 0, ((bytes([10, 0, 1, 9]), 3),), live=(3,))
         self.assertEqual(kernel.routes(), [default, by_object, by_itself])
         self.assertEqual(kernel.own_routes(), [by_object, by_itself])
 
