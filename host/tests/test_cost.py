@@ -26,6 +26,7 @@ class Costs(unittest.TestCase):
 
     def test_wrong_words(self) -> None:
         self.assertEqual(self.run_it("--routes", "0")[0], 2)
+        self.assertEqual(self.run_it("--pyroute2")[0], 2)
 
 
 if __name__ == "__main__":
