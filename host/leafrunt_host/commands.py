@@ -6,6 +6,7 @@ import io
 import os
 import sys
 from contextlib import AbstractContextManager, closing
+from dataclasses import replace
 from ipaddress import IPv4Address, IPv4Network
 from pathlib import Path
 
@@ -13,7 +14,7 @@ from leafrunt_host import console
 from leafrunt_host.box import Box
 from leafrunt_host.client import Client, own_answer
 from leafrunt_host.configuration import Configuration, read_configuration
-from leafrunt_host.journal import one_line, start_log
+from leafrunt_host.journal import LEVELS, is_journal, one_line, start_log
 from leafrunt_host.kernel import kernel_interfaces
 from leafrunt_host.listing import DOCUMENTS, listed
 from leafrunt_host.metrics import FORMATS, metrics_of
@@ -29,7 +30,7 @@ ABOUT = """A box that routes: `routerd`, an OSPF router, on this host, among BIR
 docs/use/HOST.md tells how to set up a network with it. Statuses: 0 done; 1 refused; 2 wrong words;
 3 a file, a socket or a program failed; 4 out of memory."""
 EXAMPLES = {
-    "up": "leafrunt up /etc/leafrunt/one.toml",
+    "up": "leafrunt up /etc/leafrunt/one.toml\n  leafrunt up --log-level debug /etc/leafrunt/one.toml",
     "console": "leafrunt console\n  leafrunt console -c table -c neighbors\n  echo table | leafrunt console --box one",
     "status": "leafrunt status\n  leafrunt status --json | jq .interfaces[0].neighbor",
     "table": "leafrunt table\n  leafrunt table --json | jq -r '.routes[] | select(.path_type == \"ext2\").prefix'",
@@ -101,6 +102,9 @@ def with_own_words(one: argparse.ArgumentParser, name: str) -> None:
         one.add_argument(
             "-c", dest="lines", action="append", default=[], metavar="LINE", help=about
         )
+    if name == "up":
+        about = "the least that the log has (default: log_level of CONFIG, or info)"
+        one.add_argument("--log-level", choices=LEVELS, help=about)
     if name in LISTS:
         about = f"for a program: one JSON object, by the schema schemas/{name}.json"
         one.add_argument("--json", action="store_true", help=about)
@@ -136,8 +140,10 @@ def parser() -> argparse.ArgumentParser:
 
 
 def up(words: argparse.Namespace) -> Status:
-    log = start_log()
+    log = start_log(words.log_level or "info")
     configuration = read_configuration(words.config, kernel_interfaces())
+    if words.log_level:
+        configuration = replace(configuration, log_level=words.log_level)
     run, state = words.run_directory.absolute(), words.state_directory.absolute()
     return Box(
         configuration,
@@ -222,8 +228,9 @@ def main(arguments: list[str]) -> int:
         sys.stdout.flush()
         return done
     except Stopped as why:
+        head = "<3>" if is_journal(sys.stderr) else ""
         for line in str(why).splitlines():
-            print(f"leafrunt: {line}", file=sys.stderr)
+            print(f"{head}leafrunt: {line}", file=sys.stderr)
         return why.status
     except BrokenPipeError:
         os.dup2(os.open(os.devnull, os.O_WRONLY), sys.stdout.fileno())

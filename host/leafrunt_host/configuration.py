@@ -22,6 +22,7 @@ from leafrunt_host.bfd_settings import AnyKey
 from leafrunt_host.counter_names import counter_names
 from leafrunt_host.destinations import MOST_EXTERNALS, Announcement
 from leafrunt_host.isolation import USER, Account, account_of
+from leafrunt_host.journal import LEVELS
 from leafrunt_host.kernel import KernelInterface
 from leafrunt_host.redistribution import Redistribution, redistribution_of, source_of
 from leafrunt_host.rooms import LONGEST_OBJECT
@@ -92,6 +93,7 @@ class Configuration:
     counters: Mapping[str, int] = field(default_factory=dict)
     """Names of the programs' counters, each with its number."""
     redistribution: Redistribution = Redistribution()
+    log_level: str = "info"
 
     def text(self, ports: list[tuple[int, int]]) -> str:
         """The configuration of `routerd`: an interface's datagrams come to the first port of its
@@ -223,6 +225,7 @@ class _Reader:
         account = self._account()
         routerd = self._routerd(account)
         keeps_kernel = self._top.truth("kernel", True)
+        log_level = self._top.one_of("log_level", LEVELS, "info")
         keys = self._keys()
         interfaces = self._interfaces(keys)
         announcements = self._announcements()
@@ -246,6 +249,7 @@ class _Reader:
             account,
             counters,
             redistribution,
+            log_level=log_level or "info",
         )
 
     def _box_name(self) -> None:

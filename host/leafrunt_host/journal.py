@@ -7,8 +7,15 @@ import sys
 import threading
 import time
 from collections import deque
+from typing import TextIO
 
 MOST_KEPT = 2000
+LEVELS = {
+    "error": logging.ERROR,
+    "warning": logging.WARNING,
+    "info": logging.INFO,
+    "debug": logging.DEBUG,
+}
 PRIORITIES = {
     logging.DEBUG: 7,
     logging.INFO: 6,
@@ -74,13 +81,27 @@ def told_of_thread(failed: threading.ExceptHookArgs) -> None:
         logging.getLogger("leafrunt").error("%s", where_it_failed(failed.exc_value))
 
 
-def start_log(level: int = logging.INFO) -> Kept:
+def is_journal(stream: TextIO) -> bool:
+    """Whether what is written there goes to systemd's journal (systemd.exec(5), JOURNAL_STREAM)."""
+    try:
+        its = os.fstat(stream.fileno())
+    except (OSError, ValueError):
+        return False
+    return os.environ.get("JOURNAL_STREAM") == f"{its.st_dev}:{its.st_ino}"
+
+
+def set_level(name: str) -> None:
+    """From now on the log has lines of this level, and of those above it."""
+    logging.getLogger("leafrunt").setLevel(LEVELS[name])
+
+
+def start_log(level: str = "info") -> Kept:
     """Sends the log of this package to standard error, and keeps its last lines."""
     log = logging.getLogger("leafrunt")
-    log.setLevel(level)
+    set_level(level)
     log.propagate = False
     shown = logging.StreamHandler(sys.stderr)
-    shown.setFormatter(Line("JOURNAL_STREAM" in os.environ))
+    shown.setFormatter(Line(is_journal(sys.stderr)))
     kept = Kept()
     log.handlers = [shown, kept]
     logging.raiseExceptions = False

@@ -163,10 +163,10 @@ class Table:
         )
         return value if isinstance(value, str) else None
 
-    def one_of(self, key: str, words: Iterable[str]) -> str | None:
+    def one_of(self, key: str, words: Iterable[str], default: str | None = None) -> str | None:
         words = list(words)
         value = self._value(
-            key, f"one of {', '.join(map(shown, words))}", None, lambda each: each in words
+            key, f"one of {', '.join(map(shown, words))}", default, lambda each: each in words
         )
         return value if isinstance(value, str) else None
 

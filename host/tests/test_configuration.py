@@ -35,6 +35,7 @@ NAMES = "bare, eth1, eth2, lo, same, thin"
 TOP = 'router_id = "1.1.1.1"\nrouterd = "routerd"\n'
 INTERFACE = '[[interface]]\nname = "eth1"\n'
 WHOLE = f"""{TOP}kernel = false
+log_level = "debug"
 keys = "keys.toml"
 {INTERFACE}cost = 7
 hello_interval = 2
@@ -78,9 +79,10 @@ PEER = "the neighbor's address, A.B.C.D in quotes"
 PREFIX = "A.B.C.D/L whose bits after the first L are 0"
 OBJECT = "the path of an object file that `routerd verify` accepts, without a space in it"
 TABLES = "tables, each begun with [[{}]]"
+LEVELS = 'one of "error", "warning", "info", "debug"'
 COUNTER_NAME = "1 to 64 letters, digits and `_`, first no digit"
 TOML = "TOML 1.0, as toml.io describes it"
-TOP_KEYS = "router_id, isolated, user, routerd, kernel, interface, announce, program, counters, redistribute"
+TOP_KEYS = "router_id, isolated, user, routerd, kernel, log_level, interface, announce, program, counters, redistribute"
 INTERFACE_KEYS = "name, passive, address, cost, hello_interval, dead_interval, retransmit_interval, transmit_delay, keys, bfd, peer"
 OF_ETH1 = "interface 1 (eth1), "
 KERNEL_NAMES = f"the name of an interface of the kernel: {NAMES}"
@@ -167,6 +169,8 @@ MISTAKES = [
         ),
     ),
     (TOP + 'kernel = "yes"\n' + INTERFACE, (("kernel", '"yes"', "true or false"),)),
+    (TOP + 'log_level = "loud"\n' + INTERFACE, (("log_level", '"loud"', LEVELS),)),
+    (TOP + "log_level = {}\n" + INTERFACE, (("log_level", "a table", LEVELS),)),
     (
         TOP + "kernal = true\n" + INTERFACE,
         (("kernal", "an unknown key", f"{TOP_KEYS} (kernel, maybe)"),),
@@ -635,6 +639,7 @@ class Reading(Files):
             ("one", "1.1.1.1", self.folder / "routerd", False),
         )
         self.assertEqual(read.counters, {"martians": 5, "_2": 255})
+        self.assertEqual(read.log_level, "debug")
         one, two, loopback = read.interfaces
         self.assertEqual((one.name, one.address, one.mtu, one.cost), ("eth1", ONE, 1500, 7))
         self.assertEqual(
