@@ -47,6 +47,9 @@ sys.exit(1)
 """
 
 
+BUILT = any((TOP / each).exists() for each in ("crates/routerd/out/routerd", "build/unproved/routerd"))
+
+
 class Fuzz(unittest.TestCase):
     def setUp(self) -> None:
         self.folder = pathlib.Path(tempfile.mkdtemp(prefix="test-fuzz-"))
@@ -97,6 +100,12 @@ class Fuzz(unittest.TestCase):
         good = self.routerd("good")
         path = str(self.out / "fuzz-datagrams-1-1.json")
         self.assertEqual(self.fuzz("--replay", path, "--routerd", good)[0], 0)
+
+    @unittest.skipUnless(BUILT, "no routerd is built")
+    def test_other_routers_faults(self) -> None:
+        """With these it begins (host/tests/faults.py)."""
+        status, out, err = self.fuzz("datagrams", "--count", "3000", "--seconds", "120")
+        self.assertEqual((status, "0 broke" in out), (0, True), out + err)
 
     def test_console(self) -> None:
         bad = self.routerd("bad", console="line.startswith('detach veto')")
