@@ -24,6 +24,7 @@ from leafrunt_host.destinations import MOST_EXTERNALS, Announcement
 from leafrunt_host.isolation import USER, Account, account_of
 from leafrunt_host.journal import LEVELS
 from leafrunt_host.kernel import KernelInterface
+from leafrunt_host.kernel_settings import KernelSettings, kernel_settings_of, look_at_vrf
 from leafrunt_host.redistribution import Redistribution, redistribution_of, source_of
 from leafrunt_host.rooms import LONGEST_OBJECT
 from leafrunt_host.statuses import Status, Stopped
@@ -94,6 +95,8 @@ class Configuration:
     """Names of the programs' counters, each with its number."""
     redistribution: Redistribution = Redistribution()
     log_level: str = "info"
+    table: KernelSettings = KernelSettings()
+    """Which table of the kernel's is kept, and how, where one is."""
 
     def text(self, ports: list[tuple[int, int]]) -> str:
         """The configuration of `routerd`: an interface's datagrams come to the first port of its
@@ -224,11 +227,13 @@ class _Reader:
         )
         account = self._account()
         routerd = self._routerd(account)
-        keeps_kernel = self._top.truth("kernel", True)
+        keeps_kernel, settings = kernel_settings_of(self._top, self._kernel)
         log_level = self._top.one_of("log_level", LEVELS, "info")
         keys = self._keys()
         interfaces = self._interfaces(keys)
         announcements = self._announcements()
+        inside = [self._kernel[each.name] for each in interfaces]
+        self._advice += look_at_vrf(self._top, settings, inside)
         programs = self._programs(routerd)
         counters = counter_names(self._top.table("counters"))
         networks = [each.address.network for each in interfaces]
@@ -250,6 +255,7 @@ class _Reader:
             counters,
             redistribution,
             log_level=log_level or "info",
+            table=settings,
         )
 
     def _box_name(self) -> None:

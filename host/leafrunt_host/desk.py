@@ -191,7 +191,7 @@ class Desk:
             raise Refused(
                 "after `map` comes nothing, or a destination: A.B.C.D/L whose other bits are 0, or A.B.C.D"
             ) from None
-        route = kernel_route(prefix)
+        route = kernel_route(prefix, self._known.configuration.table.table)
         if route is None:
             raise Refused(f"the kernel has no route to {prefix}")
         return map_lines(area, self._known.configuration.router_id, self._destination(route))

@@ -245,7 +245,9 @@ class Keeper:
         outcome = kernel.keep(self._lines, self._hops(), self._own_destinations())
         for each in outcome.news:
             log.warning("kernel: %s", each)
-        self._known.kept = Kept(outcome.routes, outcome.refused, outcome.without_hop)
+        self._known.kept = Kept(
+            outcome.routes, outcome.refused, outcome.without_hop, limited=outcome.limited
+        )
         return is_changed
 
     def _own_destinations(self) -> frozenset[IPv4Network]:

@@ -3,11 +3,11 @@ from __future__ import annotations
 
 from collections.abc import Iterable, Mapping
 from contextlib import closing
-from dataclasses import dataclass
+from dataclasses import dataclass, replace
 from ipaddress import IPv4Address, IPv4Interface, IPv4Network
 from typing import Any
 
-from leafrunt_host.rtnetlink import Address, CannotAsk, Kernel, Link, NextHop, Route
+from leafrunt_host.rtnetlink import MAIN, Address, CannotAsk, Kernel, Link, NextHop, Route
 from leafrunt_host.statuses import Stopped
 
 Json = dict[str, Any]
@@ -25,6 +25,10 @@ class KernelInterface:
     secondary: tuple[IPv4Interface, ...] = ()
     peers: tuple[tuple[IPv4Interface, IPv4Network], ...] = ()
     """The addresses that have a peer (ip-address(8)), each with the network that the peer is in."""
+    vrf: str = ""
+    """The name of the VRF device that it is enslaved to, or that it is itself."""
+    vrf_table: int = 0
+    """Of a VRF device the number of its table; 0 where it is none."""
 
 
 @dataclass(frozen=True)
@@ -46,14 +50,22 @@ class KernelRoute:
 def interfaces_of(links: Iterable[Link], addresses: Iterable[Address]) -> dict[str, KernelInterface]:
     """The interfaces with their addresses, by their names."""
     known = [each for each in addresses if not each.address.ip.is_loopback]
-    found = {}
+    links, found = list(links), {}
     for link in links:
         own = [each for each in known if each.index == link.index]
         main = tuple(each.address for each in own if not each.is_secondary)
         secondary = tuple(each.address for each in own if each.is_secondary)
         peers = tuple((each.address, each.peer) for each in own if each.peer)
-        found[link.name] = KernelInterface(link.name, link.mtu, main, secondary, peers)
+        it = KernelInterface(link.name, link.mtu, main, secondary, peers, vrf_of(link, links))
+        found[link.name] = replace(it, vrf_table=link.vrf_table)
     return found
+
+
+def vrf_of(link: Link, links: Iterable[Link]) -> str:
+    """The name of the VRF device that an interface is enslaved to, or that it is itself; empty
+    where there is none."""
+    devices = (each for each in links if each.vrf_table)
+    return next((each.name for each in devices if each.index in (link.master, link.index)), "")
 
 
 def kernel_interfaces() -> dict[str, KernelInterface]:
@@ -102,10 +114,10 @@ def route_to(
     return KernelRoute(prefix, tuple(ways_of(route, names, next_hops)))
 
 
-def kernel_route(destination: IPv4Network) -> KernelRoute | None:
-    """The route of the main table that the kernel takes to all of the destination."""
+def kernel_route(destination: IPv4Network, table: int = MAIN) -> KernelRoute | None:
+    """The route of a table that the kernel takes to all of the destination."""
     try:
-        with closing(Kernel()) as kernel:
+        with closing(Kernel(table=table)) as kernel:
             names = {each.index: each.name for each in kernel.links()}
             next_hops = {each.id: each for each in kernel.next_hops(is_own=False)}
             return route_to(destination, kernel.routes(), names, next_hops)

@@ -28,6 +28,7 @@ from leafrunt_host.rtnetlink import (
     NextHop,
     Route,
     netlink,
+    noticed_table,
     route_of,
     swapped,
 )
@@ -57,8 +58,7 @@ def notices_filter(redistribution: Redistribution, table: int) -> bytes:
         (Bpf.LOAD_BYTE, HEADER.size + 2),
         Compare(PROTOCOL, then=NONE, otherwise=TAKEN),
     ]
-    if table < 256:
-        steps += [(Bpf.LOAD_BYTE, HEADER.size + 4), Compare(table, otherwise=NONE)]
+    steps += [(Bpf.LOAD_BYTE, HEADER.size + 4), Compare(noticed_table(table), otherwise=NONE)]
     steps += [(Bpf.LOAD_BYTE, HEADER.size + 5), Compare(PROTOCOL, then=NONE)]
     protocols = sorted(redistribution.of_routes)
     if len(protocols) > MOST_COMPARED:

@@ -50,6 +50,7 @@ NHA_ID, NHA_GROUP, NHA_BLACKHOLE, NHA_OIF, NHA_GATEWAY = 1, 2, 4, 5, 6
 NLMSGERR_ATTR_MSG = 1
 MAIN, UNICAST, UNIVERSE, ONLINK = 254, 1, 0, 4
 BLACKHOLE, UNREACHABLE, PROHIBIT = 6, 7, 8
+COMPAT = 252
 DEAD, LINK_DOWN = 1, 16
 NO_ENTRY = 2
 SOL_NETLINK, CAP_ACK, EXT_ACK, STRICT_CHECK = 270, 10, 11, 12
@@ -530,19 +531,23 @@ def swapped(value: int, width: int) -> int:
     return int.from_bytes(value.to_bytes(width, sys.byteorder), "big")
 
 
-def filter_of_others(port: int, protocol: int) -> list[tuple[int, int, int, int]]:
+def filter_of_others(
+    port: int, protocol: int, table: int = MAIN
+) -> list[tuple[int, int, int, int]]:
     """A classic BPF program for a socket of notices: it takes none of the port's own changes, and
-    of routes and next hops those of the protocol number alone."""
+    of the table's routes and of next hops those of the protocol number alone."""
     kinds = [NEW_ROUTE, DELETE_ROUTE, NEW_NEXT_HOP, DELETE_NEXT_HOP]
     new_route, delete_route, new_next_hop, delete_next_hop = (swapped(each, 2) for each in kinds)
     return [
         (LOAD_WORD, 0, 0, 12),
-        (IF_EQUAL, 10, 0, swapped(port, 4)),
+        (IF_EQUAL, 12, 0, swapped(port, 4)),
         (LOAD_HALF, 0, 0, 4),
         (IF_EQUAL, 3, 0, new_route),
         (IF_EQUAL, 2, 0, delete_route),
-        (IF_EQUAL, 3, 0, new_next_hop),
-        (IF_EQUAL, 2, 4, delete_next_hop),
+        (IF_EQUAL, 5, 0, new_next_hop),
+        (IF_EQUAL, 4, 6, delete_next_hop),
+        (LOAD_BYTE, 0, 0, HEADER.size + 4),
+        (IF_EQUAL, 0, 5, noticed_table(table)),
         (LOAD_BYTE, 0, 0, HEADER.size + 5),
         (IF_EQUAL, 2, 3, protocol),
         (LOAD_BYTE, 0, 0, HEADER.size + 2),
@@ -550,6 +555,11 @@ def filter_of_others(port: int, protocol: int) -> list[tuple[int, int, int, int]
         (RETURN, 0, 0, 0xFFFF_FFFF),
         (RETURN, 0, 0, 0),
     ]
+
+
+def noticed_table(table: int) -> int:
+    """The byte of a notice that says a table's number; all large ones have the same."""
+    return table if table < 256 else COMPAT
 
 
 def attach_filter(one: socket.socket, program: list[tuple[int, int, int, int]]) -> None:
@@ -572,8 +582,8 @@ OF_KIND = {
 
 
 class Notices:
-    """What others than this port change of links and addresses, and of routes and next hops of the
-    protocol number."""
+    """What others than this port change of links and addresses, and of a table's routes and of next
+    hops of the protocol number."""
 
     def __init__(
         self,
@@ -581,12 +591,13 @@ class Notices:
         protocol: int = 0,
         one: socket.socket | None = None,
         groups: int = OF_ALL,
+        table: int = MAIN,
     ) -> None:
         try:
             self._socket = one or netlink(groups)
             self._port = port or -1
             if one is None and groups != OF_LINKS:
-                attach_filter(self._socket, filter_of_others(port, protocol))
+                attach_filter(self._socket, filter_of_others(port, protocol, table))
         except OSError as error:
             words = f"no socket for the kernel's notices: {error.strerror}"
             raise CannotAsk(words) from error

@@ -17,6 +17,7 @@ from leafrunt_host.documents import schema_of
 from leafrunt_host.forwarding import host_warnings
 from leafrunt_host.kernel import Json
 from leafrunt_host.observing import Adjacencies
+from leafrunt_host.rtnetlink import MAIN
 
 NO_DIAGNOSTIC = diagnostic_text(Diagnostic.NONE)
 SECONDS_TO_LOOK = 10.0
@@ -51,6 +52,8 @@ class Kept:
     refused: tuple[str, ...] = ()
     without_hop: tuple[bytes, ...] = ()
     error: str | None = None
+    limited: int = 0
+    """How many routes have more next hops than they may."""
 
 
 @dataclass
@@ -175,6 +178,10 @@ def status_of(known: Known, lsas: Mapping[str, int] | None = None) -> Json:
             "routes": kept.routes,
             "refused": list(kept.refused),
             "without_next_hop": [each.decode() for each in kept.without_hop],
+            "table": configuration.table.table,
+            "vrf": configuration.table.vrf or None,
+            "ecmp": configuration.table.ecmp,
+            "limited": kept.limited,
             "error": kept.error,
         },
         "lsas": dict(lsas or {}),
@@ -193,10 +200,17 @@ def kernel_line(kernel: Json) -> str:
     if kernel["error"]:
         return f"kernel: its table isn't kept: {kernel['error']}"
     said = f"kernel: {kernel['routes']} route{'' if kernel['routes'] == 1 else 's'}"
+    if kernel["vrf"]:
+        said += f" in the VRF {kernel['vrf']}"
+    elif kernel["table"] != MAIN:
+        said += f" in table {kernel['table']}"
     if kernel["refused"]:
         said += f", {len(kernel['refused'])} refused: {kernel['refused'][0]}"
     if kernel["without_next_hop"]:
         said += f", {len(kernel['without_next_hop'])} without a known next hop"
+    if kernel["limited"]:
+        most = f"{kernel['ecmp']} next hop{'' if kernel['ecmp'] == 1 else 's'}"
+        said += f", {kernel['limited']} with more than {most}: the others are left out"
     return said
 
 

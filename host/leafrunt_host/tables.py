@@ -259,6 +259,10 @@ class Table:
         )
         return Table(self._file, where, value if isinstance(value, dict) else {}, self._mistakes)
 
+    def has_table(self, key: str) -> bool:
+        """Whether the value of a key is a table."""
+        return isinstance(self._items.get(key), dict)
+
     def keys(self) -> list[str]:
         """All keys of the table, in their order."""
         return list(self._items)

@@ -36,6 +36,8 @@ class FakeKernel(Kernel):
         self.table: dict[bytes, int] = {}
         self.others: set[bytes] = set()
         """Prefixes that another program has a route to, with our metric."""
+        self.vrfs: dict[str, int] = {}
+        """VRF devices with their tables."""
         self.news = News.NOTHING
         self.given: list[Change] = []
         self.reads = 0
@@ -49,7 +51,11 @@ class FakeKernel(Kernel):
 
     def links(self) -> list[Link]:
         names = enumerate(self.up, 1)
-        return [Link(index, name, 1500, self.up[name]) for index, name in names]
+        vrfs = enumerate(self.vrfs.items(), 100)
+        return [
+            *(Link(index, name, 1500, self.up[name]) for index, name in names),
+            *(Link(index, name, 1500, True, 0, table) for index, (name, table) in vrfs),
+        ]
 
     def own_routes(self) -> list[Route]:
         self.reads += 1

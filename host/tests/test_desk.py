@@ -7,7 +7,7 @@ import sys
 import tempfile
 import unittest
 from collections import Counter
-from dataclasses import dataclass, field
+from dataclasses import dataclass, field, replace
 from ipaddress import IPv4Address, IPv4Interface, IPv4Network
 from pathlib import Path
 from unittest import mock
@@ -19,6 +19,7 @@ from leafrunt_host.configuration import Configuration, InterfaceSettings
 from leafrunt_host.destinations import Announcement
 from leafrunt_host.journal import Kept as KeptLog
 from leafrunt_host.journal import one_line
+from leafrunt_host.kernel_settings import KernelSettings
 from leafrunt_host.observing import Adjacencies, Report
 from leafrunt_host.router import Router, RouterGone
 from leafrunt_host.status import (
@@ -115,12 +116,23 @@ class Statuses(unittest.TestCase):
                 "kernel: 0 routes, 1 without a known next hop",
             ),
             (Kept(error="no ip"), "kernel: its table isn't kept: no ip"),
+            (
+                Kept(3, limited=2),
+                "kernel: 3 routes, 2 with more than 63 next hops: the others are left out",
+            ),
         ):
             it = known()
             it.kept = kept
             with self.subTest(line):
                 self.assertEqual(kernel_line(status_of(it)["kernel"]), line)
         self.assertIn("left alone", self.lines(known(kernel=False))[0])
+        for table, line in (
+            (KernelSettings(100), "kernel: 0 routes in table 100"),
+            (KernelSettings(10, "red"), "kernel: 0 routes in the VRF red"),
+        ):
+            it = known()
+            it.configuration = replace(it.configuration, table=table)
+            self.assertEqual(kernel_line(status_of(it)["kernel"]), line)
 
     def test_lines_of_neighbors(self) -> None:
         found = neighbors_of(["neighbor 3 2.2.2.2 ExStart", "end", "neighbor x 2.2.2.2 Full"])

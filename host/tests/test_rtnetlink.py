@@ -27,8 +27,11 @@ from leafrunt_host.rtnetlink import (
     ReplaceRoute,
     Route,
     SetNextHop,
+    attribute,
     filter_of_others,
+    link_of,
     messages,
+    number,
     request,
 )
 
@@ -142,6 +145,11 @@ def listing(text: str) -> Callable[[bytes], list[bytes]]:
     return answer
 
 
+def listing_of(end: Callable[[int], bytes]) -> Callable[[bytes], list[bytes]]:
+    """Answers a question by a list without a message, and this end."""
+    return lambda data: [end(struct.unpack_from("=I", data, 8)[0])]
+
+
 @unittest.skipIf(sys.byteorder == "big", "the bytes are those of a machine of the other order")
 class Kernels(unittest.TestCase):
     def kernel(self, answer: Callable[[bytes], list[bytes]]) -> Kernel:
@@ -177,6 +185,51 @@ class Kernels(unittest.TestCase):
         default = Route(bytes(5), 3, 0, 0, ((bytes([10, 0, 1, 9]), 3),), live=(3,))
         self.assertEqual(kernel.routes(), [default, by_object, by_itself])
         self.assertEqual(kernel.own_routes(), [by_object, by_itself])
+
+    def test_another_table(self) -> None:
+        """Its number is in a byte or, where it's larger, in an attribute, in questions, changes and
+        answers; one without routes isn't there, and a list that ends with another error is none."""
+        far = bytes.fromhex(ROUTE_DELETED).replace(bytes([254, 89, 0, 1]), bytes([252, 89, 0, 1]))
+        far = far.replace(bytes([15, 0, 254, 0, 0, 0]), bytes([15, 0, 0xE8, 3, 0, 0]))
+        listed = listing(far.hex())
+
+        for table, byte, more in ((100, 100, b""), (1000, 0, bytes.fromhex("08000f00e8030000"))):
+            asked: list[bytes] = []
+
+            def answer(data: bytes) -> list[bytes]:
+                asked.append(data)
+                return listed(data)
+
+            kernel = Kernel(89, 89, Answering(answer), table)
+            self.addCleanup(kernel.close)
+            self.assertEqual(len(kernel.routes()), table == 1000)
+            self.assertEqual((asked[0][20], asked[0][28:]), (byte, more))
+            for change in (AddRoute(PREFIX, 7), ReplaceRoute(PREFIX, 7), DeleteRoute(PREFIX)):
+                body = request(change, 89, 89, table)[2]
+                self.assertEqual((body[4], body.endswith(more)), (byte, True))
+                self.assertEqual(len(body), len(request(change, 89, 89)[2]) + len(more))
+
+    def test_a_list_that_ends_with_an_error(self) -> None:
+        for number, is_empty in ((2, True), (22, False)):
+            end = bytes.fromhex(END)[:16] + struct.pack("=i", -number)
+            kernel = self.kernel(listing_of(lambda sequence: numbered(end, sequence)))
+            if is_empty:
+                self.assertEqual(kernel.routes(), [])
+                continue
+            with self.assertRaisesRegex(CannotAsk, "can't be asked: Invalid argument") as raised:
+                kernel.routes()
+            self.assertEqual(raised.exception.number, number)
+
+    def test_a_vrf(self) -> None:
+        """Of <linux/if_link.h>: a VRF device, and an interface that is enslaved to it."""
+        head = bytes.fromhex(LINK_DOWN)[16:32]
+        name, table = attribute(3, b"red\0"), attribute(0x8002, number(1, 1000))
+        device = head + name + attribute(18, attribute(1, b"vrf\0") + table)
+        slave = head + attribute(3, b"e1\0") + number(10, 3)
+        bridge = head + name + attribute(18, attribute(1, b"bridge\0") + table)
+        self.assertEqual(link_of(device)[4:], (0, 1000))
+        self.assertEqual(link_of(slave)[4:], (3, 0))
+        self.assertEqual(link_of(bridge)[4:], (0, 0))
 
     def test_next_hops(self) -> None:
         self.assertEqual(
