@@ -26,6 +26,7 @@ from leafrunt_host.bfd_packets import LARGEST_NUMBER, State, diagnostic_text
 from leafrunt_host.bfd_session import MICROSECONDS, Session, Settings, kept_of
 from leafrunt_host.bfd_sockets import CONTROL_PORT, hearing_socket, sending_socket
 from leafrunt_host.isolation import free_number
+from leafrunt_host.journal import where_it_failed
 from leafrunt_host.kernel import Json
 from leafrunt_host.observing import Limiter
 from leafrunt_host.sockets import Place
@@ -35,11 +36,11 @@ CODE = (
     "import sys; sys.path.insert(0, sys.argv[1]); "
     "from leafrunt_host.bfd_helper import main; sys.exit(main(sys.argv[2:]))"
 )
+MOST_ENDS, ENDS_WITHIN = 3, 60.0
+"""A process that ends is followed at once by the next, which goes on with its sessions, unless it's
+the third that ends within so many seconds."""
 FIRST_WAIT, LONGEST_WAIT = 1.0, 60.0
-"""Seconds until the process is started again, doubled each time."""
-LASTS = 10.0
-"""After so many seconds it counts as one that runs well: if it ends then, the next is started at
-once and goes on with its sessions."""
+"""Seconds until the next is started then, doubled with each more that ends."""
 OPENED_AGAIN = 10.0
 """Seconds after which sockets that couldn't be had are tried again."""
 CUT_SECONDS = 5.0
@@ -141,7 +142,6 @@ class Helper:
 
     def __init__(self, box: str, memory: int) -> None:
         self.own, other = socket.socketpair(socket.AF_UNIX, socket.SOCK_SEQPACKET)
-        self.began = time.monotonic()
         folder = str(Path(__file__).resolve().parent.parent)
         words = [sys.executable, "-I", "-c", CODE, folder]
         words += map(str, (other.fileno(), memory, free_number(f"{box} bfd")))
@@ -219,7 +219,7 @@ class Sessions:
         self._helper: Helper | None = None
         self._memory = os.memfd_create("bfd")
         """What each session's variables are, in case the process ends."""
-        self._again, self._wait = 0.0, FIRST_WAIT
+        self._again, self._ends = 0.0, list[float]()
         self._limiter = Limiter()
         self.error: str | None = None
 
@@ -260,8 +260,8 @@ class Sessions:
         }
         try:
             helper.say(said, (hears, sends))
-        except OSError:
-            pass  # its end is seen where its messages are read
+        except OSError as error:
+            held.error = f"its process can't be told: {error.strerror}"
 
     def _opened(self, number: int, held: Held) -> tuple[socket.socket, socket.socket]:
         """The sockets of a session. `OSError` where they can't be had."""
@@ -297,20 +297,31 @@ class Sessions:
     def tick(self) -> None:
         """Starts the process where it doesn't run, and tries again what couldn't be had."""
         with self._lock:
-            now = self._clock()
-            if self._helper is None and now >= self._again:
-                self._start(now)
-            for number, held in self._held.items():
-                if held.error and now - held.tried >= OPENED_AGAIN:
-                    self._add(number)
+            self._guarded(self._looked_after)
+
+    def _looked_after(self) -> None:
+        now = self._clock()
+        if self._helper is None and now >= self._again:
+            self._start(now)
+        for number, held in self._held.items():
+            if held.error and now - held.tried >= OPENED_AGAIN:
+                self._add(number)
+
+    def _guarded(self, act: Callable[[], None]) -> None:
+        """A mistake in this program, or a message that is none, ends no box."""
+        try:
+            act()
+        except Exception as error:
+            lines = self._limiter.passing("BFD", [where_it_failed(error)], self._clock())
+            for each in lines:
+                log.error("BFD: %s", each)
 
     def _start(self, now: float) -> None:
-        self._again, self._wait = now + self._wait, min(2 * self._wait, LONGEST_WAIT)
         try:
             self._helper = Helper(self._box, self._memory)
-        except CannotHold as why:
-            self.error = str(why)
-            log.error("BFD: %s", why)
+        except (CannotHold, OSError) as why:
+            self.error, self._again = str(why), now + LONGEST_WAIT
+            log.error("BFD: its process can't be started: %s", why)
             return
         self.error = None
         self._bridge.follow(self._helper.own, self._read)
@@ -320,32 +331,35 @@ class Sessions:
     def _read(self) -> None:
         """Takes what the process has to say."""
         with self._lock:
-            helper = self._helper
-            try:
-                while helper and (said := helper.heard()) is not None:
-                    self._take(said)
-            except CannotHold as why:
-                if helper:
-                    self._ended(helper, str(why))
-            except (ValueError, KeyError, TypeError, AttributeError) as error:
-                log.error("BFD: a message of its process: %.200r", error)
+            self._guarded(self._heard)
+
+    def _heard(self) -> None:
+        helper = self._helper
+        try:
+            while helper and (said := helper.heard()) is not None:
+                self._take(said)
+        except CannotHold as why:
+            if helper:
+                self._ended(helper, str(why))
 
     def _ended(self, helper: Helper, how: str) -> None:
-        """The process is gone. One that ran well is started again before a neighbor notices; else
-        the neighbors are told that the path hasn't failed."""
+        """The process is gone. The next one is started before a neighbor notices; where several
+        have ended the neighbors are told that the path hasn't failed, and it's waited."""
         self._bridge.leave(helper.own)
         helper.own.close()
-        self._helper, self.error = None, f"its process has ended ({how})"
-        if self._clock() - helper.began >= LASTS:
-            self._wait = FIRST_WAIT
+        self._helper, self.error, now = None, f"its process has ended ({how})", self._clock()
+        self._ends = [each for each in self._ends if now - each < ENDS_WITHIN] + [now]
+        more = len(self._ends) - MOST_ENDS
+        if more < 0:
             log.error("BFD: %s: the next one goes on with its sessions", self.error)
-            self._start(self._clock())
+            self._start(now)
             return
         for number, held in self._held.items():
             self._say_farewell(number, held)
             held.close()
             held.report = dict(NOTHING)
-        wait = max(0.0, self._again - self._clock())
+        wait = min(FIRST_WAIT * 2**more, LONGEST_WAIT)
+        self._again = now + wait
         log.error("BFD: %s: it's started again in %.0f s", self.error, wait)
 
     def _say_farewell(self, number: int, held: Held) -> None:

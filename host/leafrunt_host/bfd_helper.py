@@ -173,18 +173,17 @@ class Helper:
 
     def _tell(self, number: int, ends: Ends, now: float) -> None:
         """Tells the box each change of state, and what else is new of the session."""
-        them = ends.session.variables
-        for each in ends.session.changes:
-            self._say(
-                number=number,
-                discriminator=ends.discriminator,
-                before=each.before,
-                after=each.after,
-                diagnostic=each.diagnostic,
-                is_lost=each.is_lost,
-                remote=them.remote_session_state,
-            )
-        ends.session.changes.clear()
+        them, changes = ends.session.variables, ends.session.changes
+        while changes and self._say(
+            number=number,
+            discriminator=ends.discriminator,
+            before=changes[0].before,
+            after=changes[0].after,
+            diagnostic=changes[0].diagnostic,
+            is_lost=changes[0].is_lost,
+            remote=them.remote_session_state,
+        ):
+            changes.pop(0)
         said = {
             "number": number,
             "discriminator": ends.discriminator,
@@ -201,15 +200,16 @@ class Helper:
             is_news = True
         else:
             is_news = whole != ends.told and now - ends.counted >= TOLD_EACH
-        if is_news:
+        if is_news and self._say(**whole):
             ends.told, ends.counted = whole, now
-            self._say(**whole)
 
-    def _say(self, **said: object) -> None:
+    def _say(self, **said: object) -> bool:
+        """Tells the box; False where it's gone, or so far behind that it's to be told later."""
         try:
             self._box.send(json.dumps(said).encode(), socket.MSG_DONTWAIT)
         except OSError:
-            pass  # it's gone, or very far behind: the next message says what counts
+            return False
+        return True
 
     # -- what the box wants
 
@@ -246,7 +246,7 @@ class Helper:
         self._waiting.register(hears.fileno(), select.POLLIN)
 
     def _remove(self, number: int, is_told: bool) -> None:
-        """Ends a session; the neighbor may be told, so that it knows that the path hasn't failed."""
+        """Ends a session; the neighbor may be told, and then knows that the path hasn't failed."""
         ends = self._ends.pop(number, None)
         if ends is None:
             return
@@ -304,7 +304,8 @@ def give_up_privileges(user: int) -> None:
 def main(arguments: list[str]) -> int:
     """Runs with the descriptors of the socket and of the file that outlives it, and the number of
     the user to become."""
-    box, memory, user = socket.socket(fileno=int(arguments[0])), int(arguments[1]), int(arguments[2])
+    number, memory, user = map(int, arguments)
+    box = socket.socket(fileno=number)
     try:
         for each in (signal.SIGINT, signal.SIGTERM, signal.SIGHUP):
             # (the box says when to end, after the last packet to the neighbors)

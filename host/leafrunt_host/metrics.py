@@ -28,6 +28,7 @@ FORMATS = {
 """The formats, and which module of the library writes each; the first is the usual one."""
 STATES = ("Down", "Init", "ExStart", "Exchange", "Loading", "Full")
 """Of a neighbor of `routerd` (RFC 2328, 10.1)."""
+BFD_STATES = ("AdminDown", "Down", "Init", "Up")
 PATH_TYPES = ("intra", "inter", "ext1", "ext2")
 GAUGE, COUNTER = "gauge", "counter"
 PACKETS = {
@@ -128,6 +129,17 @@ def families_of_neighbors(status: Json) -> Iterator[Family]:
     yield from (states, who, began)
 
 
+def families_of_sessions(status: Json) -> Iterator[Family]:
+    """The BFD session at each interface that has one: its state is 1, and the others 0."""
+    states = gauge("leafrunt_bfd_state", "1 at the state of the interface's BFD session.")
+    for each in status["interfaces"]:
+        if each["bfd"]:
+            labels = {"box": status["box"], "interface": each["name"]}
+            for state in BFD_STATES:
+                states.add(state == each["bfd"]["state"], **labels, state=state)
+    yield states
+
+
 def families_of_packets(status: Json) -> Iterator[Family]:
     """What was counted at the interfaces."""
     found = {name: Family(name, COUNTER, about) for name, about in PACKETS.values()}
@@ -166,6 +178,7 @@ def families_of(status: Json, table: Iterable[str], counters: Iterable[str]) -> 
     found = [
         *families_of_box(status),
         *families_of_neighbors(status),
+        *families_of_sessions(status),
         *families_of_lists(status, table, counters),
         *families_of_kernel(status),
         *families_of_packets(status),

@@ -195,6 +195,19 @@ class InThisProcess(unittest.TestCase):
         self.assertEqual(it.state, State.UP)
         self.assertEqual(it.helper._ends[1].session.variables.remote_discr, THEIRS)
 
+    def test_a_box_that_is_behind(self) -> None:
+        """A loss that couldn't be told is told later."""
+        it = OneHelper(self)
+        it.come_up()
+        with mock.patch.object(Helper, "_say", return_value=False):
+            it.neighbor.sendto(said_by_neighbor(State.DOWN), (HERE, CONTROL_PORT))
+            it.helper.turn()
+        it.told()
+        it.neighbor.sendto(said_by_neighbor(State.DOWN), (HERE, CONTROL_PORT))
+        it.helper.turn()
+        changes = [each for each in it.told() if "before" in each]
+        self.assertEqual([each["is_lost"] for each in changes], [True, False])
+
     def test_messages(self) -> None:
         key = BfdKey(3, KeyType.METICULOUS_KEYED_SHA1, b"\xffsecret")
         for settings in (Settings(), Settings(50_000, 70_000, 9, (key,))):
@@ -281,8 +294,8 @@ class AsAProcess(unittest.TestCase):
         self.assertEqual(self.lost, [])
 
     def test_a_process_that_is_killed(self) -> None:
-        """Where it ran well the next one goes on; else the neighbor is told, and nothing is lost."""
-        with mock.patch.object(bfd, "LASTS", 0.0):
+        """The next one goes on; where several are killed the neighbor is told. None is lost."""
+        with mock.patch.object(bfd, "MOST_ENDS", 2):
             mine = self.come_up()
             helper = self.sessions._helper
             assert helper
@@ -295,7 +308,8 @@ class AsAProcess(unittest.TestCase):
         helper = self.sessions._helper
         assert helper
         os.kill(helper._ran.pid, signal.SIGKILL)
-        self.until(lambda: self.sessions._helper is None)
+        with mock.patch.object(bfd, "MOST_ENDS", 2):
+            self.until(lambda: self.sessions._helper is None)
         self.assertEqual(self.state(), "AdminDown")
         while decode(self.neighbor.recv(100))[0].state != State.ADMIN_DOWN:
             pass
@@ -315,6 +329,27 @@ class AsAProcess(unittest.TestCase):
     def status_of(process: int) -> str:
         with open(f"/proc/{process}/status", encoding="ascii") as it:
             return it.read()
+
+    def test_messages_that_are_none(self) -> None:
+        """They end nothing."""
+        mine = self.come_up()
+        helper = self.sessions._helper
+        assert helper
+        for said in (
+            b"no JSON",
+            b"[]",
+            b"{}",
+            b'{"number": 1}',
+            b'{"number": 9, "discriminator": 1}',
+            b'{"started": "x", "class": ""}',
+            b'{"failed": 5}',
+            json.dumps({"number": 1, "discriminator": mine, "before": 9}).encode(),
+            json.dumps({"number": 1, "discriminator": mine, "state": 3}).encode(),
+        ):
+            with mock.patch.object(socket.socket, "recv", side_effect=[said, BlockingIOError]):
+                self.sessions._read()
+        self.assertEqual(self.state(), "Up")
+        self.assertEqual(self.lost, [])
 
     def test_a_port_that_another_has(self) -> None:
         with mock.patch.object(bfd, "hearing_socket", side_effect=OSError(98, "Address in use")):

@@ -1,0 +1,378 @@
+"""BFD between a box and BIRD or FRR: silent losses, forged packets, keys, and a process that is
+killed. See `try-network`."""
+from __future__ import annotations
+
+import json
+import math
+import os
+import re
+import signal
+import statistics
+import subprocess
+import sys
+import time
+from collections.abc import Callable
+from dataclasses import dataclass, field, replace
+
+from tests.network import (
+    COMES_UP,
+    HOST,
+    Bfd,
+    Bird,
+    Box,
+    End,
+    Frr,
+    Network,
+    Secret,
+    Side,
+    Try,
+    is_full,
+    is_said,
+    line_of,
+    output,
+    run,
+    within,
+)
+from tests.try_load import PROBE
+
+NETWORK, TARGET = "172.16.1.0/24", "172.16.1.9"
+"""What is behind 2.2.2.2."""
+TIMES = 3
+MOST = 1.2
+"""Seconds from a silent loss to the kernel's table."""
+BETWEEN_ROUTER_LSAS = 6
+"""Seconds: two of one router are five apart (RFC 2328, MinLSInterval)."""
+KEYED = Secret(7, "keyed sha1", "a secret")
+METICULOUS = Secret(7, "meticulous keyed sha1", "a secret")
+FORGED = """
+import socket, sys
+sys.path.insert(0, sys.argv[1])
+from leafrunt_host.bfd_packets import ControlPacket, State
+source, ttl = sys.argv[2], int(sys.argv[3])
+with socket.socket(socket.AF_INET, socket.SOCK_DGRAM) as one:
+    one.setsockopt(socket.IPPROTO_IP, socket.IP_TTL, ttl)
+    one.bind((source, 50000))
+    for _ in range(20):
+        one.sendto(ControlPacket(State.DOWN, 3, 99, 0, 300000, 300000).encode(), ("10.0.1.1", 3784))
+"""
+"""Sends what a neighbor would that has just been started: its session is Down."""
+WASTE = "while True: pass"
+LOAD, SECONDS_OF_LOAD = 8, 600
+
+Router = Box | Bird | Frr
+MAKES: dict[str, Callable[..., Router]] = {"BIRD": Bird, "FRR": Frr}
+
+
+def router_of(
+    kind: str, given: Try, network: Network, name: str, at: int, sides: list[Side]
+) -> Router:
+    """A box, BIRD or FRR in that namespace, 1.1.1.1 or 2.2.2.2."""
+    router_id = f"{at}.{at}.{at}.{at}"
+    if kind == "a box":
+        return Box(network, given.routerd, name, f"box{at}", router_id, sides)
+    made = MAKES[kind](network, name, router_id, sides)
+    if at == 1:
+        made.folder = network.work / "tried"
+        made.folder.mkdir()
+    return made
+
+
+class Watched:
+    """The router that is tried, 1.1.1.1, has two links with BFD to 2.2.2.2, by bridges that may
+    fall silent; the first is the better one."""
+
+    def __init__(
+        self,
+        given: Try,
+        tried: str,
+        neighbor: str,
+        key: Secret | None = None,
+        their_bfd: Bfd | None = Bfd(),
+    ) -> None:
+        self.network = network = Network()
+        self.own, self.far = network.namespace("own"), network.namespace("far")
+        self.bridges = [
+            network.bridged(
+                End(self.own, f"eth{at}", f"10.0.{at}.1/24"),
+                End(self.far, f"eth{at}", f"10.0.{at}.2/24"),
+            )
+            for at in (1, 2)
+        ]
+        network.link(End(self.far, "d0", "172.16.1.1/24"), End(self.far, "d1", "172.31.0.1/32"))
+        bfd = Bfd(key=key)
+        sides = [Side("eth1", bfd=bfd), Side("eth2", cost=20, bfd=bfd)]
+        self.tried = router_of(tried, given, network, self.own, 1, sides)
+        theirs = their_bfd and replace(their_bfd, key=their_bfd.key or key)
+        sides = [replace(each, bfd=theirs) for each in sides]
+        sides.append(Side("d0", is_passive=True))
+        self.neighbor = router_of(neighbor, given, network, self.far, 2, sides)
+
+    def start(self) -> None:
+        self.neighbor.start()
+        self.tried.start()
+
+    def by(self, number: int) -> bool:
+        """Whether the kernel sends packets to the neighbor's network by this link."""
+        return f"dev eth{number} " in output("ip", "-n", self.own, "route", "get", TARGET)
+
+    def is_adjacent(self) -> bool:
+        """Whether both ends are Full, and packets go by the better link."""
+        is_well = is_full(self.tried, "2.2.2.2") and is_full(self.neighbor, "1.1.1.1")
+        return is_well and self.by(1)
+
+    def is_up(self) -> bool:
+        """Whether all is well: both adjacencies and both sessions."""
+        return self.is_adjacent() and self.sessions() == ["Up", "Up"]
+
+    def sessions(self) -> list[str]:
+        """The states of 1.1.1.1's sessions."""
+        if isinstance(self.tried, Box):
+            interfaces = json.loads(self.tried.command("status", "--json") or "{}")["interfaces"]
+            return [each["bfd"]["state"] for each in interfaces if each["bfd"]]
+        if isinstance(self.tried, Bird):
+            lines = self.tried.says("show", "bfd", "sessions").splitlines()
+            return [each.split()[2] for each in lines if " eth" in each]
+        peers = self.tried.says("show bfd peers")
+        return [each.capitalize() for each in re.findall(r"Status: (\w+)", peers)]
+
+    def outage(self) -> float:
+        """Seconds from the first link's silence until packets go by the second."""
+        words = ["ip", "netns", "exec", self.own, sys.executable, "-c", PROBE]
+        words += [f"{time.monotonic() + 20}", TARGET]
+        probe = subprocess.Popen(words, stdout=subprocess.PIPE, text=True)
+        assert probe.stdout
+        probe.stdout.readline()
+        self.network.silence(self.bridges[0])
+        began = time.monotonic()
+        moment = float(probe.communicate()[0])
+        return moment - began if moment else math.inf
+
+    def changes(self) -> list[str]:
+        """What the box's log has of adjacencies that weren't Full any more."""
+        assert isinstance(self.tried, Box)
+        return [each for each in self.tried.log_lines() if "2.2.2.2 Full ->" in each]
+
+    def process(self) -> int:
+        """The last process of BFD's."""
+        assert isinstance(self.tried, Box)
+        return int(re.findall(r"BFD: process (\d+)", "\n".join(self.tried.log_lines()))[-1])
+
+    def close(self) -> None:
+        self.tried.stop()
+        self.neighbor.stop()
+        self.network.close()
+
+
+def with_pair(
+    given: Try,
+    act: Callable[[Watched], None],
+    neighbor: str,
+    key: Secret | None = None,
+    their_bfd: Bfd | None = Bfd(),
+) -> None:
+    """A part of a part with a box, in a network of its own."""
+    it = Watched(given, "a box", neighbor, key, their_bfd)
+    try:
+        it.start()
+        act(it)
+    finally:
+        it.close()
+
+
+def bfd(given: Try) -> None:
+    """A link falls silent: how soon the kernel's table has it, at a box and beside it at BIRD and
+    FRR; then what must cut no adjacency: wrong keys, forged packets, a process that is killed,
+    AdminDown."""
+    outages(given)
+    other = Bfd(key=Secret(7, METICULOUS.algorithm, "another secret"))
+    with_pair(given, lambda it: wrong_key(given, it), "BIRD", METICULOUS, other)
+    with_pair(given, lambda it: without(given, it), "FRR", None, None)
+    with_pair(given, lambda it: forged(given, it), "BIRD")
+    with_pair(given, lambda it: killed(given, it), "BIRD", KEYED)
+    with_pair(given, lambda it: killed(given, it), "FRR")
+    with_pair(given, lambda it: admin_down(given, it), "FRR")
+
+
+def outages(given: Try) -> None:
+    for tried, neighbor, key in (
+        ("a box", "BIRD", None),
+        ("a box", "BIRD", METICULOUS),
+        ("a box", "FRR", None),
+        ("BIRD", "BIRD", None),
+        ("FRR", "FRR", None),
+    ):
+        it = Watched(given, tried, neighbor, key)
+        try:
+            it.start()
+            told_outages(given, it, f"{tried} beside {neighbor}, {named(key)}")
+        finally:
+            it.close()
+
+
+def named(key: Secret | None) -> str:
+    return key.algorithm if key else "no key"
+
+
+def told_outages(given: Try, it: Watched, who: str) -> None:
+    looks = given.looks
+    if not looks.timed(f"{who}: Full, and both sessions Up", COMES_UP, it.is_up):
+        return
+    seconds = []
+    for _ in range(TIMES):
+        time.sleep(BETWEEN_ROUTER_LSAS)
+        seconds.append(it.outage())
+        it.network.silence(it.bridges[0], False)
+        if within(COMES_UP, it.is_up) is None:
+            looks.look(f"{who}: all is well again after a silent loss", False)
+            return
+    said = f"{statistics.median(seconds):.2f} s, {min(seconds):.2f} to {max(seconds):.2f} s"
+    what = f"{who}: a silent loss is in the kernel's table"
+    if isinstance(it.tried, Box):
+        looks.look(f"{what} within {MOST} s, {TIMES} times", max(seconds) <= MOST, said)
+    else:
+        print(f"     beside it: {what}: {said}", flush=True)
+
+
+def wrong_key(given: Try, it: Watched) -> None:
+    looks = given.looks
+    assert isinstance(it.tried, Box)
+    looks.timed("a neighbor with another key of BFD's: Full", COMES_UP, it.is_adjacent)
+    looks.timed("`leafrunt status` says why", 10, lambda: is_said(it.tried, "wrong digest"))
+    time.sleep(5)
+    states = it.sessions()
+    is_left = it.is_adjacent() and not it.changes() and states == ["Down", "Down"]
+    looks.look("it stays Full, without a session", is_left, line_of(it.tried, "wrong digest"))
+
+
+def without(given: Try, it: Watched) -> None:
+    looks = given.looks
+    looks.timed("a neighbor without BFD: Full", COMES_UP, it.is_adjacent)
+    time.sleep(10)
+    is_left = it.is_adjacent() and not it.changes() and it.sessions() == ["Down", "Down"]
+    looks.look("it stays Full, without a session", is_left)
+
+
+def forged(given: Try, it: Watched) -> None:
+    """From the neighbor's machine: what would be true of the neighbor's own address and TTL."""
+    looks = given.looks
+    looks.timed("Full, and both sessions Up", COMES_UP, it.is_up)
+    run("ip", "-n", it.far, "addr", "add", "10.0.1.9/24", "dev", "eth1")
+    for source, ttl, what in (
+        ("10.0.1.9", 255, "another source"),
+        ("10.0.1.2", 254, "TTL 254"),
+        ("10.0.1.2", 1, "TTL 1"),
+    ):
+        run("ip", "netns", "exec", it.far, sys.executable, "-c", FORGED, HOST, source, ttl)
+        time.sleep(1.5)
+        is_left = it.sessions() == ["Up", "Up"] and not it.changes()
+        looks.look(f"forged packets, {what}: they change nothing", is_left)
+    run("ip", "netns", "exec", it.far, sys.executable, "-c", FORGED, HOST, "10.0.1.2", 255)
+    looks.timed("the same with the neighbor's own address and TTL: heard", 3, it.changes, 0.05)
+
+
+def killed(given: Try, it: Watched) -> None:
+    """Twice: neither end notices it, before nor after the second."""
+    looks, who = given.looks, type(it.neighbor).__name__
+    looks.timed(f"{who}: Full, and both sessions Up", COMES_UP, it.is_up)
+    for pause in (3, 1):
+        first = it.process()
+        os.kill(first, signal.SIGKILL)
+        looks.timed("the process is killed: another runs", 10, lambda: it.process() != first)
+        time.sleep(pause)
+    is_left = it.is_up() and not it.changes() and is_full(it.neighbor, "1.1.1.1")
+    looks.look("killed twice: nothing has changed at either end", is_left)
+
+
+def admin_down(given: Try, it: Watched) -> None:
+    """FRR's `shutdown`; BIRD has nothing that sends AdminDown."""
+    looks = given.looks
+    looks.timed("Full, and both sessions Up", COMES_UP, it.is_up)
+    assert isinstance(it.neighbor, Frr)
+    words = ("configure terminal", "bfd", "peer 10.0.1.1 interface eth1", "shutdown")
+    said = [each for word in words for each in ("-c", word)]
+    output("vtysh", "--vty_socket", str(it.neighbor.folder), *said)
+    looks.timed("FRR ends a session: it's Down", 5, lambda: it.sessions() == ["Down", "Up"])
+    time.sleep(5)
+    looks.look("and the adjacency stays", it.is_adjacent() and not it.changes())
+
+
+@dataclass
+class Load:
+    """Processes that keep the machine's load at `LOAD`, beside what else runs there."""
+
+    network: Network
+    namespace: str
+    running: list[subprocess.Popen[str]] = field(default_factory=list)
+    seen: list[float] = field(default_factory=list)
+
+    def look(self) -> None:
+        """Starts or ends some."""
+        load = os.getloadavg()[0]
+        self.seen.append(load)
+        wanted = min(LOAD, max(0, math.ceil(LOAD - (load - len(self.running)))))
+        while len(self.running) > wanted:
+            self.network.stop(self.running.pop())
+        while len(self.running) < wanted:
+            words = [sys.executable, "-c", WASTE]
+            log = self.network.work / "waste"
+            self.running.append(self.network.start(self.namespace, words, log))
+
+
+class Between:
+    """A box between BIRD, 2.2.2.2, and FRR, 3.3.3.3, which have a link of their own; each of the
+    three links has BFD."""
+
+    def __init__(self, given: Try) -> None:
+        network = given.network
+        names = [network.namespace(each) for each in ("box", "bird", "frr")]
+        for number, (at, to) in enumerate(((0, 1), (0, 2), (1, 2)), 1):
+            network.link(
+                End(names[at], f"eth{number}", f"10.0.{number}.1/24"),
+                End(names[to], f"eth{number}", f"10.0.{number}.2/24"),
+            )
+        one, two, three = (Side(f"eth{number}", bfd=Bfd()) for number in (1, 2, 3))
+        self.box = Box(network, given.routerd, names[0], "box", "1.1.1.1", [one, two])
+        self.bird = Bird(network, names[1], "2.2.2.2", [one, three])
+        self.frr = Frr(network, names[2], "3.3.3.3", [two, three])
+        self.load = Load(network, names[0])
+
+    def start(self) -> None:
+        for each in (self.box, self.bird, self.frr):
+            each.start()
+
+    def reports(self) -> list[dict[str, object]]:
+        interfaces = json.loads(self.box.command("status", "--json") or "{}")["interfaces"]
+        return [each["bfd"] for each in interfaces if each["bfd"]]
+
+    def is_up(self) -> bool:
+        states = [each["state"] for each in self.reports()]
+        return states == ["Up", "Up"] and len(self.of_bird()) == 2
+
+    def of_bird(self) -> list[str]:
+        """BIRD's sessions that are Up, each with its interface and since when."""
+        lines = self.bird.says("show", "bfd", "sessions").splitlines()
+        return [" ".join(each.split()[1:4]) for each in lines if " Up " in each]
+
+    def stop(self) -> None:
+        for each in (self.box, self.bird, self.frr):
+            each.stop()
+
+
+def bfd_load(given: Try) -> None:
+    """Ten minutes at a load of 8: no session of a box falls; beside it one of BIRD's with FRR."""
+    it, looks = Between(given), given.looks
+    it.start()
+    looks.timed("all sessions are Up", COMES_UP, it.is_up)
+    time.sleep(5)
+    before, end = it.of_bird(), time.monotonic() + SECONDS_OF_LOAD
+    while time.monotonic() < end:
+        it.load.look()
+        time.sleep(10)
+    fallen = [each for each in it.box.log_lines() if "Up -> Down" in each]
+    late = max(each["late_seconds"] for each in it.reports()) * 1000  # type: ignore[type-var]
+    said = f"mean load {statistics.mean(it.load.seen):.1f}, {late:.1f} ms late at most; "
+    what = f"{SECONDS_OF_LOAD} s: no session of the box's falls"
+    looks.look(what, not fallen and it.is_up(), said + "; ".join(fallen))
+    is_same = it.of_bird() == before
+    print(f"     beside it: BIRD's sessions stay Up: {'yes' if is_same else 'no'}", flush=True)
+    it.stop()
