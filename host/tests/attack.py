@@ -7,8 +7,9 @@ attack.py squat NAME..
 
 KIND is what is sent, so many a second and so long: `hello` (2.2.2.2 names 1.1.1.1), `silent` (it
 names nobody), `update` (its AS-external-LSA of 66.66.66.0/24), `hellos` (of made-up Router IDs),
-`digests` (2.2.2.2's, with key 5 and digests of HMAC-SHA-256 that are wrong). A DESTINATION of
-224.0.0.5 is sent to by eth1. Prints how many were sent.
+`digests` (2.2.2.2's, with key 5 and digests of HMAC-SHA-256 that are wrong), `faults` (those by
+which other routers once broke: faults.py). A DESTINATION of 224.0.0.5 is sent to by eth1. Prints how
+many were sent.
 
 `udp` sends the same LSA, as the user nobody, to every UDP port of 127.0.0.1 that the kernel lists,
 and prints how many there are. `squat` binds abstract unix sockets of these names as nobody, prints
@@ -31,6 +32,7 @@ sys.path.insert(0, str(Path(__file__).resolve().parents[1]))
 from leafrunt_host.authentication import Algorithm, Key, sign  # noqa: E402
 from leafrunt_host.inbox import LOOPBACK  # noqa: E402
 from leafrunt_host.packets import Hello, Packet, PacketType  # noqa: E402
+from tests.faults import FAULTS  # noqa: E402
 from tests.test_topology import lsa  # noqa: E402
 
 NOBODY = IPv4Address(0)
@@ -45,6 +47,8 @@ TICK = 0.002
 
 def packets(kind: str) -> list[bytes]:
     """What is sent, one after the other, again and again."""
+    if kind == "faults":
+        return [each for make in FAULTS.values() for each in make()]
     heard = replace(SILENT, neighbors=(OWN,))
     hello = Packet(PacketType.HELLO, NEIGHBOR, NOBODY, heard.encode())
     if kind == "hello":

@@ -155,7 +155,7 @@ def users(given: Try) -> None:
     said = run("ip", "netns", "exec", it.own, *attack, "udp").strip()
     reached = within(3, lambda: FORGED in it.routes())
     looks.look("nobody sends to each UDP port: no route comes of it", reached is None, said)
-    routerd = int(re.findall(r"routerd is process (\d+)", it.tried.status())[0])
+    routerd = routerd_of(it.tried)
     status = Path(f"/proc/{routerd}/status").read_text(encoding="ascii")
     number = int(re.findall(r"Uid:\t(\d+)", status)[0])
     is_poor = re.search(r"CapEff:\t0+\n", status) and "NoNewPrivs:\t1" in status
@@ -191,6 +191,37 @@ def flooded(
     else:
         print(f"     beside it: {said}: {'yes' if is_up else 'no'}: {sent}")
     it.stop()
+
+
+def faults(given: Try) -> None:
+    """Packets by which FRR and BIRD once broke (faults.py), in the neighbor's name."""
+    it, looks = Pair(given), given.looks
+    it.start()
+    looks.timed("a box and its neighbor: Full", COMES_UP, it.is_up)
+    looks.timed("with the neighbor's routes", 20, lambda: EXTERNAL in it.routes())
+    before = routerd_of(it.tried)
+    attack = it.attack("faults", it.next, "224.0.0.5", 12, 250)
+    sent = attack.communicate()[0].strip()
+    it.network.stop(attack)
+    is_there = before is not None and routerd_of(it.tried) == before
+    looks.look("packets by which other routers broke: both programs run on", is_there, sent)
+    lines = it.tried.log_lines() if isinstance(it.tried, Box) else []
+    mistakes = [each for each in lines if "mistake" in each or " error: " in each]
+    looks.look("no mistake is logged", not mistakes, "; ".join(mistakes[:2]))
+    looks.timed("Full again", 2 * COMES_UP, it.is_up)
+    # (what was sent in the neighbor's name it hears of, and sets right, in a new exchange alone)
+    for state in ("down", "up"):
+        run("ip", "-n", it.next, "link", "set", "eth1", state)
+        within(20, lambda: not it.is_up() or state == "up")
+    looks.timed("the link was lost and is back: Full", 2 * COMES_UP, it.is_up)
+    looks.timed("with the neighbor's routes again", 60, lambda: EXTERNAL in it.routes())
+    it.stop()
+
+
+def routerd_of(router: Box | Bird) -> int | None:
+    """The process of a box's `routerd`, as `status` says it."""
+    found = re.findall(r"routerd is process (\d+)", router.status() if isinstance(router, Box) else "")
+    return int(found[0]) if found else None
 
 
 def comeback(given: Try) -> None:

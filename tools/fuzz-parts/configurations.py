@@ -18,9 +18,25 @@ ROUTER, BOX, KEYS = range(3)
 SECONDS = 20.0
 FIRST = "router 1.1.1.1\n"
 LINE = "interface {0} 10.0.{0}.1/24 cost 10 hello 10 dead 40 rxmt 5 delay 1 port {1} peer {2}\n"
+BFD = """[interface.bfd]
+transmit_interval = 300
+receive_interval = 50
+detect_multiplier = 3
+"""
+REDISTRIBUTED = """[redistribute.connected]
+deny = ["10.0.0.0/8 ge 9 le 32"]
+[redistribute.kernel]
+protocols = ["dhcp", "77"]
+metric = 100
+[redistribute.default]
+always = true
+"""
+SECOND = '[[interface]]\nname = "eth2"\n'
+WHOLE = (files.WHOLE.replace(SECOND, BFD + SECOND) + REDISTRIBUTED).encode()
 WORDS = b'router_id isolated user routerd kernel interface announce program name address cost peer keys "eth1" "eth2" "lo" "10.0.9.1/30" '
 WORDS += b"true false 0 1 -1 65535 65536 4294967296 1e9 inf nan 2027-01-01T00:00:00Z 99999-01-01 [[interface]] [[announce]] [[program]] [new] "
 WORDS += b'"" "\\u0000" \'\'\' """ { } [ ] = . , # \xff \xe2\x82\xac "keyed md5" "hmac sha512" "veto.o" "/dev/zero" "."'
+WORDS += b'[redistribute.static] allow log_level "debug" "10.0.0.0/8" "0.0.0.0/0 ge 33" bfd "bgp" 255 256 9999 10000 10001 '
 OF_ROUTER = b"router interface cost hello dead rxmt delay port peer 0 1 63 64 65535 65536 00 +1 -1 0.0.0.0 255.255.255.255/32 10.0.1.1/33 1.1.1 \t \r"
 
 
@@ -46,12 +62,12 @@ class Configurations(Family):
     def inputs(self, rng: random.Random) -> Iterator[bytes]:
         while True:
             kind = rng.randrange(3)
-            data = (text_of_router(rng), files.WHOLE.encode(), files.KEYS.encode())[kind]
+            data = (text_of_router(rng), WHOLE, files.KEYS.encode())[kind]
             words = (OF_ROUTER if kind == ROUTER else WORDS).split()
             for _ in range(rng.choice((0, 1, 1, 2, 2, 3))):
                 data = with_words(rng, data, words) if rng.random() < 0.7 else changed(rng, data)
             if rng.random() < 0.1:
-                data = spliced(rng, data, files.WHOLE.encode())
+                data = spliced(rng, data, WHOLE)
             yield bytes([kind]) + data
 
     def begin(self) -> None:
@@ -79,7 +95,7 @@ class Configurations(Family):
             self.read(data[1:])
         else:
             self.write("keys.toml", data[1:], 0o600)
-            self.read(files.WHOLE.encode())
+            self.read(WHOLE)
         self.errors.check()
 
     def read(self, data: bytes) -> None:
