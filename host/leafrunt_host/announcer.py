@@ -8,6 +8,7 @@ import threading
 import time
 
 from leafrunt_host.announcements import TRIED_AGAIN, Announcements
+from leafrunt_host.destinations import Owner
 from leafrunt_host.journal import where_it_failed
 from leafrunt_host.keeper import SECONDS_TO_STOP, Waker
 from leafrunt_host.redistributor import Redistributor
@@ -29,13 +30,20 @@ class Announcer:
         self, announcements: Announcements, redistributor: Redistributor | None = None
     ) -> None:
         self._announcements, self._waker = announcements, Waker()
-        self._redistributor = redistributor
+        self._redistributor = self._next = redistributor
         self._ending = threading.Event()
         self._thread = threading.Thread(target=self._announce, name="announcer", daemon=True)
         announcements.changed = self._waker.wake
 
     def start(self) -> None:
         self._thread.start()
+
+    def redistribute(self, redistributor: Redistributor | None) -> None:
+        """From now on what this one finds is announced; None: nothing is redistributed."""
+        before, self._next = self._next, redistributor
+        if before is not self._redistributor and before:
+            before.close()
+        self._waker.wake()
 
     def stop(self) -> None:
         """Ends it; one that waits for an answer is left behind."""
@@ -47,15 +55,16 @@ class Announcer:
             self._redistributor.close()
 
     def _announce(self) -> None:
-        waiting = select.poll()
-        for each in filter(None, (self._waker, self._redistributor)):
-            waiting.register(each.fileno(), select.POLLIN)
+        waiting = self._waits()
         pause: float | None = 0.0
         while True:
             waiting.poll(None if pause is None else pause * 1000)
             if self._ending.wait(TOGETHER):
                 return
             self._waker.clear()
+            if self._next is not self._redistributor:
+                self._change()
+                waiting = self._waits()
             began = time.thread_time()
             try:
                 pause = self._turn()
@@ -66,6 +75,20 @@ class Announcer:
                 pause = TRIED_AGAIN
             if self._ending.wait(REST * (time.thread_time() - began)):
                 return
+
+    def _waits(self) -> select.poll:
+        waiting = select.poll()
+        for each in filter(None, (self._waker, self._redistributor)):
+            waiting.register(each.fileno(), select.POLLIN)
+        return waiting
+
+    def _change(self) -> None:
+        before, self._redistributor = self._redistributor, self._next
+        self._announcements.trouble = ""
+        if before:
+            before.close()
+        if self._redistributor is None:
+            self._announcements.take({each: () for each in Owner if each.is_redistributed})
 
     def _turn(self) -> float | None:
         """Brings what changed; after how many seconds there is something to do without a change."""

@@ -237,6 +237,15 @@ class Sessions:
                 self._held[number] = Held(neighbor)
                 self._add(number)
 
+    def take_over(self, settings: dict[int, Settings]) -> None:
+        """Sessions of interfaces that ask for it no longer, or otherwise, end; `follow` begins them
+        anew. All others go on."""
+        with self._lock:
+            for number in list(self._held):
+                if self.settings.get(number) != settings.get(number):
+                    self._remove(number)
+            self.settings = settings
+
     def _add(self, number: int) -> None:
         """Gives a session to the process: one that has its sockets goes on."""
         held, helper = self._held[number], self._helper

@@ -7,11 +7,9 @@ from pathlib import Path
 
 from leafrunt_host.configuration import BOX_NAME
 from leafrunt_host.rooms import LONGEST_SOCKET_PATH, running, socket_path
-from leafrunt_host.statuses import Status, Stopped
+from leafrunt_host.statuses import FAILED, REFUSED, Status, Stopped
 from leafrunt_host.tables import shown
 
-REFUSED = "refused: "
-"""What the answer begins with where the box can't do what a line of its own asks for."""
 LONGEST_ANSWER = 64 << 20
 """Bytes: a table of 16,384 routes has one."""
 SECONDS_TO_ANSWER = 150.0
@@ -125,9 +123,10 @@ def connected(path: Path, box: str) -> socket.socket:
 
 def own_answer(answer: list[str]) -> list[str]:
     """The lines of a word of the box's own, without the `end` of a list; `Stopped` where it was
-    refused."""
-    if answer and answer[0].startswith(REFUSED):
-        raise Stopped(answer[0].removeprefix(REFUSED), Status.REFUSED)
+    refused, or failed."""
+    for word, status in ((REFUSED, Status.REFUSED), (FAILED, Status.FAILED)):
+        if answer and answer[0].startswith(word):
+            raise Stopped("\n".join(each.removeprefix(word) for each in answer), status)
     return answer[:-1] if answer and answer[-1] == "end" else answer
 
 

@@ -43,6 +43,7 @@ EXAMPLES = {
     "metrics": "leafrunt metrics\n  leafrunt metrics --format prometheus | sponge /var/lib/prometheus/node-exporter/leafrunt.prom",
     "map": "leafrunt map | dot -Tsvg >area.svg\n  leafrunt map --to 203.0.113.0/24 | dot -Tsvg >way.svg",
     "check": "leafrunt check /etc/leafrunt/one.toml",
+    "reload": "leafrunt reload\n  systemctl reload leafrunt@one",
     "down": "leafrunt down --box one",
 }
 TITLES = {
@@ -59,6 +60,7 @@ TITLES = {
     "metrics": "print what a box is doing as OpenMetrics text, for Prometheus (needs python3-prometheus-client)",
     "map": "print the area as a Graphviz graph, for `dot`",
     "check": "say what is wrong with a configuration, and start nothing",
+    "reload": "take a changed configuration over in a box that runs; where it is wrong, nothing changes",
     "down": "end a box in order, and wait until it has ended",
 }
 
@@ -141,14 +143,18 @@ def parser() -> argparse.ArgumentParser:
 
 def up(words: argparse.Namespace) -> Status:
     log = start_log(words.log_level or "info")
-    configuration = read_configuration(words.config, kernel_interfaces())
-    if words.log_level:
-        configuration = replace(configuration, log_level=words.log_level)
+
+    def read_again(path: Path) -> Configuration:
+        read = read_configuration(path, kernel_interfaces())
+        return replace(read, log_level=words.log_level) if words.log_level else read
+
+    configuration = read_again(words.config)
     run, state = words.run_directory.absolute(), words.state_directory.absolute()
     return Box(
         configuration,
         Room(configuration.name, run / configuration.name, state / configuration.name),
         log,
+        read_again,
     ).run()
 
 
@@ -201,6 +207,11 @@ def talk(words: argparse.Namespace) -> Status:
         return console.run(client, words.lines)
 
 
+def reload(words: argparse.Namespace) -> Status:
+    with client_of(words) as client:
+        return say(own_answer(client.ask("reload")))
+
+
 def down(words: argparse.Namespace) -> Status:
     with client_of(words) as client:
         own_answer(client.ask("down"))
@@ -216,6 +227,7 @@ COMMANDS = {
     "metrics": metrics,
     "map": area_map,
     "check": check,
+    "reload": reload,
     "down": down,
 }
 

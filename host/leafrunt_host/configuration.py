@@ -11,6 +11,7 @@ import stat
 import subprocess
 from collections.abc import Callable, Mapping
 from dataclasses import dataclass, field
+from hashlib import sha256
 from ipaddress import IPv4Address, IPv4Interface, IPv4Network
 from pathlib import Path
 from typing import Any
@@ -69,10 +70,11 @@ class InterfaceSettings:
 
 @dataclass(frozen=True)
 class Program:
-    """An object file, to be attached at its hook."""
+    """An object file, to be attached at its hook, and what it had when it was checked."""
 
     object: Path
     hook: str
+    digest: str = ""
 
 
 @dataclass(frozen=True)
@@ -613,7 +615,7 @@ class _Reader:
         if found:
             table.note("object", f"{shown(text)}: {found}", allowed)
             return None
-        return Program(path, hook)
+        return Program(path, hook, digest_of(path))
 
 
 def interface_title(at: int, items: dict[str, Any]) -> str:
@@ -677,3 +679,13 @@ def object_hook(path: Path) -> tuple[str, str]:
     if status.st_mode & stat.S_IWOTH:
         return f"others can change it (mode {mode_of(status)})", ""
     return "", HOOKS[head[5] - 1]
+
+
+def digest_of(path: Path) -> str:
+    """What tells one object from another of the same path; of a file that can't be read the same
+    as of an empty one."""
+    try:
+        with open(os.open(path, os.O_RDONLY | os.O_NONBLOCK | os.O_CLOEXEC), "rb") as it:
+            return sha256(it.read(LONGEST_OBJECT)).hexdigest()
+    except OSError:
+        return sha256().hexdigest()

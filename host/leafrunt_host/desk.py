@@ -20,7 +20,7 @@ from leafrunt_host.kernel import KernelRoute, kernel_route
 from leafrunt_host.router import Router, RouterGone
 from leafrunt_host.server import Answer, Asked
 from leafrunt_host.status import Known, neighbors_of, status_lines, status_of
-from leafrunt_host.statuses import Stopped
+from leafrunt_host.statuses import FAILED, REFUSED, Status, Stopped
 from leafrunt_host.topology import Topology, database_lines, whole_lines
 
 log = logging.getLogger("leafrunt.console")
@@ -52,6 +52,9 @@ class Desk:
         self._topology, self._log, self._end = topology, log, end
         self._changing = threading.Lock()
         self._capture: Capture | None = None
+        self.reload: Callable[[], list[str]] = lambda: []
+        """Takes the configuration over as it is now, and says what it did; `Stopped` where it is
+        left as it was."""
         self._own: dict[str, Callable[[str], list[str]]] = {
             "status": self._status,
             "interfaces": self._interfaces,
@@ -70,6 +73,8 @@ class Desk:
                 return Answer([*self._own[word](rest), "end"])
             if word == "capture":
                 return Answer([self._captured(rest, asked)])
+            if asked.line == "reload":
+                return Answer(self._reloaded())
             if asked.line == "down":
                 self._end()
                 return Answer(["ending"], stays=True)
@@ -83,9 +88,17 @@ class Desk:
             log.error("console: %.80r: %s", asked.line, where_it_failed(error))
             return Answer([f"refused: {where_it_failed(error)}"])
 
-    def passed_on(self, line: str) -> list[str]:
+    def _reloaded(self) -> list[str]:
+        """A line for each thing that was done, or for each that is wrong."""
+        try:
+            return [*self.reload(), "end"]
+        except Stopped as why:
+            word = REFUSED if why.status == Status.REFUSED else FAILED
+            return [f"{word}{each}" for each in str(why).splitlines()]
+
+    def passed_on(self, line: str, is_by_hand: bool = True) -> list[str]:
         """`routerd`'s answer, as it is. What it changes is noted, in the order in which `routerd`
-        was asked."""
+        was asked, and whether somebody at a console did it."""
         word = line.partition(" ")[0]
         if word == "quit":
             return ["unknown"]
@@ -95,19 +108,22 @@ class Desk:
             return self._router.ask(line)
         with self._changing:
             answer = self._router.ask(line)
-            self._note(line, answer[0])
+            self._note(line, answer[0], is_by_hand)
             return answer
 
-    def _note(self, line: str, answer: str) -> None:
+    def _note(self, line: str, answer: str, is_by_hand: bool) -> None:
         attached = ATTACHED.fullmatch(answer)
         if attached:
             path = line.partition(" ")[2]
             self._known.programs = {**self._known.programs, attached[1]: (path, int(attached[2]))}
+            others = self._known.by_hand - {attached[1]}
+            self._known.by_hand = others | ({attached[1]} if is_by_hand else set())
         if answer.startswith("detached "):
             hook = answer.partition(" ")[2]
             self._known.programs = {
                 each: said for each, said in self._known.programs.items() if each != hook
             }
+            self._known.by_hand -= {hook}
 
     # -- words of the box's own
 

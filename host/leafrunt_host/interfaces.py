@@ -4,8 +4,13 @@ from __future__ import annotations
 
 from dataclasses import dataclass
 from ipaddress import IPv4Address
+from pathlib import Path
 
 from leafrunt_host.rtnetlink import OF_LINKS, Kernel, News, Notices
+
+MEMBERSHIPS = Path("/proc/net/igmp")
+ALL_SPF_ROUTERS_LISTED = ("050000E0", "E0000005")
+"""224.0.0.5 there, by the order of this machine's bytes."""
 
 
 @dataclass(frozen=True)
@@ -50,3 +55,21 @@ class Interfaces:
     def close(self) -> None:
         self._notices.close()
         self._kernel.close()
+
+
+def group_members(listed: Path = MEMBERSHIPS) -> set[int] | None:
+    """The indexes of the interfaces that are members of AllSPFRouters (proc(5)); None where the
+    kernel doesn't say it. A membership ends with its interface, and isn't there again where the
+    interface comes back with its old index."""
+    try:
+        lines = listed.read_text(encoding="utf-8", errors="replace").splitlines()
+    except OSError:
+        return None
+    found, index = set(), 0
+    for line in lines:
+        words = line.split()
+        if line[:1].isdigit():
+            index = int(words[0])
+        elif index and words and words[0] in ALL_SPF_ROUTERS_LISTED:
+            found.add(index)
+    return found

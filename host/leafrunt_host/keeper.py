@@ -21,6 +21,7 @@ from leafrunt_host.packets import HELLO, Packet, PacketType
 from leafrunt_host.router import Router, RouterGone
 from leafrunt_host.status import Kept, Known, neighbors_of, originated
 from leafrunt_host.statuses import Stopped
+from leafrunt_host.work_queue import WorkQueue
 
 log = logging.getLogger("leafrunt.box")
 ENDLESS = float("inf")
@@ -116,6 +117,7 @@ class Keeper:
         self._known, self._router = known, router
         self._give_up, self._short_since = give_up, ENDLESS
         self._kernel, self._waker = kernel, waker
+        self._work = WorkQueue()
         self._ending = threading.Event()
         self._thread = threading.Thread(target=self._keep, name="keeper", daemon=True)
         self._pace = Pace(time.monotonic())
@@ -125,6 +127,11 @@ class Keeper:
         self._announced: object = None
         self._said: str | None = None
         self._clock = Clock()
+
+    @property
+    def kernel(self) -> KernelTable | None:
+        """The table that is kept equal."""
+        return self._kernel
 
     def start(self) -> None:
         self._thread.start()
@@ -138,25 +145,48 @@ class Keeper:
         if self._thread.is_alive():
             log.warning("the look at the kernel's table doesn't end: the box ends without it")
 
+    def keep(self, kernel: KernelTable | None) -> KernelTable | None:
+        """From now on this is the kernel's table that is kept equal; the one that was before, which
+        nobody changes any more."""
+
+        def change() -> KernelTable | None:
+            before, self._kernel = self._kernel, kernel
+            self._known.kept, self._said = Kept(), None
+            self._pace.woken(time.monotonic())
+            return before
+
+        return self._work.do(change)
+
     def _keep(self) -> None:
-        waiting = select.poll()
-        for each in filter(None, (self._waker, self._kernel)):
+        try:
+            while not self._ending.is_set() and self._kept_on():
+                pass
+        finally:
+            self._work.close()
+
+    def _kept_on(self) -> bool:
+        """Keeps one kernel's table, or none, until it is to be another; whether there is something
+        to keep still."""
+        waiting, kernel = select.poll(), self._kernel
+        for each in filter(None, (self._waker, self._work, kernel)):
             waiting.register(each.fileno(), select.POLLIN)
         looked = 0.0
-        while not self._ending.is_set():
+        while not self._ending.is_set() and self._kernel is kernel:
             now = time.monotonic()
             until = min(self._pace.due if self._kernel else now + EACH, looked + EACH)
             if waiting.poll(max(0.0, until - now) * 1000) and not self._ending.is_set():
                 self._waker.clear()
+                self._work.run()
                 if self._kernel:
                     self._kernel.notice()
                 self._pace.woken(time.monotonic())
                 self._ending.wait(AFTER[0])
             if self._ending.is_set():
-                return
+                break
             looked = time.monotonic()
             if not self._looked(looked):
-                return
+                return False
+        return True
 
     def _looked(self, now: float) -> bool:
         """Looks once; whether there is something to look at still."""
@@ -204,17 +234,18 @@ class Keeper:
             return False
         self._neighbors = neighbors
         known.neighbors = neighbors_of(neighbors)
-        names = {number: link.interface.name for number, link in known.links.items()}
+        names = {at: each.name for at, each in enumerate(known.configuration.interfaces, 1)}
+        names |= {number: link.interface.name for number, link in known.links.items()}
         for line in known.adjacencies.look(neighbors, names, now):
             log.info("%s", line)
         return True
 
     def _follow_sessions(self, sessions: Sessions) -> None:
         """Says which neighbors there are, to those that BFD watches."""
-        for number in sessions.settings:
-            neighbor, link = self._known.neighbors.get(number), self._known.links[number]
-            address = link.next_hop(neighbor.router_id) if neighbor else None
-            who = BfdNeighbor(address, link.index) if address else None
+        for number in list(sessions.settings):
+            neighbor, link = self._known.neighbors.get(number), self._known.links.get(number)
+            address = link.next_hop(neighbor.router_id) if neighbor and link else None
+            who = BfdNeighbor(address, link.index) if address and link else None
             state = neighbor.state if neighbor else "Down"
             sessions.follow(number, who, state in TWO_WAY)
             if state != "Full":

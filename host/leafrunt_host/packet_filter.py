@@ -21,10 +21,12 @@ from ipaddress import IPv4Address, IPv4Network
 from typing import NamedTuple
 
 from leafrunt_host.authentication import Refusal, Refused
-from leafrunt_host.packets import IP_HEADER_LENGTH, VERSION, AuType
+from leafrunt_host.packets import IP_HEADER_LENGTH, VERSION, AuType, checksum
 
 OSPF = 89
+INTERNETWORK_CONTROL = 0xC0
 ALL_SPF_ROUTERS = IPv4Address("224.0.0.5")
+LONGEST_PACKET = 65_535
 IP_HEADER = struct.Struct(">B8xB2xII")
 """Of an IPv4 header (RFC 791, 3.1): version and length, protocol, source, destination."""
 
@@ -111,6 +113,25 @@ def arrived(packet: bytes) -> Arrived | None:
     if not is_whole or protocol != OSPF:
         return None
     return Arrived(source, destination, packet[header:])
+
+
+def ip_packet(source: IPv4Address, payload: bytes) -> bytes:
+    """An OSPF packet to AllSPFRouters with the IP header that the kernel gives it (RFC 2328,
+    A.1), for a file of packets; its identification is 0, and it isn't cut into fragments."""
+    header = struct.pack(
+        ">BBHHHBBH4s4s",
+        0x45,
+        INTERNETWORK_CONTROL,
+        min(IP_HEADER_LENGTH + len(payload), LONGEST_PACKET),
+        0,
+        0,
+        1,
+        OSPF,
+        0,
+        source.packed,
+        ALL_SPF_ROUTERS.packed,
+    )
+    return header[:10] + checksum(header).to_bytes(2, "big") + header[12:] + payload
 
 
 @dataclass(frozen=True)

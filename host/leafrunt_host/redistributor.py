@@ -10,6 +10,7 @@ import socket
 from collections.abc import Iterable, Iterator
 
 from leafrunt_host.destinations import Announcement, Owner
+from leafrunt_host.kernel_settings import KernelSettings
 from leafrunt_host.packet_filter import NONE, Bpf, Compare, Step, assembled
 from leafrunt_host.redistribution import PROTOCOL, Redistribution
 from leafrunt_host.rtnetlink import (
@@ -33,6 +34,7 @@ from leafrunt_host.rtnetlink import (
     swapped,
 )
 from leafrunt_host.sockets import attach, resize
+from leafrunt_host.statuses import Stopped
 
 ROOM = 64 << 10
 """Bytes of notices that may wait: what they say is read from the kernel's lists."""
@@ -215,3 +217,16 @@ def is_live(route: Route, links: dict[int, Link], next_hops: dict[int, NextHop])
         members = [next_hops[each] for each in it.members if each in next_hops] or [it]
         ways = {each.index for each in members}
     return any(index in links and links[index].is_up for index in ways)
+
+
+def redistributor_of(
+    redistribution: Redistribution, table: KernelSettings
+) -> Redistributor | None:
+    """What follows the kernel for what is redistributed; None where nothing is. `Stopped` where the
+    kernel can't be asked."""
+    if not redistribution:
+        return None
+    try:
+        return Redistributor(redistribution, table.table, table.vrf)
+    except CannotAsk as error:
+        raise Stopped(str(error)) from error

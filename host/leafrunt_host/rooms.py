@@ -87,7 +87,7 @@ class Room:
     run: Path
     state: Path
     _lock: TextIO | None = None
-    _claims: list[TextIO] = field(default_factory=list)
+    _claims: dict[str, TextIO] = field(default_factory=dict)
     _lent: Path | None = None
     _has_state: bool = True
 
@@ -184,25 +184,36 @@ class Room:
         """Claims interfaces and the kernel's table for this box, in this network namespace: two
         boxes that share one would undo each other's work. A claim is a locked file, in a folder
         that its owner alone may use, so nobody else can claim anything. Root shares that of boxes
-        that run as another."""
+        that run as another. Where one can't be had, none is; those of before stay."""
         folder = self.run.parent / CLAIMS
         own_folder(folder, may_be_anyones=os.geteuid() == 0)
         namespace = os.stat(NAMESPACE).st_ino
-        for name in names:
+        new = [each for each in names if each not in self._claims]
+        for name in new:
             path = folder / f"{namespace} {name}"
             claim, holder = locked(path, f"{self.name} (process {os.getpid()})\n")
             if claim is None:
+                self.give_back(new)
                 who = f"the box {holder}" if holder else "another box"
                 raise Stopped(f"{who} has the {name} in this network namespace", Status.REFUSED)
-            self._claims.append(claim)
+            self._claims[name] = claim
+
+    def give_back(self, names: Iterable[str]) -> None:
+        """Claims these no longer."""
+        for each in names:
+            claim = self._claims.pop(each, None)
+            if claim:
+                os.truncate(claim.fileno(), 0)
+                claim.close()
+
+    @property
+    def claimed(self) -> frozenset[str]:
+        return frozenset(self._claims)
 
     def leave(self) -> None:
         """Removes what nobody needs any more, and gives the name back. The state's folder stays,
         for the next start."""
-        for claim in self._claims:
-            os.truncate(claim.fileno(), 0)
-            claim.close()
-        self._claims.clear()
+        self.give_back(list(self._claims))
         if self._lock is None:
             return
         self.socket.unlink(missing_ok=True)

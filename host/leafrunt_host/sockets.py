@@ -7,10 +7,15 @@ from array import array
 from ipaddress import IPv4Interface
 from typing import Protocol
 
-from leafrunt_host.packet_filter import ALL_SPF_ROUTERS, OSPF, Bpf, Queue
+from leafrunt_host.packet_filter import (
+    ALL_SPF_ROUTERS,
+    INTERNETWORK_CONTROL,
+    OSPF,
+    Bpf,
+    Queue,
+)
 
 LOOPBACK = "127.0.0.1"
-INTERNETWORK_CONTROL = 0xC0
 RECEIVE_BUFFER = 4 << 20
 RECEIVE_BUFFERS = {Queue.NEIGHBOR: RECEIVE_BUFFER, Queue.OTHERS: 512 << 10, Queue.STRAYS: 32 << 10}
 """Room for what comes while this process waits for a processor; little for what may be dropped."""

@@ -70,6 +70,8 @@ class Known:
     """The destinations that `routerd` has taken."""
     programs: dict[str, tuple[str, int]] = field(default_factory=dict)
     """By hook the object file and the bound."""
+    by_hand: frozenset[str] = frozenset()
+    """The hooks of those that were attached at the console."""
     kept: Kept = field(default_factory=Kept)
     stopped: tuple[str, ...] = ()
     """Interfaces that `routerd` serves no longer."""
@@ -81,6 +83,11 @@ class Known:
     """BFD's, where an interface asks for it."""
     looked: float | None = None
     """When the keeper's last look ended, by the clock that nobody sets."""
+
+    def told(self, line: str) -> None:
+        """A line of `routerd` on its standard error."""
+        if "stopped" in line:
+            self.stopped = (*self.stopped, line)
 
     def publish(
         self, announced: dict[IPv4Network, Announced], not_announced: tuple[str, ...]

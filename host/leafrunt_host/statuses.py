@@ -14,6 +14,10 @@ class Status(IntEnum):
     """A file, a socket, a program or a stream failed."""
     MEMORY = 4
 
+REFUSED, FAILED = "refused: ", "failed: "
+"""What each line of a box's answer begins with where it can't do what it is asked: as it may not be
+done, or as something else failed."""
+
 
 class Stopped(Exception):
     """A command can't go on: what is told, as whole sentences or lines, and the status."""

@@ -23,4 +23,5 @@ if __name__ == "__main__":
         print(why, file=sys.stderr)
         sys.exit(why.status)
     run, state = Path(sys.argv[2]) / configuration.name, Path(sys.argv[3]) / configuration.name
-    sys.exit(Box(configuration, Room(configuration.name, run, state), log).run())
+    room = Room(configuration.name, run, state)
+    sys.exit(Box(configuration, room, log, lambda path: read_configuration(path, KERNEL)).run())

@@ -24,7 +24,7 @@ from unittest import mock
 from leafrunt_host.box import SIGNALS, Box
 from leafrunt_host.client import Client
 from leafrunt_host.commands import main
-from leafrunt_host.configuration import read_configuration
+from leafrunt_host.configuration import Configuration, read_configuration
 from leafrunt_host.console import completions
 from leafrunt_host import rtnetlink
 from leafrunt_host.forwarding import Hop, KernelTable
@@ -45,6 +45,10 @@ LEAFRUNT = HERE.parent / "leafrunt"
 TEXT = 'router_id = "{}"\nrouterd = "routerd"\nkernel = false\nisolated = false\n[[interface]]\nname = "lan0"\npassive = true\n'
 MANY = 3
 NOBODY = 65534
+
+
+def read(path: Path) -> Configuration:
+    return read_configuration(path, KERNEL)
 
 
 def errors_of(box: subprocess.Popen[str]) -> IO[str]:
@@ -468,11 +472,11 @@ class Ends(Boxes):
             self.assertFalse(is_running(pid))
 
     def test_sighup(self) -> None:
-        """To a daemon it means that the configuration is to be read again: a box can't, says so,
-        and goes on. One in a terminal ends with it."""
+        """To a daemon it means that the configuration is to be read again. A box in a terminal ends
+        with it."""
         box = self.up()
         box.send_signal(signal.SIGHUP)
-        said = "SIGHUP: a box that runs doesn't read its configuration again"
+        said = "info: nothing differs"
         self.assertTrue(within(30, lambda: said in " ".join(self.client().ask("log"))))
         self.assertEqual(self.leafrunt("down")[0], 0)
         self.assertEqual(self.ended(box)[0], 0)
@@ -603,7 +607,7 @@ class Starts(Boxes):
         handlers = {number: signal.getsignal(number) for number in SIGNALS}
         try:
             with self.assertLogs("leafrunt") as logged:
-                status = Box(read_configuration(path, KERNEL), room, KeptLog()).run()
+                status = Box(read(path), room, KeptLog(), read).run()
         finally:
             for number, handler in handlers.items():
                 signal.signal(number, handler)
@@ -626,7 +630,7 @@ class Starts(Boxes):
         path = self.folder / "one.toml"
         path.write_text(TEXT.format("1.1.1.1").replace("kernel = false\n", ""))
         room = Room("one", self.run_folder / "one", self.state / "one")
-        box = Box(read_configuration(path, KERNEL), room, KeptLog())
+        box = Box(read(path), room, KeptLog(), read)
         said: list[str] = []
 
         def look_and_end() -> None:

@@ -10,7 +10,7 @@ from unittest import mock
 
 from leafrunt_host.announcements import LEAST_INTERVAL, Announced, Announcements
 from leafrunt_host.announcer import TOGETHER, Announcer
-from leafrunt_host.destinations import Owner
+from leafrunt_host.destinations import Announcement, Owner
 from leafrunt_host.packet_filter import Bpf
 from leafrunt_host.redistribution import Redistribution, redistribution_of
 from leafrunt_host.redistributor import (
@@ -323,6 +323,9 @@ class Notices(unittest.TestCase):
         self.assertFalse(changes.are_there())
 
 
+NETWORK = IPv4Network("198.51.100.0/24")
+
+
 class Following(Cases):
     def setUp(self) -> None:
         super().setUp()
@@ -342,6 +345,22 @@ class Following(Cases):
 
     def announced(self) -> set[str]:
         return {str(each) for each in self.router.announced}
+
+    def test_another_is_followed(self) -> None:
+        """Or none: then nothing is redistributed any more, and what isn't that stays."""
+        self.announcements.by_hand("add 203.0.113.0/24 1 2 0")
+        self.kernel.bodies = [body("192.0.2.0/24")]
+        self.announcer.start()
+        self.wait(lambda: self.announced() == {"192.0.2.0/24", "203.0.113.0/24"})
+        self.announcer.redistribute(None)
+        self.wait(lambda: self.announced() == {"203.0.113.0/24"})
+        again = mock.Mock()
+        again.fileno.return_value = self.announcer._waker.fileno()
+        again.asked_for.return_value = {Owner.STATIC: [Announcement(NETWORK, 1, 2, 0)]}
+        self.announcer.redistribute(again)
+        self.wait(lambda: self.announced() == {str(NETWORK), "203.0.113.0/24"})
+        self.announcer.redistribute(None)
+        self.wait(lambda: again.close.called)
 
     def test_it_follows_notices(self) -> None:
         self.kernel.bodies = [body("192.0.2.0/24")]

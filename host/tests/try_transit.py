@@ -6,17 +6,21 @@ import subprocess
 import sys
 import time
 from collections.abc import Callable, Iterable
+from dataclasses import replace
 from pathlib import Path
 
 from tests.network import (
     COMES_UP,
     HOST,
+    SHA,
+    Announce,
     Bird,
     Box,
     CannotTry,
     End,
     Frr,
     Network,
+    Secret,
     Side,
     Try,
     is_full,
@@ -25,7 +29,7 @@ from tests.network import (
     within,
 )
 
-NAMES = {"left": "2.2.2.2", "other": "4.4.4.4", "right": "3.3.3.3"}
+NAMES = {"left": "2.2.2.2", "other": "4.4.4.4", "right": "3.3.3.3", "lan": "5.5.5.5"}
 """BIRDs around the router that is tried, 1.1.1.1: packets go by it from left to right, or by the
 other way."""
 FROM, TO = "172.16.2.2", "172.16.3.2"
@@ -69,16 +73,23 @@ class Losses:
 
 class Transit:
     """A host - 2.2.2.2 - 1.1.1.1 - 3.3.3.3 - a host, and a longer way by 4.4.4.4 where `is_only`
-    isn't set."""
+    isn't set; and 5.5.5.5 at an interface of 1.1.1.1 that is passive."""
 
-    def __init__(self, given: Try, kind: str, is_only: bool = False) -> None:
+    def __init__(
+        self, given: Try, kind: str, is_only: bool = False, keys: tuple[Secret, ...] = ()
+    ) -> None:
         self.network = network = Network()
         self.kind = kind
-        names = ["tried", "left", "right", *([] if is_only else ["other"]), "h1", "h2"]
+        names = ["tried", "left", "right", "lan", *([] if is_only else ["other"]), "h1", "h2"]
         self.spaces = {each: network.namespace(each, each[0] != "h") for each in names}
         self._link("left", "right", "tried", "left", "10.0.1")
         self._link("tried", "right", "right", "left", "10.0.2")
-        sides = {"left": [Side("right")], "right": [Side("left")]}
+        self._link("tried", "lan", "lan", "tried", "10.0.5")
+        sides = {
+            "left": [Side("right", keys)],
+            "right": [Side("left", keys)],
+            "lan": [Side("tried")],
+        }
         if not is_only:
             self._link("left", "other", "other", "left", "10.0.3")
             self._link("other", "right", "right", "other", "10.0.4")
@@ -90,7 +101,8 @@ class Transit:
             network.link(near, End(self.spaces[host], "eth0", f"172.16.{number}.2/24"))
             run("ip", "-n", self.spaces[host], "route", "add", "default", "via", near.ip)
             sides[name].append(Side("hosts", is_passive=True))
-        self.birds = [self._bird(name, sides[name]) for name in sides]
+        self.birds = {name: self._bird(name, sides[name]) for name in sides}
+        self.sides = [Side("left", keys), Side("right", keys), Side("lan", is_passive=True)]
         self.tried = self._tried(given)
 
     def _link(self, one: str, its: str, other: str, others: str, network: str) -> None:
@@ -106,7 +118,7 @@ class Transit:
         return bird
 
     def _tried(self, given: Try) -> Box | Bird | Frr:
-        sides, space = [Side("left"), Side("right")], self.spaces["tried"]
+        sides, space = self.sides, self.spaces["tried"]
         if self.kind == "a box":
             return Box(self.network, given.routerd, space, "tried", "1.1.1.1", sides)
         if self.kind == "FRR":
@@ -114,9 +126,10 @@ class Transit:
         return Bird(self.network, space, "1.1.1.1", sides)
 
     def start(self) -> None:
-        for each in self.birds:
+        for each in self.birds.values():
             each.start()
-        within(COMES_UP, lambda: self.is_connected("other"))
+        if "other" in self.birds:
+            within(COMES_UP, lambda: self.is_connected("other"))
         self.tried.start()
 
     def losses(self) -> Losses:
@@ -176,3 +189,93 @@ def ended_and_started(it: Transit, given: Try) -> None:
         within(COMES_UP, it.is_by_tried, 0.1)
 
     told("started again", *it.lost_in(start_again, SETTLED))
+
+
+NEXT = Secret(6, "hmac sha256", "the next secret")
+EXTERNAL = "203.0.113.0/24"
+
+
+def changed(it: Transit, sides: list[Side], externals: tuple[str, ...] = ()) -> bool:
+    """Whether the router that is tried has taken another configuration over while it runs."""
+    it.tried.sides = it.sides = sides
+    if isinstance(it.tried, Box):
+        it.tried.announced = [Announce(each) for each in externals]
+        it.tried.configure()
+        return bool(it.tried.command("reload"))
+    it.tried.externals = list(externals)
+    it.tried.configure()
+    return True
+
+
+def reload(given: Try) -> None:
+    """The configuration of a router that others send by is changed while it runs: how many packets
+    are lost, counted every 5 ms, with a box and with BIRD in its place, and no other way."""
+    for kind in ("a box", "BIRD"):
+        it = Transit(given, kind, is_only=True, keys=(SHA,))
+        given.network = it.network
+        try:
+            it.start()
+            given.looks.timed(f"{kind}: the packets go by it", COMES_UP, it.is_by_tried)
+            time.sleep(SETTLED)
+            for change in (destination_comes, keys_change, passive_or_not):
+                change(it, given)
+        finally:
+            it.network.close()
+
+
+def nothing_lost(it: Transit, given: Try, what: str, act: Callable[[], None]) -> None:
+    """Nothing is lost while that is done, and no adjacency that isn't meant changes."""
+    states = [is_full(it.tried, NAMES[each]) for each in ("left", "right")]
+    lost, said = it.lost_in(act, SETTLED)
+    states += [is_full(it.tried, NAMES[each]) for each in ("left", "right")]
+    fell = ""
+    if isinstance(it.tried, Box):
+        fell = "; ".join(each for each in it.tried.log_lines() if "Full -> " in each and "lan:" not in each)
+    good = not lost and all(states) and not fell
+    given.looks.look(f"{it.kind}: {what}: nothing is lost, all stay Full", good, f"{said} {fell}")
+
+
+def destination_comes(it: Transit, given: Try) -> None:
+    def comes() -> None:
+        changed(it, it.sides, (EXTERNAL,))
+        given.looks.timed(f"{it.kind}: another destination", 10, lambda: EXTERNAL in at_left(it))
+
+    nothing_lost(it, given, "another destination is announced", comes)
+
+
+def at_left(it: Transit) -> str:
+    return output("ip", "-n", it.spaces["left"], "-4", "route", "show")
+
+
+def keys_change(it: Transit, given: Try) -> None:
+    """The three steps of a rollover, at each router of the links."""
+
+    def changes() -> None:
+        for keys in ((SHA, NEXT), (NEXT, SHA), (NEXT,)):
+            own = [replace(each, keys=keys) for each in it.sides[:2]]
+            changed(it, [*own, *it.sides[2:]], (EXTERNAL,))
+            for name in ("left", "right"):
+                bird = it.birds[name]
+                bird.sides = [
+                    replace(each, keys=keys) if each.keys else each for each in bird.sides
+                ]
+                bird.configure()
+            time.sleep(5)
+
+    nothing_lost(it, given, "both keys are replaced in three steps", changes)
+
+
+def passive_or_not(it: Transit, given: Try) -> None:
+    for is_passive in (False, True):
+        what = "passive" if is_passive else "active"
+
+        def changes() -> None:
+            lan = replace(it.sides[2], is_passive=is_passive)
+            changed(it, [*it.sides[:2], lan], (EXTERNAL,))
+            given.looks.timed(
+                f"{it.kind}: its interface is {what}",
+                COMES_UP,
+                lambda: is_full(it.birds["lan"], "1.1.1.1") is not is_passive,
+            )
+
+        nothing_lost(it, given, f"a third interface becomes {what}", changes)

@@ -1,0 +1,86 @@
+"""What differs between the configuration that a box runs with and its file as it is now."""
+from __future__ import annotations
+
+from collections.abc import Iterator
+from dataclasses import replace
+
+from leafrunt_host.configuration import Configuration, InterfaceSettings
+from leafrunt_host.isolation import Account
+
+OF_ROUTERD = (
+    "address",
+    "cost",
+    "hello_interval",
+    "dead_interval",
+    "retransmit_interval",
+    "transmit_delay",
+)
+"""What `routerd` reads of an interface, at its start alone."""
+OF_BRIDGE = ("keys", "network", "peer", "mtu")
+"""What the bridge alone goes by, at each packet."""
+OF_OTHERS = ("name", "passive", "bfd")
+
+
+def in_order_of(new: Configuration, old: Configuration) -> Configuration:
+    """The new one with its interfaces in the old one's order, where they are the same: they are
+    numbered so."""
+    by_name = {each.name: each for each in new.interfaces}
+    names = [each.name for each in old.interfaces]
+    if by_name.keys() != set(names):
+        return new
+    return replace(new, interfaces=tuple(by_name[each] for each in names))
+
+
+def is_same(one: Account | None, other: Account | None) -> bool:
+    """Whether `routerd` runs as the same one: a number that nobody has is chosen at each start."""
+    if one is None or other is None:
+        return one is other
+    return one.name == other.name or (one.name.isdigit() and other.name.isdigit())
+
+
+def another_router(old: Configuration, new: Configuration) -> Iterator[str]:
+    """What makes another router of it: no running one can become that."""
+    if old.router_id != new.router_id:
+        yield f"router_id: {new.router_id} in place of {old.router_id}"
+
+
+def for_routerd(old: Configuration, new: Configuration) -> Iterator[str]:
+    """What `routerd` reads at its start alone."""
+    if old.routerd != new.routerd:
+        yield f"routerd: {new.routerd} in place of {old.routerd}"
+    if not is_same(old.account, new.account):
+        yield f"routerd's user: {name_of(new.account)} in place of {name_of(old.account)}"
+    before = {each.name: each for each in old.interfaces}
+    after = {each.name: each for each in new.interfaces}
+    yield from (f"{name}: no longer an interface" for name in before if name not in after)
+    yield from (f"{name}: a new interface" for name in after if name not in before)
+    for name in before.keys() & after.keys():
+        for each in OF_ROUTERD:
+            one, other = getattr(before[name], each), getattr(after[name], each)
+            if one != other:
+                yield f"{name}: {each} {other} in place of {one}"
+
+
+def name_of(account: Account | None) -> str:
+    return account.name if account else "that of leafrunt itself (isolated = false)"
+
+
+def for_bridge(old: InterfaceSettings, new: InterfaceSettings) -> Iterator[str]:
+    """What differs of an interface that `routerd` needn't know."""
+    if old.passive != new.passive:
+        yield f"{new.name}: {'passive' if new.passive else 'active'} now"
+    if old.keys != new.keys:
+        ids = ", ".join(str(key.id) for key in new.keys)
+        yield f"{new.name}: {f'keys {ids}' if ids else 'no keys'}"
+    if (old.network, old.peer) != (new.network, new.peer):
+        who = new.peer or new.network or "any address"
+        yield f"{new.name}: packets count from {who}"
+    if old.bfd != new.bfd:
+        yield f"{new.name}: {'BFD' if new.bfd else 'no BFD'} now"
+    if old.mtu != new.mtu:
+        yield f"{new.name}: MTU {new.mtu} in place of {old.mtu}"
+
+
+def of_bridge(one: InterfaceSettings) -> tuple[object, ...]:
+    """What the bridge goes by."""
+    return tuple(getattr(one, each) for each in OF_BRIDGE)

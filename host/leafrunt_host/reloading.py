@@ -1,0 +1,274 @@
+"""A changed configuration is taken over while the box runs, as BIRD's `configure` and FRR's
+`frr-reload.py` do: `leafrunt reload`, and SIGHUP.
+
+All of it is read and checked first: where anything is wrong, nothing is changed. What differs from
+the configuration of before is changed, and nothing else, so what was done at the console stays.
+"""
+from __future__ import annotations
+
+import logging
+import re
+import socket
+import threading
+from collections.abc import Callable
+from contextlib import ExitStack
+from dataclasses import dataclass, field, replace
+from pathlib import Path
+
+from leafrunt_host import bfd_session
+from leafrunt_host.announcements import Announcements
+from leafrunt_host.announcer import Announcer
+from leafrunt_host.bridge import CannotOpen, Link
+from leafrunt_host.configuration import Configuration, InterfaceSettings, Program
+from leafrunt_host.desk import Desk
+from leafrunt_host.destinations import Owner
+from leafrunt_host.differences import (
+    another_router,
+    for_bridge,
+    for_routerd,
+    in_order_of,
+    of_bridge,
+)
+from leafrunt_host.forwarding import CannotKeep, KernelTable
+from leafrunt_host.journal import set_level
+from leafrunt_host.keeper import Keeper
+from leafrunt_host.kernel_settings import KernelSettings
+from leafrunt_host.redistributor import Redistributor, redistributor_of
+from leafrunt_host.rooms import Room
+from leafrunt_host.sockets import LOOPBACK
+from leafrunt_host.starting import Parts, interface_of
+from leafrunt_host.status import Known
+from leafrunt_host.statuses import Status, Stopped
+
+log = logging.getLogger("leafrunt.reload")
+TAKEN = re.compile(r": (attached|detached) \w+|, stays$")
+"""What is said of a program where it is as it is to be."""
+
+
+def claims_of(configuration: Configuration) -> list[str]:
+    """What no other box of this network namespace may have."""
+    active = [each.name for each in configuration.interfaces if not each.passive]
+    table = configuration.table.claims if configuration.kernel else []
+    return [f"interface {name}" for name in active] + table
+
+
+def redistributed(configuration: Configuration) -> tuple[object, ...] | None:
+    """What is redistributed, and from which table."""
+    redistribution = configuration.redistribution
+    return (redistribution, configuration.table) if redistribution else None
+
+
+def kept(configuration: Configuration) -> KernelSettings | None:
+    """The kernel's table that is kept."""
+    return configuration.table if configuration.kernel else None
+
+
+def bfd_of(configuration: Configuration) -> dict[int, bfd_session.Settings]:
+    """The interfaces that ask for BFD, by their numbers."""
+    return {at: each.bfd for at, each in enumerate(configuration.interfaces, 1) if each.bfd}
+
+
+@dataclass
+class Reloader:
+    """What a reload reads and changes."""
+
+    read: Callable[[Path], Configuration]
+    room: Room
+    parts: Parts
+    known: Known
+    keeper: Keeper
+    announcements: Announcements
+    announcer: Announcer
+    desk: Desk
+    start_sessions: Callable[[], None]
+    """Begins BFD as the configuration has it; in the bridge's thread."""
+    _one_at_a_time: threading.Lock = field(default_factory=threading.Lock)
+
+    def reload(self) -> list[str]:
+        """A line for each thing that was done. `Mistaken` or `Stopped` where the configuration is
+        wrong, or can't be taken over now: then all is as it was."""
+        if not self._one_at_a_time.acquire(blocking=False):
+            raise Stopped("another reload is under way: try again", Status.REFUSED)
+        try:
+            said = self._taken_over(self.read(self.known.configuration.path))
+        except (CannotOpen, CannotKeep) as why:
+            raise Stopped(f"nothing is changed: {why}") from why
+        finally:
+            self._one_at_a_time.release()
+        for each in said:
+            log.info("%s", each)
+        return said
+
+    def _taken_over(self, new: Configuration) -> list[str]:
+        old = self.known.configuration
+        new = in_order_of(new, old)
+        obstacles = [*another_router(old, new), *for_routerd(old, new)]
+        if obstacles:
+            needs = "needs a new start: `leafrunt down`, then `leafrunt up`"
+            raise Stopped("\n".join(f"{each}: {needs}" for each in obstacles), Status.REFUSED)
+        with ExitStack() as undone:
+            before = self.room.claimed
+            self.room.claim(claims_of(new))
+            undone.callback(lambda: self.room.give_back(self.room.claimed - before))
+            redistributor = self._other_redistributor(old, new, undone)
+            table = self._other_table(old, new, undone)
+            said = self._interfaces(old, new, undone)
+            undone.pop_all()
+        self.known.configuration = replace(new, programs=old.programs)
+        if bfd_of(old) != bfd_of(new):
+            self._in_bridge(self._sessions)
+        said += self._kernel(old, new, table)
+        if redistributed(old) != redistributed(new):
+            self.announcer.redistribute(redistributor)
+            said.append("redistribution: as it is configured now")
+        self.room.give_back(self.room.claimed.difference(claims_of(new)))
+        said += self._announced(old, new)
+        said += ["counters: other names"] * (old.counters != new.counters)
+        if old.log_level != new.log_level:
+            set_level(new.log_level)
+            said.append(f"log_level: {new.log_level}")
+        return said + self._programs(old, new) or ["nothing differs"]
+
+    def _sessions(self) -> None:
+        """BFD as the configuration has it now."""
+        if self.known.sessions:
+            self.known.sessions.take_over(bfd_of(self.known.configuration))
+        else:
+            self.start_sessions()
+
+    @staticmethod
+    def _other_redistributor(
+        old: Configuration, new: Configuration, undone: ExitStack
+    ) -> Redistributor | None:
+        """What follows the kernel, where something else is to be redistributed."""
+        if redistributed(old) == redistributed(new):
+            return None
+        made = redistributor_of(new.redistribution, new.table)
+        undone.callback(lambda: made.close() if made else None)
+        return made
+
+    # -- the kernel's table
+
+    def _other_table(
+        self, old: Configuration, new: Configuration, undone: ExitStack
+    ) -> KernelTable | None:
+        """Where the kernel's table is to be kept, or to be left alone, it is so from now on; the one
+        that was kept before."""
+        if kept(old) == kept(new):
+            return None
+        kernel = KernelTable(settings=new.table) if new.kernel else None
+        undone.callback(lambda: kernel.close() if kernel else None)
+        before = self.keeper.keep(kernel)
+        undone.callback(self.keeper.keep, before)
+        return before
+
+    def _kernel(
+        self, old: Configuration, new: Configuration, table: KernelTable | None
+    ) -> list[str]:
+        """Takes the routes away that nobody keeps any more."""
+        if kept(old) == kept(new):
+            return []
+        if table is None:
+            return [f"kernel: {new.table} is kept from now on"]
+        if new.kernel and old.table.table == new.table.table:
+            table.close()
+            return [f"kernel: {new.table} is kept by other settings from now on"]
+        said = f"kernel: {old.table} is left alone from now on"
+        try:
+            return [f"{said} ({table.clear().routes} routes removed)"]
+        except CannotKeep as why:
+            return [f"{said}, and has its routes still: {why}"]
+        finally:
+            table.close()
+
+    # -- interfaces
+
+    def _interfaces(
+        self, old: Configuration, new: Configuration, undone: ExitStack
+    ) -> list[str]:
+        """Those that get active first, since that may fail."""
+        pairs = list(enumerate(zip(old.interfaces, new.interfaces, strict=True), 1))
+        for number, (before, after) in pairs:
+            if before.passive and not after.passive:
+                self._activate(number, after)
+                undone.callback(self._silence, number)
+        for number, (before, after) in pairs:
+            if after.passive and not before.passive:
+                self._silence(number)
+            elif not after.passive and of_bridge(before) != of_bridge(after):
+                link = self.parts.links[number]
+                interface = interface_of(number, after, self.parts.ports[number - 1])
+                self._in_bridge(lambda: self.parts.bridge.change(link, interface))
+        return [each for _, pair in pairs for each in for_bridge(*pair)]
+
+    def _in_bridge(self, work: Callable[[], None]) -> None:
+        self.parts.bridge.work.do(work)
+
+    def _activate(self, number: int, settings: InterfaceSettings) -> None:
+        """A passive interface gets a link, at the socket that nobody has read until now."""
+        ports = self.parts.ports[number - 1]
+        link, udp = self.parts.link_of(interface_of(number, settings, ports)), self.parts.sinks[number]
+        begin_to_read(udp, ports[0])
+        self._in_bridge(lambda: self.parts.bridge.open(link, udp))
+        del self.parts.sinks[number]
+        self._links_are({**self.parts.links, number: link})
+
+    def _silence(self, number: int) -> None:
+        """An active interface loses its link."""
+        link = self.parts.links[number]
+        self._links_are({at: each for at, each in self.parts.links.items() if at != number})
+
+        def shut() -> None:
+            self.parts.sinks[number] = self.parts.bridge.shut(link)
+
+        self._in_bridge(shut)
+
+    def _links_are(self, links: dict[int, Link]) -> None:
+        self.parts.links = self.known.links = links
+
+    # -- destinations and programs
+
+    def _announced(self, old: Configuration, new: Configuration) -> list[str]:
+        before, after = set(old.announcements), set(new.announcements)
+        if before == after:
+            return []
+        self.announcements.want({Owner.CONFIGURATION: new.announcements})
+        gone = {each.prefix for each in before} - {each.prefix for each in after}
+        return [f"destinations: {len(after - before)} new or changed, {len(gone)} withdrawn"]
+
+    def _programs(self, old: Configuration, new: Configuration) -> list[str]:
+        """Those that differ, but for hooks whose program was attached at the console."""
+        before = {each.hook: each for each in old.programs}
+        after = {each.hook: each for each in new.programs}
+        differ = [each for each in sorted(before | after) if before.get(each) != after.get(each)]
+        answers = {each: self._program(each, after.get(each)) for each in differ}
+        refused = [each for each, said in answers.items() if not TAKEN.search(said)]
+        taken = after | {each: before[each] for each in refused if each in before}
+        taken = {each: it for each, it in taken.items() if each in before or each not in refused}
+        self.known.configuration = replace(new, programs=tuple(taken.values()))
+        if differ:
+            self.announcements.ask_again()
+        if refused:
+            said = "\n".join([*(answers[each] for each in refused), "the rest was taken over"])
+            raise Stopped(said)
+        return list(answers.values())
+
+    def _program(self, hook: str, program: Program | None) -> str:
+        if hook in self.known.by_hand:
+            path, _ = self.known.programs[hook]
+            return f"{hook}: {path}, which was attached by hand, stays"
+        line = f"attach {program.object}" if program else f"detach {hook}"
+        said = self.desk.passed_on(line, is_by_hand=False)[0]
+        return f"{program.object if program else hook}: {said}"
+
+
+def begin_to_read(udp: socket.socket, router: int) -> None:
+    """A socket at which `routerd`'s datagrams were dropped: from now on they are read, and only
+    those of its port."""
+    udp.connect((LOOPBACK, router))
+    udp.setblocking(False)
+    try:
+        while True:
+            udp.recv(1)
+    except OSError:
+        pass  # nothing is left
