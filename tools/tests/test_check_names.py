@@ -45,6 +45,19 @@ class TestCheckNames(unittest.TestCase):
             with self.subTest(text):
                 self.refused(text, name)
 
+    def test_clauses_that_a_function_lacks(self) -> None:
+        for text, name in [
+            ("`verifier::verify`: `same`, `sure`", "`verifier::verify` has no clause `sure`"),
+            ("By `flood::Core::step`, clause `fine`.", "`flood::Core::step` has no clause `fine`"),
+            ("It is clause `nothing` of `close_hub`.", "`close_hub` has no clause `nothing`"),
+        ]:
+            with self.subTest(text):
+                self.refused(text, name)
+
+    def test_clauses_that_a_function_has(self) -> None:
+        ran = check("`verifier::verify`: `same`, `bound` and `safe`; clause `ok` of `step`; `step`, clause `refused`.\n")
+        self.assertEqual((ran.returncode, ran.stderr), (0, ""))
+
     def test_headings_that_a_page_has(self) -> None:
         ran = check("docs/proof/rooms/verifier.md#segments, and CONTRIBUTING.md#how-a-rule-is-changed.\n")
         self.assertEqual((ran.returncode, ran.stderr), (0, ""))
