@@ -48,7 +48,7 @@ class TestCheckNames(unittest.TestCase):
     def test_clauses_that_a_function_lacks(self) -> None:
         for text, name in [
             ("`verifier::verify`: `same`, `sure`", "`verifier::verify` has no clause `sure`"),
-            ("By `flood::Core::step`, clause `fine`.", "`flood::Core::step` has no clause `fine`"),
+            ("By `flood::Core::step`, clause `vague`.", "`flood::Core::step` has no clause `vague`"),
             ("It is clause `nothing` of `close_hub`.", "`close_hub` has no clause `nothing`"),
         ]:
             with self.subTest(text):
