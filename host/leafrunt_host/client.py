@@ -101,6 +101,11 @@ class Client:
         self._data += data
 
     def close(self) -> None:
+        """Leaves the box, also where another thread waits for its answer."""
+        try:
+            self._socket.shutdown(socket.SHUT_RDWR)
+        except OSError:
+            pass  # the box has left
         self._socket.close()
 
 

@@ -22,6 +22,7 @@ from leafrunt_host.rooms import RUN, STATE, Room
 from leafrunt_host.status import warnings_of
 from leafrunt_host.statuses import Status, Stopped
 from leafrunt_host.version import Version
+from leafrunt_host.watching import LEAST_INTERVAL, MOST_INTERVAL, watch
 
 LISTS = ("status", *DOCUMENTS, "database")
 """What lists something of a box, and takes `--json`."""
@@ -40,6 +41,7 @@ EXAMPLES = {
     "programs": "leafrunt programs\n  leafrunt programs --json | jq -r .programs[].object",
     "counters": "leafrunt counters\n  leafrunt counters --json | jq '.counters[] | {name, value}'",
     "database": "leafrunt database\n  leafrunt database 203.0.113.0\n  leafrunt database --json | jq .lsas[0]",
+    "watch": "leafrunt watch\n  leafrunt watch --interval 5 --box one\n  leafrunt watch --once",
     "metrics": "leafrunt metrics\n  leafrunt metrics --format prometheus | sponge /var/lib/prometheus/node-exporter/leafrunt.prom",
     "map": "leafrunt map | dot -Tsvg >area.svg\n  leafrunt map --to 203.0.113.0/24 | dot -Tsvg >way.svg",
     "check": "leafrunt check /etc/leafrunt/one.toml",
@@ -57,6 +59,7 @@ TITLES = {
     "programs": "list the programs at the hooks",
     "counters": "list the programs' counters that are above 0; in JSON those with a name too",
     "database": "list the LSAs that a box knows, as BIRD's `show ospf lsadb` does; with an ID those, whole",
+    "watch": "follow the neighbors, routes and counters of a box on the terminal; q leaves",
     "metrics": "print what a box is doing as OpenMetrics text, for Prometheus (needs python3-prometheus-client)",
     "map": "print the area as a Graphviz graph, for `dot`",
     "check": "say what is wrong with a configuration, and start nothing",
@@ -79,6 +82,17 @@ def address(text: str) -> IPv4Address:
         return IPv4Address(text)
     except ValueError as error:
         raise argparse.ArgumentTypeError(f"{text!r} is no Link State ID, A.B.C.D") from error
+
+
+def interval(text: str) -> float:
+    try:
+        seconds = float(text)
+    except ValueError:
+        seconds = 0.0
+    if not LEAST_INTERVAL <= seconds <= MOST_INTERVAL:
+        allowed = f"{LEAST_INTERVAL:g} to {MOST_INTERVAL:g} seconds"
+        raise argparse.ArgumentTypeError(f"{text!r} is no interval of {allowed}")
+    return seconds
 
 
 def with_folders(one: argparse.ArgumentParser, name: str) -> None:
@@ -112,6 +126,11 @@ def with_own_words(one: argparse.ArgumentParser, name: str) -> None:
         one.add_argument("--json", action="store_true", help=about)
     if name == "database":
         one.add_argument("id", nargs="?", type=address, metavar="ID", help="a Link State ID")
+    if name == "watch":
+        about = f"seconds between two looks, {LEAST_INTERVAL:g} to {MOST_INTERVAL:g} (default 1)"
+        one.add_argument("--interval", type=interval, default=1.0, metavar="SECONDS", help=about)
+        about = "print what there is now, as plain text, and leave"
+        one.add_argument("--once", action="store_true", help=about)
     if name == "metrics":
         about = "openmetrics (so if none is given), or Prometheus' older text, for node_exporter"
         one.add_argument("--format", choices=FORMATS, default="openmetrics", help=about)
@@ -188,6 +207,11 @@ def list_what_is_there(words: argparse.Namespace) -> Status:
     return say([line for each in lines for line in each.split("\n")])
 
 
+def follow(words: argparse.Namespace) -> Status:
+    with client_of(words) as client:
+        return watch(client, words.interval, words.once)
+
+
 def metrics(words: argparse.Namespace) -> Status:
     with client_of(words) as client:
         text = metrics_of(client, words.format)
@@ -224,6 +248,7 @@ COMMANDS = {
     "up": up,
     "console": talk,
     **dict.fromkeys(LISTS, list_what_is_there),
+    "watch": follow,
     "metrics": metrics,
     "map": area_map,
     "check": check,
@@ -242,7 +267,7 @@ def main(arguments: list[str]) -> int:
     except Stopped as why:
         head = "<3>" if is_journal(sys.stderr) else ""
         for line in str(why).splitlines():
-            print(f"{head}leafrunt: {line}", file=sys.stderr)
+            print(f"{head}leafrunt: {one_line(line)}", file=sys.stderr)
         return why.status
     except BrokenPipeError:
         os.dup2(os.open(os.devnull, os.O_WRONLY), sys.stdout.fileno())

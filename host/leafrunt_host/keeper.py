@@ -277,8 +277,15 @@ class Keeper:
         for each in outcome.news:
             log.warning("kernel: %s", each)
         self._known.kept = Kept(
-            outcome.routes, outcome.refused, outcome.without_hop, limited=outcome.limited
+            outcome.routes,
+            outcome.refused,
+            outcome.without_hop,
+            limited=outcome.limited,
+            table=len(self._lines),
         )
+        change = kernel.table_change()
+        if change:
+            self._known.note_table(time.time(), change)
         return is_changed
 
     def _own_destinations(self) -> frozenset[IPv4Network]:

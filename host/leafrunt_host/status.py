@@ -18,6 +18,7 @@ from leafrunt_host.forwarding import host_warnings
 from leafrunt_host.kernel import Json
 from leafrunt_host.observing import Adjacencies
 from leafrunt_host.rtnetlink import MAIN
+from leafrunt_host.table_changes import MOST_KEPT, TableChange, change_document
 
 NO_DIAGNOSTIC = diagnostic_text(Diagnostic.NONE)
 SECONDS_TO_LOOK = 10.0
@@ -54,6 +55,8 @@ class Kept:
     error: str | None = None
     limited: int = 0
     """How many routes have more next hops than they may."""
+    table: int = 0
+    """How many routes `routerd`'s table has."""
 
 
 @dataclass
@@ -81,6 +84,8 @@ class Known:
     """The last steps of the machine's clock."""
     sessions: Sessions | None = None
     """BFD's, where an interface asks for it."""
+    table_changes: tuple[tuple[float, TableChange], ...] = ()
+    """What changed last of `routerd`'s table, and when."""
     looked: float | None = None
     """When the keeper's last look ended, by the clock that nobody sets."""
 
@@ -88,6 +93,9 @@ class Known:
         """A line of `routerd` on its standard error."""
         if "stopped" in line:
             self.stopped = (*self.stopped, line)
+
+    def note_table(self, moment: float, change: TableChange) -> None:
+        self.table_changes = (*self.table_changes, (moment, change))[-MOST_KEPT:]
 
     def publish(
         self, announced: dict[IPv4Network, Announced], not_announced: tuple[str, ...]
@@ -120,9 +128,10 @@ def remarks_of(known: Known, now: float) -> list[str]:
     return said
 
 
-def since(known: Known, number: int) -> float | None:
-    """The moment, in seconds since 1970, from which on a neighbor has been in its state."""
-    began = known.adjacencies.since(number)
+def since(known: Known, neighbor: Neighbor) -> float | None:
+    """The moment, in seconds since 1970, from which on a neighbor has been in its state; None where
+    it has come to that just now."""
+    began = known.adjacencies.since(neighbor.number, neighbor.router_id, neighbor.state)
     return None if began is None else time.time() - (time.monotonic() - began)
 
 
@@ -150,7 +159,7 @@ def interface_status(known: Known, number: int, each: InterfaceSettings) -> Json
         return said
     neighbor = known.neighbors.get(number)
     if neighbor:
-        address, began = link.next_hop(neighbor.router_id), since(known, number)
+        address, began = link.next_hop(neighbor.router_id), since(known, neighbor)
         said["neighbor"] = {
             "router_id": str(neighbor.router_id),
             "address": str(address) if address else None,
@@ -168,6 +177,12 @@ def interface_status(known: Known, number: int, each: InterfaceSettings) -> Json
     ]
     said["counters"] = dict(link.counters)
     return said
+
+
+def table_status(known: Known) -> Json:
+    """What is said of `routerd`'s table, which is looked at where the kernel's is kept."""
+    changes = [change_document(*each) for each in known.table_changes]
+    return {"routes": known.kept.table, "changes": changes}
 
 
 def status_of(known: Known, lsas: Mapping[str, int] | None = None) -> Json:
@@ -191,6 +206,7 @@ def status_of(known: Known, lsas: Mapping[str, int] | None = None) -> Json:
             "limited": kept.limited,
             "error": kept.error,
         },
+        "table": table_status(known) if configuration.kernel else None,
         "lsas": dict(lsas or {}),
         "counter_names": dict(configuration.counters),
         "warnings": [*remarks_of(known, time.monotonic()), *warnings_of(configuration)],

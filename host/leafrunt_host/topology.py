@@ -200,9 +200,8 @@ class Topology:
         """How many LSAs there are of each type, by its name."""
         now = self._clock()
         with self._one_at_a_time:
-            kinds = Counter(
-                key[0] for key, each in self._entries.items() if each.age_at(now) < MAX_AGE
-            )
+            entries = self._entries.items()
+            kinds = Counter([key[0] for key, (_, age, at) in entries if age + now - at < MAX_AGE])
         return {each.title: kinds[each] for each in LsType}
 
     def entries(self) -> list[tuple[LsHeader, Entry]]:

@@ -85,6 +85,13 @@ class Statuses(unittest.TestCase):
         )
         self.assertEqual(lines[3:], ["lan0: 10.0.2.1/24, MTU 1500: passive"])
 
+    def test_a_state_that_is_new(self) -> None:
+        """The moment of the state before isn't told of this one."""
+        it = known(Report("eth1", TWO, THERE, 1.0), neighbors=("neighbor 1 2.2.2.2 Full",))
+        for line in ("neighbor 1 2.2.2.2 Init", "neighbor 1 3.3.3.3 Full"):
+            it.neighbors = neighbors_of([line])
+            self.assertIsNone(status_of(it)["interfaces"][0]["neighbor"]["since"])
+
     def test_why_not(self) -> None:
         reports = [
             Report("eth1", reasons=("down: no carrier",)),

@@ -287,8 +287,8 @@ class OfBoxes(Boxes):
         self.assertEqual(self.leafrunt("table", "--jso")[0], 2)
 
 
-class Strange(unittest.TestCase):
-    """A socket behind which no box answers, or one of another version."""
+class Listening(unittest.TestCase):
+    """A socket where a box's would be."""
 
     def setUp(self) -> None:
         folder = tempfile.TemporaryDirectory(prefix="ls-")
@@ -299,6 +299,10 @@ class Strange(unittest.TestCase):
         self.listener.bind(str(self.run_folder / "one/socket"))
         self.listener.listen()
         self.addCleanup(self.listener.close)
+
+
+class Strange(Listening):
+    """What answers there is no box, or one of another version."""
 
     def leafrunt(self, says: Callable[[socket.socket], None], *words: str) -> tuple[int, str, str]:
         """What a command makes of what this end does with its connection."""
@@ -340,6 +344,7 @@ class Strange(unittest.TestCase):
             ((b"\xff\xfe\x1b[2J\n\n",), "answers no list"),
             ((b"out of memory\n\n",), "out of memory"),
             ((b"refused: no\n\n",), "no"),
+            ((b"refused: \x1b[2J\n\n",), " [2J"),
             ((known, b""), "has ended"),
             ((known, b"unknown\n\n"), "another version"),
             ((known, b"[1]\n\n"), "another version"),
@@ -351,7 +356,7 @@ class Strange(unittest.TestCase):
         ):
             with self.subTest(said=said, answers=[each[:40] for each in answers]):
                 came = self.leafrunt(self.answering(*answers), "neighbors", "--json")
-                self.assertEqual(came[:2], ({"out of memory": 4, "no": 1}.get(said, 3), ""))
+                self.assertEqual(came[:2], ({"out of memory": 4, "no": 1, " [2J": 1}.get(said, 3), ""))
                 errors = came[2]
                 self.assertIn(said, errors)
                 self.assertTrue(errors.isascii() and errors.count("\n") == 1 and len(errors) < 300)
