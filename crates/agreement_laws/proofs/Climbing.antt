@@ -4,7 +4,7 @@ use Rattle.std.specs.Prelude.{pos, ◌+ℤ◌, ◌<ℤ◌, is_none}
 use Rattle.std.specs.declared.cmp.Ordering.{Ordering}
 use Rattle.std.specs.declared.cmp.Ordering.TheVariants.{Less, Equal, Greater}
 use Rattle.std.specs.FinMap as finite
-use Rattle.std.specs.List.{Contains, fold}
+use Rattle.std.specs.List.{fold}
 use Rattle.std.specs.Ordering.{MatchOrdering, bool_cmp, int_cmp, is_ge, nat_cmp, ordering_then}
 use Rattle.std.proofs.lemmas.Bool.{eq-eqb}
 use Rattle.std.proofs.lemmas.Cmp.{int_ranked}
@@ -13,7 +13,7 @@ use Rattle.words.specs.declared.key.Key.{Key}
 use Rattle.lsa.specs.Origination.{sealed_lsa}
 use Rattle.lsa.specs.declared.body.Body.{Body as LsaBody}
 use Rattle.lsdb.specs.Copies.{Database, DatabaseCopy, age_now, age_out, copy_now, has_just_aged_out, install_flooded, install_originated, installed_just_now, is_aged_out, lsa_now, newer_than_copy, same_as_copy, sent_just_now}
-use Rattle.lsdb.specs.Headers.{Header, Lsa, lsa_aged, lsa_key}
+use Rattle.lsdb.specs.Headers.{Lsa, lsa_aged, lsa_key}
 use Rattle.lsdb.specs.Instances.{instance_of}
 use Rattle.lsdb.specs.Keys.{ByKey, same_key}
 use Rattle.lsdb.specs.Order.{age_at, is_max_age}
@@ -23,9 +23,9 @@ use Rattle.adjacency.specs.Contents.{Content}
 use Rattle.adjacency.specs.Neighbors.{Neighbor}
 use Rattle.adjacency.proofs.Kept.{chosen}
 use Rattle.received.specs.Cases.{Case, case_of_readable, first_case, is_on_senders_list, is_wrapping, was_requested}
-use Rattle.received.specs.Flooding.{flood, flood_to}
-use Rattle.received.specs.Links.{Area, Link, any_exchange_or_loading, any_has_retransmission, link_at, neighbor_at}
-use Rattle.received.specs.Outcomes.{Outcome, Send, Stepping, each_neighbor, marked_database, on_database, only_at, sending, sends_at, stepped_links, stepping_sends}
+use Rattle.received.specs.Flooding.{flood_to}
+use Rattle.received.specs.Links.{Link, any_exchange_or_loading, any_has_retransmission, link_at, neighbor_at}
+use Rattle.received.specs.Outcomes.{Outcome, Send, Stepping, each_neighbor, marked_database, on_database, only_at, sends_at, stepping_sends}
 use Rattle.received.specs.Updates.{after_case, case_at, copy_of, install, send_copy}
 use Rattle.received.proofs.Marks.{changed_by}
 use Rattle.adjacency.specs.Adjacencies as adjacencies
@@ -35,14 +35,14 @@ use Rattle.adjacency.specs.Requests.{request_next}
 use Rattle.adjacency.specs.Retransmissions.{after_acknowledgment, remove_retransmission}
 use Rattle.packet.specs.declared.model.Hello.{Hello}
 use Rattle.events.specs.declared.model.Out.{Out}
-use Rattle.events.specs.Endings.{end_event, start_event, stays, stays_as, with_age}
-use Rattle.events.specs.EventState.{EventState, flood_from_nobody}
+use Rattle.events.specs.Endings.{start_event, stays, stays_as, with_age}
+use Rattle.events.specs.EventState.{flood_from_nobody}
 use Rattle.events.specs.Events.{Happens}
 use Rattle.events.specs.Hellos.{accepts, names}
 use Rattle.events.specs.Originations.{install_and_flood, new_instance, next_sequence}
-use Rattle.events.specs.Packets.{hear, heard_on, requested_lsas, with_neighbor}
+use Rattle.events.specs.Packets.{hear, heard_on, requested_lsas}
 use Rattle.events.specs.Routers.{Occurrence, Router}
-use Rattle.events.specs.Ticks.{acknowledgments_on, again, hello_sent_on, sends_of, with_hello_sent, without_acknowledgments}
+use Rattle.events.specs.Ticks.{acknowledgments_on, again, hello_sent_on, sends_of}
 use Rattle.events.proofs.Walk.{outcome}
 use Rattle.flood_laws.specs.InOrder.{IsInOrder}
 use Rattle.flood_laws.proofs.Acknowledged.{in_order, order_begun, order_brings, order_kept}
@@ -85,7 +85,7 @@ newer_found false false false false false false true h is = absurd (cc)
 newer_found false false false false false false false true is = absurd (cc)
 newer_found false false false false false false false false is = absurd (cc)
 
-is_newer_case : (moment : ℕ) (copy : Option DatabaseCopy) (sender : Option Neighbor) (synchronizing : Bool) (lsa : Lsa) → case_of_readable moment copy sender synchronizing lsa ≡ Case.Newer
+pub is_newer_case : (moment : ℕ) (copy : Option DatabaseCopy) (sender : Option Neighbor) (synchronizing : Bool) (lsa : Lsa) → case_of_readable moment copy sender synchronizing lsa ≡ Case.Newer
     → newer_than_copy moment lsa.header copy ≡ true
 is_newer_case moment copy sender synchronizing lsa is =
     newer_found
@@ -106,7 +106,7 @@ module _ (key : Key) (moment : ℕ) (first : Instance) where
   abbrev pub Climbs : Database → Type 0
   Climbs db = (i : Instance) × (held moment key db ≡ Some i) × (is_at_least i first ≡ true)
 
-  sent : (more : List Send) (db : Database) → Climbs db → Climbs (fold (λ (d : Database) (s : Send). marked_database moment d s.content) db more)
+  pub sent : (more : List Send) (db : Database) → Climbs db → Climbs (fold (λ (d : Database) (s : Send). marked_database moment d s.content) db more)
   sent more db h = (h.0, held_marked moment key more db ∙ h.1, h.2)
 
   -- another key's copy is put there
@@ -114,7 +114,7 @@ module _ (key : Key) (moment : ℕ) (first : Instance) where
   other k c db away h = (h.0, held_other moment key k c db away ∙ h.1, h.2)
 
   -- this key's, which is as new
-  same : (k : Key) (c : DatabaseCopy) (db : Database) → same_key key k ≡ true → is_at_least (copy_now moment c) first ≡ true → Climbs (finite.insert db k c)
+  pub same : (k : Key) (c : DatabaseCopy) (db : Database) → same_key key k ≡ true → is_at_least (copy_now moment c) first ≡ true → Climbs (finite.insert db k c)
   same k c db here new = (copy_now moment c, held_put moment key k c db here, new)
 
   -- the instance is that of the copy
@@ -126,22 +126,26 @@ module _ (key : Key) (moment : ℕ) (first : Instance) where
   max_age : is_max_age (age_at 3600 moment moment) ≡ true
   max_age = let e : age_at 3600 moment moment ≡ 3600 = omega arith in eq-eqb (age_at 3600 moment moment) 3600 e
 
-  abbrev flushed_copy : DatabaseCopy → DatabaseCopy
+  abbrev pub flushed_copy : DatabaseCopy → DatabaseCopy
   flushed_copy c = record c { lsa = lsa_aged 3600 c.lsa; stored = moment }
+
+  -- a copy that is flushed: the same instance, at MaxAge
+  pub flushed_there : (k : Key) (c : DatabaseCopy) (db : Database) → finite.get db k ≡ Some c → Climbs db → Climbs (finite.insert db k (flushed_copy c))
+  flushed_there k c db at h = by_key (same_key key k) refl
+    where
+      by_key : (b : Bool) → same_key key k ≡ b → Climbs (finite.insert db k (flushed_copy c))
+      by_key true here =
+          same k (flushed_copy c) db here
+          (at_least_on (copy_now moment (flushed_copy c)) (copy_now moment c) first
+          (still_at_least (copy_now moment c) (copy_now moment c) (age_at 3600 moment moment) (age_now moment c) (λ is. max_age) (λ is. is) (itself_at_least (copy_now moment c)))
+          (of_copy db k c (tied_key key k here) at h))
+      by_key false away = other k (flushed_copy c) db away h
 
   flushes : (k : Key) (c : DatabaseCopy) (o : Outcome) → finite.get o.area.database k ≡ Some c → Climbs o.area.database
       → Climbs (flood_from_nobody moment (lsa_aged 3600 c.lsa) (on_database (age_out moment k) o)).area.database
   flushes k c o at h =
       subst (λ (x : Option DatabaseCopy). Climbs (flood_from_nobody moment (lsa_aged 3600 c.lsa) (on_database (λ db. changed_by k flushed_copy o.area.database x) o)).area.database) (sym at)
-      (sent (stepping_sends (flood_to moment None (lsa_aged 3600 c.lsa)) o.area.links) (finite.insert o.area.database k (flushed_copy c)) (by_key (same_key key k) refl))
-    where
-      by_key : (b : Bool) → same_key key k ≡ b → Climbs (finite.insert o.area.database k (flushed_copy c))
-      by_key true here =
-          same k (flushed_copy c) o.area.database here
-          (at_least_on (copy_now moment (flushed_copy c)) (copy_now moment c) first
-          (still_at_least (copy_now moment c) (copy_now moment c) (age_at 3600 moment moment) (age_now moment c) (λ is. max_age) (λ is. is) (itself_at_least (copy_now moment c)))
-          (of_copy o.area.database k c (tied_key key k here) at h))
-      by_key false away = other k (flushed_copy c) o.area.database away h
+      (sent (stepping_sends (flood_to moment None (lsa_aged 3600 c.lsa)) o.area.links) (finite.insert o.area.database k (flushed_copy c)) (flushed_there k c o.area.database at h))
 
   -- a new instance is one past the number of the copy
   next_at_least : (lsa : Lsa) (c : DatabaseCopy) → lsa.header.sequence ≡ (c.lsa.header.sequence +ℤ pos 1)
@@ -153,52 +157,60 @@ module _ (key : Key) (moment : ℕ) (first : Instance) where
       larger : int_cmp lsa.header.sequence c.lsa.header.sequence ≡ Greater
       larger = ap (λ (s : ℤ). int_cmp s c.lsa.header.sequence) is ∙ next_greater c.lsa.header.sequence
 
+  pub originated_there : (k : Key) (says : LsaBody) (db : Database) → lsa_key (new_instance k (finite.get db k) says) ≡ k → Climbs db
+      → Climbs (install_originated moment (new_instance k (finite.get db k) says) db)
+  originated_there k says db its_key h = by_key (same_key key (lsa_key (new_instance k (finite.get db k) says))) refl
+    where
+      by_copy : key ≡ k → (c : Option DatabaseCopy) → finite.get db k ≡ c
+          → is_at_least (copy_now moment (record { lsa = new_instance k (finite.get db k) says; stored = moment; installed = None; sent = None })) first ≡ true
+      by_copy here None at =
+          let no : None ≡ Some h.0 = sym (ap (instance_at moment) (ap (finite.get db) here ∙ at)) ∙ h.1 in absurd cc
+      by_copy here (Some c) at =
+          at_least_on (copy_now moment (record { lsa = new_instance k (finite.get db k) says; stored = moment; installed = None; sent = None })) (copy_now moment c) first
+          (next_at_least (new_instance k (finite.get db k) says) c (originated_sequence k (finite.get db k) says ∙ ap (λ (x : Option DatabaseCopy). next_sequence x) at))
+          (of_copy db k c here at h)
+
+      by_key : (b : Bool) → same_key key (lsa_key (new_instance k (finite.get db k) says)) ≡ b
+          → Climbs (install_originated moment (new_instance k (finite.get db k) says) db)
+      by_key true here =
+          same (lsa_key (new_instance k (finite.get db k) says))
+          (record { lsa = new_instance k (finite.get db k) says; stored = moment; installed = None; sent = None }) db here
+          (by_copy (tied_key key (lsa_key (new_instance k (finite.get db k) says)) here ∙ its_key) (finite.get db k) refl)
+      by_key false away =
+          other (lsa_key (new_instance k (finite.get db k) says))
+          (record { lsa = new_instance k (finite.get db k) says; stored = moment; installed = None; sent = None }) db away h
+
   originates : (k : Key) (says : LsaBody) (o : Outcome) → lsa_key (new_instance k (finite.get o.area.database k) says) ≡ k → Climbs o.area.database
       → Climbs (install_and_flood moment (new_instance k (finite.get o.area.database k) says) o).area.database
   originates k says o its_key h =
-      sent (stepping_sends (flood_to moment None (new_instance k (finite.get o.area.database k) says)) o.area.links) (install_originated moment (new_instance k (finite.get o.area.database k) says) o.area.database) (by_key (same_key key (lsa_key (new_instance k (finite.get o.area.database k) says))) refl)
-    where
-      by_copy : key ≡ k → (c : Option DatabaseCopy) → finite.get o.area.database k ≡ c
-          → is_at_least (copy_now moment (record { lsa = new_instance k (finite.get o.area.database k) says; stored = moment; installed = None; sent = None })) first ≡ true
-      by_copy here None at =
-          let no : None ≡ Some h.0 = sym (ap (instance_at moment) (ap (finite.get o.area.database) here ∙ at)) ∙ h.1 in absurd cc
-      by_copy here (Some c) at =
-          at_least_on (copy_now moment (record { lsa = new_instance k (finite.get o.area.database k) says; stored = moment; installed = None; sent = None })) (copy_now moment c) first
-          (next_at_least (new_instance k (finite.get o.area.database k) says) c (originated_sequence k (finite.get o.area.database k) says ∙ ap (λ (x : Option DatabaseCopy). next_sequence x) at))
-          (of_copy o.area.database k c here at h)
+      sent (stepping_sends (flood_to moment None (new_instance k (finite.get o.area.database k) says)) o.area.links)
+      (install_originated moment (new_instance k (finite.get o.area.database k) says) o.area.database) (originated_there k says o.area.database its_key h)
 
-      by_key : (b : Bool) → same_key key (lsa_key (new_instance k (finite.get o.area.database k) says)) ≡ b
-          → Climbs (install_originated moment (new_instance k (finite.get o.area.database k) says) o.area.database)
+  pub installed_there : (lsa : Lsa) (db : Database) → newer_than_copy moment lsa.header (finite.get db (lsa_key lsa)) ≡ true → Climbs db → Climbs (install_flooded moment lsa db)
+  installed_there lsa db is h = by_key (same_key key (lsa_key lsa)) refl
+    where
+      by_copy : key ≡ lsa_key lsa → (c : Option DatabaseCopy) → finite.get db (lsa_key lsa) ≡ c → newer_than_copy moment lsa.header c ≡ true → is_at_least (instance_of lsa.header) first ≡ true
+      by_copy here None at new =
+          let no : None ≡ Some h.0 = sym (ap (instance_at moment) (ap (finite.get db) here ∙ at)) ∙ h.1 in absurd cc
+      by_copy here (Some c) at new =
+          at_least_on (instance_of lsa.header) (copy_now moment c) first (newer (instance_of lsa.header) (copy_now moment c) new) (of_copy db (lsa_key lsa) c here at h)
+
+      by_key : (b : Bool) → same_key key (lsa_key lsa) ≡ b → Climbs (install_flooded moment lsa db)
       by_key true here =
-          same (lsa_key (new_instance k (finite.get o.area.database k) says))
-          (record { lsa = new_instance k (finite.get o.area.database k) says; stored = moment; installed = None; sent = None }) o.area.database here
-          (by_copy (tied_key key (lsa_key (new_instance k (finite.get o.area.database k) says)) here ∙ its_key) (finite.get o.area.database k) refl)
-      by_key false away =
-          other (lsa_key (new_instance k (finite.get o.area.database k) says))
-          (record { lsa = new_instance k (finite.get o.area.database k) says; stored = moment; installed = None; sent = None }) o.area.database away h
+          same (lsa_key lsa) (record { lsa = lsa; stored = moment; installed = Some moment; sent = None }) db here
+          (noted_at_least lsa.header moment first (by_copy (tied_key key (lsa_key lsa) here) (finite.get db (lsa_key lsa)) refl is))
+      by_key false away = other (lsa_key lsa) (record { lsa = lsa; stored = moment; installed = Some moment; sent = None }) db away h
 
   installs : (place : ℕ) (lsa : Lsa) (o : Outcome) → newer_than_copy moment lsa.header (copy_of lsa o.area) ≡ true → Climbs o.area.database
       → Climbs (install moment place lsa o).area.database
   installs place lsa o is h =
-      sent (stepping_sends (flood_to moment (Some place) lsa) o.area.links) (install_flooded moment lsa o.area.database) (by_key (same_key key (lsa_key lsa)) refl)
-    where
-      by_copy : key ≡ lsa_key lsa → (c : Option DatabaseCopy) → finite.get o.area.database (lsa_key lsa) ≡ c → newer_than_copy moment lsa.header c ≡ true → is_at_least (instance_of lsa.header) first ≡ true
-      by_copy here None at new =
-          let no : None ≡ Some h.0 = sym (ap (instance_at moment) (ap (finite.get o.area.database) here ∙ at)) ∙ h.1 in absurd cc
-      by_copy here (Some c) at new =
-          at_least_on (instance_of lsa.header) (copy_now moment c) first (newer (instance_of lsa.header) (copy_now moment c) new) (of_copy o.area.database (lsa_key lsa) c here at h)
-
-      by_key : (b : Bool) → same_key key (lsa_key lsa) ≡ b → Climbs (install_flooded moment lsa o.area.database)
-      by_key true here =
-          same (lsa_key lsa) (record { lsa = lsa; stored = moment; installed = Some moment; sent = None }) o.area.database here
-          (noted_at_least lsa.header moment first (by_copy (tied_key key (lsa_key lsa) here) (finite.get o.area.database (lsa_key lsa)) refl is))
-      by_key false away = other (lsa_key lsa) (record { lsa = lsa; stored = moment; installed = Some moment; sent = None }) o.area.database away h
+      sent (stepping_sends (flood_to moment (Some place) lsa) o.area.links) (install_flooded moment lsa o.area.database) (installed_there lsa o.area.database is h)
 
   copy_sent : (place : ℕ) (c : Option DatabaseCopy) (o : Outcome) → Climbs o.area.database → Climbs (send_copy moment place c o).area.database
   copy_sent place None o h = h
   copy_sent place (Some c) o h = sent (sends_at place (Updates (lsa_now moment c) ∷ [])) o.area.database h
 
-  each : (f : Stepping) (o : Outcome) → Climbs o.area.database → Climbs (each_neighbor moment f o).area.database
+  pub each : (f : Stepping) (o : Outcome) → Climbs o.area.database → Climbs (each_neighbor moment f o).area.database
   each f o h = sent (stepping_sends f o.area.links) o.area.database h
 
   cases : (case : Case) (place : ℕ) (lsa : Lsa) (o : Outcome) → case_at moment place lsa o.area ≡ case → Climbs o.area.database → Climbs (after_case case moment place lsa o).area.database
@@ -234,7 +246,7 @@ module _ (key : Key) (moment : ℕ) (first : Instance) where
       Climbs o.area.database
       ⊎ ((i : Instance) × (is_at_least i first ≡ true) × (is_max_age i.age ≡ true) × (finite.get o.area.database key ≡ None) × (any_has_retransmission key o.area.links ≡ false))
 
-  removes : (o : Outcome) → Climbs o.area.database → Ended (on_database (λ db. finite.retain_keys db (stays moment o.area)) o)
+  pub removes : (o : Outcome) → Climbs o.area.database → Ended (on_database (λ db. finite.retain_keys db (stays moment o.area)) o)
   removes o h = by_copy (finite.get o.area.database key) refl
     where
       goes : (a b : Bool) → (not a || b) ≡ false → (a ≡ true) × (b ≡ false)
@@ -264,6 +276,14 @@ module _ (key : Key) (moment : ℕ) (first : Instance) where
       by_copy : (c : Option DatabaseCopy) → finite.get o.area.database key ≡ c → Ended (on_database (λ db. finite.retain_keys db (stays moment o.area)) o)
       by_copy None at = let no : None ≡ Some h.0 = sym (ap (instance_at moment) at) ∙ h.1 in absurd cc
       by_copy (Some c) at = by_test c at (stays moment o.area key) refl
+
+  pub in_words : (new : Router) → Ended (outcome (record { router = new; sends = [] })) → BecameOf moment first key new
+  in_words new (inl h) = by_copy (finite.get new.area.database key) refl
+    where
+      by_copy : (c : Option DatabaseCopy) → finite.get new.area.database key ≡ c → BecameOf moment first key new
+      by_copy None at = let no : None ≡ Some h.0 = sym (ap (instance_at moment) at) ∙ h.1 in absurd cc
+      by_copy (Some c) at = BecameOf.IsHeld c at (of_copy new.area.database key c refl at h)
+  in_words new (inr h) = BecameOf.IsGone h.0 h.1 h.2 h.3 h.4
 
 -- ---- the whole event
 
@@ -307,17 +327,9 @@ module _ (key : Key) (old : Router) (moment : ℕ) (event : Occurrence) (copy : 
       ages key moment first old.moment (finite.entries old.area.database) (record { area = old.area; sends = [] })
       (first, ap (instance_at moment) there, itself_at_least first)
 
-  in_words : (new : Router) → Ended key moment first (outcome (record { router = new; sends = [] })) → BecameOf moment first key new
-  in_words new (inl h) = by_copy (finite.get new.area.database key) refl
-    where
-      by_copy : (c : Option DatabaseCopy) → finite.get new.area.database key ≡ c → BecameOf moment first key new
-      by_copy None at = let no : None ≡ Some h.0 = sym (ap (instance_at moment) at) ∙ h.1 in absurd cc
-      by_copy (Some c) at = BecameOf.IsHeld c at (of_copy key moment first new.area.database key c refl at h)
-  in_words new (inr h) = BecameOf.IsGone h.0 h.1 h.2 h.3 h.4
-
   became : (outs : List Out) (new : Router) → Happens old moment event outs new → IsInOrder old → BecameOf moment first key new
   became outs new happens order =
-      in_words new
+      in_words key moment first new
       (subst (λ (r : Router). Ended key moment first (outcome (record { router = r; sends = [] }))) (sym happens.router)
       (event_kept_too (in_order old.id) (order_kept old.id) X Y old moment event each_part happens.after (order_brings old event) happens.own (order_begun old moment order) begun))
 

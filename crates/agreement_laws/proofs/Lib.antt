@@ -10,5 +10,15 @@ mod Walk
 mod Done
 mod Runs
 mod Climbing
+mod Plain
+mod Said
+mod SaidWalk
+mod Names
+mod ReadNames
+mod Letters
+mod Remembering
+mod Since
+mod Agreeing
 mod WorkedRanks
 mod WorkedExchanges
+mod WorkedNeighbors

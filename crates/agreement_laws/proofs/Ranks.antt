@@ -69,7 +69,7 @@ same a b e = same_by (int_cmp a.sequence b.sequence) (nat_cmp a.checksum b.check
 pub same_at_least : (a b : Instance) → is_same a b ≡ true → is_at_least a b ≡ true
 same_at_least a b e = at_least_by (int_cmp a.sequence b.sequence) (nat_cmp a.checksum b.checksum) (is_max_age a.age) (is_max_age b.age) (far a.age b.age) (nat_cmp b.age a.age) e
 
-equal_parts : (r s t : Ordering) → ordering_then r (ordering_then s t) ≡ Equal → (r ≡ Equal) × (s ≡ Equal) × (t ≡ Equal)
+pub equal_parts : (r s t : Ordering) → ordering_then r (ordering_then s t) ≡ Equal → (r ≡ Equal) × (s ≡ Equal) × (t ≡ Equal)
 equal_parts Less s t e = absurd cc
 equal_parts Equal Less t e = absurd cc
 equal_parts Equal Equal t e = (refl, refl, e)
@@ -124,6 +124,10 @@ at_least_back a b e = ap (λ (o : Ordering). is_ge o) (total.antisymm a b) ∙ b
     by_order Less is = refl
     by_order Equal is = refl
     by_order Greater is = absurd cc
+
+-- of two that are the same each is as new as the other
+pub same_back : (a b : Instance) → is_same a b ≡ true → is_at_least b a ≡ true
+same_back a b e = at_least_back b a (ap (λ (o : Ordering). is_gt o) (same a b e))
 
 -- as new as what is as new as the third is as new as the third
 pub at_least_on : (a b c : Instance) → is_at_least a b ≡ true → is_at_least b c ≡ true → is_at_least a c ≡ true

@@ -79,7 +79,7 @@ nobody_at : (is : List Interface) (number : ℕ) → neighbor_at number (map fre
 nobody_at is zero = refl
 nobody_at is (suc i) = fresh_place is i
 
-begins_alone : (c : Config) (number : ℕ) → (neighbor_at number (initial c).area.links ≡ None) × ((initial c).moment ≡ c.start)
+pub begins_alone : (c : Config) (number : ℕ) → (neighbor_at number (initial c).area.links ≡ None) × ((initial c).moment ≡ c.start)
 begins_alone c number =
     let p : EventState = record { router = unannounced_router c; sends = [] } in
     originated_alone number c.start (has_room (router_key c.router) p.router) c.start (router_key c.router) (wanted_body p.router (router_key c.router)) p (nobody_at c.interfaces number, refl)
@@ -94,7 +94,7 @@ module _ (key : Key) (number : ℕ) where
   abbrev After : Saying → Router → List Step → Router → Saying
   After Before old steps new with_it l = (Before with_it l × GoesOn number with_it old steps new) ⊎ SaidIn old steps new with_it l
 
-  abbrev IsSettled : Saying → Router → Type 0
+  abbrev pub IsSettled : Saying → Router → Type 0
   IsSettled Before r = Holds (Settling key r.moment walk.Anybody Before (held r.moment key r.area.database)) (neighbor_at number r.area.links)
 
   -- what is said more of neighbors in Exchange or later
@@ -111,13 +111,13 @@ module _ (key : Key) (number : ℕ) where
     more_on x None at h = tt
     more_on x (Some m) at h = more_of x m at (is_exchange_or_later m.state) refl h
 
-    more_said : IsSettled Said r → IsSettled Added r
+    pub more_said : IsSettled Said r → IsSettled Added r
     more_said h = more_on (held r.moment key r.area.database) (neighbor_at number r.area.links) refl h
 
   -- ---- one event
 
   -- said before, in the conversation that there was; or in the event
-  abbrev Then : Saying → Router → Step → Saying
+  abbrev pub Then : Saying → Router → Step → Saying
   Then Before old s with_it l =
       (Before with_it l × Converses number with_it old) ⊎ ((key_of l.header ≡ key) × IsExchanged old.id s number with_it.router l.header × (l.at ≡ s.moment))
 
@@ -150,13 +150,13 @@ module _ (key : Key) (number : ℕ) where
         (SaidBy key s.moment number (walk.HasLink key number Before old s.moment s.event) (walk.IsIts key number Before old s.moment s.event) (walk.Base key number Before old s.moment s.event) ended.sends) (Then Before old s) m
         (λ its. tt) (λ l k. said_then (conversation_with m) l k) x h
 
-    after_event : old.moment ≤ s.moment → IsInOrder old → IsSettled Before old → IsSettled (Then Before old s) new
+    pub after_event : old.moment ≤ s.moment → IsInOrder old → IsSettled Before old → IsSettled (Then Before old s) new
     after_event later order was =
         subst (λ (r : Router). IsSettled (Then Before old s) r) (sym happens.router)
         (then_on (held s.moment key ended.router.area.database) (neighbor_at number ended.router.area.links)
         (walk.ends key number Before old s.moment s.event later s.outs new happens order was))
 
-    new_moment : new.moment ≡ s.moment
+    pub new_moment : new.moment ≡ s.moment
     new_moment = ap (λ (r : Router). r.moment) happens.router
 
   -- ---- all of them

@@ -5,8 +5,11 @@
 ghost use Rattle.agreement_laws.specs.CopiesClimb.{CopiesClimb};
 ghost use Rattle.agreement_laws.specs.HeldWasTold.{FullNeighborsWereTold};
 ghost use Rattle.agreement_laws.specs.HeldWasTold.{NothingIsLeftToDescribe, WhatIsHeldWasTold};
+ghost use Rattle.agreement_laws.specs.NeighborsAgree.{NeighborsAgreeOnWhatWasRenewed};
 ghost use Rattle.agreement_laws.specs.Ranks.{RanksFollowTheComparison};
+ghost use Rattle.agreement_laws.specs.SaidIsHeld.{WhatIsSaidIsHeld};
 ghost use Rattle.agreement_laws.specs.WorkedExchanges.{WorkedExchanges};
+ghost use Rattle.agreement_laws.specs.WorkedNeighbors.{WorkedNeighbors};
 ghost use Rattle.agreement_laws.specs.WorkedRanks.{WorkedRanks};
 
 /// How new an instance is, whatever its age below MaxAge, is an order that the comparison of
@@ -44,6 +47,25 @@ pub fn copies_climb()
     ensures { CopiesClimb }
 {}
 
+/// What a router says of LSAs, it holds: what an event's Updates take along, before InfTransDelay is
+/// added to its age, is held after the event by an instance that is as new, or was and left at MaxAge
+/// in it; and so is what an acknowledgment names when it is made, unless there was nothing to flush
+/// (RFC 2328, sections 10.7, 13, 13.3 and 13.5 to 13.7). It asks that the router is in order, as it
+/// is in every run.
+pub fn what_is_said_is_held()
+    ensures { WhatIsSaidIsHeld }
+{}
+
+/// Full neighbors agree on what was renewed, in every history of two neighbors in whatever
+/// surroundings, with loss, repetition, delay, reordering and restarts: where one is Full with the
+/// other, and an LSA is not on its retransmission list, the other holds an instance that is as new;
+/// and where that is so of both, they hold the same instance. Unless, in their present conversation,
+/// one as new was exchanged in a Description; or the other one told it, and has been without a copy
+/// since, or began anew, or had none to flush (RFC 2328, sections 10.3 and 13).
+pub fn neighbors_agree_on_what_was_renewed()
+    ensures { NeighborsAgreeOnWhatWasRenewed }
+{}
+
 /// Worked cases of how new instances are: by sequence number, then checksum, then MaxAge; other
 /// ages don't count, though section 13.1 of RFC 2328 goes by them, which by itself is no order.
 pub fn worked_ranks()
@@ -55,4 +77,11 @@ pub fn worked_ranks()
 /// nothing without an event, and nothing once the conversation is over.
 pub fn worked_exchanges()
     ensures { WorkedExchanges }
+{}
+
+/// Worked cases of two neighbors: by what an instance is as new as another, whatever their ages; who
+/// begins anew has forgotten all that it sent, and who keeps its copy forgets nothing that it sent
+/// since it began; what was exchanged counts only while the conversation stands.
+pub fn worked_neighbors()
+    ensures { WorkedNeighbors }
 {}

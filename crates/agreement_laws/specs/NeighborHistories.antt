@@ -1,0 +1,142 @@
+-- Two neighbors in whatever surroundings: what each sends the other may be lost, repeated, late and
+-- reordered, but isn't forged; on their other interfaces anything may come in; either may begin
+-- anew. Their clocks may differ.
+use Rattle.std.specs.Prelude.{◌≡◌, ◌⊎◌, ℕ, ◌==◌, ◌≤◌, Bool, true, false}
+use Rattle.std.specs.Prelude.{if◌then◌else◌, List, [], ◌∷◌, ◌++◌, length, Option, None, Some}
+use Rattle.std.specs.List.{AllByRecursion, Contains, filter_map}
+use Rattle.words.specs.Numbers.{InterfaceNumber, Moment}
+use Rattle.events.specs.declared.model.Config.{Config}
+use Rattle.events.specs.declared.model.Out.{Out}
+use Rattle.events.specs.Endings.{end_event}
+use Rattle.events.specs.Events.{Happens, Step, initial}
+use Rattle.events.specs.Routers.{Occurrence, Router}
+use Rattle.flood_laws.specs.Keeping.{AreTexts, IsInstance}
+use Rattle.flood_laws.specs.Known.{instances_in_sends}
+
+-- ---- the two
+
+pub data Side : Type 0 where
+  Left : Side
+  Right : Side
+
+abbrev pub other_side : Side → Side
+other_side Side.Left = Side.Right
+other_side Side.Right = Side.Left
+
+-- a router; the texts that went out at its interface to the other one, from the first on; and how
+-- many of them before it last began
+pub record Party : Type 0 where
+  pub router : Router
+  pub sent : List (List ℕ)
+  pub began : ℕ
+
+pub record Pair : Type 0 where
+  pub left : Party
+  pub right : Party
+
+abbrev pub party : Side → Pair → Party
+party Side.Left w = w.left
+party Side.Right w = w.right
+
+-- each one's interface to the other
+pub record Ends : Type 0 where
+  pub left : InterfaceNumber
+  pub right : InterfaceNumber
+
+abbrev pub interface_of : Side → Ends → InterfaceNumber
+interface_of Side.Left ends = ends.left
+interface_of Side.Right ends = ends.right
+
+-- ---- turns
+
+abbrev pub text_at : InterfaceNumber → Out → Option (List ℕ)
+text_at number out = if out.interface == number then Some out.bytes else None
+
+-- an event happens to the router; what comes in at its interface to the other one, that one sent
+pub record TakesEvent (number : InterfaceNumber) (heard : List (List ℕ)) (before after : Party)
+    : Type 0 where
+  pub moment : Moment
+  pub event : Occurrence
+  pub outs : List Out
+  pub happens : Happens before.router moment event outs after.router
+  -- its clock doesn't go back
+  pub clock : before.router.moment ≤ moment
+  pub not_forged : (bytes : List ℕ) → event ≡ Occurrence.Packet number bytes → Contains heard bytes
+  pub sent : after.sent ≡ before.sent ++ filter_map (text_at number) outs
+  pub began : after.began ≡ before.began
+  -- the instances that it sends have their numbers in their ranges, and are written as texts
+  pub in_range : AllByRecursion IsInstance
+      (instances_in_sends (end_event before.router moment happens.after).sends)
+  pub texts : AreTexts before.router.id before.router.area.links
+      (end_event before.router moment happens.after).sends
+
+-- it begins anew under its Router ID
+pub record BeginsAnew (before after : Party) : Type 0 where
+  pub config : Config
+  pub same : config.router ≡ before.router.id
+  pub router : after.router ≡ initial config
+  pub sent : after.sent ≡ before.sent
+  pub began : after.began ≡ length before.sent
+
+pub data Doing (number : InterfaceNumber) (heard : List (List ℕ)) (before after : Party) : Type 0
+  where
+    Event : TakesEvent number heard before after → Doing number heard before after
+    Start : BeginsAnew before after → Doing number heard before after
+
+-- a turn of one of the two
+pub record Turn (ends : Ends) (before after : Pair) : Type 0 where
+  pub side : Side
+  pub does : Doing (interface_of side ends) (party (other_side side) before).sent
+      (party side before) (party side after)
+  pub other : party (other_side side) after ≡ party (other_side side) before
+
+-- ---- what happens in a turn
+
+abbrev pub is_same_side : Side → Side → Bool
+is_same_side Side.Left Side.Left = true
+is_same_side Side.Left Side.Right = false
+is_same_side Side.Right Side.Left = false
+is_same_side Side.Right Side.Right = true
+
+abbrev pub event_taken : {number : InterfaceNumber} {heard : List (List ℕ)} {before after : Party}
+    → Doing number heard before after → Option Step
+event_taken (Doing.Event t) = Some (record { moment = t.moment; event = t.event; outs = t.outs })
+event_taken (Doing.Start b) = None
+
+-- the event that happens to the router of this side in the turn, if it is its turn and it doesn't
+-- begin anew
+abbrev pub event_of : (ends : Ends) (side : Side) (before after : Pair) → Turn ends before after
+    → Option Step
+event_of ends side before after t =
+    if is_same_side t.side side then event_taken t.does else None
+
+-- ---- histories
+
+pub record HasBegun (p : Party) : Type 0 where
+  pub config : Config
+  pub router : p.router ≡ initial config
+  pub sent : p.sent ≡ []
+  pub began : p.began ≡ 0
+
+-- the two as they are now, and as they were before each turn, the last one first
+abbrev pub IsHistory : Ends → Pair → List Pair → Type 0
+IsHistory ends now [] = HasBegun now.left × HasBegun now.right
+IsHistory ends now (before ∷ earlier) = Turn ends before now × IsHistory ends before earlier
+
+-- what may be so of a turn
+abbrev pub OfTurn : Ends → Type 1
+OfTurn ends = (before after : Pair) → Turn ends before after → Type 0
+
+-- it is so of some turn of the history
+abbrev pub InSomeTurn : (ends : Ends) → OfTurn ends → (now : Pair) (earlier : List Pair)
+    → IsHistory ends now earlier → Type 0
+InSomeTurn ends Such now [] h = ⊥
+InSomeTurn ends Such now (before ∷ earlier) h =
+    Such before now h.0 ⊎ InSomeTurn ends Such before earlier h.1
+
+-- of some turn since which this has held
+abbrev pub InSomeTurnSince : (ends : Ends) → (Pair → Type 0) → OfTurn ends → (now : Pair)
+    (earlier : List Pair) → IsHistory ends now earlier → Type 0
+InSomeTurnSince ends Holds Such now [] h = ⊥
+InSomeTurnSince ends Holds Such now (before ∷ earlier) h =
+    Holds now × (Such before now h.0 ⊎ InSomeTurnSince ends Holds Such before earlier h.1)

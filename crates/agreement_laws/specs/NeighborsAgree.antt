@@ -1,0 +1,172 @@
+-- Full neighbors agree on what was renewed (RFC 2328, sections 10.3 and 13): where each is Full with
+-- the other, and an LSA is on neither one's retransmission list, both hold the same instance; unless
+-- the instance was exchanged in their Descriptions, or one of them was without a copy since it said
+-- to the other that it had it.
+use Rattle.std.specs.Prelude.{◌≡◌, ◌⊎◌, ℕ, ◌<◌, Bool, true, false, List, length, None, Some}
+use Rattle.std.specs.Prelude.{slice_get}
+use Rattle.std.specs.FinMap as finite
+use Rattle.std.specs.List.{Contains}
+use Rattle.words.specs.Numbers.{InterfaceNumber, RouterNumber}
+use Rattle.words.specs.declared.key.Key.{Key}
+use Rattle.lsdb.specs.Copies.{DatabaseCopy}
+use Rattle.lsdb.specs.Headers.{Header, key_of}
+use Rattle.lsdb.specs.Order.{is_max_age}
+use Rattle.lsdb.specs.declared.order.Instance.{Instance}
+use Rattle.packet.specs.declared.model.Body.TheVariants as body
+use Rattle.packet.specs.declared.model.Description.{Description}
+use Rattle.packet.specs.declared.model.Packet.{Packet}
+use Rattle.packet.specs.Text.{PacketText}
+use Rattle.adjacency.specs.declared.state.State.TheVariants.{Full}
+use Rattle.adjacency.specs.Neighbors.{Neighbor}
+use Rattle.received.specs.Links.{neighbor_at}
+use Rattle.events.specs.Events.{Step}
+use Rattle.events.specs.LsaInstances.{LsaInstance, instance_of_header, instance_of_lsa}
+use Rattle.events.specs.LsaInstances.{instances_advertised}
+use Rattle.events.specs.Routers.{Occurrence, Router}
+use Rattle.agreement_laws.specs.Exchanged.{Conversation, Converses, Describes, conversation_with}
+use Rattle.agreement_laws.specs.NeighborHistories.{Ends, InSomeTurn, InSomeTurnSince, IsHistory}
+use Rattle.agreement_laws.specs.NeighborHistories.{Pair, Party, Side, Turn, event_of, interface_of}
+use Rattle.agreement_laws.specs.NeighborHistories.{other_side, party}
+use Rattle.agreement_laws.specs.Ranks.{is_at_least}
+use Rattle.agreement_laws.specs.SaidIsHeld.{Waits}
+
+-- ---- instances, whatever their ages
+
+abbrev pub young : LsaInstance → Instance
+young name = record { sequence = name.sequence; checksum = name.checksum; age = 0 }
+
+-- a is as new as b, or newer: by the sequence number, then the checksum
+abbrev pub is_as_new : LsaInstance → LsaInstance → Bool
+is_as_new a b = is_at_least (young a) (young b)
+
+-- the router holds an instance of the key that is as new
+pub record HoldsAsNew (r : Router) (name : LsaInstance) : Type 0 where
+  pub copy : DatabaseCopy
+  pub there : finite.get r.area.database name.key ≡ Some copy
+  pub as_new : is_as_new (instance_of_lsa copy.lsa) name ≡ true
+
+-- ---- what was told
+
+-- in the event a Description with the header comes in from the other one, or goes out to it
+pub data IsDescribed (number : InterfaceNumber) (header : Header) (own : RouterNumber) (step : Step)
+    : Type 0 where
+  Heard : (bytes : List ℕ) (packet : Packet) (d : Description)
+      → step.event ≡ Occurrence.Packet number bytes → PacketText bytes packet
+      → packet.body ≡ body.Description d → Contains d.headers header
+      → IsDescribed number header own step
+  Sent : Describes own step.outs number header → IsDescribed number header own step
+
+-- the event is this text of the other one, an Update or an Acknowledgment that tells the instance
+pub record IsTold (number : InterfaceNumber) (bytes : List ℕ) (name : LsaInstance) (step : Step)
+    : Type 0 where
+  pub is : step.event ≡ Occurrence.Packet number bytes
+  pub packet : Packet
+  pub text : PacketText bytes packet
+  pub told : Contains (instances_advertised packet.body) name
+
+-- ---- what is said and then forgotten
+
+-- the router has no copy of the key
+abbrev pub IsWithout : Key → Router → Type 0
+IsWithout key r = finite.get r.area.database key ≡ None
+
+-- the text acknowledges the instance at MaxAge
+pub record AcknowledgesMaxAge (bytes : List ℕ) (name : LsaInstance) : Type 0 where
+  pub packet : Packet
+  pub text : PacketText bytes packet
+  pub headers : List Header
+  pub acknowledges : packet.body ≡ body.Acknowledgment headers
+  pub header : Header
+  pub among : Contains headers header
+  pub named : instance_of_header header ≡ name
+  pub flushed : is_max_age header.age ≡ true
+
+-- Why the router may not hold what the text of this number among those that it sent tells: after the
+-- turn, which takes it from before to after,
+pub data Forgets (number : InterfaceNumber) (name : LsaInstance) (text : ℕ) (before after : Party)
+    : Type 0 where
+  -- it has no copy, and has sent the text by then
+  Without : IsWithout name.key after.router → text < length after.sent
+      → Forgets number name text before after
+  -- it has no copy, and an acknowledgment of the instance waits to be sent
+  WithoutWaiting : IsWithout name.key after.router → (header : Header)
+      → Waits number header after.router.area.links → instance_of_header header ≡ name
+      → Forgets number name text before after
+  -- it has begun anew since it sent the text
+  BegunAnew : text < after.began → Forgets number name text before after
+  -- it had no copy before, and the text acknowledges the instance at MaxAge: there was nothing to
+  -- flush
+  NothingToFlush : IsWithout name.key before.router → (bytes : List ℕ)
+      → slice_get after.sent text ≡ Some bytes → AcknowledgesMaxAge bytes name
+      → Forgets number name text before after
+
+-- so it is in some turn of the history
+abbrev pub HasForgotten : (ends : Ends) → Side → LsaInstance → ℕ → (now : Pair)
+    (earlier : List Pair) → IsHistory ends now earlier → Type 0
+HasForgotten ends side name text now earlier h =
+    InSomeTurn ends (λ (before after : Pair) (t : Turn ends before after).
+    Forgets (interface_of side ends) name text (party side before) (party side after))
+    now earlier h
+
+-- ---- what may keep Full neighbors apart
+
+-- such an event happened to the router of this side, and since then it has been in the conversation
+abbrev pub InConversation : (ends : Ends) → Side → Conversation → (RouterNumber → Step → Type 0)
+    → (now : Pair) (earlier : List Pair) → IsHistory ends now earlier → Type 0
+InConversation ends side with_it Such now earlier h =
+    InSomeTurnSince ends
+    (λ (w : Pair). Converses (interface_of side ends) with_it (party side w).router)
+    (λ (before after : Pair) (t : Turn ends before after).
+    (step : Step) × (event_of ends side before after t ≡ Some step)
+    × Such (party side before).router.id step) now earlier h
+
+-- The router of this side is in the conversation, and has this instance: why the other one may not
+-- hold one that is as new.
+pub data Exception (ends : Ends) (side : Side) (with_it : Conversation) (name : LsaInstance)
+    (now : Pair) (earlier : List Pair) (h : IsHistory ends now earlier) : Type 0 where
+  -- one as new was exchanged in a Description
+  Described : (header : Header) → key_of header ≡ name.key
+      → is_as_new (instance_of_header header) name ≡ true
+      → InConversation ends side with_it (IsDescribed (interface_of side ends) header) now earlier h
+      → Exception ends side with_it name now earlier h
+  -- the other one told one as new, in an Update or an Acknowledgment, and has forgotten it: it did
+  -- send these bytes, and has forgotten what they told each time that it sent them
+  Forgotten : (bytes : List ℕ) (told : LsaInstance) → told.key ≡ name.key
+      → is_as_new told name ≡ true
+      → InConversation ends side with_it
+      (λ (own : RouterNumber) (step : Step). IsTold (interface_of side ends) bytes told step)
+      now earlier h
+      → Contains (party (other_side side) now).sent bytes
+      → ((text : ℕ) → slice_get (party (other_side side) now).sent text ≡ Some bytes
+      → HasForgotten ends (other_side side) told text now earlier h)
+      → Exception ends side with_it name now earlier h
+
+-- ---- the law
+
+-- the router of this side is Full with the other one, which owes it no acknowledgment of the key
+pub record IsAtRest (number : InterfaceNumber) (key : Key) (r : Router) : Type 0 where
+  pub neighbor : Neighbor
+  pub there : neighbor_at number r.area.links ≡ Some neighbor
+  pub full : neighbor.state ≡ Full
+  pub acknowledged : finite.contains_key neighbor.retransmissions key ≡ false
+
+pub record NeighborsAgreeOnWhatWasRenewed : Type 0 where
+  -- what one of them holds, the other holds as new
+  pub held : (ends : Ends) (now : Pair) (earlier : List Pair) (h : IsHistory ends now earlier)
+      → (side : Side) (key : Key)
+      → (at_rest : IsAtRest (interface_of side ends) key (party side now).router)
+      → (copy : DatabaseCopy) → finite.get (party side now).router.area.database key ≡ Some copy
+      → HoldsAsNew (party (other_side side) now).router (instance_of_lsa copy.lsa)
+      ⊎ Exception ends side (conversation_with at_rest.neighbor) (instance_of_lsa copy.lsa)
+      now earlier h
+  -- so where both are at rest, they hold the same instance
+  pub same : (ends : Ends) (now : Pair) (earlier : List Pair) (h : IsHistory ends now earlier)
+      → (key : Key) (left : IsAtRest ends.left key now.left.router)
+      → (right : IsAtRest ends.right key now.right.router)
+      → (a b : DatabaseCopy) → finite.get now.left.router.area.database key ≡ Some a
+      → finite.get now.right.router.area.database key ≡ Some b
+      → (instance_of_lsa a.lsa ≡ instance_of_lsa b.lsa)
+      ⊎ (Exception ends Side.Left (conversation_with left.neighbor) (instance_of_lsa a.lsa)
+      now earlier h
+      ⊎ Exception ends Side.Right (conversation_with right.neighbor) (instance_of_lsa b.lsa)
+      now earlier h)

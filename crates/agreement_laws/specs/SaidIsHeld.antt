@@ -1,0 +1,76 @@
+-- What a router says of LSAs, it holds (RFC 2328, sections 10.7, 13, 13.3 and 13.5 to 13.7): what an
+-- Update takes along when it is sent, and what an acknowledgment names when it is made, which may be
+-- long before it is sent, since it may wait for a Tick.
+use Rattle.std.specs.Prelude.{◌≡◌, true, List, None, Some}
+use Rattle.std.specs.FinMap as finite
+use Rattle.std.specs.List.{Contains}
+use Rattle.words.specs.Numbers.{InterfaceNumber, Moment}
+use Rattle.words.specs.declared.key.Key.{Key}
+use Rattle.lsdb.specs.Headers.{Header, Lsa, key_of, lsa_key}
+use Rattle.lsdb.specs.Instances.{instance_of}
+use Rattle.lsdb.specs.Order.{is_max_age}
+use Rattle.adjacency.specs.Contents.{Content}
+use Rattle.received.specs.Links.{Link, link_at}
+use Rattle.received.specs.Outcomes.{Send}
+use Rattle.events.specs.declared.model.Out.{Out}
+use Rattle.events.specs.Endings.{end_event}
+use Rattle.events.specs.Events.{Happens}
+use Rattle.events.specs.Routers.{Occurrence, Router}
+use Rattle.flood_laws.specs.InOrder.{IsInOrder}
+use Rattle.agreement_laws.specs.CopiesClimb.{BecameOf}
+
+-- ---- what is said
+
+-- an Update at the interface takes the LSA along, with its age before InfTransDelay is added
+abbrev pub Updates : List Send → InterfaceNumber → Lsa → Type 0
+Updates sends number lsa =
+    Contains sends (record { number = number; content = Content.Updates lsa })
+
+-- an Acknowledgment at the interface names the header
+abbrev pub Acknowledges : List Send → InterfaceNumber → Header → Type 0
+Acknowledges sends number header =
+    Contains sends (record { number = number; content = Content.Acknowledges header })
+
+-- an acknowledgment of the header waits at the interface for a Tick
+pub record Waits (number : InterfaceNumber) (header : Header) (links : List Link) : Type 0 where
+  pub link : Link
+  pub there : link_at number links ≡ Some link
+  pub key : Key
+  pub waits : finite.get link.acknowledgments key ≡ Some header
+
+-- ---- why it is said
+
+-- what the header names was received: after an event at the moment, in which the router became the
+-- new one, and whose acknowledgments are of this interface
+pub data IsReceived (old : Router) (moment : Moment) (new : Router) (number : InterfaceNumber)
+    (header : Header) : Type 0 where
+  -- its acknowledgment waited before the event
+  Waited : Waits number header old.area.links → IsReceived old moment new number header
+  -- an instance that is as new is held; or it was, and left in this event, at MaxAge
+  Held : BecameOf moment (instance_of header) (key_of header) new
+      → IsReceived old moment new number header
+
+-- why an acknowledgment goes out
+pub data IsAcknowledged (old : Router) (moment : Moment) (new : Router)
+    (number : InterfaceNumber) (header : Header) : Type 0 where
+  Received : IsReceived old moment new number header
+      → IsAcknowledged old moment new number header
+  -- there was nothing to flush: the header is at MaxAge, and none was held before the event
+  NothingToFlush : finite.get old.area.database (key_of header) ≡ None
+      → is_max_age header.age ≡ true → IsAcknowledged old moment new number header
+
+pub record SaysWhatIsHeld (old : Router) (moment : Moment) (sends : List Send) (new : Router)
+    : Type 0 where
+  pub updates : (number : InterfaceNumber) (lsa : Lsa) → Updates sends number lsa
+      → BecameOf moment (instance_of lsa.header) (lsa_key lsa) new
+  pub acknowledged : (number : InterfaceNumber) (header : Header)
+      → Acknowledges sends number header → IsAcknowledged old moment new number header
+  pub waiting : (number : InterfaceNumber) (header : Header)
+      → Waits number header new.area.links → IsReceived old moment new number header
+
+-- of routers in order, as they are in every run: so it is of each event
+abbrev pub WhatIsSaidIsHeld : Type 0
+WhatIsSaidIsHeld =
+    (old : Router) (moment : Moment) (event : Occurrence) (outs : List Out) (new : Router)
+    → (happens : Happens old moment event outs new) → IsInOrder old
+    → SaysWhatIsHeld old moment (end_event old moment happens.after).sends new

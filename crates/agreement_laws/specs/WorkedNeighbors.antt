@@ -1,0 +1,52 @@
+-- Worked cases of two neighbors: which instance is as new as another whatever their ages, what is
+-- forgotten, and what counts in a conversation.
+use Rattle.std.specs.Prelude.{◌≡◌, ℕ, ℤ, pos, ◌<◌, ◌≤◌, false, true, List, [], length, None, Some}
+use Rattle.std.specs.FinMap as finite
+use Rattle.words.specs.Numbers.{InterfaceNumber}
+use Rattle.lsdb.specs.Copies.{DatabaseCopy}
+use Rattle.lsdb.specs.Headers.{Header}
+use Rattle.events.specs.LsaInstances.{LsaInstance}
+use Rattle.agreement_laws.specs.Exchanged.{Conversation, Converses}
+use Rattle.agreement_laws.specs.NeighborHistories.{BeginsAnew, Ends, IsHistory, Pair, Party, Side}
+use Rattle.agreement_laws.specs.NeighborHistories.{Turn, event_of, interface_of, is_same_side}
+use Rattle.agreement_laws.specs.NeighborHistories.{party}
+use Rattle.agreement_laws.specs.NeighborsAgree.{Forgets, HasForgotten, InConversation, IsDescribed}
+use Rattle.agreement_laws.specs.NeighborsAgree.{is_as_new}
+
+abbrev pub named : ℤ → ℕ → LsaInstance
+named sequence checksum = record {
+  key = record { ls_type = 5; link_state_id = 1; advertising_router = 2 };
+  sequence = sequence;
+  checksum = checksum;
+}
+
+pub record WorkedNeighbors : Type 0 where
+  -- the sequence number decides, then the checksum
+  pub number : is_as_new (named (pos 5) 1) (named (pos 4) 9) ≡ true
+  pub lesser_number : is_as_new (named (pos 4) 9) (named (pos 5) 1) ≡ false
+  pub checksum : is_as_new (named (pos 5) 8) (named (pos 5) 7) ≡ true
+  pub lesser_checksum : is_as_new (named (pos 5) 7) (named (pos 5) 8) ≡ false
+  pub same : is_as_new (named (pos 5) 7) (named (pos 5) 7) ≡ true
+  -- who has begun anew has forgotten each text that it sent before
+  pub begun_anew : (number : InterfaceNumber) (name : LsaInstance) (text : ℕ) (before after : Party)
+      → BeginsAnew before after → text < length before.sent
+      → Forgets number name text before after
+  -- who has a copy before a turn and after it forgets no text in it that it sent since it began
+  pub kept : (number : InterfaceNumber) (name : LsaInstance) (text : ℕ) (before after : Party)
+      (was is : DatabaseCopy) → finite.get before.router.area.database name.key ≡ Some was
+      → finite.get after.router.area.database name.key ≡ Some is → after.began ≤ text
+      → Forgets number name text before after → ⊥
+  -- without turns nothing is forgotten, and nothing was exchanged
+  pub nothing_forgotten : (ends : Ends) (side : Side) (name : LsaInstance) (text : ℕ) (now : Pair)
+      (h : IsHistory ends now []) → HasForgotten ends side name text now [] h → ⊥
+  pub nothing_exchanged : (ends : Ends) (side : Side) (with_it : Conversation)
+      (header : Header) (now : Pair) (h : IsHistory ends now [])
+      → InConversation ends side with_it (IsDescribed (interface_of side ends) header) now [] h → ⊥
+  -- what was exchanged counts only while the conversation stands
+  pub stands : (ends : Ends) (side : Side) (with_it : Conversation)
+      (header : Header) (now : Pair) (earlier : List Pair) (h : IsHistory ends now earlier)
+      → InConversation ends side with_it (IsDescribed (interface_of side ends) header) now earlier h
+      → Converses (interface_of side ends) with_it (party side now).router
+  -- a turn of the other one is no event of this router
+  pub other : (ends : Ends) (side : Side) (before after : Pair) (t : Turn ends before after)
+      → is_same_side t.side side ≡ false → event_of ends side before after t ≡ None
