@@ -68,6 +68,16 @@ def vrf_of(link: Link, links: Iterable[Link]) -> str:
     return next((each.name for each in devices if each.index in (link.master, link.index)), "")
 
 
+def members_of(links: Iterable[Link], vrf: str) -> set[int]:
+    """The indexes of the interfaces in a VRF, its own device too; without one of those that are in
+    none."""
+    links = list(links)
+    its = (each for each in links if each.vrf_table and vrf in ("", each.name))
+    devices = {each.index for each in its}
+    inside = {each.index for each in links if each.master in devices or each.index in devices}
+    return inside if vrf else {each.index for each in links} - inside
+
+
 def kernel_interfaces() -> dict[str, KernelInterface]:
     """All interfaces of the network namespace that this process is in, by their names."""
     try:

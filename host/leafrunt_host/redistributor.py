@@ -10,6 +10,7 @@ import socket
 from collections.abc import Iterable, Iterator
 
 from leafrunt_host.destinations import Announcement, Owner
+from leafrunt_host.kernel import members_of
 from leafrunt_host.kernel_settings import KernelSettings
 from leafrunt_host.packet_filter import NONE, Bpf, Compare, Step, assembled
 from leafrunt_host.redistribution import PROTOCOL, Redistribution
@@ -137,11 +138,11 @@ class Redistributor:
         return self._is_to_read
 
     def asked_for(self) -> dict[Owner, list[Announcement]]:
-        """All that is to be announced, by each owner that the configuration has."""
+        """All that is to be announced, by the owners that redistribute."""
         self._is_to_read = True
         links = {each.index: each for each in self._kernel.links()}
         found: dict[Owner, list[Announcement]] = {
-            each: [] for each in self._redistribution.owners
+            each: [] for each in Owner if each.is_redistributed
         }
         for owner, announcement in [*self._of_addresses(links), *self._of_routes(links)]:
             found[owner].append(announcement)
@@ -193,17 +194,6 @@ class Redistributor:
         if not any(each.next_hop and not each.paths for each in routes):
             return {}
         return {each.id: each for each in self._kernel.next_hops(is_own=False)}
-
-
-def members_of(links: Iterable[Link], vrf: str) -> set[int]:
-    """The indexes of the interfaces in a VRF, its own device too; without one of those that are in
-    none."""
-    links = list(links)
-    devices = {each.index for each in links if each.vrf_table}
-    if vrf:
-        devices = {each.index for each in links if each.vrf_table and each.name == vrf}
-    inside = {each.index for each in links if each.master in devices or each.index in devices}
-    return inside if vrf else {each.index for each in links} - inside
 
 
 def is_live(route: Route, links: dict[int, Link], next_hops: dict[int, NextHop]) -> bool:

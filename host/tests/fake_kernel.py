@@ -38,6 +38,8 @@ class FakeKernel(Kernel):
         """Prefixes that another program has a route to, with our metric."""
         self.vrfs: dict[str, int] = {}
         """VRF devices with their tables."""
+        self.inside: set[str] = set()
+        """Interfaces that are enslaved to the first one."""
         self.news = News.NOTHING
         self.given: list[Change] = []
         self.reads = 0
@@ -53,7 +55,10 @@ class FakeKernel(Kernel):
         names = enumerate(self.up, 1)
         vrfs = enumerate(self.vrfs.items(), 100)
         return [
-            *(Link(index, name, 1500, self.up[name]) for index, name in names),
+            *(
+                Link(index, name, 1500, self.up[name], 100 if name in self.inside else 0)
+                for index, name in names
+            ),
             *(Link(index, name, 1500, True, 0, table) for index, (name, table) in vrfs),
         ]
 

@@ -21,7 +21,7 @@ class Costs(unittest.TestCase):
     def test_figures(self) -> None:
         status, said = self.run_it("--routes", "50")
         self.assertIn(status, (0, 1))
-        for words in ("load of 50 routes: ", "one of 50 changes", "at rest with 50: ", "50 routes move"):
+        for words in ("load of 50 routes: ", "one of 50 changes", "at rest with 50: ", "50 routes move", "50 static"):
             self.assertIn(words, said)
 
     def test_wrong_words(self) -> None:

@@ -11,13 +11,13 @@ from unittest import mock
 from leafrunt_host.announcements import LEAST_INTERVAL, Announced, Announcements
 from leafrunt_host.announcer import TOGETHER, Announcer
 from leafrunt_host.destinations import Announcement, Owner
+from leafrunt_host.kernel import members_of
 from leafrunt_host.packet_filter import Bpf
 from leafrunt_host.redistribution import Redistribution, redistribution_of
 from leafrunt_host.redistributor import (
     MOST_COMPARED,
     Changes,
     Redistributor,
-    members_of,
     notices_filter,
 )
 from leafrunt_host.rtnetlink import (
@@ -165,7 +165,10 @@ class Routes(Cases):
         ]
         wanted = {"192.0.2.0/24": "static", "198.51.100.0/24": "kernel", "0.0.0.0/0": "default"}
         self.assertEqual(self.found(), wanted)
-        self.assertEqual(set(self.it.asked_for()), set(Owner) - {Owner.CONSOLE, Owner.CONFIGURATION})
+        others = set(Owner) - {Owner.CONSOLE, Owner.CONFIGURATION}
+        self.assertEqual(set(self.it.asked_for()), others)
+        self.start("[redistribute.static]")
+        self.assertEqual((self.found(), set(self.it.asked_for())), ({"192.0.2.0/24": "static"}, others))
 
     def test_odd_ones(self) -> None:
         """By messages of Linux."""

@@ -24,6 +24,8 @@ from tests.network import (
 EXTERNAL = "203.0.113.0/24"
 """What the neighbor announces."""
 NUMBER = 100
+SLOW = 120
+"""Seconds that are waited for in a VRF: most machines that have one for this are emulated."""
 
 
 class TableBird(Bird):
@@ -153,21 +155,21 @@ def vrf(given: Try) -> None:
     box = Box(network, given.routerd, own, "box", "1.1.1.1", [Side("eth1")])
     box.more = '[kernel]\nvrf = "red"\n[redistribute.connected]\n'
     box.start()
-    looks.look("an interface that isn't in the VRF is refused", box.wait(20) == 1)
+    looks.look("an interface that isn't in the VRF is refused", box.wait(SLOW) == 1)
     run("ip", "-n", own, "link", "set", "red", "up")
     for each in ("eth1", "eth2"):
         run("ip", "-n", own, "link", "set", each, "master", "red")
     run("ip", "-n", own, "addr", "add", "192.0.2.1/32", "dev", "lo")
     for each in (neighbor, box):
         each.start()
-    looks.timed("Full", COMES_UP, lambda: is_full(neighbor, "1.1.1.1"))
-    looks.timed("the route is in its table", 20, lambda: routes(own, NUMBER) == ["10.0.1.2"])
+    looks.timed("Full", SLOW, lambda: is_full(neighbor, "1.1.1.1"))
+    looks.timed("the route is in its table", SLOW, lambda: routes(own, NUMBER) == ["10.0.1.2"])
     looks.look("and not in the main one", not routes(own, "main"))
 
     def announced() -> set[str]:
         return {each.split()[0] for each in box.ask("announced")} - {"end"}
 
-    looks.timed("connected networks of the VRF alone", 5, lambda: announced() == {"10.0.2.0/24"})
+    looks.timed("connected networks of the VRF alone", SLOW, lambda: announced() == {"10.0.2.0/24"})
     deleted(given, box, neighbor, device)
     for it in (box, neighbor):
         it.stop()
@@ -177,12 +179,12 @@ def vrf(given: Try) -> None:
 def deleted(given: Try, box: Box, neighbor: Bird, device: tuple[object, ...]) -> None:
     looks, own = given.looks, box.namespace
     run("ip", "-n", own, "link", "del", "red")
-    looks.timed("the VRF is deleted: told", 10, lambda: "the VRF red" in line_of(box, "kernel:"))
+    looks.timed("the VRF is deleted: told", SLOW, lambda: "is gone" in line_of(box, "kernel:"))
     print(f"     {line_of(box, 'kernel:')}")
     run(*device)
     run("ip", "-n", own, "link", "set", "red", "up")
     for each in ("eth1", "eth2"):
         run("ip", "-n", own, "link", "set", each, "master", "red")
-    looks.timed("made again: Full", COMES_UP, lambda: is_full(neighbor, "1.1.1.1"))
-    looks.timed("and the route is in its table", 20, lambda: routes(own, NUMBER) == ["10.0.1.2"])
-    looks.timed("nothing is told", 10, lambda: "VRF red" in line_of(box, "kernel: 1 route"))
+    looks.timed("made again: Full", SLOW, lambda: is_full(neighbor, "1.1.1.1"))
+    looks.timed("and the route is in its table", SLOW, lambda: routes(own, NUMBER) == ["10.0.1.2"])
+    looks.timed("nothing is told", SLOW, lambda: line_of(box, "kernel:").endswith("in the VRF red"))
