@@ -220,6 +220,8 @@ class _Reader:
             judge,
         )
         self._folder = path.parent
+        self._is_passive = False
+        """What interfaces are that don't say it."""
         self._advice: list[str] = []
 
     def read(self) -> Configuration | None:
@@ -231,6 +233,7 @@ class _Reader:
         routerd = self._routerd(account)
         keeps_kernel, settings = kernel_settings_of(self._top, self._kernel)
         log_level = self._top.one_of("log_level", LEVELS, "info")
+        self._is_passive = self._top.truth("passive", False)
         keys = self._keys()
         interfaces = self._interfaces(keys)
         announcements = self._announcements()
@@ -411,7 +414,7 @@ class _Reader:
 
     def _interface(self, table: Table, keys: dict[str, AnyKey] | None) -> InterfaceSettings | None:
         inside = self._kernel_interface(table)
-        passive = table.truth("passive", False)
+        passive = table.truth("passive", self._is_passive)
         address = self._address(table, inside)
         cost = table.whole("cost", 1, 65535, 10)
         hello = table.whole("hello_interval", 1, 65535, 10)

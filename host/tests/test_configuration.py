@@ -82,7 +82,7 @@ TABLES = "tables, each begun with [[{}]]"
 LEVELS = 'one of "error", "warning", "info", "debug"'
 COUNTER_NAME = "1 to 64 letters, digits and `_`, first no digit"
 TOML = "TOML 1.0, as toml.io describes it"
-TOP_KEYS = "router_id, isolated, user, routerd, kernel, log_level, interface, announce, program, counters, redistribute"
+TOP_KEYS = "router_id, isolated, user, routerd, kernel, log_level, passive, interface, announce, program, counters, redistribute"
 INTERFACE_KEYS = "name, passive, address, cost, hello_interval, dead_interval, retransmit_interval, transmit_delay, keys, bfd, peer"
 OF_ETH1 = "interface 1 (eth1), "
 KERNEL_NAMES = f"the name of an interface of the kernel: {NAMES}"
@@ -349,6 +349,17 @@ MISTAKES = [
             ('counters, "a\\n# EOF"', "this name", COUNTER_NAME),
             (f'counters, "{"x" * 59}.." (65 characters)', "this name", COUNTER_NAME),
             ('counters, "\\u0661"', "this name", COUNTER_NAME),
+        ),
+    ),
+    (TOP + "passive = 1\n" + INTERFACE, (("passive", "1", "true or false"),)),
+    (
+        TOP + 'passive = true\nkeys = "keys.toml"\n' + INTERFACE + 'keys = ["new"]\n',
+        (
+            (
+                OF_ETH1 + "keys",
+                "a list of 1",
+                "none where passive = true, as no packet is sent there",
+            ),
         ),
     ),
     (TOP + INTERFACE + "passive = 1\n", ((OF_ETH1 + "passive", "1", "true or false"),)),
@@ -820,6 +831,20 @@ class Reading(Files):
                 [(each.passive, len(each.keys)) for each in read.interfaces],
                 [(False, 1), (True, 0)],
             )
+
+    def test_passive_where_nothing_else_is_said(self) -> None:
+        """Above the interfaces it is what those are that don't say it."""
+        text = INTERFACE + '[[interface]]\nname = "lo"\npassive = {}\n'
+        for top, of_lo, wanted in (
+            ("passive = true\n", "false", [True, False]),
+            ("passive = true\n", "true", [True, True]),
+            ("passive = false\n", "true", [False, True]),
+            ("", "true", [False, True]),
+        ):
+            with self.subTest(top=top, of_lo=of_lo):
+                whole = TOP + top + text.format(of_lo).replace('"lo"', '"same"')
+                read = self.read(whole.replace('"eth1"', '"eth2"\naddress = "10.0.2.1/24"'))
+                self.assertEqual([each.passive for each in read.interfaces], wanted)
 
     def test_the_documents_have_each_key(self) -> None:
         """docs/use/HOST.md's table of keys against the keys that are read."""
