@@ -1,25 +1,17 @@
 """`leafrunt watch`: what it shows, and its terminal, which is a pty here."""
-import fcntl
 import json
 import os
-import pty
 import re
-import select
 import signal
-import struct
-import sys
-import termios
 import threading
-import time
 import unittest
-from contextlib import suppress
-from pathlib import Path
 
 from leafrunt_host.kernel import Json
 from leafrunt_host.table_changes import RouteChange, table_change
 from leafrunt_host.terminal import ENTER, LEAVE, Row, cut, painted
 from leafrunt_host.watching import Look, Watched, duration, rows_of
-from tests.test_box import LEAFRUNT, Boxes, within
+from tests.pty_terminal import Terminal
+from tests.test_box import Boxes
 from tests.test_documents import Listening, status
 
 NOW = 1_800_000_000.0
@@ -181,62 +173,6 @@ class TableChanges(unittest.TestCase):
         come = {b"%d" % each: b"%d intra 1 via 1" % each for each in range(10_000)}
         change = table_change({}, come)
         self.assertEqual((change.added, len(change.shown)), (10_000, 4))
-
-
-class Terminal:
-    """`leafrunt watch` on a pty."""
-
-    def __init__(self, run_folder: Path, *words: str, term: str = "xterm") -> None:
-        said = [sys.executable, str(LEAFRUNT), "watch", "--run-directory", str(run_folder), *words]
-        self.pid, self.master = pty.fork()
-        if self.pid == 0:
-            os.environ["TERM"] = term
-            os.execv(said[0], said)
-        self.text = ""
-        self.status: int | None = None
-
-    def read(self, seconds: float) -> None:
-        """What comes within so many seconds."""
-        until = time.monotonic() + seconds
-        while (left := until - time.monotonic()) > 0:
-            if select.select([self.master], [], [], left)[0]:
-                with suppress(OSError):
-                    data = os.read(self.master, 65536)
-                    self.text += data.decode("utf-8", "replace")
-                    continue
-                return
-
-    def shows(self, said: str) -> bool:
-        """Whether it comes to show this within half a minute."""
-        return within(30, lambda: (self.read(0.05), said in self.text)[1])
-
-    def size(self, rows: int, columns: int) -> None:
-        fcntl.ioctl(self.master, termios.TIOCSWINSZ, struct.pack("4H", rows, columns, 0, 0))
-
-    def modes(self) -> list[object]:
-        return termios.tcgetattr(self.master)
-
-    def types(self, keys: bytes) -> None:
-        os.write(self.master, keys)
-
-    def ended(self, seconds: float = 30) -> int | None:
-        """Its status, once it has ended."""
-
-        def has_ended() -> bool:
-            self.read(0.02)
-            if self.status is None:
-                pid, status = os.waitpid(self.pid, os.WNOHANG)
-                self.status = os.waitstatus_to_exitcode(status) if pid else None
-            return self.status is not None
-
-        within(seconds, has_ended)
-        return self.status
-
-    def close(self) -> None:
-        if self.status is None:
-            os.kill(self.pid, signal.SIGKILL)
-            os.waitpid(self.pid, 0)
-        os.close(self.master)
 
 
 class Terminals(Boxes):

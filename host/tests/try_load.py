@@ -12,6 +12,7 @@ from tests.network import (
     COMES_UP,
     Bird,
     Box,
+    CannotTry,
     End,
     Network,
     Side,
@@ -22,6 +23,7 @@ from tests.network import (
     run,
     within,
 )
+from tests.pty_terminal import Terminal
 
 COUNT, TIMES = 10_000, 3
 PROBE = """
@@ -139,6 +141,19 @@ def load(given: Try) -> None:
     given.looks.look("a link with all of them fails: no longer away than at BIRD", box <= bird, said)
 
 
+def watched_more(it: Two) -> float:
+    """What the box takes of a processor while `leafrunt watch` asks it, in milliseconds a second."""
+    view = Terminal(it.network.work / "run", "--box", "tried")
+    try:
+        if not view.shows(f"routes: {COUNT}"):
+            raise CannotTry(f"watch shows no routes: {'; '.join(view.screen())}")
+        before = it.processor()
+        view.read(20)
+        return (it.processor() - before) / 20
+    finally:
+        view.close()
+
+
 def costs(it: Two, given: Try) -> None:
     """What the box's own process takes of a processor, `routerd`'s apart."""
     looks = given.looks
@@ -154,6 +169,8 @@ def costs(it: Two, given: Try) -> None:
     time.sleep(20)
     rest = (it.processor() - before) / 20
     looks.look("at rest at most 1 % of a core", rest <= 10, f"{rest / 10:.2f} %")
+    watched = watched_more(it) - rest
+    looks.look("watched each second at most 1 % more", watched <= 10, f"{watched / 10:.2f} %")
     changes = []
     for number in range(4):
         extra = ["50.255.0.0/24"] if number % 2 == 0 else []
