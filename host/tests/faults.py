@@ -56,7 +56,14 @@ def headed(data: bytes, **fields: int) -> bytes:
         rest,
     )
     made = head + data[HEADER.size :]
-    return made[:12] + packet_checksum(made).to_bytes(2, "big") + made[14:]
+    length = fields.get("length", length)
+    covered = made[:length] if HEADER.size <= length < len(made) else made
+    return made[:12] + packet_checksum(covered).to_bytes(2, "big") + made[14:]
+
+
+def named(data: bytes, router: IPv4Address) -> bytes:
+    """The packet in the name of another router; what is too short for a header stays."""
+    return headed(data[:4] + router.packed + data[8:]) if len(data) >= HEADER.size else data
 
 
 def plain() -> list[bytes]:
@@ -217,7 +224,7 @@ def other_routers() -> Iterator[bytes]:
     """The neighbor with one Router ID after the other, back and forth."""
     for at in (*range(40), 0, 1, 0):
         for data in plain():
-            yield headed(data[:4] + bytes([9, 9, 9, at]) + data[8:])
+            yield named(data, IPv4Address(f"9.9.9.{at}"))
 
 
 FAULTS: dict[str, Callable[[], Iterator[bytes]]] = {

@@ -14,12 +14,14 @@ from leafrunt_host.interfaces import KernelState
 from leafrunt_host.lsas import MAX_AGE
 from leafrunt_host.packets import ROUTER_MTU, Description, PacketType, lsas_of, read
 from leafrunt_host.topology import Topology, database_lines, whole_lines
-from leafrunt_host.withheld import fault
 from tests import captured, faults
+from tests.faults import NEIGHBOR
 from tests.test_bridge import ADDRESS, KEY, OWN, THERE, link, own_hello
 from tests.test_topology import acknowledgment, external
 
 HELLO = bytes.fromhex(captured.BIRD_HELLO_PLAIN)
+TOGETHER = 7
+"""Packets that come before `routerd` takes one."""
 
 
 class Played:
@@ -30,11 +32,12 @@ class Played:
         self.link = Link(link(*keys).interface, SequenceNumbers(), watch=self.topology.watch)
         self.link.from_router(own_hello(), 0)
 
-    def arrived(self, data: bytes) -> list[bytes]:
-        """What `routerd` is given for a packet, after it has waited in the inbox."""
+    def arrived(self, *packets: bytes) -> list[bytes]:
+        """What `routerd` is given for packets that wait together."""
         inbox, given = Inbox(), []
-        for each in self.link.arrived(ip_packet(THERE, data), 1.0).to_router:
-            inbox.put(each)
+        for data in packets:
+            for each in self.link.arrived(ip_packet(THERE, data), 1.0).to_router:
+                inbox.put(each)
         while (taken := inbox.take()) is not None:
             inbox.seen(0)
             given.append(taken)
@@ -81,20 +84,32 @@ class Faults(unittest.TestCase):
         self.addCleanup(restore)
 
     def test_nothing_breaks(self) -> None:
+        """In the neighbor's name, and in that of somebody else, whose packets the bridge reads less
+        of."""
         for name, make in faults.FAULTS.items():
-            with self.subTest(name):
-                plain, signed = Played(), Played(KEY)
-                for data in make():
-                    for each in plain.arrived(data):
-                        self.assertLessEqual(len(each), faults.LONGEST)
-                        if each[1] == PacketType.LINK_STATE_UPDATE:
-                            plain.acknowledged(self.lsas_of(each))
-                    self.assertEqual(signed.arrived(data), [])
-                plain.looked_at()
-                plain.link.from_router(own_hello(), 1)
-                self.assertEqual(plain.arrived(HELLO), [HELLO])
-                self.assertEqual(plain.link.next_hop(IPv4Address("2.2.2.2")), THERE)
-                self.assertEqual(self.log.errors, [])
+            for router in (NEIGHBOR, IPv4Address("4.4.4.4")):
+                with self.subTest(name, router=router):
+                    it, packets = Played(), [faults.named(each, router) for each in make()]
+                    for at in range(0, len(packets), TOGETHER):
+                        self.taken(it, packets[at : at + TOGETHER])
+                    it.looked_at()
+                    it.link.from_router(own_hello(), 1)
+                    self.assertEqual(it.arrived(HELLO), [HELLO])
+                    self.assertEqual(it.link.next_hop(NEIGHBOR), THERE)
+                    self.assertEqual(self.log.errors, [])
+
+    def taken(self, it: Played, packets: list[bytes]) -> None:
+        """As `routerd` takes them."""
+        for each in it.arrived(*packets):
+            self.assertEqual(len(each), int.from_bytes(each[2:4], "big"))
+            if each[1] == PacketType.LINK_STATE_UPDATE:
+                it.acknowledged(self.lsas_of(each))
+
+    def test_with_a_key_none_is_taken(self) -> None:
+        it = Played(KEY)
+        for make in faults.FAULTS.values():
+            self.assertEqual(it.arrived(*make()), [])
+        self.assertEqual(self.log.errors, [])
 
     @staticmethod
     def lsas_of(data: bytes) -> list[bytes]:
@@ -114,18 +129,19 @@ class Faults(unittest.TestCase):
         it = Played()
         for data in faults.malformed_networks():
             for each in it.arrived(data):
-                self.assertEqual([fault(lsa) for lsa in self.lsas_of(each)], [None])
+                self.assertEqual([len(lsa) % 4 for lsa in self.lsas_of(each)], [0])
+                self.assertGreaterEqual(len(each), 24 + 4 + 24)
 
     def test_masks_that_have_holes(self) -> None:
         """BIRD ab164971891c: such an LSA is kept, and is no network anywhere."""
-        it = Played()
         for data in faults.malformed_prefixes():
+            it = Played()
             for each in it.arrived(data):
                 it.acknowledged(self.lsas_of(each))
-        self.assertIn("external", " ".join(it.looked_at()))
-        area = area_of((header.key, entry.body) for header, entry in it.topology.entries())
-        found = {prefix for prefix, _ in area.stubs(IPv4Address("2.2.2.2"))}
-        self.assertEqual(found, set())
+            self.assertIn("external", " ".join(it.looked_at()))
+            area = area_of((header.key, entry.body) for header, entry in it.topology.entries())
+            found = {prefix for prefix, _ in area.stubs(NEIGHBOR)}
+            self.assertEqual((found, area.announced), (set(), {}))
 
     def test_a_changed_mtu(self) -> None:
         """BIRD 0ac9cb2c1f65, Quagga 0.98.3: any MTU of the kernel, while Descriptions come."""

@@ -220,7 +220,8 @@ def faults(given: Try) -> None:
 
 def routerd_of(router: Box | Bird) -> int | None:
     """The process of a box's `routerd`, as `status` says it."""
-    found = re.findall(r"routerd is process (\d+)", router.status() if isinstance(router, Box) else "")
+    status = router.status() if isinstance(router, Box) else ""
+    found = re.findall(r"routerd is process (\d+)", status)
     return int(found[0]) if found else None
 
 

@@ -2,6 +2,7 @@
 import random
 import struct
 from collections.abc import Iterator
+from ipaddress import IPv4Address
 
 import family
 from tests import captured, faults, test_withheld
@@ -57,7 +58,7 @@ def packets(rng: random.Random, router: str = "2.2.2.2") -> Iterator[bytes]:
     name = bytes(map(int, router.split(".")))
     for make in faults.FAULTS.values():
         for data in make():
-            yield data if router == "2.2.2.2" or len(data) < HEADER else faults.headed(data[:4] + name + data[8:])
+            yield data if router == "2.2.2.2" else faults.named(data, IPv4Address(router))
     while True:
         kind = rng.randrange(10)
         if kind < 4:
