@@ -24,7 +24,7 @@ from typing import Protocol
 from leafrunt_host.bfd_helper import KEPT_SIZE, LARGEST_MESSAGE, message_of
 from leafrunt_host.bfd_packets import LARGEST_NUMBER, State, diagnostic_text
 from leafrunt_host.bfd_session import MICROSECONDS, Session, Settings, kept_of
-from leafrunt_host.bfd_sockets import CONTROL_PORT, hearing_socket, sending_socket
+from leafrunt_host.bfd_sockets import CONTROL_PORT, hearing_sockets, sending_socket
 from leafrunt_host.isolation import free_number
 from leafrunt_host.journal import where_it_failed
 from leafrunt_host.kernel import Json
@@ -75,8 +75,8 @@ class Held:
 
     neighbor: Neighbor
     discriminator: int = 0
-    hears: socket.socket | None = None
-    sends: socket.socket | None = None
+    sockets: tuple[socket.socket, ...] = ()
+    """Two that it hears by, and one that it sends by; none where they can't be had."""
     report: Json = field(default_factory=lambda: dict(NOTHING))
     since: float = field(default_factory=time.time)
     """The moment of its last change, in seconds since 1970."""
@@ -84,10 +84,9 @@ class Held:
     tried: float = 0.0
 
     def close(self) -> None:
-        for each in (self.hears, self.sends):
-            if each:
-                each.close()
-        self.hears = self.sends = None
+        for each in self.sockets:
+            each.close()
+        self.sockets = ()
 
 
 def state_of(value: object) -> State:
@@ -233,7 +232,7 @@ class Sessions:
             if held and held.neighbor != neighbor:
                 self._remove(number)
                 held = None
-            if held is None and neighbor and is_two_way:
+            if held is None and neighbor and is_two_way and number in self.settings:
                 self._held[number] = Held(neighbor)
                 self._add(number)
 
@@ -251,11 +250,11 @@ class Sessions:
         held, helper = self._held[number], self._helper
         if helper is None:
             return
-        resumes = held.hears is not None
+        resumes = bool(held.sockets)
+        held.tried, held.error = self._clock(), None
         try:
-            hears, sends = self._opened(number, held)
+            self._open(number, held)
         except OSError as error:
-            held.close()
             held.error = f"no socket for UDP port {CONTROL_PORT}: {error.strerror}"
             self._tell(number, held.error, logging.ERROR)
             return
@@ -268,19 +267,22 @@ class Sessions:
             **message_of(self.settings[number]),
         }
         try:
-            helper.say(said, (hears, sends))
+            helper.say(said, held.sockets)
         except OSError as error:
             held.error = f"its process can't be told: {error.strerror}"
 
-    def _opened(self, number: int, held: Held) -> tuple[socket.socket, socket.socket]:
-        """The sockets of a session. `OSError` where they can't be had."""
-        place, held.tried, held.error = self._places[number], self._clock(), None
-        if held.hears is None:
-            held.discriminator = 1 + secrets.randbelow(LARGEST_NUMBER)
-            held.hears = hearing_socket(place, held.neighbor.address, held.discriminator)
-        if held.sends is None:
-            held.sends = sending_socket(place)
-        return held.hears, held.sends
+    def _open(self, number: int, held: Held) -> None:
+        """Opens the sockets of a session that has none. `OSError` where they can't be had."""
+        if held.sockets:
+            return
+        place, held.discriminator = self._places[number], 1 + secrets.randbelow(LARGEST_NUMBER)
+        sends = sending_socket(place)
+        try:
+            hear = hearing_sockets(place, held.neighbor.address, held.discriminator)
+        except OSError:
+            sends.close()
+            raise
+        held.sockets = (*hear, sends)
 
     def _remove(self, number: int) -> None:
         held = self._held.pop(number)
@@ -373,13 +375,14 @@ class Sessions:
 
     def _say_farewell(self, number: int, held: Held) -> None:
         """Ends a session in place of the process that held it."""
-        if held.sends is None:
+        if not held.sockets:
             return
         session = Session(self.settings[number], held.discriminator, self._clock())
         try:
             data = os.pread(self._memory, KEPT_SIZE, number * KEPT_SIZE)
             session.resume(kept_of(data), self._clock())
-            held.sends.sendto(session.farewell(), (str(held.neighbor.address), CONTROL_PORT))
+            to = (str(held.neighbor.address), CONTROL_PORT)
+            held.sockets[-1].sendto(session.farewell(), to)
         except (OSError, ValueError):
             pass  # it held none, or as if it were lost on the wire
 

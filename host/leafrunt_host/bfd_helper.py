@@ -41,8 +41,8 @@ PRIORITY = 10
 """Of the real-time class, 1 to 99: above nothing that the kernel's own threads need."""
 LARGEST = 512
 LARGEST_MESSAGE = 8192
-AT_ONCE = 32
-"""Packets of a session that are taken in one turn."""
+AT_ONCE, OTHERS_AT_ONCE = 32, 8
+"""Packets of a session that are taken in one turn, and of those without its discriminator."""
 REST = 0.002
 """Seconds without a look at the sockets after a turn with so many: a flood takes a quarter of a
 processor at most, and not all of it by the real-time class."""
@@ -61,12 +61,14 @@ MOST_FILES = 256
 
 @dataclass
 class Ends:
-    """A session with its sockets: one that it hears, one that it sends by."""
+    """A session with its sockets: one for packets that have its discriminator, one for those that
+    have none, one that it sends by."""
 
     session: Session
     neighbor: str
     discriminator: int
     hears: socket.socket
+    hears_others: socket.socket
     sends: socket.socket
     told: dict[str, Any] | None = None
     counted: float = 0.0
@@ -111,7 +113,6 @@ class Helper:
         """`memory` is the file that outlives this process."""
         self._box, self._memory, self._clock = box, memory, clock
         self._ends: dict[int, Ends] = {}
-        self._files: dict[int, int] = {}
         self._kept: dict[int, bytes] = {}
         self._waiting = select.poll()
         self._waiting.register(box.fileno(), select.POLLIN)
@@ -128,17 +129,20 @@ class Helper:
         else:
             ready = {file for file, _ in self._waiting.poll(max(0.0, min(due - now, 1.0)) * 1000)}
         # (what has come counts as come before a time that has ended meanwhile)
-        for file in ready & self._files.keys():
-            self._take(self._ends[self._files[file]])
+        for ends in self._ends.values():
+            if ends.hears.fileno() in ready:
+                self._take(ends, ends.hears, AT_ONCE)
+            if ends.hears_others.fileno() in ready:
+                self._take(ends, ends.hears_others, OTHERS_AT_ONCE)
         for number, ends in self._ends.items():
             ends.late = max(ends.late, self._clock() - dues[number])
             self._act(number, ends)
         return self._box.fileno() not in ready or self._obey()
 
-    def _take(self, ends: Ends) -> None:
-        for _ in range(AT_ONCE):
+    def _take(self, ends: Ends, one: socket.socket, most: int) -> None:
+        for _ in range(most):
             try:
-                data, ancillary, _, source = ends.hears.recvmsg(LARGEST, 64)
+                data, ancillary, _, source = one.recvmsg(LARGEST, 64)
             except OSError:
                 return
             if source[0] != ends.neighbor:
@@ -215,7 +219,7 @@ class Helper:
 
     def _obey(self) -> bool:
         try:
-            data, files, _, _ = socket.recv_fds(self._box, LARGEST_MESSAGE, 2)
+            data, files, _, _ = socket.recv_fds(self._box, LARGEST_MESSAGE, 3)
         except OSError:
             data, files = b"", []
         if not data:
@@ -223,7 +227,7 @@ class Helper:
         said = json.loads(data)
         if said["do"] == "add":
             self._remove(said["number"], is_told=False)
-            self._add(said, *(socket.socket(fileno=each) for each in files))
+            self._add(said, [socket.socket(fileno=each) for each in files])
         elif said["do"] == "remove":
             self._remove(said["number"], is_told=True)
         else:
@@ -232,34 +236,33 @@ class Helper:
             return False
         return True
 
-    def _add(self, said: dict[str, Any], hears: socket.socket, sends: socket.socket) -> None:
+    def _add(self, said: dict[str, Any], sockets: list[socket.socket]) -> None:
         number, now = said["number"], self._clock()
         session = Session(settings_of(said), said["discriminator"], now)
         if said["resumes"]:
             before = os.pread(self._memory, KEPT_SIZE, number * KEPT_SIZE)
             with contextlib.suppress(ValueError):
                 session.resume(kept_of(before), now)
-        self._ends[number] = Ends(
-            session, str(IPv4Address(said["neighbor"])), said["discriminator"], hears, sends
-        )
-        self._files[hears.fileno()] = number
-        self._waiting.register(hears.fileno(), select.POLLIN)
+        neighbor = str(IPv4Address(said["neighbor"]))
+        self._ends[number] = ends = Ends(session, neighbor, said["discriminator"], *sockets)
+        for each in (ends.hears, ends.hears_others):
+            self._waiting.register(each.fileno(), select.POLLIN)
 
     def _remove(self, number: int, is_told: bool) -> None:
         """Ends a session; the neighbor may be told, and then knows that the path hasn't failed."""
         ends = self._ends.pop(number, None)
         if ends is None:
             return
-        self._waiting.unregister(ends.hears.fileno())
-        del self._files[ends.hears.fileno()]
+        for each in (ends.hears, ends.hears_others):
+            self._waiting.unregister(each.fileno())
         self._keep(number, bytes(KEPT_SIZE))
         has_neighbor = ends.session.variables.remote_discr != 0
         for _ in range(FAREWELLS if is_told and has_neighbor else 0):
             them = ends.session.variables
             self._send(ends, ends.session.farewell())
             them.xmit_auth_seq = (them.xmit_auth_seq + 1) & 0xFFFFFFFF
-        ends.hears.close()
-        ends.sends.close()
+        for each in (ends.hears, ends.hears_others, ends.sends):
+            each.close()
 
 
 def take_class() -> str:

@@ -17,26 +17,38 @@ RECEIVE_BUFFER = 64 << 10
 TRIES = 64
 NETWORK_HEADER = -0x100000 & 0xFFFFFFFF
 """In a filter: of the IP header, while the packet begins with its UDP header (SKF_NET_OFF)."""
-YOUR_DISCRIMINATOR = 8 + 8
+UDP_HEADER_LENGTH = 8
+YOUR_DISCRIMINATOR = 8
+"""Where it begins in a packet (RFC 5880, 4.1)."""
 NONE, ALL = "none", "all"
+OWN, OTHER = "own", "other"
 
 # Numbers of Linux that some versions of Python have no names for.
 IP_RECVTTL = 12  # <linux/in.h>
+SO_ATTACH_REUSEPORT_CBPF = 51  # <asm-generic/socket.h>
 
 
 def control_filter(neighbor: IPv4Address, discriminator: int) -> bytes:
-    """Lets through what comes from the neighbor, over no router, for this session or for none yet;
-    the kernel drops the rest before it costs a process anything."""
+    """Lets through what comes from the neighbor, over no router, with this Your Discriminator; the
+    kernel drops the rest before it costs a process anything."""
     steps: list[Step] = [
         (Bpf.LOAD_WORD, NETWORK_HEADER + 12),
         Compare(int(neighbor), otherwise=NONE),
         (Bpf.LOAD_BYTE, NETWORK_HEADER + 8),
         Compare(TTL, otherwise=NONE),
-        (Bpf.LOAD_WORD, YOUR_DISCRIMINATOR),
-        Compare(0, then=ALL),
-        Compare(discriminator, then=ALL, otherwise=NONE),
+        (Bpf.LOAD_WORD, UDP_HEADER_LENGTH + YOUR_DISCRIMINATOR),
+        Compare(discriminator, otherwise=NONE),
     ]
-    return assembled(steps, {NONE: 0, ALL: Bpf.ALL})
+    return assembled(steps, {ALL: Bpf.ALL, NONE: 0})
+
+
+def choice(discriminator: int) -> bytes:
+    """Which of a session's two sockets a packet goes to: the first is for its own discriminator."""
+    steps: list[Step] = [
+        (Bpf.LOAD_WORD, YOUR_DISCRIMINATOR),
+        Compare(discriminator, otherwise=OTHER),
+    ]
+    return assembled(steps, {OWN: 0, OTHER: 1})
 
 
 def bound_socket(place: Place) -> socket.socket:
@@ -51,11 +63,31 @@ def bound_socket(place: Place) -> socket.socket:
     return one
 
 
-def hearing_socket(place: Place, neighbor: IPv4Address, discriminator: int) -> socket.socket:
-    """What a session's packets come to. `OSError` where it can't be had."""
+def hearing_sockets(
+    place: Place, neighbor: IPv4Address, discriminator: int
+) -> list[socket.socket]:
+    """What a session's packets come to: those with its discriminator, which nobody knows who
+    doesn't see its packets, to the first; those with none, as of a neighbor that is started or
+    hears nothing, to the second. So a flood of the latter keeps none of the former waiting.
+    `OSError` where they can't be had."""
+    opened: list[socket.socket] = []
+    try:
+        for number in (discriminator, 0):
+            opened.append(hearing_socket(place, control_filter(neighbor, number)))
+        attach(opened[0], choice(discriminator), SO_ATTACH_REUSEPORT_CBPF)
+    except OSError:
+        for each in opened:
+            each.close()
+        raise
+    return opened
+
+
+def hearing_socket(place: Place, program: bytes) -> socket.socket:
+    """One of them."""
     one = bound_socket(place)
     try:
-        attach(one, control_filter(neighbor, discriminator))
+        attach(one, program)
+        one.setsockopt(socket.SOL_SOCKET, socket.SO_REUSEPORT, 1)
         one.setsockopt(socket.IPPROTO_IP, IP_RECVTTL, 1)
         resize(one, RECEIVE_BUFFER)
         one.bind((str(place.address.ip), CONTROL_PORT))

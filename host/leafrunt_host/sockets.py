@@ -35,12 +35,13 @@ class Place(Protocol):
     def address(self) -> IPv4Interface: ...
 
 
-def attach(one: socket.socket, program: bytes) -> None:
-    """Gives a socket a classic BPF program, in place of the one that it has (socket(7))."""
+def attach(one: socket.socket, program: bytes, option: int = SO_ATTACH_FILTER) -> None:
+    """Gives a socket a classic BPF program, in place of the one that it has (socket(7)): a filter,
+    or what another option says."""
     text = array("B", program)
     place, _ = text.buffer_info()
     sock_fprog = struct.pack("HP", len(program) // Bpf.INSTRUCTION.size, place)
-    one.setsockopt(socket.SOL_SOCKET, SO_ATTACH_FILTER, sock_fprog)
+    one.setsockopt(socket.SOL_SOCKET, option, sock_fprog)
 
 
 def raw_socket(interface: Place, queue: Queue, program: bytes) -> socket.socket:

@@ -10,25 +10,27 @@ import socket
 import time
 import unittest
 from collections.abc import Callable
-from dataclasses import dataclass
+from dataclasses import dataclass, replace
 from ipaddress import IPv4Address, IPv4Interface
 from typing import Any
 from unittest import mock
 
 from leafrunt_host import bfd
 from leafrunt_host.bfd import Neighbor, Sessions, change_of, report_of
-from leafrunt_host.bfd_helper import KEPT_SIZE, Helper, message_of, settings_of
-from leafrunt_host.bfd_packets import BfdKey, ControlPacket, KeyType, State, decode
+from leafrunt_host.bfd_helper import KEPT_SIZE, OTHERS_AT_ONCE, Helper, message_of, settings_of
+from leafrunt_host.bfd_packets import BfdKey, Bits, ControlPacket, KeyType, State, decode
 from leafrunt_host.bfd_session import Settings, kept_of
 from leafrunt_host.bfd_sockets import (
     CONTROL_PORT,
     FIRST_PORT,
     TTL,
-    hearing_socket,
+    hearing_sockets,
     sending_socket,
 )
+from leafrunt_host.packet_filter import Bpf, assembled
 
 THEIRS = 77
+EVERYTHING = assembled([], {"all": Bpf.ALL})
 HERE, THERE, STRANGER = "127.0.0.1", "127.0.0.2", "127.0.0.3"
 
 
@@ -47,8 +49,13 @@ def neighbor_socket(address: str = THERE, ttl: int = TTL) -> socket.socket:
     return one
 
 
+def packet(state: State, yours: int) -> ControlPacket:
+    bits = Bits.AUTHENTICATION
+    return ControlPacket(state, 3, THEIRS, yours, 300_000, 300_000, bits=bits)
+
+
 def said_by_neighbor(state: State, yours: int = 0) -> bytes:
-    return ControlPacket(state, 3, THEIRS, yours, 300_000, 300_000).encode()
+    return replace(packet(state, yours), bits=Bits.NONE).encode()
 
 
 class OneHelper:
@@ -68,17 +75,19 @@ class OneHelper:
     def end(self) -> None:
         """As if the process were killed."""
         for each in self.helper._ends.values():
-            each.hears.close()
-            each.sends.close()
+            for one in (each.hears, each.hears_others, each.sends):
+                one.close()
 
     def add(self, resumes: bool = False) -> None:
         place = Loopback()
-        with hearing_socket(place, IPv4Address(THERE), self.discriminator) as hears:
-            with sending_socket(place) as sends:
-                said = {"do": "add", "number": 1, "neighbor": THERE, "resumes": resumes}
-                said |= {"discriminator": self.discriminator, **message_of(self.settings)}
-                files = [hears.fileno(), sends.fileno()]
-                socket.send_fds(self.box, [json.dumps(said).encode()], files)
+        hear = hearing_sockets(place, IPv4Address(THERE), self.discriminator)
+        sockets = [*hear, sending_socket(place)]
+        said = {"do": "add", "number": 1, "neighbor": THERE, "resumes": resumes}
+        said |= {"discriminator": self.discriminator, **message_of(self.settings)}
+        files = [each.fileno() for each in sockets]
+        socket.send_fds(self.box, [json.dumps(said).encode()], files)
+        for each in sockets:
+            each.close()
         self.helper.turn()
         self.helper.turn()
 
@@ -105,7 +114,8 @@ class OneHelper:
 class InThisProcess(unittest.TestCase):
     def setUp(self) -> None:
         try:
-            hearing_socket(Loopback(), IPv4Address(THERE), 1).close()
+            for each in hearing_sockets(Loopback(), IPv4Address(THERE), 1):
+                each.close()
         except PermissionError as error:
             self.skipTest(f"no socket of one interface: {error}")
 
@@ -140,7 +150,7 @@ class InThisProcess(unittest.TestCase):
 
     def test_the_filter_is_not_alone(self) -> None:
         """Where the kernel would let such a packet through the process doesn't."""
-        with mock.patch("leafrunt_host.bfd_sockets.attach"):
+        with mock.patch("leafrunt_host.bfd_sockets.control_filter", return_value=EVERYTHING):
             it = OneHelper(self)
         it.come_up()
         it.neighbor.setsockopt(socket.IPPROTO_IP, socket.IP_TTL, 254)
@@ -154,11 +164,24 @@ class InThisProcess(unittest.TestCase):
         counted = {why.name: count for why, count in it.helper._ends[1].session.discarded.items()}
         self.assertEqual(counted, {"TTL": 1, "SOURCE": 1})
 
+    def test_a_flood_without_the_discriminator(self) -> None:
+        """It keeps none of the session's own packets waiting."""
+        key = BfdKey(1, KeyType.METICULOUS_KEYED_SHA1, b"secret")
+        it = OneHelper(self, Settings(keys=(key,)))
+        forged = replace(key, secret=b"forged").signed(packet(State.DOWN, 0), 1)
+        for _ in range(200):
+            it.neighbor.sendto(forged, (HERE, CONTROL_PORT))
+        good = key.signed(packet(State.DOWN, it.discriminator), 1)
+        it.neighbor.sendto(good, (HERE, CONTROL_PORT))
+        it.helper.turn()
+        self.assertEqual(it.state, State.INIT)
+        self.assertEqual(it.helper._ends[1].session.discarded.total(), OTHERS_AT_ONCE)
+
     def test_a_flood_leaves_time(self) -> None:
         it = OneHelper(self)
         it.come_up()
         for _ in range(40):
-            it.neighbor.sendto(said_by_neighbor(State.UP), (HERE, CONTROL_PORT))
+            it.neighbor.sendto(said_by_neighbor(State.UP, it.discriminator), (HERE, CONTROL_PORT))
         it.helper.turn()
         self.assertGreater(it.helper._rests_until, time.monotonic() - 0.002)
         began = time.monotonic()
@@ -352,7 +375,7 @@ class AsAProcess(unittest.TestCase):
         self.assertEqual(self.lost, [])
 
     def test_a_port_that_another_has(self) -> None:
-        with mock.patch.object(bfd, "hearing_socket", side_effect=OSError(98, "Address in use")):
+        with mock.patch.object(bfd, "hearing_sockets", side_effect=OSError(98, "Address in use")):
             self.sessions.follow(1, Neighbor(IPv4Address(THERE), 1), is_two_way=True)
         said = self.sessions.report(1)
         assert said

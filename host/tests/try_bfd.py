@@ -56,6 +56,25 @@ with socket.socket(socket.AF_INET, socket.SOCK_DGRAM) as one:
         one.sendto(ControlPacket(State.DOWN, 3, 99, 0, 300000, 300000).encode(), ("10.0.1.1", 3784))
 """
 """Sends what a neighbor would that has just been started: its session is Down."""
+FLOOD = """
+import socket, sys, time
+sys.path.insert(0, sys.argv[1])
+from leafrunt_host.bfd_packets import BfdKey, Bits, ControlPacket, KeyType, State
+key = BfdKey(7, KeyType.METICULOUS_KEYED_SHA1, b"none of theirs")
+packet = ControlPacket(State.DOWN, 3, 99, 0, 300000, 300000, bits=Bits.AUTHENTICATION)
+data, sent, began = key.signed(packet, 1), 0, time.monotonic()
+with socket.socket(socket.AF_INET, socket.SOCK_DGRAM) as one:
+    one.setsockopt(socket.IPPROTO_IP, socket.IP_TTL, 255)
+    one.bind(("10.0.1.2", 50000))
+    while (passed := time.monotonic() - began) < float(sys.argv[2]):
+        while sent < passed * float(sys.argv[3]):
+            one.sendto(data, ("10.0.1.1", 3784))
+            sent += 1
+        time.sleep(0.001)
+print(sent)
+"""
+"""The same, again and again, with a digest by another key."""
+RATE, SECONDS_OF_FLOOD = 40_000, 8
 WASTE = "while True: pass"
 LOAD, SECONDS_OF_LOAD = 8, 600
 
@@ -147,15 +166,17 @@ class Watched:
         moment = float(probe.communicate()[0])
         return moment - began if moment else math.inf
 
+    def box_log(self) -> list[str]:
+        assert isinstance(self.tried, Box)
+        return self.tried.log_lines()
+
     def changes(self) -> list[str]:
         """What the box's log has of adjacencies that weren't Full any more."""
-        assert isinstance(self.tried, Box)
-        return [each for each in self.tried.log_lines() if "2.2.2.2 Full ->" in each]
+        return [each for each in self.box_log() if "2.2.2.2 Full ->" in each]
 
     def process(self) -> int:
         """The last process of BFD's."""
-        assert isinstance(self.tried, Box)
-        return int(re.findall(r"BFD: process (\d+)", "\n".join(self.tried.log_lines()))[-1])
+        return int(re.findall(r"BFD: process (\d+)", "\n".join(self.box_log()))[-1])
 
     def close(self) -> None:
         self.tried.stop()
@@ -188,6 +209,7 @@ def bfd(given: Try) -> None:
     with_pair(given, lambda it: wrong_key(given, it), "BIRD", METICULOUS, other)
     with_pair(given, lambda it: without(given, it), "FRR", None, None)
     with_pair(given, lambda it: forged(given, it), "BIRD")
+    with_pair(given, lambda it: flooded(given, it), "BIRD", METICULOUS)
     with_pair(given, lambda it: killed(given, it), "BIRD", KEYED)
     with_pair(given, lambda it: killed(given, it), "FRR")
     with_pair(given, lambda it: admin_down(given, it), "FRR")
@@ -268,6 +290,17 @@ def forged(given: Try, it: Watched) -> None:
         looks.look(f"forged packets, {what}: they change nothing", is_left)
     run("ip", "netns", "exec", it.far, sys.executable, "-c", FORGED, HOST, "10.0.1.2", 255)
     looks.timed("the same with the neighbor's own address and TTL: heard", 3, it.changes, 0.05)
+
+
+def flooded(given: Try, it: Watched) -> None:
+    """In the neighbor's name, from its machine, by somebody who doesn't see its packets."""
+    looks = given.looks
+    looks.timed("Full, and both sessions Up", COMES_UP, it.is_up)
+    words = ["ip", "netns", "exec", it.far, sys.executable, "-c", FLOOD]
+    sent = run(*words, HOST, SECONDS_OF_FLOOD, RATE).strip()
+    fallen = [each for each in it.box_log() if "Up -> Down" in each]
+    what = f"a flood of {sent} packets with wrong digests in {SECONDS_OF_FLOOD} s: no session falls"
+    looks.look(what, not fallen and it.is_up(), "; ".join(fallen))
 
 
 def killed(given: Try, it: Watched) -> None:
