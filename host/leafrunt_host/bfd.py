@@ -237,13 +237,23 @@ class Sessions:
                 self._add(number)
 
     def take_over(self, settings: dict[int, Settings]) -> None:
-        """Sessions of interfaces that ask for it no longer, or otherwise, end; `follow` begins them
-        anew. All others go on."""
+        """Sessions of interfaces that ask for it no longer end. All others go on, with what is asked
+        for now."""
         with self._lock:
+            before, self.settings = self.settings, settings
             for number in list(self._held):
-                if self.settings.get(number) != settings.get(number):
+                if number not in settings:
                     self._remove(number)
-            self.settings = settings
+                elif before.get(number) != settings[number]:
+                    self._change(number)
+
+    def _change(self, number: int) -> None:
+        said = {"do": "change", "number": number, **message_of(self.settings[number])}
+        try:
+            if self._helper and self._held[number].sockets:
+                self._helper.say(said)
+        except OSError:
+            pass  # its end is seen where its messages are read, and the next one is told all
 
     def _add(self, number: int) -> None:
         """Gives a session to the process: one that has its sockets goes on."""
@@ -312,7 +322,7 @@ class Sessions:
 
     def _looked_after(self) -> None:
         now = self._clock()
-        if self._helper is None and now >= self._again:
+        if self._helper is None and self.settings and now >= self._again:
             self._start(now)
         for number, held in self._held.items():
             if held.error and now - held.tried >= OPENED_AGAIN:

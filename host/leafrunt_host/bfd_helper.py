@@ -228,6 +228,9 @@ class Helper:
         if said["do"] == "add":
             self._remove(said["number"], is_told=False)
             self._add(said, [socket.socket(fileno=each) for each in files])
+        elif said["do"] == "change":
+            if ends := self._ends.get(said["number"]):
+                ends.session.change(settings_of(said))
         elif said["do"] == "remove":
             self._remove(said["number"], is_told=True)
         else:

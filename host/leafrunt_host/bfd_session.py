@@ -128,12 +128,30 @@ class Session:
         """When the last packet was taken; None once it's forgotten."""
         self._sent, self._jitter = now, 0.0
         self._is_prompt, self._is_polling, self._owes_final = False, False, False
+        self._before: tuple[int, int] | None = None
+        """The intervals sent and received, until the neighbor knows others."""
 
     def resume(self, variables: Variables, now: float) -> None:
         """Goes on with a session that another process held until a moment ago, which the neighbor
         doesn't notice. A Poll Sequence may have been under way, so one is begun."""
         self.variables, self._heard = variables, now
+        self.change(self._settings)
+
+    def change(self, settings: Settings) -> None:
+        """Goes on with other settings. Intervals are changed by a Poll Sequence (6.8.3): before its
+        end nothing is counted on that the neighbor may not know yet."""
+        them = self.variables
+        self._before = (them.desired_min_tx_interval, them.required_min_rx_interval)
+        self._settings, self._keys = settings, {each.id: each for each in settings.keys}
+        them.detect_mult = settings.detect_mult
+        them.required_min_rx_interval = settings.receive_interval
+        them.desired_min_tx_interval = self._wanted_interval()
         self._is_prompt = self._is_polling = True
+
+    def _wanted_interval(self) -> int:
+        """Of `bfd.DesiredMinTxInterval` in this state."""
+        wanted = self._settings.transmit_interval
+        return wanted if self.variables.session_state is State.UP else max(wanted, SLOW)
 
     # -- times
 
@@ -141,13 +159,18 @@ class Session:
     def transmit_interval(self) -> int:
         """Between two packets at most (6.8.2 and 6.8.7)."""
         them = self.variables
-        return max(them.desired_min_tx_interval, them.remote_min_rx_interval)
+        wanted = them.desired_min_tx_interval
+        if self._before:
+            wanted = min(wanted, self._before[0])
+        return max(wanted, them.remote_min_rx_interval)
 
     @property
     def detection_time(self) -> int:
         """6.8.4; 0 before the first packet."""
         them = self.variables
         agreed = max(them.required_min_rx_interval, them.remote_min_tx_interval)
+        if self._before:
+            agreed = max(agreed, self._before[1])
         return them.remote_detect_mult * agreed
 
     @property
@@ -228,7 +251,7 @@ class Session:
         them.remote_detect_mult = packet.detect_mult
         them.remote_diag = packet.diagnostic
         if Bits.FINAL in packet.bits:
-            self._is_polling = False
+            self._is_polling, self._before = False, None
 
     def _turned(self, remote: State) -> None:
         """The state machine of 6.8.6: what the neighbor's state makes of this one's."""
@@ -256,9 +279,8 @@ class Session:
         by_wish = them.remote_session_state is State.ADMIN_DOWN
         is_lost = before is State.UP and state is State.DOWN and not by_wish
         self.changes.append(Change(before, state, them.local_diag, is_lost))
-        self._is_prompt = True
-        wanted = self._settings.transmit_interval
-        interval = wanted if state is State.UP else max(wanted, SLOW)
+        self._is_prompt, self._before = True, None
+        interval = self._wanted_interval()
         if interval != them.desired_min_tx_interval:
             them.desired_min_tx_interval = interval
             self._is_polling = True

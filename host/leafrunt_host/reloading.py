@@ -80,8 +80,6 @@ class Reloader:
     announcements: Announcements
     announcer: Announcer
     desk: Desk
-    start_sessions: Callable[[], None]
-    """Begins BFD as the configuration has it; in the bridge's thread."""
     _one_at_a_time: threading.Lock = field(default_factory=threading.Lock)
 
     def reload(self) -> list[str]:
@@ -133,8 +131,6 @@ class Reloader:
         """BFD as the configuration has it now."""
         if self.known.sessions:
             self.known.sessions.take_over(bfd_of(self.known.configuration))
-        else:
-            self.start_sessions()
 
     @staticmethod
     def _other_redistributor(

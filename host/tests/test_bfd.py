@@ -367,6 +367,48 @@ class Numbers(unittest.TestCase):
         self.assertEqual(it.variables.session_state, State.DOWN)
 
 
+class Changing(unittest.TestCase):
+    """RFC 5880, 6.8.3."""
+
+    def changed(self, transmit: int, receive: int, multiplier: int = 3) -> Session:
+        it = in_state(State.UP)
+        it.received(packet(State.UP, bits=Bits.FINAL).encode(), 0.0)
+        it.change(Settings(transmit * MILLISECOND, receive * MILLISECOND, multiplier))
+        return it
+
+    def test_slower(self) -> None:
+        """What is sent slows down once the neighbor knows; what is awaited does at once."""
+        it = self.changed(600, 700, 5)
+        (first,) = sent(it, 0.01)
+        self.assertEqual((first.state, first.bits), (State.UP, Bits.POLL))
+        self.assertEqual(first.desired_min_tx_interval, 600 * MILLISECOND)
+        self.assertEqual((first.required_min_rx_interval, first.detect_mult), (700_000, 5))
+        self.assertEqual(it.transmit_interval, 300 * MILLISECOND)
+        self.assertEqual(it.detection_time, 2_100 * MILLISECOND)
+        it.received(packet(State.UP, bits=Bits.FINAL).encode(), 0.02)
+        self.assertEqual(it.transmit_interval, 600 * MILLISECOND)
+
+    def test_faster(self) -> None:
+        """What is sent speeds up at once, as far as the neighbor allows; what is awaited once it
+        knows."""
+        it = self.changed(100, 200)
+        self.assertEqual(it.transmit_interval, 300 * MILLISECOND)
+        quick = {"desired_min_tx_interval": 1, "required_min_rx_interval": 50 * MILLISECOND}
+        it.received(packet(State.UP, **quick).encode(), 0.01)
+        self.assertEqual(it.transmit_interval, 100 * MILLISECOND)
+        self.assertEqual(it.detection_time, 900 * MILLISECOND)
+        it.received(packet(State.UP, bits=Bits.FINAL, **quick).encode(), 0.02)
+        self.assertEqual(it.detection_time, 600 * MILLISECOND)
+
+    def test_while_down(self) -> None:
+        it = session()
+        it.change(Settings(100 * MILLISECOND, 200 * MILLISECOND, 3, (KEYED,)))
+        (data,) = it.act(0.0)
+        read, section = decode(data)
+        self.assertEqual(read.desired_min_tx_interval, SECOND)
+        self.assertEqual(number_of(data, section, {7: KEYED})[0], KEYED)
+
+
 class Resuming(unittest.TestCase):
     def test_another_process_goes_on(self) -> None:
         before = in_state(State.UP, Settings())

@@ -353,6 +353,22 @@ class AsAProcess(unittest.TestCase):
         with open(f"/proc/{process}/status", encoding="ascii") as it:
             return it.read()
 
+    def test_other_settings(self) -> None:
+        """A session goes on with them; one that isn't asked for any more ends."""
+        mine = self.come_up()
+        self.sessions.take_over({1: Settings(detect_mult=200)})
+        while decode(self.neighbor.recv(100))[0].detect_mult != 200:
+            pass
+        self.neighbor.sendto(said_by_neighbor(State.UP, mine), (HERE, CONTROL_PORT))
+        self.bridge.turn()
+        self.assertEqual((self.state(), self.lost), ("Up", []))
+        self.sessions.take_over({})
+        while decode(self.neighbor.recv(100))[0].state != State.ADMIN_DOWN:
+            pass
+        self.assertIsNone(self.state())
+        self.sessions.follow(1, Neighbor(IPv4Address(THERE), 1), is_two_way=True)
+        self.assertIsNone(self.state())
+
     def test_messages_that_are_none(self) -> None:
         """They end nothing."""
         mine = self.come_up()

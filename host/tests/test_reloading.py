@@ -321,7 +321,6 @@ class Fakes:
             SimpleNamespace(want=self.did.append, ask_again=lambda: self.did.append("again")),
             SimpleNamespace(redistribute=lambda it: self.did.append(("redistribute", it))),
             SimpleNamespace(passed_on=self.passed_on),
-            lambda: self.did.append("BFD begins"),
         )
 
     def open(self, link: str, udp: socket.socket) -> None:
@@ -448,14 +447,14 @@ class Taking(unittest.TestCase):
         self.assertTrue(self.room.claimed.isdisjoint(KernelSettings().claims))
 
     def test_bfd(self) -> None:
-        """Begun where no interface asked for it before; else told what is asked for now."""
+        """Told what is asked for now."""
         one, two = configuration().interfaces
         it = self.fakes(configuration(one, two))
         asks = replace(two, bfd=Settings())
         it.new = configuration(one, asks)
-        self.assertEqual(it.reloader.reload(), ["eth2: BFD now"])
-        self.assertEqual(it.did, ["BFD begins"])
         it.known.sessions = SimpleNamespace(take_over=it.did.append)
+        self.assertEqual(it.reloader.reload(), ["eth2: BFD now"])
+        self.assertEqual(it.did, [{2: Settings()}])
         it.new = configuration(replace(one, bfd=Settings(detect_mult=5)), two)
         self.assertEqual(it.reloader.reload(), ["eth1: BFD now", "eth2: no BFD now"])
         self.assertEqual(it.did[1:], [{1: Settings(detect_mult=5)}])
