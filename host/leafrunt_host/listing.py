@@ -10,6 +10,7 @@ from leafrunt_host import documents
 from leafrunt_host.client import Client, list_of, own_answer
 from leafrunt_host.kernel import Json
 from leafrunt_host.statuses import Stopped
+from leafrunt_host.tables import shown
 
 DOCUMENTS: dict[str, Callable[[Json, Iterable[str]], Json]] = {
     "table": documents.table_of,
@@ -39,14 +40,18 @@ def box_status(client: Client) -> Json:
     return documents.status_read(client.box, json_answer(client, "status json"))
 
 
+UNEXPECTED = (ArithmeticError, AttributeError, LookupError, OSError, TypeError, ValueError)
+"""What comes of a value that nobody expects; an `OSError` of a moment that the system can't tell."""
+
+
 @contextmanager
 def understood(box: str) -> Iterator[None]:
     """A box that says something in a form that nobody expects is an error like any other."""
     try:
         yield
-    except (AttributeError, KeyError, TypeError, ValueError) as error:
+    except UNEXPECTED as error:
         said = f"the box {box} says something that leafrunt doesn't know"
-        raise Stopped(f"{said} ({type(error).__name__}: {error})") from error
+        raise Stopped(f"{said} ({type(error).__name__}: {shown(str(error))})") from error
 
 
 def document_of(client: Client, kind: str, rest: list[str]) -> Json:

@@ -102,6 +102,8 @@ def families_of_kernel(status: Json) -> Iterator[Family]:
     about = "Destinations that no next hop is known for."
     without = len(kernel["without_next_hop"])
     yield of_one(gauge("leafrunt_kernel_routes_without_next_hop", about), without, box=box)
+    about = "Routes with more next hops than they may have."
+    yield of_one(gauge("leafrunt_kernel_routes_limited", about), kernel["limited"], box=box)
     about = "1 where the kernel's table isn't kept now, by an error."
     failed = kernel["error"] is not None
     yield of_one(gauge("leafrunt_kernel_table_failed", about), failed, box=box)
@@ -132,12 +134,16 @@ def families_of_neighbors(status: Json) -> Iterator[Family]:
 def families_of_sessions(status: Json) -> Iterator[Family]:
     """The BFD session at each interface that has one: its state is 1, and the others 0."""
     states = gauge("leafrunt_bfd_state", "1 at the state of the interface's BFD session.")
+    about = "BFD packets of the neighbor that don't count, by the reason."
+    discarded = Family("leafrunt_bfd_packets_discarded", COUNTER, about)
     for each in status["interfaces"]:
         if each["bfd"]:
             labels = {"box": status["box"], "interface": each["name"]}
             for state in BFD_STATES:
                 states.add(state == each["bfd"]["state"], **labels, state=state)
-    yield states
+            for reason, count in each["bfd"]["discarded"].items():
+                discarded.add(count, **labels, reason=reason)
+    yield from (states, discarded)
 
 
 def families_of_packets(status: Json) -> Iterator[Family]:

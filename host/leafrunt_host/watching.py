@@ -16,7 +16,7 @@ from leafrunt_host.journal import one_line, where_it_failed
 from leafrunt_host.kernel import Json
 from leafrunt_host.listing import box_status, understood
 from leafrunt_host.metrics import REASONS
-from leafrunt_host.status import kernel_line
+from leafrunt_host.status import bfd_lines, kernel_line
 from leafrunt_host.statuses import Status, Stopped
 from leafrunt_host.terminal import Row, Screen, why_no_screen
 
@@ -124,6 +124,8 @@ def interface_row(watched: Watched, each: Json, now: float) -> Row:
 
 
 def remark_rows(each: Json) -> Iterator[Row]:
+    """What is to be said of an interface: its BFD session, and why no neighbor is heard."""
+    yield from map(Row, bfd_lines(each["name"], each["bfd"]))
     for remark in each["remarks"]:
         if remark["reasons"]:
             who = f"{remark['router_id']}: " if remark["router_id"] else ""
@@ -247,9 +249,10 @@ def followed(client: Client, first: Look, interval: float, screen: Screen) -> No
     watched, asker = Watched(first), Asker(client, interval, screen)
     try:
         while True:
-            for look in asker.looks():
-                watched.take(look)
-            rows = rows_of(watched, time.time())
+            with understood(client.box):
+                for look in asker.looks():
+                    watched.take(look)
+                rows = rows_of(watched, time.time())
             silent = time.monotonic() - watched.now.moment
             if silent > 3 * interval + 1:
                 rows.insert(1, Row(f"no answer for {silent:.0f} s", is_bold=True))
@@ -268,13 +271,13 @@ def watch(client: Client, interval: float, is_once: bool) -> Status:
         raise Stopped(f"{why}: `leafrunt watch --once` prints what it would show", Status.USAGE)
     first = look_at(client)
     with understood(client.box):
-        if is_once:
-            for row in rows_of(Watched(first), time.time()):
-                print(one_line(row.text))
-            return Status.DONE
-        with closing(Screen(sys.stdin.fileno(), sys.stdout.fileno())) as screen, screen.in_use():
-            try:
-                followed(client, first, interval, screen)
-            except KeyboardInterrupt:
-                pass  # Ctrl-C leaves
+        rows = rows_of(Watched(first), time.time())
+    if is_once:
+        print(*(one_line(each.text) for each in rows), sep="\n")
+        return Status.DONE
+    with closing(Screen(sys.stdin.fileno(), sys.stdout.fileno())) as screen, screen.in_use():
+        try:
+            followed(client, first, interval, screen)
+        except KeyboardInterrupt:
+            pass  # Ctrl-C leaves
     return Status.DONE

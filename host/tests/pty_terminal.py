@@ -18,7 +18,7 @@ from leafrunt_host.terminal import HOME
 
 LEAFRUNT = Path(__file__).resolve().parents[1] / "leafrunt"
 SEQUENCE = re.compile(r"\x1b\[[0-9;?]*[a-zA-Z]")
-SECONDS_TO_SHOW = 30
+SECONDS_TO_SHOW = 60
 
 
 class Terminal:
@@ -32,11 +32,12 @@ class Terminal:
             os.execv(said[0], said)
         self.text = ""
         self.status: int | None = None
+        self._is_open = True
 
     def read(self, seconds: float) -> None:
         """What comes within so many seconds."""
         until = time.monotonic() + seconds
-        while (left := until - time.monotonic()) > 0:
+        while self._is_open and (left := until - time.monotonic()) > 0:
             if select.select([self.master], [], [], left)[0]:
                 with suppress(OSError):
                     data = os.read(self.master, 65536)
@@ -45,7 +46,7 @@ class Terminal:
                 return
 
     def shows(self, said: str) -> bool:
-        """Whether it comes to show this within half a minute."""
+        """Whether it comes to show this within a minute."""
         until = time.monotonic() + SECONDS_TO_SHOW
         while said not in self.text and time.monotonic() < until:
             self.read(0.05)
@@ -70,6 +71,7 @@ class Terminal:
         until = time.monotonic() + seconds
         while self.status is None and time.monotonic() < until:
             self.read(0.02)
+            time.sleep(0.02)
             pid, status = os.waitpid(self.pid, os.WNOHANG)
             self.status = os.waitstatus_to_exitcode(status) if pid else None
         return self.status
@@ -78,4 +80,10 @@ class Terminal:
         if self.status is None:
             os.kill(self.pid, signal.SIGKILL)
             os.waitpid(self.pid, 0)
-        os.close(self.master)
+        self.hang_up()
+
+    def hang_up(self) -> None:
+        """The terminal goes away, as one does whose window is closed."""
+        if self._is_open:
+            self._is_open = False
+            os.close(self.master)

@@ -48,7 +48,9 @@ def odd_status() -> Json:
     """A status whose interface has an odd name, and all kinds of counters."""
     read = status()
     read["interfaces"][0] |= {"name": ODD, "counters": COUNTERS}
-    read["kernel"] |= {"routes": 3, "refused": ["10.0.0.0/8 via 10.0.1.2 dev eth1: File exists"]}
+    read["interfaces"][0]["bfd"] = {"state": "Up", "discarded": {"wrong TTL": 7}}
+    refused = ["10.0.0.0/8 via 10.0.1.2 dev eth1: File exists"]
+    read["kernel"] |= {"routes": 3, "limited": 2, "refused": refused}
     return read
 
 
@@ -72,6 +74,7 @@ class Families(unittest.TestCase):
             "leafrunt_routes path_type=intra": 1,
             "leafrunt_kernel_routes": 3,
             "leafrunt_kernel_refusals": 1,
+            "leafrunt_kernel_routes_limited": 2,
             "leafrunt_kernel_table_failed": 0,
             "leafrunt_program_counts counter=5 name=martians": 6,
             "leafrunt_program_counts counter=6 name=never": 0,
@@ -82,8 +85,9 @@ class Families(unittest.TestCase):
         found = {name: each for name, each in found.items() if "neighbor" not in name}
         replayed = "reason=replayed packet: sequence number below the last one"
         self.assertEqual(
-            {name: each for name, each in found.items() if at in name},
+            {name: each for name, each in found.items() if at in name and "state=" not in name},
             {
+                f"leafrunt_bfd_packets_discarded {at} reason=wrong TTL": 7,
                 f"leafrunt_packets_received {at}": 5,
                 f"leafrunt_packets_sent {at}": 7,
                 f"leafrunt_lsas_withheld {at}": 8,
@@ -109,6 +113,19 @@ class Families(unittest.TestCase):
                 self.assertEqual(len(its), 6)
                 ones = [name.rpartition("=")[2] for name, each in its.items() if each]
                 self.assertEqual(ones, [state])
+
+    def test_bfd(self) -> None:
+        """One state of four is the session's."""
+        read = odd_status()
+        for state in ("AdminDown", "Down", "Init", "Up"):
+            read["interfaces"][0]["bfd"] = {"state": state, "discarded": {}}
+            its = {name: each for name, each in values(read).items() if "bfd" in name}
+            with self.subTest(state):
+                self.assertEqual(len(its), 4)
+                ones = [name.rpartition("=")[2] for name, each in its.items() if each]
+                self.assertEqual(ones, [state])
+        read["interfaces"][0]["bfd"] = None
+        self.assertFalse([each for each in values(read) if "bfd" in each])
 
     def test_a_kernel_that_is_left_alone(self) -> None:
         read = odd_status()

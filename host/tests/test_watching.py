@@ -121,6 +121,20 @@ class Views(unittest.TestCase):
         )
         self.assertIn("-/s", "".join(lines(watched({"values": {5: 10}}))))
 
+    def test_bfd(self) -> None:
+        session = {
+            "neighbor": "10.0.1.2",
+            "state": "Down",
+            "since": NOW,
+            "detection_time_seconds": 0,
+            "diagnostic": "",
+            "discarded": {"wrong TTL": 3},
+            "error": None,
+        }
+        said = "\n".join(lines(watched({"interfaces": interfaces({}, bfd=session)})))
+        self.assertIn("eth1: BFD with 10.0.1.2 Down", said)
+        self.assertIn("discarded: wrong TTL 3", said)
+
     def test_durations(self) -> None:
         for seconds, said in ((-5, "00:00:00"), (59.9, "00:00:59"), (86_399, "23:59:59")):
             self.assertEqual(duration(seconds), said)
@@ -221,6 +235,16 @@ class Terminals(Boxes):
             said = {0: "", 1: "leafrunt: ended by SIGTERM", 3: "leafrunt: the box one has ended"}
             self.assertEqual(after.strip(), said[status])
             self.assertNotIn("Traceback", it.text)
+
+    def test_a_terminal_that_goes(self) -> None:
+        """Nothing of it stays behind, and the box goes on."""
+        box = self.up()
+        it = self.watch()
+        self.assertTrue(it.shows("q: leave"))
+        it.hang_up()
+        self.assertIn(it.ended(), (0, 1, 3))
+        self.assertIsNone(box.poll())
+        self.assertEqual(self.leafrunt("neighbors")[0], 0)
 
     def test_where_there_is_no_terminal(self) -> None:
         self.up(more="[counters]\nmartians = 5\n")

@@ -145,7 +145,7 @@ def watched_more(it: Two) -> float:
     """What the box takes of a processor while `leafrunt watch` asks it, in milliseconds a second."""
     view = Terminal(it.network.work / "run", "--box", "tried")
     try:
-        if not view.shows(f"routes: {COUNT}"):
+        if not view.shows(f"routes: {COUNT + 2}"):
             raise CannotTry(f"watch shows no routes: {'; '.join(view.screen())}")
         before = it.processor()
         view.read(20)
