@@ -13,10 +13,10 @@ use Rattle.received.specs.Holds.{Holds}
 use Rattle.events.specs.Events.{Step}
 use Rattle.events.specs.LsaInstances.{LsaInstance, instance_of_header, instance_of_lsa}
 use Rattle.events.specs.Routers.{Occurrence, Router}
-use Rattle.agreement_laws.specs.Exchanged.{Conversation, conversation_with}
+use Rattle.agreement_laws.specs.Exchanged.{Conversation, Describes, conversation_with}
 use Rattle.agreement_laws.specs.HeldWasTold.{is_exchange_done}
 use Rattle.agreement_laws.specs.NeighborHistories.{Ends, IsHistory, Pair, Party, Side, Turn, event_of, interface_of, other_side, party, text_at}
-use Rattle.agreement_laws.specs.NeighborsAgree.{Exception, HasForgotten, HoldsAsNew, InConversation, IsAtRest, IsDescribed, IsTold, NeighborsAgreeOnWhatWasRenewed, is_as_new}
+use Rattle.agreement_laws.specs.NeighborsAgree.{Exception, HasForgotten, HoldsAsNew, InConversation, IsAtRest, IsTold, NeighborsAgreeOnWhatWasRenewed, is_as_new}
 use Rattle.agreement_laws.specs.Ranks.{is_at_least}
 use Rattle.agreement_laws.proofs.Describing.{held, instance_at}
 use Rattle.agreement_laws.proofs.Done.{nothing_is_left}
@@ -34,7 +34,7 @@ module _ (ends : Ends) (side : Side) (with_it : Conversation) (header : Header) 
   number = interface_of side ends
 
   abbrev InDescription : (now : Pair) (earlier : List Pair) → IsHistory ends now earlier → Type 0
-  InDescription now earlier h = InConversation ends side with_it (IsDescribed number header) now earlier h
+  InDescription now earlier h = InConversation ends side with_it (λ (own : ℕ) (step : Step). Describes own step.outs number header) now earlier h
 
   abbrev InPacket : (bytes : List ℕ) (now : Pair) (earlier : List Pair) → IsHistory ends now earlier → Type 0
   InPacket bytes now earlier h = InConversation ends side with_it (λ (own : ℕ) (step : Step). IsTold number bytes (instance_of_header header) step) now earlier h

@@ -12,6 +12,7 @@ use Rattle.lsa.specs.declared.fault.Fault.{Fault}
 use Rattle.lsdb.specs.Headers.{Header, Lsa, key_of, lsa_key}
 use Rattle.packet.specs.declared.model.Body.{Body}
 use Rattle.packet.specs.declared.model.Body.TheVariants as body
+use Rattle.packet.specs.declared.model.Description.{Description}
 use Rattle.packet.specs.declared.model.Packet.{Packet}
 use Rattle.packet.specs.Text.{PacketText, canonical}
 use Rattle.packet.proofs.Whole.{one_packet}
@@ -19,13 +20,15 @@ use Rattle.adjacency.specs.Contents.{Content}
 use Rattle.received.specs.Links.{Link}
 use Rattle.received.specs.Outcomes.{Send}
 use Rattle.events.specs.declared.model.Out.{Out}
-use Rattle.events.specs.LsaInstances.{LsaInstance, instance_of_header, instance_of_lsa, instances_advertised, instances_in_update}
+use Rattle.events.specs.LsaInstances.{LsaInstance, instance_of_header, instance_of_lsa, instances_in_update}
 use Rattle.events.specs.Packing.{acknowledgments, at_interface, bodies, descriptions, first_key, header_size, hellos, in_key_order, lsa_size, out_of, outs_at, outs_of, packed_groups, packet_of, requests, sent_lsa, update_of, updates}
 use Rattle.events.proofs.Rooms.{both, mapped_all, order_all, packed_all}
 use Rattle.flood_laws.specs.Keeping.{AreTexts, AreTextsAt, IsInstance, IsText}
+use Rattle.flood_laws.proofs.Known.{of_member}
 use Rattle.flood_laws.proofs.Lists.{later_is, of_cons, of_empty}
 use Rattle.flood_laws.proofs.Taken.{named_first}
 use Rattle.agreement_laws.specs.NeighborHistories.{text_at}
+use Rattle.agreement_laws.specs.NeighborsAgree.{instances_told}
 use Rattle.agreement_laws.proofs.ReadNames.{name_read}
 
 -- ---- lists
@@ -57,7 +60,7 @@ module _ (R : Content → Type 0) where
 
   abbrev pub BearsSent : ℕ → Body → Type 0
   BearsSent delay (body.Hello h) = Unit {0}
-  BearsSent delay (body.Description d) = Unit {0}
+  BearsSent delay (body.Description d) = R (Content.Describes d)
   BearsSent delay (body.Request keys) = Unit {0}
   BearsSent delay (body.Update lsas) = AllByRecursion (IsTextOfSent delay) lsas
   BearsSent delay (body.Acknowledgment headers) = AllByRecursion (λ h. R (Content.Acknowledges h)) headers
@@ -78,7 +81,7 @@ module _ (R : Content → Type 0) where
 
     description_bears : (c : Content) → R c → AllByRecursion (BearsSent delay) (cons_option (descriptions c) [])
     description_bears (Content.SendsHello h) so = tt
-    description_bears (Content.Describes d) so = (tt, tt)
+    description_bears (Content.Describes d) so = (so, tt)
     description_bears (Content.Requests keys) so = tt
     description_bears (Content.Updates lsa) so = tt
     description_bears (Content.Acknowledges h) so = tt
@@ -167,6 +170,7 @@ module _ (R : Content → Type 0) (ranged : (lsa : Lsa) → R (Content.Updates l
   -- an LSA that was sent, or a header that was acknowledged
   pub data IsOfSent (b : Body) (name : LsaInstance) : Type 0 where
     OfUpdate : (lsa : Lsa) → R (Content.Updates lsa) → instance_of_lsa lsa ≡ name → IsOfSent b name
+    OfDescription : (d : Description) (header : Header) → Contains d.headers header → R (Content.Describes d) → instance_of_header header ≡ name → IsOfSent b name
     OfAcknowledgment : (headers : List Header) (header : Header) → b ≡ body.Acknowledgment headers → Contains headers header → R (Content.Acknowledges header) → instance_of_header header ≡ name
         → IsOfSent b name
 
@@ -189,29 +193,29 @@ module _ (R : Content → Type 0) (ranged : (lsa : Lsa) → R (Content.Updates l
           by_place (inr more) = others more
       by_fault (Some f) others k = others k
 
-  in_acknowledgment : (all : List Header) (headers : List Header) (name : LsaInstance) → ((h : Header) → Contains headers h → Contains all h) → AllByRecursion (λ h. R (Content.Acknowledges h)) headers
-      → Contains (map instance_of_header headers) name → IsOfSent (body.Acknowledgment all) name
-  in_acknowledgment all [] name more h c = absurd (of_empty name c)
-  in_acknowledgment all (header ∷ headers) name more h c =
-      by_place (λ k. in_acknowledgment all headers name (λ x d. more x (later_is header headers x d)) h.1 k) (of_cons (instance_of_header header) (map instance_of_header headers) name c)
+  header_of : (headers : List Header) (name : LsaInstance) → Contains (map instance_of_header headers) name → (h : Header) × Contains headers h × (instance_of_header h ≡ name)
+  header_of [] name c = absurd (of_empty name c)
+  header_of (header ∷ headers) name c = by_place (λ k. header_of headers name k) (of_cons (instance_of_header header) (map instance_of_header headers) name c)
     where
-      by_place : (Contains (map instance_of_header headers) name → IsOfSent (body.Acknowledgment all) name) → (instance_of_header header ≡ name) ⊎ Contains (map instance_of_header headers) name
-          → IsOfSent (body.Acknowledgment all) name
-      by_place others (inl is) = IsOfSent.OfAcknowledgment all header refl (more header (named_first header headers header refl)) h.0 is
-      by_place others (inr k) = others k
+      by_place : (Contains (map instance_of_header headers) name → (h : Header) × Contains headers h × (instance_of_header h ≡ name))
+          → (instance_of_header header ≡ name) ⊎ Contains (map instance_of_header headers) name → (h : Header) × Contains (header ∷ headers) h × (instance_of_header h ≡ name)
+      by_place others (inl is) = (header, named_first header headers header refl, is)
+      by_place others (inr k) = let it = others k in (it.0, later_is header headers it.0 it.1, it.2)
 
-  in_body : (delay : ℕ) (b : Body) (name : LsaInstance) → BearsSent R delay b → Contains (instances_advertised b) name → IsOfSent b name
+  in_body : (delay : ℕ) (b : Body) (name : LsaInstance) → BearsSent R delay b → Contains (instances_told b) name → IsOfSent b name
   in_body delay (body.Hello h) name bears c = absurd (of_empty name c)
-  in_body delay (body.Description d) name bears c = absurd (of_empty name c)
+  in_body delay (body.Description d) name bears c = let it = header_of d.headers name c in IsOfSent.OfDescription d it.0 it.1 bears it.2
   in_body delay (body.Request keys) name bears c = absurd (of_empty name c)
   in_body delay (body.Update lsas) name bears c = in_update (body.Update lsas) delay lsas name bears c
-  in_body delay (body.Acknowledgment headers) name bears c = in_acknowledgment headers headers name (λ h d. d) bears c
+  in_body delay (body.Acknowledgment headers) name bears c =
+      let it = header_of headers name c in
+      IsOfSent.OfAcknowledgment headers it.0 refl it.1 (of_member (λ h. R (Content.Acknowledges h)) headers bears it.0 it.1) it.2
 
   -- a letter is a text of no other packet
   pub told_in : (number own : ℕ) (sends : List Send) (so : AllByRecursion (λ (s : Send). s.number ≡ number → R s.content) sends) (bytes : List ℕ) → IsLetter R number own sends so bytes → (packet : Packet)
-      → PacketText bytes packet → (name : LsaInstance) → Contains (instances_advertised packet.body) name → IsOfSent packet.body name
+      → PacketText bytes packet → (name : LsaInstance) → Contains (instances_told packet.body) name → IsOfSent packet.body name
   told_in number own sends so bytes letter packet text name c =
       let b : Body = letter.1 in
       let same : packet_of own b ≡ packet = one_packet bytes (packet_of own b) packet (subst (λ bs. PacketText bs (packet_of own b)) (sym letter.3) letter.4) text in
       subst (λ (p : Packet). IsOfSent p.body name) same
-      (in_body letter.0 b name letter.2 (subst (λ (p : Packet). Contains (instances_advertised p.body) name) (sym same) c))
+      (in_body letter.0 b name letter.2 (subst (λ (p : Packet). Contains (instances_told p.body) name) (sym same) c))

@@ -10,7 +10,7 @@ mod Walk
 mod Done
 mod Runs
 mod Climbing
-mod Plain
+mod Sayings
 mod Said
 mod SaidWalk
 mod Names

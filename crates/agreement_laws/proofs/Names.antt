@@ -7,8 +7,9 @@ use Rattle.std.specs.FinMap.{int_cmp-IsAntisymmetric, nat_cmp-IsAntisymmetric}
 use Rattle.lsdb.specs.Order.{is_max_age}
 use Rattle.lsdb.specs.declared.order.Instance.{Instance}
 use Rattle.events.specs.LsaInstances.{LsaInstance}
-use Rattle.agreement_laws.specs.NeighborsAgree.{is_as_new, young}
+use Rattle.agreement_laws.specs.NeighborsAgree.{is_as_new}
 use Rattle.agreement_laws.specs.Ranks.{compare_ranks, is_at_least}
+use Rattle.agreement_laws.specs.SaidIsHeld.{young}
 use Rattle.agreement_laws.proofs.Ranks.{at_least_on, equal_parts, follow}
 
 without_flags : (r s : Ordering) (p q : Bool) → is_ge (ordering_then r (ordering_then s (bool_cmp p q))) ≡ true → is_ge (ordering_then r (ordering_then s (bool_cmp false false))) ≡ true

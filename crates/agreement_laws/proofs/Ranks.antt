@@ -102,6 +102,16 @@ itself_at_least a =
     by_flag true = refl
     by_flag false = refl
 
+-- and as itself below MaxAge
+pub older_at_least : (a : Instance) → is_at_least a (record a { age = 0 }) ≡ true
+older_at_least a =
+    (λ i. is_ge (ordering_then (tied_itself int_cmp_total a.sequence i) (ordering_then (tied_itself nat_cmp_total a.checksum i) (bool_cmp (is_max_age a.age) false))))
+    ∙ by_flag (is_max_age a.age)
+  where
+    by_flag : (p : Bool) → is_ge (bool_cmp p false) ≡ true
+    by_flag true = refl
+    by_flag false = refl
+
 -- ---- the order
 
 total : IsTotalOrder compare_ranks

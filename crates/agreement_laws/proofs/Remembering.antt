@@ -21,7 +21,7 @@ use Rattle.events.specs.declared.model.Config.{Config}
 use Rattle.events.specs.Endings.{end_event}
 use Rattle.events.specs.EventState.{EventState, flood_from_nobody, on_router}
 use Rattle.events.specs.Events.{Happens, Run, Step, initial}
-use Rattle.events.specs.LsaInstances.{LsaInstance, instance_of_header, instance_of_lsa, instances_advertised}
+use Rattle.events.specs.LsaInstances.{LsaInstance, instance_of_header, instance_of_lsa}
 use Rattle.events.specs.Originations.{flush, flush_copy, has_max_sequence, has_room, may_originate, new_instance, originate, originate_body, router_key, wait, wanted_body}
 use Rattle.events.specs.Routers.{Router, fresh_link, unannounced_router}
 use Rattle.events.proofs.Walk.{outcome}
@@ -34,11 +34,12 @@ use Rattle.flood_laws.proofs.Lists.{later_is}
 use Rattle.flood_laws.proofs.Taken.{named_first}
 use Rattle.agreement_laws.specs.CopiesClimb.{BecameOf}
 use Rattle.agreement_laws.specs.NeighborHistories.{BeginsAnew, Doing, Ends, HasBegun, IsHistory, Pair, Party, Side, TakesEvent, Turn, event_of, event_taken, interface_of, is_same_side, other_side, party, text_at}
-use Rattle.agreement_laws.specs.NeighborsAgree.{Forgets, HasForgotten, HoldsAsNew, IsWithout}
-use Rattle.agreement_laws.specs.SaidIsHeld.{IsAcknowledged, IsReceived, SaysWhatIsHeld, Waits}
+use Rattle.agreement_laws.specs.NeighborsAgree.{Forgets, HasForgotten, HoldsAsNew, IsWithout, instances_told}
+use Rattle.agreement_laws.specs.SaidIsHeld.{IsAcknowledged, IsOfDatabase, IsReceived, IsToDescribe, SaysWhatIsHeld, Waits, young}
 use Rattle.agreement_laws.proofs.Climbing.{copies_climb}
 use Rattle.agreement_laws.proofs.Letters.{IsLetter, IsOfSent, letters, told_in}
 use Rattle.agreement_laws.proofs.Names.{as_new_on, at_any_age}
+use Rattle.agreement_laws.proofs.Runs.{begins_alone}
 use Rattle.agreement_laws.proofs.Said.{OnLink, numbered_on}
 use Rattle.agreement_laws.proofs.SaidWalk.{said_is_held}
 
@@ -128,13 +129,19 @@ nothing_waits c number h w =
     let its : w.link.acknowledgments ≡ finite.empty = subst IsQuiet w.there quiet in
     let no : None ≡ Some h = sym (finite.get-empty {X = Header} key_cmp w.key) ∙ sym (ap (λ (m : ByKey Header). finite.get m w.key) its) ∙ w.waits in absurd cc
 
+-- nor is there anybody to whom something is to be described
+nothing_is_left : (c : Config) (number : ℕ) (name : LsaInstance) → IsToDescribe number name (initial c).area.links → ⊥
+nothing_is_left c number name (IsToDescribe.Listed n key l at there is) = let no : None ≡ Some n = sym (begins_alone c number).0 ∙ at in cc
+nothing_is_left c number name (IsToDescribe.Last n d header at there among is) = let no : None ≡ Some n = sym (begins_alone c number).0 ∙ at in cc
+
 -- ---- what is remembered
 
 pub record Remembers (number : ℕ) (p : Party) (Old : LsaInstance → ℕ → Type 0) : Type 0 where
   pub life : Life p.router
   pub told : (text : ℕ) (bytes : List ℕ) → slice_get p.sent text ≡ Some bytes → (packet : Packet) → PacketText bytes packet → (name : LsaInstance)
-      → Contains (instances_advertised packet.body) name → HoldsAsNew p.router name ⊎ Old name text
+      → Contains (instances_told packet.body) name → HoldsAsNew p.router name ⊎ Old name text
   pub waits : (h : Header) → Waits number h p.router.area.links → HoldsAsNew p.router (instance_of_header h) ⊎ ((text : ℕ) → Old (instance_of_header h) text)
+  pub left : (name : LsaInstance) → IsToDescribe number name p.router.area.links → HoldsAsNew p.router name ⊎ ((text : ℕ) → Old name text)
 
 module _ (number : ℕ) (Old : LsaInstance → ℕ → Type 0) where
   abbrev With : Party → Party → LsaInstance → ℕ → Type 0
@@ -176,6 +183,10 @@ module _ (number : ℕ) (Old : LsaInstance → ℕ → Type 0) where
     became x (BecameOf.IsHeld c at new) = inl (record { copy = c; there = at; as_new = at_any_age (copy_now t.moment c) (instance_of x) new })
     became x (BecameOf.IsGone last new aged none off) = inr none
 
+    as_young : (name : LsaInstance) → BecameOf t.moment (young name) name.key q.router → HoldsAsNew q.router name ⊎ IsWithout name.key q.router
+    as_young name (BecameOf.IsHeld c at new) = inl (record { copy = c; there = at; as_new = at_any_age (copy_now t.moment c) (young name) new })
+    as_young name (BecameOf.IsGone last new aged none off) = inr none
+
     -- ---- texts
 
     within : (text : ℕ) (bytes : List ℕ) → slice_get q.sent text ≡ Some bytes → text < length q.sent
@@ -199,10 +210,18 @@ module _ (number : ℕ) (Old : LsaInstance → ℕ → Type 0) where
         by_old (inr old) = inr old
     received x (IsReceived.Held b) = inl (became x b)
 
+    of_database : (name : LsaInstance) → IsOfDatabase p.router t.moment q.router number name → (HoldsAsNew q.router name ⊎ IsWithout name.key q.router) ⊎ ((text : ℕ) → Old name text)
+    of_database name (IsOfDatabase.ToDescribe left) = by_old (h.left name left)
+      where
+        by_old : HoldsAsNew p.router name ⊎ ((text : ℕ) → Old name text) → (HoldsAsNew q.router name ⊎ IsWithout name.key q.router) ⊎ ((text : ℕ) → Old name text)
+        by_old (inl has) = inl (still name has)
+        by_old (inr old) = inr old
+    of_database name (IsOfDatabase.Held b) = inl (as_young name b)
+
     -- what is so of what is sent at the interface
     abbrev OfSent : Content → Type 0
     OfSent (Content.SendsHello hello) = Unit {0}
-    OfSent (Content.Describes d) = Unit {0}
+    OfSent (Content.Describes d) = (x : Header) → Contains d.headers x → IsOfDatabase p.router t.moment q.router number (instance_of_header x)
     OfSent (Content.Requests keys) = Unit {0}
     OfSent (Content.Updates lsa) = BecameOf t.moment (instance_of lsa.header) (lsa_key lsa) q.router × IsInstance (instance_of_lsa lsa)
     OfSent (Content.Acknowledges x) = IsAcknowledged p.router t.moment q.router number x
@@ -217,7 +236,7 @@ module _ (number : ℕ) (Old : LsaInstance → ℕ → Type 0) where
       where
         of_content : (n : ℕ) (says : Content) → Contains ended.sends (record { number = n; content = says }) → n ≡ number → AllByRecursion IsInstance (instances_in_content says) → OfSent says
         of_content n (Content.SendsHello hello) c same is = tt
-        of_content n (Content.Describes d) c same is = tt
+        of_content n (Content.Describes d) c same is = λ x among. subst (λ m. IsOfDatabase p.router t.moment q.router m (instance_of_header x)) same (said.described n d x c among)
         of_content n (Content.Requests keys) c same is = tt
         of_content n (Content.Updates lsa) c same is = (said.updates n lsa c, is.0)
         of_content n (Content.Acknowledges x) c same is = subst (λ m. IsAcknowledged p.router t.moment q.router m x) same (said.acknowledged n x c)
@@ -236,6 +255,13 @@ module _ (number : ℕ) (Old : LsaInstance → ℕ → Type 0) where
 
       of_sent : (name : LsaInstance) → IsOfSent OfSent (λ lsa so. so.1) packet.body name → HoldsAsNew q.router name ⊎ With p q name text
       of_sent name (IsOfSent.OfUpdate lsa so is) = of_update lsa so name is
+      of_sent name (IsOfSent.OfDescription d x among so is) =
+          subst (λ (n : LsaInstance). HoldsAsNew q.router n ⊎ With p q n text) is (by_reason (of_database (instance_of_header x) (so x among)))
+        where
+          by_reason : (HoldsAsNew q.router (instance_of_header x) ⊎ IsWithout (key_of x) q.router) ⊎ ((text : ℕ) → Old (instance_of_header x) text)
+              → HoldsAsNew q.router (instance_of_header x) ⊎ With p q (instance_of_header x) text
+          by_reason (inl so) = or_forgotten (instance_of_header x) text (within text bytes at) so
+          by_reason (inr old) = inr (inr (old text))
       of_sent name (IsOfSent.OfAcknowledgment headers x body among (IsAcknowledged.Received r) is) =
           subst (λ (n : LsaInstance). HoldsAsNew q.router n ⊎ With p q n text) is (by_reason (received x r))
         where
@@ -247,7 +273,7 @@ module _ (number : ℕ) (Old : LsaInstance → ℕ → Type 0) where
           inr (inl (Forgets.NothingToFlush (subst (λ (n : LsaInstance). IsWithout n.key p.router) is none) bytes at
           (record { packet = packet; text = written; headers = headers; acknowledges = body; header = x; among = among; named = is; flushed = aged })))
 
-      told_by : (slice_get p.sent text ≡ Some bytes) ⊎ Contains (filter_map (text_at number) t.outs) bytes → (name : LsaInstance) → Contains (instances_advertised packet.body) name
+      told_by : (slice_get p.sent text ≡ Some bytes) ⊎ Contains (filter_map (text_at number) t.outs) bytes → (name : LsaInstance) → Contains (instances_told packet.body) name
           → HoldsAsNew q.router name ⊎ With p q name text
       told_by (inl before) name c = old_text name text (within text bytes at) (h.told text bytes before packet written name c)
       told_by (inr sent) name c =
@@ -262,12 +288,21 @@ module _ (number : ℕ) (Old : LsaInstance → ℕ → Type 0) where
         by_reason (inl (inr none)) = inr (λ text. inl (Forgets.WithoutWaiting none x w refl))
         by_reason (inr old) = inr (λ text. inr (old text))
 
+    left_for : (name : LsaInstance) → IsToDescribe number name q.router.area.links → HoldsAsNew q.router name ⊎ ((text : ℕ) → With p q name text)
+    left_for name left = by_reason (of_database name (said.to_describe number name left))
+      where
+        by_reason : (HoldsAsNew q.router name ⊎ IsWithout name.key q.router) ⊎ ((text : ℕ) → Old name text) → HoldsAsNew q.router name ⊎ ((text : ℕ) → With p q name text)
+        by_reason (inl (inl has)) = inl has
+        by_reason (inl (inr none)) = inr (λ text. inl (Forgets.WithoutDescribed none left))
+        by_reason (inr old) = inr (λ text. inr (old text))
+
     after_event : Remembers number q (With p q)
     after_event = record {
       life = lives;
       told = λ text bytes at packet written name c.
           told_by text bytes at packet written (place_in p.sent (filter_map (text_at number) t.outs) text bytes (subst (λ (xs : List (List ℕ)). slice_get xs text ≡ Some bytes) t.sent at)) name c;
       waits = waits_for;
+      left = left_for;
     }
 
   -- ---- a new life
@@ -283,6 +318,7 @@ module _ (number : ℕ) (Old : LsaInstance → ℕ → Type 0) where
         let lt : text < length q.sent = place_within q.sent text bytes at in
         inr (inl (Forgets.BegunAnew (subst (λ n. text < n) (sym b.began) (subst (λ (xs : List (List ℕ)). text < length xs) b.sent lt))));
     waits = λ x w. absurd (nothing_waits b.config number x (subst (λ (r : Router). Waits number x r.area.links) b.router w));
+    left = λ name l. absurd (nothing_is_left b.config number name (subst (λ (r : Router). IsToDescribe number name r.area.links) b.router l));
   }
 
   -- ---- a turn of the other one
@@ -293,17 +329,17 @@ module _ (number : ℕ) (Old : LsaInstance → ℕ → Type 0) where
       (record {
         life = h.life;
         told = λ text bytes at packet written name c. more name text (h.told text bytes at packet written name c);
-        waits = λ x w. more_waits x (h.waits x w);
+        waits = λ x w. more_waits (instance_of_header x) (h.waits x w);
+        left = λ name l. more_waits name (h.left name l);
       })
     where
       more : (name : LsaInstance) (text : ℕ) → HoldsAsNew p.router name ⊎ Old name text → HoldsAsNew p.router name ⊎ With p p name text
       more name text (inl has) = inl has
       more name text (inr old) = inr (inr old)
 
-      more_waits : (x : Header) → HoldsAsNew p.router (instance_of_header x) ⊎ ((text : ℕ) → Old (instance_of_header x) text)
-          → HoldsAsNew p.router (instance_of_header x) ⊎ ((text : ℕ) → With p p (instance_of_header x) text)
-      more_waits x (inl has) = inl has
-      more_waits x (inr old) = inr (λ text. inr (old text))
+      more_waits : (name : LsaInstance) → HoldsAsNew p.router name ⊎ ((text : ℕ) → Old name text) → HoldsAsNew p.router name ⊎ ((text : ℕ) → With p p name text)
+      more_waits name (inl has) = inl has
+      more_waits name (inr old) = inr (λ text. inr (old text))
 
 -- ---- histories
 
@@ -335,6 +371,7 @@ first_remembers number p b = record {
   told = λ text bytes at packet written name c.
       let no : None ≡ Some bytes = subst (λ (xs : List (List ℕ)). slice_get xs text ≡ Some bytes) b.sent at in absurd cc;
   waits = λ x w. absurd (nothing_waits b.config number x (subst (λ (r : Router). Waits number x r.area.links) b.router w));
+  left = λ name l. absurd (nothing_is_left b.config number name (subst (λ (r : Router). IsToDescribe number name r.area.links) b.router l));
 }
 
 pub remembers : (ends : Ends) (side : Side) (now : Pair) (earlier : List Pair) (h : IsHistory ends now earlier)

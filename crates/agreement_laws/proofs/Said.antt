@@ -1,10 +1,11 @@
 -- What each part of an event says of LSAs is held by then: what its Updates take along, and what its acknowledgments name when they are made.
-use Rattle.std.proofs.Common.{◌≡◌, ℕ, zero, suc, ◌+◌, Bool, true, false, cond, not, ◌&&◌, ◌⊎◌, inl, inr, List, [], ◌∷◌, ◌++◌, map, Option, None, Some, is_some, refl, sym, ap, subst, ◌∙◌, arith}
+use Rattle.std.proofs.Common.{◌≡◌, ℕ, zero, suc, ◌+◌, Bool, true, false, cond, not, ◌&&◌, inl, inr, List, [], ◌∷◌, ◌++◌, map, Option, None, Some, is_some, refl, sym, ap, subst, ◌∙◌, arith}
 use Rattle.std.specs.Prelude.{◌==◌, is_none, nat_le, slice_get}
 use Rattle.std.specs.Cmp.{tied_itself}
 use Rattle.std.specs.FinMap as finite
 use Rattle.std.specs.List.{AllByRecursion, cons_option, enumerate_from, filter_map, flat_map, fold}
 use Rattle.std.specs.Ordering.{is_eq}
+use Rattle.std.proofs.lemmas.Bool.{eqb-true}
 use Rattle.std.specs.declared.cmp.Ordering.{Ordering}
 use Rattle.words.specs.declared.key.Key.{Key}
 use Rattle.lsa.specs.declared.body.Body.{Body as LsaBody}
@@ -21,14 +22,14 @@ use Rattle.adjacency.specs.Adjacencies as adjacencies
 use Rattle.adjacency.specs.Adjacencies.{has_passed}
 use Rattle.adjacency.specs.Contents.{Content, Step, Updates, no_sends, then_}
 use Rattle.adjacency.specs.Descriptions.{after_description}
-use Rattle.adjacency.specs.Floods.{flooded_in_exchange, flooding, passes, request_of, without_met_request}
-use Rattle.adjacency.specs.Neighbors.{Neighbor, is_exchange_or_later}
+use Rattle.adjacency.specs.Neighbors.{Neighbor}
 use Rattle.adjacency.specs.Requests.{request_next}
-use Rattle.adjacency.specs.Retransmissions.{add_retransmission, after_acknowledgment, describe_again, lsa_of, next_retransmissions, remove_retransmission, request_again, retransmission_lsas, send_again, that_fit, update_again}
+use Rattle.adjacency.specs.Retransmissions.{after_acknowledgment, describe_again, lsa_of, next_retransmissions, remove_retransmission, request_again, retransmission_lsas, send_again, that_fit, update_again}
 use Rattle.adjacency.proofs.Kept.{chosen}
-use Rattle.adjacency.proofs.Maps.{AllIn, OfEntry, entries_in, inserted_in, none_in}
+use Rattle.adjacency.proofs.Maps.{IfThere, OfEntry, entries_in, inserted_in, none_in}
 use Rattle.received.specs.Cases.{Case, case_of_readable, first_case, is_on_senders_list, is_wrapping, was_requested}
 use Rattle.received.specs.Flooding.{flood, flood_to, is_sender}
+use Rattle.received.specs.Holds.{Holds}
 use Rattle.received.specs.Links.{Area, Link, acknowledge_later, any_exchange_or_loading, change_link, link_at, neighbor_at}
 use Rattle.received.specs.Outcomes.{Outcome, Send, Stepping, each_neighbor, marked_database, on_database, on_links, one_neighbor, only_at, sending, sends_at, sent_on, step_on, stepped_links, stepping_sends}
 use Rattle.received.specs.Updates.{after_case, case_at, copy_of, send_copy}
@@ -37,20 +38,21 @@ use Rattle.received.proofs.Told.{joined}
 use Rattle.events.specs.Commands.{taken_down}
 use Rattle.events.specs.Endings.{link_loading_done, stays, with_age}
 use Rattle.events.specs.EventState.{flood_from_nobody}
+use Rattle.events.specs.LsaInstances.{instance_of_lsa}
 use Rattle.events.specs.Hellos.{accepts, hello_is_due, hello_on, names}
 use Rattle.events.specs.Originations.{install_and_flood, new_instance}
 use Rattle.events.specs.Packets.{hear, heard_on, requested_lsas, with_neighbor}
 use Rattle.events.specs.Routers.{Router}
 use Rattle.events.specs.Ticks.{acknowledge_all, acknowledgments_on, again, hello_sent_on, run_out, send_hellos, sends_of, with_hello_sent, without_acknowledgments}
 use Rattle.flood_laws.proofs.Known.{each_all}
-use Rattle.flood_laws.proofs.Retransmitted.{OwnKeys, There, if_so, own_at}
-use Rattle.agreement_laws.specs.SaidIsHeld.{Waits}
+use Rattle.flood_laws.proofs.Retransmitted.{OwnKeys, There, own_at}
+use Rattle.agreement_laws.specs.SaidIsHeld.{young}
 use Rattle.agreement_laws.proofs.Ages.{noted_at_least}
 use Rattle.agreement_laws.proofs.Climbing.{Climbs, Ended, flushed_copy, flushed_there, installed_there, is_newer_case, originated_there}
 use Rattle.agreement_laws.proofs.Climbing as climbing
 use Rattle.agreement_laws.proofs.Describing.{instance_at}
-use Rattle.agreement_laws.proofs.Plain.{IsPlain, Plain, description_plain, described_again_plain, hello_plain, mismatched_plain, request_plain, requested_again_plain, then_plain}
-use Rattle.agreement_laws.proofs.Ranks.{itself_at_least, same_back}
+use Rattle.agreement_laws.proofs.Ranks.{itself_at_least, older_at_least, same_back}
+use Rattle.agreement_laws.proofs.Sayings.{OfContent, OfCopies, OfLink, OfNamed, OfNeighbor, OfSend, OfStep, OfWaiting, Truth, acknowledged, after_one, asked, both_again, content_more, filled, flooded_so, helloed, link_more, mismatched, quiet_step, run_out_so}
 
 -- ---- which case an LSA is of
 
@@ -162,98 +164,36 @@ module _ (P : ℕ → Content → Type 0) where
   numbered_sent number [] h = tt
   numbered_sent number (c ∷ cs) h = (h.0, numbered_sent number cs h.1)
 
-  on_sent : (number : ℕ) (f : Neighbor → Step) (o : Option Neighbor) → ((n : Neighbor) → AllByRecursion (P number) (f n).sends) → AllByRecursion (P number) (sent_on f o)
-  on_sent number f None each = tt
-  on_sent number f (Some n) each = each n
-
-  stepping_sent : (f : Stepping) → ((number : ℕ) (link : Link) (n : Neighbor) → AllByRecursion (P number) (f number link n).sends) → (k : ℕ) (xs : List Link)
-      → AllByRecursion OfNumbered (flat_map (λ (e : ℕ × Link). sends_at e.0 (sent_on (f e.0 e.1) e.1.neighbor)) (enumerate_from k xs))
-  stepping_sent f each k [] = tt
-  stepping_sent f each k (x ∷ xs) =
-      joined OfNumbered (sends_at k (sent_on (f k x) x.neighbor)) (flat_map (λ (e : ℕ × Link). sends_at e.0 (sent_on (f e.0 e.1) e.1.neighbor)) (enumerate_from (k + 1) xs))
-      (numbered_sent k (sent_on (f k x) x.neighbor) (on_sent k (f k x) x.neighbor (each k x)))
-      (stepping_sent f each (k + 1) xs)
-
-  -- by each link itself, of what is so of it
-  by_links_sent : (f : Link → List Content) → (k : ℕ) (xs : List Link) → ((i : ℕ) → OnLink (λ link. AllByRecursion (P (k + i)) (f link)) (slice_get xs i))
-      → AllByRecursion OfNumbered (flat_map (λ (e : ℕ × Link). sends_at e.0 (f e.1)) (enumerate_from k xs))
+  -- by each link, of what is so of it
+  by_links_sent : (f : ℕ → Link → List Content) → (k : ℕ) (xs : List Link) → ((i : ℕ) → OnLink (λ link. AllByRecursion (P (k + i)) (f (k + i) link)) (slice_get xs i))
+      → AllByRecursion OfNumbered (flat_map (λ (e : ℕ × Link). sends_at e.0 (f e.0 e.1)) (enumerate_from k xs))
   by_links_sent f k [] each = tt
   by_links_sent f k (x ∷ xs) each =
       let e : k + 0 ≡ k = omega arith in
-      joined OfNumbered (sends_at k (f x)) (flat_map (λ (e : ℕ × Link). sends_at e.0 (f e.1)) (enumerate_from (k + 1) xs))
-      (numbered_sent k (f x) (subst (λ m. AllByRecursion (P m) (f x)) e (each 0)))
-      (by_links_sent f (k + 1) xs (λ i. let e : k + suc i ≡ k + 1 + i = omega arith in subst (λ m. OnLink (λ link. AllByRecursion (P m) (f link)) (slice_get xs i)) e (each (suc i))))
+      joined OfNumbered (sends_at k (f k x)) (flat_map (λ (e : ℕ × Link). sends_at e.0 (f e.0 e.1)) (enumerate_from (k + 1) xs))
+      (numbered_sent k (f k x) (subst (λ m. AllByRecursion (P m) (f m x)) e (each 0)))
+      (by_links_sent f (k + 1) xs (λ i.
+      let e : k + suc i ≡ k + 1 + i = omega arith in subst (λ m. OnLink (λ link. AllByRecursion (P m) (f m link)) (slice_get xs i)) e (each (suc i))))
 
--- ---- what is so of instances under their keys
-
-abbrev pub Truth : Type 1
-Truth = Key → Instance → Type 0
+-- ---- one router
 
 module _ (old : Router) (moment : ℕ) where
-  abbrev pub OfReceived : Truth → ℕ → Header → Type 0
-  OfReceived T number h = Waits number h old.area.links ⊎ T (key_of h) (instance_of h)
-
-  abbrev pub OfAcknowledged : Truth → ℕ → Header → Type 0
-  OfAcknowledged T number h = OfReceived T number h ⊎ ((finite.get old.area.database (key_of h) ≡ None) × (is_max_age h.age ≡ true))
-
-  abbrev pub OfContent : Truth → ℕ → Content → Type 0
-  OfContent T number (Content.SendsHello hello) = Unit {0}
-  OfContent T number (Content.Describes d) = Unit {0}
-  OfContent T number (Content.Requests keys) = Unit {0}
-  OfContent T number (Content.Updates lsa) = T (lsa_key lsa) (instance_of lsa.header)
-  OfContent T number (Content.Acknowledges h) = OfAcknowledged T number h
-
-  abbrev pub OfSend : Truth → Send → Type 0
-  OfSend T s = OfContent T s.number s.content
-
-  abbrev pub OfWaiting : Truth → ℕ → Key → Header → Type 0
-  OfWaiting T number key h = OfReceived T number h
-
-  abbrev pub OfLink : Truth → ℕ → Link → Type 0
-  OfLink T number link = AllIn (OfWaiting T number) link.acknowledgments
-
   pub record IsSaid (T : Truth) (o : Outcome) : Type 0 where
-    pub sends : AllByRecursion (OfSend T) o.sends
-    pub waits : (number : ℕ) → OnLink (OfLink T number) (link_at number o.area.links)
+    pub sends : AllByRecursion (OfSend old T) o.sends
+    pub left : (number : ℕ) → OnLink (OfLink old T number) (link_at number o.area.links)
 
   -- ---- where more is so
 
   module _ (T U : Truth) (more : (key : Key) (i : Instance) → T key i → U key i) where
-    received_more : (number : ℕ) (h : Header) → OfReceived T number h → OfReceived U number h
-    received_more number h (inl waited) = inl waited
-    received_more number h (inr so) = inr (more (key_of h) (instance_of h) so)
+    on_link_more : (number : ℕ) (o : Option Link) → OnLink (OfLink old T number) o → OnLink (OfLink old U number) o
+    on_link_more number None h = tt
+    on_link_more number (Some link) h = link_more old T U more number link h
 
-    acknowledged_more : (number : ℕ) (h : Header) → OfAcknowledged T number h → OfAcknowledged U number h
-    acknowledged_more number h (inl received) = inl (received_more number h received)
-    acknowledged_more number h (inr nothing) = inr nothing
-
-    content_more : (number : ℕ) (c : Content) → OfContent T number c → OfContent U number c
-    content_more number (Content.SendsHello hello) h = tt
-    content_more number (Content.Describes d) h = tt
-    content_more number (Content.Requests keys) h = tt
-    content_more number (Content.Updates lsa) h = more (lsa_key lsa) (instance_of lsa.header) h
-    content_more number (Content.Acknowledges header) h = acknowledged_more number header h
-
-    link_more : (number : ℕ) (o : Option Link) → OnLink (OfLink T number) o → OnLink (OfLink U number) o
-    link_more number None h = tt
-    link_more number (Some link) h =
-        λ (key : Key). if_so (OfWaiting T number) (OfWaiting U number) key (finite.get link.acknowledgments key) (λ x so. received_more number x so) (h key)
-
-    sends_more : (sends : List Send) → AllByRecursion (OfSend T) sends → AllByRecursion (OfSend U) sends
-    sends_more sends h = each_all (OfSend T) (OfSend U) (λ s so. content_more s.number s.content so) sends h
+    sends_more : (sends : List Send) → AllByRecursion (OfSend old T) sends → AllByRecursion (OfSend old U) sends
+    sends_more sends h = each_all (OfSend old T) (OfSend old U) (λ s so. content_more old T U more s.number s.content so) sends h
 
     pub said_more : (o : Outcome) → IsSaid T o → IsSaid U o
-    said_more o h = record { sends = sends_more o.sends h.sends; waits = λ number. link_more number (link_at number o.area.links) (h.waits number) }
-
-  plain_so : (T : Truth) (number : ℕ) (c : Content) → IsPlain c → OfContent T number c
-  plain_so T number (Content.SendsHello hello) h = tt
-  plain_so T number (Content.Describes d) h = tt
-  plain_so T number (Content.Requests keys) h = tt
-  plain_so T number (Content.Updates lsa) h = absurd h
-  plain_so T number (Content.Acknowledges header) h = absurd h
-
-  all_plain : (T : Truth) (number : ℕ) (cs : List Content) → AllByRecursion IsPlain cs → AllByRecursion (OfContent T number) cs
-  all_plain T number cs h = each_all IsPlain (OfContent T number) (plain_so T number) cs h
+    said_more o h = record { sends = sends_more o.sends h.sends; left = λ number. on_link_more number (link_at number o.area.links) (h.left number) }
 
   -- ---- at a point of the event
 
@@ -271,7 +211,7 @@ module _ (old : Router) (moment : ℕ) where
 
   abbrev KeepsWaiting : Area → Area → Type 0
   KeepsWaiting a b =
-      (number : ℕ) → OnLink (OfLink (AsNew b.database) number) (link_at number a.links) → OnLink (OfLink (AsNew b.database) number) (link_at number b.links)
+      (number : ℕ) → OnLink (OfLink old (AsNew b.database) number) (link_at number a.links) → OnLink (OfLink old (AsNew b.database) number) (link_at number b.links)
 
   -- a change that sends nothing
   changed : (o : Outcome) (a : Area) → Grows o.area.database a.database → KeepsWaiting o.area a → IsSo o → IsSo (record { area = a; sends = o.sends })
@@ -279,17 +219,17 @@ module _ (old : Router) (moment : ℕ) where
       let more : IsSaid (AsNew a.database) o = said_more (AsNew o.area.database) (AsNew a.database) grows o h.said in
       record {
         had = λ key c at. grows key (copy_now moment c) (h.had key c at);
-        said = record { sends = more.sends; waits = λ number. keeps number (more.waits number) };
+        said = record { sends = more.sends; left = λ number. keeps number (more.left number) };
       }
 
   -- one that sends more
-  changed_with : (o : Outcome) (a : Area) (sends : List Send) → Grows o.area.database a.database → AllByRecursion (OfSend (AsNew a.database)) sends → KeepsWaiting o.area a → IsSo o
+  changed_with : (o : Outcome) (a : Area) (sends : List Send) → Grows o.area.database a.database → AllByRecursion (OfSend old (AsNew a.database)) sends → KeepsWaiting o.area a → IsSo o
       → IsSo (record { area = a; sends = o.sends ++ sends })
   changed_with o a sends grows new keeps h =
       let more : IsSaid (AsNew a.database) o = said_more (AsNew o.area.database) (AsNew a.database) grows o h.said in
       record {
         had = λ key c at. grows key (copy_now moment c) (h.had key c at);
-        said = record { sends = joined (OfSend (AsNew a.database)) o.sends sends more.sends new; waits = λ number. keeps number (more.waits number) };
+        said = record { sends = joined (OfSend old (AsNew a.database)) o.sends sends more.sends new; left = λ number. keeps number (more.left number) };
       }
 
   -- ---- what is sent
@@ -300,63 +240,79 @@ module _ (old : Router) (moment : ℕ) where
   mark_grows : (more : List Send) (db : Database) → Grows db (marked more db)
   mark_grows more db key i h = climbing.sent key moment i more db h
 
-  sent_so : (more : List Send) (o : Outcome) → AllByRecursion (OfSend (AsNew o.area.database)) more → IsSo o → IsSo (sending moment more o)
+  sent_so : (more : List Send) (o : Outcome) → AllByRecursion (OfSend old (AsNew o.area.database)) more → IsSo o → IsSo (sending moment more o)
   sent_so more o new h =
       changed_with o (sending moment more o).area more (mark_grows more o.area.database)
       (sends_more (AsNew o.area.database) (AsNew (marked more o.area.database)) (mark_grows more o.area.database) more new) (λ number at. at) h
 
   -- at one interface
-  sent_at : (number : ℕ) (cs : List Content) (o : Outcome) → AllByRecursion (OfContent (AsNew o.area.database) number) cs → IsSo o → IsSo (sending moment (sends_at number cs) o)
-  sent_at number cs o new h = sent_so (sends_at number cs) o (numbered_sent (OfContent (AsNew o.area.database)) number cs new) h
+  sent_at : (number : ℕ) (cs : List Content) (o : Outcome) → AllByRecursion (OfContent old (AsNew o.area.database) number) cs → IsSo o → IsSo (sending moment (sends_at number cs) o)
+  sent_at number cs o new h = sent_so (sends_at number cs) o (numbered_sent (OfContent old (AsNew o.area.database)) number cs new) h
 
   -- ---- links
 
   same_database : (db : Database) → Grows db db
   same_database db key i h = h
 
-  on_each : (g : Link → Link) (o : Outcome) → ((T : Truth) (number : ℕ) (link : Link) → OfLink T number link → OfLink T number (g link)) → IsSo o → IsSo (on_links (map g) o)
+  on_each : (g : Link → Link) (o : Outcome) → ((number : ℕ) (link : Link) → OfLink old (AsNew o.area.database) number link → OfLink old (AsNew o.area.database) number (g link)) → IsSo o → IsSo (on_links (map g) o)
   on_each g o keeps h =
       changed o (on_links (map g) o).area (same_database o.area.database)
-      (λ number at. each_on (OfLink (AsNew o.area.database) number) (OfLink (AsNew o.area.database) number) g number (keeps (AsNew o.area.database) number) o.area.links at) h
+      (λ number at. each_on (OfLink old (AsNew o.area.database) number) (OfLink old (AsNew o.area.database) number) g number (keeps number) o.area.links at) h
 
-  on_one : (place : ℕ) (change : Link → Link) (o : Outcome) → ((number : ℕ) (link : Link) → (number == place) ≡ true → OfLink (AsNew o.area.database) number link → OfLink (AsNew o.area.database) number (change link))
+  on_one : (place : ℕ) (change : Link → Link) (o : Outcome)
+      → ((number : ℕ) (link : Link) → (number == place) ≡ true → OfLink old (AsNew o.area.database) number link → OfLink old (AsNew o.area.database) number (change link))
       → IsSo o → IsSo (on_links (change_link place change) o)
   on_one place change o keeps h =
       changed o (on_links (change_link place change) o).area (same_database o.area.database)
-      (λ number at. numbered_on (OfLink (AsNew o.area.database) number) (OfLink (AsNew o.area.database) number) (λ (e : ℕ × Link). cond (e.0 == place) (change e.1) e.1) number
-      (λ link so. chosen (OfLink (AsNew o.area.database) number) (number == place) (change link) link (λ e. keeps number link e so) (λ e. so)) o.area.links at) h
+      (λ number at. numbered_on (OfLink old (AsNew o.area.database) number) (OfLink old (AsNew o.area.database) number) (λ (e : ℕ × Link). cond (e.0 == place) (change e.1) e.1) number
+      (λ link so. chosen (OfLink old (AsNew o.area.database) number) (number == place) (change link) link (λ e. keeps number link e so) (λ e. so)) o.area.links at) h
 
   -- ---- steps of the neighbors
 
-  stepped : (f : Stepping) (o : Outcome) → IsSo o → IsSo (on_links (stepped_links f) o)
-  stepped f o h =
+  -- what each neighbor's step makes of what is so of it
+  abbrev Steps : Outcome → Stepping → Type 0
+  Steps o f = (number : ℕ) (link : Link) (n : Neighbor) → OfNeighbor old (AsNew o.area.database) number n → OfStep old (AsNew o.area.database) number (f number link n)
+
+  step_on_so : (o : Outcome) (f : Stepping) → Steps o f → (number : ℕ) (link : Link) (n : Option Neighbor) → Holds (OfNeighbor old (AsNew o.area.database) number) n
+      → Holds (OfNeighbor old (AsNew o.area.database) number) (step_on (f number link) n)
+  step_on_so o f steps number link None h = tt
+  step_on_so o f steps number link (Some n) h = (steps number link n h).neighbor
+
+  sent_on_so : (o : Outcome) (f : Stepping) → Steps o f → (number : ℕ) (link : Link) (n : Option Neighbor) → Holds (OfNeighbor old (AsNew o.area.database) number) n
+      → AllByRecursion (OfContent old (AsNew o.area.database) number) (sent_on (f number link) n)
+  sent_on_so o f steps number link None h = tt
+  sent_on_so o f steps number link (Some n) h = (steps number link n h).sends
+
+  stepped : (f : Stepping) (o : Outcome) → Steps o f → IsSo o → IsSo (on_links (stepped_links f) o)
+  stepped f o steps h =
       changed o (on_links (stepped_links f) o).area (same_database o.area.database)
-      (λ number at. numbered_on (OfLink (AsNew o.area.database) number) (OfLink (AsNew o.area.database) number) (λ (e : ℕ × Link). record e.1 { neighbor = step_on (f e.0 e.1) e.1.neighbor }) number
-      (λ link so. so) o.area.links at) h
+      (λ number at. numbered_on (OfLink old (AsNew o.area.database) number) (OfLink old (AsNew o.area.database) number) (λ (e : ℕ × Link). record e.1 { neighbor = step_on (f e.0 e.1) e.1.neighbor }) number
+      (λ link so. record { acknowledgments = so.acknowledgments; neighbor = step_on_so o f steps number link link.neighbor so.neighbor }) o.area.links at) h
 
-  each_so : (f : Stepping) (o : Outcome) → ((number : ℕ) (link : Link) (n : Neighbor) → AllByRecursion (OfContent (AsNew o.area.database) number) (f number link n).sends) → IsSo o
-      → IsSo (each_neighbor moment f o)
-  each_so f o sends h =
-      sent_so (stepping_sends f o.area.links) (on_links (stepped_links f) o) (stepping_sent (OfContent (AsNew o.area.database)) f sends 1 o.area.links) (stepped f o h)
+  each_so : (f : Stepping) (o : Outcome) → Steps o f → IsSo o → IsSo (each_neighbor moment f o)
+  each_so f o steps h =
+      sent_so (stepping_sends f o.area.links) (on_links (stepped_links f) o)
+      (by_links_sent (OfContent old (AsNew o.area.database)) (λ number link. sent_on (f number link) link.neighbor) 1 o.area.links (λ i. let e : suc i ≡ 1 + i = omega arith in
+      subst (λ m. OnLink (λ link. AllByRecursion (OfContent old (AsNew o.area.database) m) (sent_on (f m link) link.neighbor)) (slice_get o.area.links i)) e
+      (on_link (suc i) (slice_get o.area.links i) (h.said.left (suc i)))))
+      (stepped f o steps h)
+    where
+      on_link : (number : ℕ) (l : Option Link) → OnLink (OfLink old (AsNew o.area.database) number) l → OnLink (λ link. AllByRecursion (OfContent old (AsNew o.area.database) number) (sent_on (f number link) link.neighbor)) l
+      on_link number None k = tt
+      on_link number (Some link) k = sent_on_so o f steps number link link.neighbor k.neighbor
 
-  one_so : (place : ℕ) (f : Neighbor → Step) (o : Outcome) → ((n : Neighbor) → Plain (f n)) → IsSo o → IsSo (one_neighbor moment place f o)
-  one_so place f o plain h =
+  one_so : (place : ℕ) (f : Neighbor → Step) (o : Outcome)
+      → ((number : ℕ) (n : Neighbor) → OfNeighbor old (AsNew o.area.database) number n → OfStep old (AsNew o.area.database) number (f n)) → IsSo o → IsSo (one_neighbor moment place f o)
+  one_so place f o step h =
       each_so (only_at place f) o
-      (λ number link n. chosen (λ (s : Step). AllByRecursion (OfContent (AsNew o.area.database) number) s.sends) (number == place) (f n) (record { neighbor = n; sends = [] })
-      (λ e. all_plain (AsNew o.area.database) number (f n).sends (plain n)) (λ e. tt)) h
+      (λ number link n so. chosen (OfStep old (AsNew o.area.database) number) (number == place) (f n) (record { neighbor = n; sends = [] })
+      (λ e. step number n so) (λ e. quiet_step old (AsNew o.area.database) number n so)) h
 
   -- ---- flooding of what is held
 
-  flooding_so : (T : Truth) (number : ℕ) (from : Bool) (lsa : Lsa) (n : Neighbor) → T (lsa_key lsa) (instance_of lsa.header) → AllByRecursion (OfContent T number) (flooding moment from lsa n).sends
-  flooding_so T number from lsa n so =
-      chosen (λ (s : Step). AllByRecursion (OfContent T number) s.sends) (is_exchange_or_later n.state) (flooded_in_exchange moment from lsa n) (no_sends n)
-      (λ e. chosen (λ (s : Step). AllByRecursion (OfContent T number) s.sends) (not from && passes moment lsa (request_of n lsa))
-      (record { neighbor = add_retransmission moment lsa.header (without_met_request moment lsa n); sends = Updates lsa ∷ [] })
-      (no_sends (remove_retransmission (lsa_key lsa) (without_met_request moment lsa n))) (λ e. (so, tt)) (λ e. tt)) (λ e. tt)
-
   flooded : (sender : Option ℕ) (lsa : Lsa) (o : Outcome) → AsNew o.area.database (lsa_key lsa) (instance_of lsa.header) → IsSo o → IsSo (flood moment sender lsa o)
   flooded sender lsa o so h =
-      each_so (flood_to moment sender lsa) o (λ number link n. flooding_so (AsNew o.area.database) number (is_sender sender number) lsa n so) h
+      each_so (flood_to moment sender lsa) o (λ number link n at. flooded_so old (AsNew o.area.database) number moment (is_sender sender number) lsa n so at) h
 
   -- ---- copies
 
@@ -410,7 +366,10 @@ module _ (old : Router) (moment : ℕ) where
       let q : Outcome = flood moment (Some place) lsa p in
       let still : AsNew q.area.database (lsa_key lsa) (instance_of lsa.header) = mark_grows (stepping_sends (flood_to moment (Some place) lsa) p.area.links) p.area.database (lsa_key lsa) (instance_of lsa.header) there in
       on_one place (acknowledge_later lsa.header) q
-      (λ number link e so. inserted_in (OfWaiting (AsNew q.area.database) number) link.acknowledgments (key_of lsa.header) lsa.header so (inr still))
+      (λ number link e so. record {
+        acknowledgments = inserted_in (OfWaiting old (AsNew q.area.database) number) link.acknowledgments (key_of lsa.header) lsa.header so.acknowledgments (inr still);
+        neighbor = so.neighbor;
+      })
       (flooded (Some place) lsa p there (on_copies o (install_flooded moment lsa o.area.database) (λ k i so. installed_there k moment i lsa o.area.database newer so) h))
 
   -- there was none before, where there is none by now
@@ -441,8 +400,9 @@ module _ (old : Router) (moment : ℕ) where
   cases Case.TooSoon place lsa o own is h = h
   cases Case.Newer place lsa o own is h =
       installs place lsa o (is_newer_case moment (copy_of lsa o.area) (neighbor_at place o.area.links) (any_exchange_or_loading o.area.links) lsa is) h
-  cases Case.BadRequest place lsa o own is h = one_so place (adjacencies.mismatch_step moment) o (mismatched_plain moment) h
-  cases Case.ImpliedAcknowledgment place lsa o own is h = one_so place (λ n. no_sends (remove_retransmission (lsa_key lsa) n)) o (λ n. tt) h
+  cases Case.BadRequest place lsa o own is h = one_so place (adjacencies.mismatch_step moment) o (λ number n so. mismatched old (AsNew o.area.database) number moment n so) h
+  cases Case.ImpliedAcknowledgment place lsa o own is h = one_so place (λ n. no_sends (remove_retransmission (lsa_key lsa) n)) o
+      (λ number n so. quiet_step old (AsNew o.area.database) number (remove_retransmission (lsa_key lsa) n) (record { summary = so.summary; last = so.last })) h
   cases Case.Duplicate place lsa o own is h =
       let same = duplicate_case moment (copy_of lsa o.area) (neighbor_at place o.area.links) (any_exchange_or_loading o.area.links) lsa is in
       sent_at place (Content.Acknowledges lsa.header ∷ []) o (inl (inr (same_held lsa o (copy_of lsa o.area) refl same)), tt) h
@@ -452,28 +412,50 @@ module _ (old : Router) (moment : ℕ) where
 
   -- ---- other packets
 
-  pub hellos : (own place from : ℕ) (hello : Hello) (link : Option Link) (o : Outcome) → IsSo o → IsSo (heard_on own moment place from hello link o)
-  hellos own place from hello None o h = h
-  hellos own place from hello (Some link) o h =
+  pub hellos : (own place from : ℕ) (hello : Hello) (link : Option Link) (o : Outcome) → link_at place o.area.links ≡ link → IsSo o → IsSo (heard_on own moment place from hello link o)
+  hellos own place from hello None o at h = h
+  hellos own place from hello (Some link) o at h =
       let s : Step = adjacencies.after_hello moment from (names own hello) link.neighbor in
       chosen IsSo (accepts own from hello link) (hear moment place s o) o
-      (λ e. sent_at place s.sends (on_links (change_link place (with_neighbor s.neighbor)) o)
-      (all_plain (AsNew o.area.database) place s.sends (hello_plain moment from (names own hello) link.neighbor))
-      (on_one place (with_neighbor s.neighbor) o (λ number l e so. so) h)) (λ e. h)
+      (λ e. sent_at place s.sends (on_links (change_link place (with_neighbor s.neighbor)) o) step.sends
+      (on_one place (with_neighbor s.neighbor) o
+      (λ number l e so. record {
+        acknowledgments = so.acknowledgments;
+        neighbor = subst (λ m. OfNeighbor old (AsNew o.area.database) m s.neighbor) (sym (eqb-true number place e)) step.neighbor;
+      }) h)) (λ e. h)
+    where
+      its : OfLink old (AsNew o.area.database) place link
+      its = subst (OnLink (OfLink old (AsNew o.area.database) place)) at (h.said.left place)
 
-  pub descriptions : (own place : ℕ) (d : Description) (o : Outcome) → IsSo o → IsSo (one_neighbor moment place (after_description own moment o.area.database d) o)
-  descriptions own place d o h = one_so place (after_description own moment o.area.database d) o (description_plain own moment o.area.database d) h
+      step : OfStep old (AsNew o.area.database) place (adjacencies.after_hello moment from (names own hello) link.neighbor)
+      step = helloed old (AsNew o.area.database) place moment from (names own hello) link.neighbor its.neighbor
+
+  copies_held : (number : ℕ) (db : Database) → OwnKeys db → OfCopies old (AsNew db) number db
+  copies_held number db own key = by_copy (finite.get db key) refl
+    where
+      by_copy : (c : Option DatabaseCopy) → finite.get db key ≡ c → IfThere (λ (key : Key) (c : DatabaseCopy). OfNamed old (AsNew db) number (instance_of_lsa c.lsa)) key c
+      by_copy None at = tt
+      by_copy (Some c) at =
+          inr (subst (λ (k : Key). AsNew db k (young (instance_of_lsa c.lsa))) (sym (own_at db key c own at))
+          (copy_now moment c, ap (instance_at moment) at, older_at_least (copy_now moment c)))
+
+  pub descriptions : (own place : ℕ) (d : Description) (o : Outcome) → OwnKeys o.area.database → IsSo o → IsSo (one_neighbor moment place (after_description own moment o.area.database d) o)
+  descriptions own place d o keys h =
+      one_so place (after_description own moment o.area.database d) o
+      (λ number n so. after_one old (AsNew o.area.database) number own moment o.area.database d (copies_held number o.area.database keys) n so) h
 
   pub acknowledgments : (place : ℕ) (headers : List Header) (o : Outcome) → IsSo o → IsSo (one_neighbor moment place (λ n. no_sends (after_acknowledgment moment headers n)) o)
-  acknowledgments place headers o h = one_so place (λ n. no_sends (after_acknowledgment moment headers n)) o (λ n. tt) h
+  acknowledgments place headers o h =
+      one_so place (λ n. no_sends (after_acknowledgment moment headers n)) o
+      (λ number n so. quiet_step old (AsNew o.area.database) number (after_acknowledgment moment headers n) (acknowledged old (AsNew o.area.database) number moment headers n so)) h
 
   pub mismatches : (place : ℕ) (o : Outcome) → IsSo o → IsSo (one_neighbor moment place (adjacencies.mismatch_step moment) o)
-  mismatches place o h = one_so place (adjacencies.mismatch_step moment) o (mismatched_plain moment) h
+  mismatches place o h = one_so place (adjacencies.mismatch_step moment) o (λ number n so. mismatched old (AsNew o.area.database) number moment n so) h
 
   -- ---- copies under keys
 
   module _ (T : Truth) (number : ℕ) where
-    updates_so : (lsas : List Lsa) → AllByRecursion (λ (l : Lsa). T (lsa_key l) (instance_of l.header)) lsas → AllByRecursion (OfContent T number) (map Updates lsas)
+    updates_so : (lsas : List Lsa) → AllByRecursion (λ (l : Lsa). T (lsa_key l) (instance_of l.header)) lsas → AllByRecursion (OfContent old T number) (map Updates lsas)
     updates_so [] h = tt
     updates_so (l ∷ lsas) h = (h.0, updates_so lsas h.1)
 
@@ -500,63 +482,74 @@ module _ (old : Router) (moment : ℕ) where
 
   -- ---- a Tick
 
-  update_again_so : (db : Database) (number interval : ℕ) (n : Neighbor) → OwnKeys db → AllByRecursion (OfContent (AsNew db) number) (update_again moment interval db n).sends
-  update_again_so db number interval n own =
-      chosen (λ (s : Step). AllByRecursion (OfContent (AsNew db) number) s.sends) (not (finite.len n.retransmissions == 0) && has_passed n.retransmitted_at interval moment)
+  update_again_so : (db : Database) (number interval : ℕ) (n : Neighbor) → OwnKeys db → OfNeighbor old (AsNew db) number n → OfStep old (AsNew db) number (update_again moment interval db n)
+  update_again_so db number interval n own h =
+      chosen (OfStep old (AsNew db) number) (not (finite.len n.retransmissions == 0) && has_passed n.retransmitted_at interval moment)
       (record { neighbor = record n { retransmitted_at = moment }; sends = map Updates (next_retransmissions moment db n) }) (no_sends n)
-      (λ e. updates_so (AsNew db) number (next_retransmissions moment db n) (fitting_so (AsNew db) number 28 (retransmission_lsas moment db n) (copies_so db own (finite.keys n.retransmissions)))) (λ e. tt)
+      (λ e. record {
+        neighbor = record { summary = h.summary; last = h.last };
+        sends = updates_so (AsNew db) number (next_retransmissions moment db n) (fitting_so (AsNew db) number 28 (retransmission_lsas moment db n) (copies_so db own (finite.keys n.retransmissions)));
+      }) (λ e. quiet_step old (AsNew db) number n h)
 
-  again_so : (db : Database) (number interval : ℕ) (n : Neighbor) → OwnKeys db → AllByRecursion (OfContent (AsNew db) number) (send_again moment interval db n).sends
-  again_so db number interval n own =
+  again_so : (db : Database) (number interval : ℕ) (n : Neighbor) → OwnKeys db → OfNeighbor old (AsNew db) number n → OfStep old (AsNew db) number (send_again moment interval db n)
+  again_so db number interval n own h =
       let first : Step = then_ (describe_again moment interval n) (request_again moment interval) in
-      joined (OfContent (AsNew db) number) first.sends (update_again moment interval db first.neighbor).sends
-      (all_plain (AsNew db) number first.sends (then_plain (describe_again moment interval n) (request_again moment interval) (described_again_plain moment interval n) (requested_again_plain moment interval)))
-      (update_again_so db number interval first.neighbor own)
+      let so : OfStep old (AsNew db) number first = both_again old (AsNew db) number moment interval n h in
+      let last : OfStep old (AsNew db) number (update_again moment interval db first.neighbor) = update_again_so db number interval first.neighbor own so.neighbor in
+      record {
+        neighbor = last.neighbor;
+        sends = joined (OfContent old (AsNew db) number) first.sends (update_again moment interval db first.neighbor).sends so.sends last.sends;
+      }
 
   pub agains : (o : Outcome) → OwnKeys o.area.database → IsSo o → IsSo (each_neighbor moment (again moment o) o)
-  agains o own h = each_so (again moment o) o (λ number link n. again_so o.area.database number link.interface.retransmit_interval n own) h
+  agains o own h = each_so (again moment o) o (λ number link n so. again_so o.area.database number link.interface.retransmit_interval n own so) h
 
-  values_so : (T : Truth) (number : ℕ) (es : List (Key × Header)) → AllByRecursion (OfEntry (OfWaiting T number)) es → AllByRecursion (OfContent T number) (map Content.Acknowledges (map (λ e. e.1) es))
+  values_so : (T : Truth) (number : ℕ) (es : List (Key × Header)) → AllByRecursion (OfEntry (OfWaiting old T number)) es → AllByRecursion (OfContent old T number) (map Content.Acknowledges (map (λ e. e.1) es))
   values_so T number [] h = tt
   values_so T number (e ∷ es) h = (inl h.0, values_so T number es h.1)
 
-  waiting_so : (T : Truth) (number : ℕ) (o : Option Link) → OnLink (OfLink T number) o → OnLink (λ link. AllByRecursion (OfContent T number) (acknowledgments_on link)) o
+  waiting_so : (T : Truth) (number : ℕ) (o : Option Link) → OnLink (OfLink old T number) o → OnLink (λ link. AllByRecursion (OfContent old T number) (acknowledgments_on link)) o
   waiting_so T number None h = tt
-  waiting_so T number (Some link) h = values_so T number (finite.entries link.acknowledgments) (entries_in (OfWaiting T number) link.acknowledgments h)
+  waiting_so T number (Some link) h = values_so T number (finite.entries link.acknowledgments) (entries_in (OfWaiting old T number) link.acknowledgments h.acknowledgments)
 
   pub acknowledges : (o : Outcome) → IsSo o → IsSo (acknowledge_all moment o)
   acknowledges o h =
       sent_so (sends_of acknowledgments_on o.area.links) (on_links (map without_acknowledgments) o)
-      (by_links_sent (OfContent (AsNew o.area.database)) acknowledgments_on 1 o.area.links (λ i. let e : suc i ≡ 1 + i = omega arith in
-      subst (λ m. OnLink (λ link. AllByRecursion (OfContent (AsNew o.area.database) m) (acknowledgments_on link)) (slice_get o.area.links i)) e
-      (waiting_so (AsNew o.area.database) (suc i) (slice_get o.area.links i) (h.said.waits (suc i)))))
-      (on_each without_acknowledgments o (λ T number link so. none_in (OfWaiting T number)) h)
+      (by_links_sent (OfContent old (AsNew o.area.database)) (λ number link. acknowledgments_on link) 1 o.area.links (λ i. let e : suc i ≡ 1 + i = omega arith in
+      subst (λ m. OnLink (λ link. AllByRecursion (OfContent old (AsNew o.area.database) m) (acknowledgments_on link)) (slice_get o.area.links i)) e
+      (waiting_so (AsNew o.area.database) (suc i) (slice_get o.area.links i) (h.said.left (suc i)))))
+      (on_each without_acknowledgments o (λ number link so. record { acknowledgments = none_in (OfWaiting old (AsNew o.area.database) number); neighbor = so.neighbor }) h)
 
-  hello_sent_so : (T : Truth) (number : ℕ) (link : Link) → AllByRecursion (OfContent T number) (hello_sent_on moment link)
+  hello_sent_so : (T : Truth) (number : ℕ) (link : Link) → AllByRecursion (OfContent old T number) (hello_sent_on moment link)
   hello_sent_so T number link =
-      chosen (AllByRecursion (OfContent T number)) (hello_is_due moment link) (Content.SendsHello (hello_on link) ∷ []) [] (λ is. (tt, tt)) (λ is. tt)
+      chosen (AllByRecursion (OfContent old T number)) (hello_is_due moment link) (Content.SendsHello (hello_on link) ∷ []) [] (λ is. (tt, tt)) (λ is. tt)
 
   pub hellos_sent : (o : Outcome) → IsSo o → IsSo (send_hellos moment o)
   hellos_sent o h =
       sent_so (sends_of (hello_sent_on moment) o.area.links) (on_links (map (with_hello_sent moment)) o)
-      (by_links_sent (OfContent (AsNew o.area.database)) (hello_sent_on moment) 1 o.area.links (λ i. on_any (1 + i) (slice_get o.area.links i)))
-      (on_each (with_hello_sent moment) o (λ T number link so. so) h)
+      (by_links_sent (OfContent old (AsNew o.area.database)) (λ number link. hello_sent_on moment link) 1 o.area.links (λ i. on_any (1 + i) (slice_get o.area.links i)))
+      (on_each (with_hello_sent moment) o (λ number link so. record { acknowledgments = so.acknowledgments; neighbor = so.neighbor }) h)
     where
-      on_any : (number : ℕ) (l : Option Link) → OnLink (λ link. AllByRecursion (OfContent (AsNew o.area.database) number) (hello_sent_on moment link)) l
+      on_any : (number : ℕ) (l : Option Link) → OnLink (λ link. AllByRecursion (OfContent old (AsNew o.area.database) number) (hello_sent_on moment link)) l
       on_any number None = tt
       on_any number (Some link) = hello_sent_so (AsNew o.area.database) number link
 
   pub inactive : (o : Outcome) → IsSo o → IsSo (on_links (map (run_out moment)) o)
-  inactive o h = on_each (run_out moment) o (λ T number link so. so) h
+  inactive o h =
+      on_each (run_out moment) o (λ number link so. record {
+        acknowledgments = so.acknowledgments;
+        neighbor = run_out_so old (AsNew o.area.database) number moment link.interface.dead_interval link.neighbor so.neighbor;
+      }) h
 
   pub down : (place : ℕ) (o : Outcome) → IsSo o → IsSo (on_links (change_link place taken_down) o)
-  down place o h = on_one place taken_down o (λ number link e so. so) h
+  down place o h = on_one place taken_down o (λ number link e so. record { acknowledgments = so.acknowledgments; neighbor = tt }) h
 
   pub loaded : (o : Outcome) → IsSo o → IsSo (on_links (map link_loading_done) o)
-  loaded o h = on_each link_loading_done o (λ T number link so. so) h
+  loaded o h =
+      on_each link_loading_done o (λ number link so. record { acknowledgments = so.acknowledgments; neighbor = filled old (AsNew o.area.database) number link.neighbor so.neighbor }) h
 
   pub requests : (o : Outcome) → IsSo o → IsSo (each_neighbor moment (λ place link m. request_next moment m) o)
-  requests o h = each_so (λ place link m. request_next moment m) o (λ number link n. all_plain (AsNew o.area.database) number (request_next moment n).sends (request_plain moment n)) h
+  requests o h = each_so (λ place link m. request_next moment m) o (λ number link n so. asked old (AsNew o.area.database) number moment n so) h
 
   -- ---- the end
 
@@ -571,4 +564,4 @@ module _ (old : Router) (moment : ℕ) where
       let left : Outcome = on_database (λ db. finite.retain_keys db (stays moment o.area)) o in
       let more : IsSaid (λ (key : Key) (i : Instance). Ended key moment i left) o =
       said_more (AsNew o.area.database) (λ (key : Key) (i : Instance). Ended key moment i left) (λ key i so. climbing.removes key moment i o so) o h.said in
-      record { sends = more.sends; waits = more.waits }
+      record { sends = more.sends; left = more.left }

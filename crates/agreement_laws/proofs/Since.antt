@@ -14,15 +14,15 @@ use Rattle.received.specs.Holds.{Holds}
 use Rattle.received.specs.Links.{neighbor_at}
 use Rattle.events.specs.declared.model.Config.{Config}
 use Rattle.events.specs.Events.{Step, initial}
-use Rattle.events.specs.LsaInstances.{instance_of_header, instance_of_lsa, instances_advertised}
+use Rattle.events.specs.LsaInstances.{instance_of_header, instance_of_lsa}
 use Rattle.events.specs.Routers.{Occurrence, Router}
 use Rattle.flood_laws.specs.InOrder.{IsInOrder}
 use Rattle.flood_laws.proofs.Lists.{later_is, of_cons, of_empty}
 use Rattle.flood_laws.proofs.Taken.{named_first}
 use Rattle.flood_laws.proofs.Worlds.{mapped}
-use Rattle.agreement_laws.specs.Exchanged.{Conversation, Converses, IsExchanged, conversation_with, headers_told}
+use Rattle.agreement_laws.specs.Exchanged.{Conversation, Converses, Describes, IsExchanged, conversation_with, headers_told}
 use Rattle.agreement_laws.specs.NeighborHistories.{Ends, IsHistory, Pair, Party, Side, TakesEvent, event_of, interface_of, other_side, party}
-use Rattle.agreement_laws.specs.NeighborsAgree.{InConversation, IsDescribed, IsTold}
+use Rattle.agreement_laws.specs.NeighborsAgree.{InConversation, IsTold, instances_told}
 use Rattle.agreement_laws.proofs.Describing.{held}
 use Rattle.agreement_laws.proofs.Remembering.{Turns, life_order, remembers, step_taken, turn_of}
 use Rattle.agreement_laws.proofs.Runs.{IsSettled, Then, after_event, begins_alone, more_said}
@@ -31,9 +31,9 @@ use Rattle.agreement_laws.proofs.Walk as walk
 
 -- ---- what is exchanged in a turn
 
--- in a Description; or the other one's packet told it
+-- the router described it, or the other one's packet told it
 abbrev pub Exchanged : ℕ → Header → ℕ → Step → Type 0
-Exchanged number header own step = IsDescribed number header own step ⊎ ((bytes : List ℕ) × IsTold number bytes (instance_of_header header) step)
+Exchanged number header own step = Describes own step.outs number header ⊎ ((bytes : List ℕ) × IsTold number bytes (instance_of_header header) step)
 
 renamed : (lsas : List Lsa) (header : Header) → Contains (map (λ (l : Lsa). l.header) lsas) header → Contains (map instance_of_lsa lsas) (instance_of_header header)
 renamed [] header c = absurd (of_empty header c)
@@ -47,7 +47,16 @@ renamed (l ∷ lsas) header c = by_place (λ k. renamed lsas header k) (of_cons 
 module _ (number : ℕ) (own : ℕ) (step : Step) (header : Header) where
   heard : (bytes : List ℕ) (packet : Packet) → step.event ≡ Occurrence.Packet number bytes → PacketText bytes packet → (b : Body) → packet.body ≡ b → Contains (headers_told b) header → Exchanged number header own step
   heard bytes packet is text (body.Hello h) same c = absurd (of_empty header c)
-  heard bytes packet is text (body.Description d) same c = inl (IsDescribed.Heard bytes packet d is text same c)
+  heard bytes packet is text (body.Description d) same c =
+      inr (
+        bytes,
+        record {
+          is = is;
+          packet = packet;
+          text = text;
+          told = subst (λ (b : Body). Contains (instances_told b) (instance_of_header header)) (sym same) (mapped instance_of_header d.headers header c);
+        },
+      )
   heard bytes packet is text (body.Request keys) same c = absurd (of_empty header c)
   heard bytes packet is text (body.Update lsas) same c =
       inr (
@@ -56,7 +65,7 @@ module _ (number : ℕ) (own : ℕ) (step : Step) (header : Header) where
           is = is;
           packet = packet;
           text = text;
-          told = subst (λ (b : Body). Contains (instances_advertised b) (instance_of_header header)) (sym same) (renamed (filter_map lsa_in lsas) header c);
+          told = subst (λ (b : Body). Contains (instances_told b) (instance_of_header header)) (sym same) (renamed (filter_map lsa_in lsas) header c);
         },
       )
   heard bytes packet is text (body.Acknowledgment headers) same c =
@@ -66,13 +75,13 @@ module _ (number : ℕ) (own : ℕ) (step : Step) (header : Header) where
           is = is;
           packet = packet;
           text = text;
-          told = subst (λ (b : Body). Contains (instances_advertised b) (instance_of_header header)) (sym same) (mapped instance_of_header headers header c);
+          told = subst (λ (b : Body). Contains (instances_told b) (instance_of_header header)) (sym same) (mapped instance_of_header headers header c);
         },
       )
 
   in_turn : (router : ℕ) → IsExchanged own step number router header → Exchanged number header own step
   in_turn router (IsExchanged.Told t) = heard t.bytes t.packet t.is t.text t.packet.body refl t.told
-  in_turn router (IsExchanged.Described d) = inl (IsDescribed.Sent d)
+  in_turn router (IsExchanged.Described d) = inl d
 
 -- ---- a turn
 

@@ -1,8 +1,8 @@
 -- Full neighbors agree on what was renewed (RFC 2328, sections 10.3 and 13): where each is Full with
 -- the other, and an LSA is on neither one's retransmission list, both hold the same instance; unless
--- the instance was exchanged in their Descriptions, or one of them was without a copy since it said
--- to the other that it had it.
-use Rattle.std.specs.Prelude.{◌≡◌, ◌⊎◌, ℕ, ◌<◌, Bool, true, false, List, length, None, Some}
+-- one of them described it to the other in their exchange, or was without a copy since it told the
+-- other that it had it.
+use Rattle.std.specs.Prelude.{◌≡◌, ◌⊎◌, ℕ, ◌<◌, Bool, true, false, List, [], length, map, None, Some}
 use Rattle.std.specs.Prelude.{slice_get}
 use Rattle.std.specs.FinMap as finite
 use Rattle.std.specs.List.{Contains}
@@ -11,9 +11,8 @@ use Rattle.words.specs.declared.key.Key.{Key}
 use Rattle.lsdb.specs.Copies.{DatabaseCopy}
 use Rattle.lsdb.specs.Headers.{Header, key_of}
 use Rattle.lsdb.specs.Order.{is_max_age}
-use Rattle.lsdb.specs.declared.order.Instance.{Instance}
+use Rattle.packet.specs.declared.model.Body.{Body}
 use Rattle.packet.specs.declared.model.Body.TheVariants as body
-use Rattle.packet.specs.declared.model.Description.{Description}
 use Rattle.packet.specs.declared.model.Packet.{Packet}
 use Rattle.packet.specs.Text.{PacketText}
 use Rattle.adjacency.specs.declared.state.State.TheVariants.{Full}
@@ -21,19 +20,16 @@ use Rattle.adjacency.specs.Neighbors.{Neighbor}
 use Rattle.received.specs.Links.{neighbor_at}
 use Rattle.events.specs.Events.{Step}
 use Rattle.events.specs.LsaInstances.{LsaInstance, instance_of_header, instance_of_lsa}
-use Rattle.events.specs.LsaInstances.{instances_advertised}
+use Rattle.events.specs.LsaInstances.{instances_in_update}
 use Rattle.events.specs.Routers.{Occurrence, Router}
 use Rattle.agreement_laws.specs.Exchanged.{Conversation, Converses, Describes, conversation_with}
 use Rattle.agreement_laws.specs.NeighborHistories.{Ends, InSomeTurn, InSomeTurnSince, IsHistory}
 use Rattle.agreement_laws.specs.NeighborHistories.{Pair, Party, Side, Turn, event_of, interface_of}
 use Rattle.agreement_laws.specs.NeighborHistories.{other_side, party}
 use Rattle.agreement_laws.specs.Ranks.{is_at_least}
-use Rattle.agreement_laws.specs.SaidIsHeld.{Waits}
+use Rattle.agreement_laws.specs.SaidIsHeld.{IsToDescribe, Waits, young}
 
 -- ---- instances, whatever their ages
-
-abbrev pub young : LsaInstance → Instance
-young name = record { sequence = name.sequence; checksum = name.checksum; age = 0 }
 
 -- a is as new as b, or newer: by the sequence number, then the checksum
 abbrev pub is_as_new : LsaInstance → LsaInstance → Bool
@@ -47,22 +43,21 @@ pub record HoldsAsNew (r : Router) (name : LsaInstance) : Type 0 where
 
 -- ---- what was told
 
--- in the event a Description with the header comes in from the other one, or goes out to it
-pub data IsDescribed (number : InterfaceNumber) (header : Header) (own : RouterNumber) (step : Step)
-    : Type 0 where
-  Heard : (bytes : List ℕ) (packet : Packet) (d : Description)
-      → step.event ≡ Occurrence.Packet number bytes → PacketText bytes packet
-      → packet.body ≡ body.Description d → Contains d.headers header
-      → IsDescribed number header own step
-  Sent : Describes own step.outs number header → IsDescribed number header own step
+-- the instances that a packet names: of a Description, an Update or an Acknowledgment
+abbrev pub instances_told : Body → List LsaInstance
+instances_told (body.Hello h) = []
+instances_told (body.Description d) = map instance_of_header d.headers
+instances_told (body.Request keys) = []
+instances_told (body.Update lsas) = instances_in_update lsas
+instances_told (body.Acknowledgment headers) = map instance_of_header headers
 
--- the event is this text of the other one, an Update or an Acknowledgment that tells the instance
+-- the event is this text of the other one, which names the instance
 pub record IsTold (number : InterfaceNumber) (bytes : List ℕ) (name : LsaInstance) (step : Step)
     : Type 0 where
   pub is : step.event ≡ Occurrence.Packet number bytes
   pub packet : Packet
   pub text : PacketText bytes packet
-  pub told : Contains (instances_advertised packet.body) name
+  pub told : Contains (instances_told packet.body) name
 
 -- ---- what is said and then forgotten
 
@@ -92,6 +87,9 @@ pub data Forgets (number : InterfaceNumber) (name : LsaInstance) (text : ℕ) (b
   WithoutWaiting : IsWithout name.key after.router → (header : Header)
       → Waits number header after.router.area.links → instance_of_header header ≡ name
       → Forgets number name text before after
+  -- it has no copy, and the instance is to be described to the other one
+  WithoutDescribed : IsWithout name.key after.router
+      → IsToDescribe number name after.router.area.links → Forgets number name text before after
   -- it has begun anew since it sent the text
   BegunAnew : text < after.began → Forgets number name text before after
   -- it had no copy before, and the text acknowledges the instance at MaxAge: there was nothing to
@@ -124,13 +122,15 @@ InConversation ends side with_it Such now earlier h =
 -- hold one that is as new.
 pub data Exception (ends : Ends) (side : Side) (with_it : Conversation) (name : LsaInstance)
     (now : Pair) (earlier : List Pair) (h : IsHistory ends now earlier) : Type 0 where
-  -- one as new was exchanged in a Description
+  -- it described one as new to the other one
   Described : (header : Header) → key_of header ≡ name.key
       → is_as_new (instance_of_header header) name ≡ true
-      → InConversation ends side with_it (IsDescribed (interface_of side ends) header) now earlier h
+      → InConversation ends side with_it
+      (λ (own : RouterNumber) (step : Step).
+      Describes own step.outs (interface_of side ends) header) now earlier h
       → Exception ends side with_it name now earlier h
-  -- the other one told one as new, in an Update or an Acknowledgment, and has forgotten it: it did
-  -- send these bytes, and has forgotten what they told each time that it sent them
+  -- the other one told one as new, in a Description, an Update or an Acknowledgment, and has
+  -- forgotten it: it did send these bytes, and has forgotten what they told each time
   Forgotten : (bytes : List ℕ) (told : LsaInstance) → told.key ≡ name.key
       → is_as_new told name ≡ true
       → InConversation ends side with_it

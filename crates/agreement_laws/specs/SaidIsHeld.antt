@@ -1,20 +1,25 @@
--- What a router says of LSAs, it holds (RFC 2328, sections 10.7, 13, 13.3 and 13.5 to 13.7): what an
--- Update takes along when it is sent, and what an acknowledgment names when it is made, which may be
--- long before it is sent, since it may wait for a Tick.
+-- What a router says of LSAs, it holds (RFC 2328, sections 10.3, 10.7, 10.8, 13, 13.3 and 13.5 to
+-- 13.7): what an Update takes along when it is sent; what an acknowledgment names when it is made,
+-- which may be long before it is sent, since it may wait for a Tick; and what is to be described
+-- when the exchange begins, whenever the Description is sent.
 use Rattle.std.specs.Prelude.{◌≡◌, true, List, None, Some}
 use Rattle.std.specs.FinMap as finite
 use Rattle.std.specs.List.{Contains}
 use Rattle.words.specs.Numbers.{InterfaceNumber, Moment}
 use Rattle.words.specs.declared.key.Key.{Key}
 use Rattle.lsdb.specs.Headers.{Header, Lsa, key_of, lsa_key}
-use Rattle.lsdb.specs.Instances.{instance_of}
+use Rattle.lsdb.specs.Instances.{ListEntry, instance_of}
 use Rattle.lsdb.specs.Order.{is_max_age}
+use Rattle.lsdb.specs.declared.order.Instance.{Instance}
+use Rattle.packet.specs.declared.model.Description.{Description}
 use Rattle.adjacency.specs.Contents.{Content}
-use Rattle.received.specs.Links.{Link, link_at}
+use Rattle.adjacency.specs.Neighbors.{Neighbor}
+use Rattle.received.specs.Links.{Link, link_at, neighbor_at}
 use Rattle.received.specs.Outcomes.{Send}
 use Rattle.events.specs.declared.model.Out.{Out}
 use Rattle.events.specs.Endings.{end_event}
 use Rattle.events.specs.Events.{Happens}
+use Rattle.events.specs.LsaInstances.{LsaInstance, instance_of_header}
 use Rattle.events.specs.Routers.{Occurrence, Router}
 use Rattle.flood_laws.specs.InOrder.{IsInOrder}
 use Rattle.agreement_laws.specs.CopiesClimb.{BecameOf}
@@ -31,12 +36,32 @@ abbrev pub Acknowledges : List Send → InterfaceNumber → Header → Type 0
 Acknowledges sends number header =
     Contains sends (record { number = number; content = Content.Acknowledges header })
 
+-- the Description is sent at the interface
+abbrev pub Describes : List Send → InterfaceNumber → Description → Type 0
+Describes sends number d =
+    Contains sends (record { number = number; content = Content.Describes d })
+
 -- an acknowledgment of the header waits at the interface for a Tick
 pub record Waits (number : InterfaceNumber) (header : Header) (links : List Link) : Type 0 where
   pub link : Link
   pub there : link_at number links ≡ Some link
   pub key : Key
   pub waits : finite.get link.acknowledgments key ≡ Some header
+
+-- an instance is to be described to the neighbor at the interface: it is on the summary list, or in
+-- the last Description, which may be sent again
+pub data IsToDescribe (number : InterfaceNumber) (name : LsaInstance) (links : List Link) : Type 0
+  where
+    Listed : (n : Neighbor) (key : Key) (entry : ListEntry) → neighbor_at number links ≡ Some n
+        → finite.get n.summary key ≡ Some entry → instance_of_header entry.header ≡ name
+        → IsToDescribe number name links
+    Last : (n : Neighbor) (d : Description) (header : Header) → neighbor_at number links ≡ Some n
+        → n.described ≡ Some d → Contains d.headers header → instance_of_header header ≡ name
+        → IsToDescribe number name links
+
+-- the instance, whatever its age
+abbrev pub young : LsaInstance → Instance
+young name = record { sequence = name.sequence; checksum = name.checksum; age = 0 }
 
 -- ---- why it is said
 
@@ -59,6 +84,15 @@ pub data IsAcknowledged (old : Router) (moment : Moment) (new : Router)
   NothingToFlush : finite.get old.area.database (key_of header) ≡ None
       → is_max_age header.age ≡ true → IsAcknowledged old moment new number header
 
+-- why an instance is to be described, or is
+pub data IsOfDatabase (old : Router) (moment : Moment) (new : Router) (number : InterfaceNumber)
+    (name : LsaInstance) : Type 0 where
+  -- it was to be described before the event
+  ToDescribe : IsToDescribe number name old.area.links
+      → IsOfDatabase old moment new number name
+  -- one as new is held; or it was, and left in this event, at MaxAge
+  Held : BecameOf moment (young name) name.key new → IsOfDatabase old moment new number name
+
 pub record SaysWhatIsHeld (old : Router) (moment : Moment) (sends : List Send) (new : Router)
     : Type 0 where
   pub updates : (number : InterfaceNumber) (lsa : Lsa) → Updates sends number lsa
@@ -67,6 +101,11 @@ pub record SaysWhatIsHeld (old : Router) (moment : Moment) (sends : List Send) (
       → Acknowledges sends number header → IsAcknowledged old moment new number header
   pub waiting : (number : InterfaceNumber) (header : Header)
       → Waits number header new.area.links → IsReceived old moment new number header
+  pub described : (number : InterfaceNumber) (d : Description) (header : Header)
+      → Describes sends number d → Contains d.headers header
+      → IsOfDatabase old moment new number (instance_of_header header)
+  pub to_describe : (number : InterfaceNumber) (name : LsaInstance)
+      → IsToDescribe number name new.area.links → IsOfDatabase old moment new number name
 
 -- of routers in order, as they are in every run: so it is of each event
 abbrev pub WhatIsSaidIsHeld : Type 0

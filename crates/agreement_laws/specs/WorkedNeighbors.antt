@@ -2,15 +2,16 @@
 -- forgotten, and what counts in a conversation.
 use Rattle.std.specs.Prelude.{◌≡◌, ℕ, ℤ, pos, ◌<◌, ◌≤◌, false, true, List, [], length, None, Some}
 use Rattle.std.specs.FinMap as finite
-use Rattle.words.specs.Numbers.{InterfaceNumber}
+use Rattle.words.specs.Numbers.{InterfaceNumber, RouterNumber}
 use Rattle.lsdb.specs.Copies.{DatabaseCopy}
 use Rattle.lsdb.specs.Headers.{Header}
+use Rattle.events.specs.Events.{Step}
 use Rattle.events.specs.LsaInstances.{LsaInstance}
-use Rattle.agreement_laws.specs.Exchanged.{Conversation, Converses}
+use Rattle.agreement_laws.specs.Exchanged.{Conversation, Converses, Describes}
 use Rattle.agreement_laws.specs.NeighborHistories.{BeginsAnew, Ends, IsHistory, Pair, Party, Side}
 use Rattle.agreement_laws.specs.NeighborHistories.{Turn, event_of, interface_of, is_same_side}
 use Rattle.agreement_laws.specs.NeighborHistories.{party}
-use Rattle.agreement_laws.specs.NeighborsAgree.{Forgets, HasForgotten, InConversation, IsDescribed}
+use Rattle.agreement_laws.specs.NeighborsAgree.{Forgets, HasForgotten, InConversation}
 use Rattle.agreement_laws.specs.NeighborsAgree.{is_as_new}
 
 abbrev pub named : ℤ → ℕ → LsaInstance
@@ -41,11 +42,13 @@ pub record WorkedNeighbors : Type 0 where
       (h : IsHistory ends now []) → HasForgotten ends side name text now [] h → ⊥
   pub nothing_exchanged : (ends : Ends) (side : Side) (with_it : Conversation)
       (header : Header) (now : Pair) (h : IsHistory ends now [])
-      → InConversation ends side with_it (IsDescribed (interface_of side ends) header) now [] h → ⊥
+      → InConversation ends side with_it (λ (own : RouterNumber) (step : Step).
+      Describes own step.outs (interface_of side ends) header) now [] h → ⊥
   -- what was exchanged counts only while the conversation stands
   pub stands : (ends : Ends) (side : Side) (with_it : Conversation)
       (header : Header) (now : Pair) (earlier : List Pair) (h : IsHistory ends now earlier)
-      → InConversation ends side with_it (IsDescribed (interface_of side ends) header) now earlier h
+      → InConversation ends side with_it (λ (own : RouterNumber) (step : Step).
+      Describes own step.outs (interface_of side ends) header) now earlier h
       → Converses (interface_of side ends) with_it (party side now).router
   -- a turn of the other one is no event of this router
   pub other : (ends : Ends) (side : Side) (before after : Pair) (t : Turn ends before after)
