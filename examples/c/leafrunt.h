@@ -53,7 +53,8 @@ static u64 (*const table_cost)(u64 prefix, u64 length) = (void *)4;
 
 #define NO_ROW 0x100000000ull
 
-/* ---- the maps: 64 cells, the program's own in each thread, and 256 counters, which all programs share.
+/* ---- the maps: 64 cells in each worker (thread), and 256 counters; all programs share both, and both stay
+ * when a program is detached. At tag, price and veto any worker may ask, so keep state there in counters.
  * Write `& 63` and `& 255` at an index that isn't a constant: the verifier takes the bounds from there. */
 
 /* The wide load of a map's address, which clang has no C for: opcode 0x18 into a register, source 6. */
