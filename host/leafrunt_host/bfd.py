@@ -237,8 +237,8 @@ class Sessions:
                 self._add(number)
 
     def take_over(self, settings: dict[int, Settings]) -> None:
-        """Sessions of interfaces that ask for it no longer end. All others go on, with what is asked
-        for now."""
+        """Sessions of interfaces that ask for it no longer end. All others go on, with what is
+        asked for now."""
         with self._lock:
             before, self.settings = self.settings, settings
             for number in list(self._held):

@@ -229,6 +229,16 @@ class Network:
         words = ("nomaster",) if is_silent else ("master", f"br{number}")
         run("ip", "-n", self.name("wires"), "link", "set", f"b{number}b", *words)
 
+    def deafen(self, number: int, end: int, is_deaf: bool = True) -> None:
+        """Nothing comes to the first end of that bridge, 0, or to the other, 1, which still is
+        heard; or all comes again."""
+        wires, port = self.name("wires"), f"b{number}{'ab'[end]}"
+        said = "off" if is_deaf else "on"
+        names = ("flood", "mcast_flood", "bcast_flood", "learning")
+        words = [each for name in names for each in (name, said)]
+        run("ip", "netns", "exec", wires, "bridge", "link", "set", "dev", port, *words)
+        run("ip", "-n", wires, "link", "set", port, "type", "bridge_slave", "fdb_flush")
+
     def start_wires(self) -> None:
         words = [sys.executable, str(HOST / "tests" / "wire.py"), *self._pairs]
         self._wires = self.start(

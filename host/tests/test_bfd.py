@@ -222,13 +222,14 @@ class States(unittest.TestCase):
         one = Session(Settings(), MINE, 0.0, random.Random(1).random)
         other = Session(Settings(), THEIRS, 0.0, random.Random(2).random)
         moment = 0.0
-        while moment < 20.0:
+        for _ in range(400):
             moment = max(moment, min(one.due, other.due))
             for sender, receiver in ((one, other), (other, one)):
                 for data in sender.act(moment):
                     receiver.received(data, moment)
             states = {each.variables.session_state for each in (one, other)}
             self.assertTrue(moment < 3.0 or states == {State.UP}, f"{states} at {moment}")
+        self.assertGreater(moment, 20.0)
         self.assertEqual(one.transmit_interval, 300 * MILLISECOND)
         self.assertEqual(one.detection_time, 900 * MILLISECOND)
         self.assertFalse(one.discarded or other.discarded)

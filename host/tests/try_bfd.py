@@ -154,14 +154,15 @@ class Watched:
         peers = self.tried.says("show bfd peers")
         return [each.capitalize() for each in re.findall(r"Status: (\w+)", peers)]
 
-    def outage(self) -> float:
-        """Seconds from the first link's silence until packets go by the second."""
+    def outage(self, fail: Callable[[], None] | None = None) -> float:
+        """Seconds from the first link's silence, or another failure, until packets go by the
+        second."""
         words = ["ip", "netns", "exec", self.own, sys.executable, "-c", PROBE]
         words += [f"{time.monotonic() + 20}", TARGET]
         probe = subprocess.Popen(words, stdout=subprocess.PIPE, text=True)
         assert probe.stdout
         probe.stdout.readline()
-        self.network.silence(self.bridges[0])
+        (fail or (lambda: self.network.silence(self.bridges[0])))()
         began = time.monotonic()
         moment = float(probe.communicate()[0])
         return moment - began if moment else math.inf
@@ -205,6 +206,7 @@ def bfd(given: Try) -> None:
     FRR; then what must cut no adjacency: wrong keys, forged packets, a process that is killed,
     AdminDown."""
     outages(given)
+    with_pair(given, lambda it: one_way(given, it), "BIRD")
     other = Bfd(key=Secret(7, METICULOUS.algorithm, "another secret"))
     with_pair(given, lambda it: wrong_key(given, it), "BIRD", METICULOUS, other)
     with_pair(given, lambda it: without(given, it), "FRR", None, None)
@@ -253,6 +255,19 @@ def told_outages(given: Try, it: Watched, who: str) -> None:
         looks.look(f"{what} within {MOST} s, {TIMES} times", max(seconds) <= MOST, said)
     else:
         print(f"     beside it: {what}: {said}", flush=True)
+
+
+def one_way(given: Try, it: Watched) -> None:
+    """The first link fails in one direction alone: one end is told by the other."""
+    looks, bridge = given.looks, it.bridges[0]
+    looks.timed("Full, and both sessions Up", COMES_UP, it.is_up)
+    for end, what in enumerate(("from the neighbor", "to the neighbor")):
+        time.sleep(BETWEEN_ROUTER_LSAS)
+        seconds = it.outage(lambda: it.network.deafen(bridge, end))
+        it.network.deafen(bridge, end, False)
+        what = f"packets {what} alone are lost: in the kernel's table within {MOST} s"
+        looks.look(what, seconds <= MOST, f"{seconds:.2f} s")
+        within(COMES_UP, it.is_up)
 
 
 def wrong_key(given: Try, it: Watched) -> None:
