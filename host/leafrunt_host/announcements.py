@@ -10,6 +10,7 @@ import threading
 import time
 from collections.abc import Callable, Iterable, Mapping
 from ipaddress import IPv4Network
+from types import MappingProxyType
 from typing import NamedTuple
 
 from leafrunt_host.destinations import MOST_EXTERNALS, Announcement, Owner
@@ -144,10 +145,10 @@ class Announcements:
             self._withdrawn.add(prefix)
         self._chosen = None
 
-    def started_anew(self) -> None:
-        """`routerd` was: it has nothing, and `give` brings it all."""
+    def started_anew(self, given: Mapping[IPv4Network, Announced] = MappingProxyType({})) -> None:
+        """`routerd` was: it has these, and `give` brings all others."""
         with self._lock:
-            self._given, self._chosen = {}, None
+            self._given, self._chosen = dict(given), None
             self._again.clear()
             self._added.clear()
         self.changed()

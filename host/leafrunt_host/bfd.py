@@ -236,16 +236,18 @@ class Sessions:
                 self._held[number] = Held(neighbor)
                 self._add(number)
 
-    def take_over(self, settings: dict[int, Settings]) -> None:
-        """Sessions of interfaces that ask for it no longer end. All others go on, with what is
-        asked for now."""
+    def take_over(self, settings: dict[int, Settings], places: dict[int, Place]) -> None:
+        """Sessions of interfaces that ask for it no longer, or have another number, end. All others
+        go on, with what is asked for now; `follow` begins those that aren't there."""
         with self._lock:
             before, self.settings = self.settings, settings
             for number in list(self._held):
-                if number not in settings:
+                is_there = number in settings and number in places
+                if not is_there or self._places[number].name != places[number].name:
                     self._remove(number)
                 elif before.get(number) != settings[number]:
                     self._change(number)
+            self._places = places
 
     def _change(self, number: int) -> None:
         said = {"do": "change", "number": number, **message_of(self.settings[number])}

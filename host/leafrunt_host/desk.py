@@ -65,6 +65,10 @@ class Desk:
             "log": self._last_of_log,
         }
 
+    def serve(self, router: Router) -> None:
+        """From now on lines are for another `routerd`."""
+        self._router = router
+
     def answer(self, asked: Asked) -> Answer:
         """The answer to a line: of a list the last line is `end`, as `routerd`'s are."""
         word, _, rest = asked.line.partition(" ")

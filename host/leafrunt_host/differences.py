@@ -22,13 +22,10 @@ OF_OTHERS = ("name", "passive", "bfd")
 
 
 def in_order_of(new: Configuration, old: Configuration) -> Configuration:
-    """The new one with its interfaces in the old one's order, where they are the same: they are
-    numbered so."""
+    """The new one with the old one's interfaces first, in their order: they are numbered so."""
     by_name = {each.name: each for each in new.interfaces}
-    names = [each.name for each in old.interfaces]
-    if by_name.keys() != set(names):
-        return new
-    return replace(new, interfaces=tuple(by_name[each] for each in names))
+    kept = [by_name.pop(each.name) for each in old.interfaces if each.name in by_name]
+    return replace(new, interfaces=(*kept, *by_name.values()))
 
 
 def is_same(one: Account | None, other: Account | None) -> bool:
@@ -54,7 +51,7 @@ def for_routerd(old: Configuration, new: Configuration) -> Iterator[str]:
     after = {each.name: each for each in new.interfaces}
     yield from (f"{name}: no longer an interface" for name in before if name not in after)
     yield from (f"{name}: a new interface" for name in after if name not in before)
-    for name in before.keys() & after.keys():
+    for name in [each for each in before if each in after]:
         for each in OF_ROUTERD:
             one, other = getattr(before[name], each), getattr(after[name], each)
             if one != other:

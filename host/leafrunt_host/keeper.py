@@ -157,6 +157,16 @@ class Keeper:
 
         return self._work.do(change)
 
+    def serve(self, router: Router, changed: Callable[[], None]) -> None:
+        """From now on it is another `routerd` that is asked; between two looks, which that is told."""
+
+        def change() -> None:
+            changed()
+            self._router, self._neighbors, self._table = router, [], b""
+            self._pace.woken(time.monotonic())
+
+        self._work.do(change)
+
     def _keep(self) -> None:
         try:
             while not self._ending.is_set() and self._kept_on():

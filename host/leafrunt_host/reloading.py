@@ -30,12 +30,13 @@ from leafrunt_host.differences import (
     of_bridge,
 )
 from leafrunt_host.forwarding import CannotKeep, KernelTable
+from leafrunt_host.handover import Handover
 from leafrunt_host.journal import set_level
 from leafrunt_host.keeper import Keeper
 from leafrunt_host.kernel_settings import KernelSettings
 from leafrunt_host.redistributor import Redistributor, redistributor_of
 from leafrunt_host.rooms import Room
-from leafrunt_host.sockets import LOOPBACK
+from leafrunt_host.sockets import LOOPBACK, Place
 from leafrunt_host.starting import Parts, interface_of
 from leafrunt_host.status import Known
 from leafrunt_host.statuses import Status, Stopped
@@ -80,12 +81,14 @@ class Reloader:
     announcements: Announcements
     announcer: Announcer
     desk: Desk
+    handover: Handover
     _one_at_a_time: threading.Lock = field(default_factory=threading.Lock)
 
-    def reload(self) -> list[str]:
+    def reload(self, waits: bool = False) -> list[str]:
         """A line for each thing that was done. `Mistaken` or `Stopped` where the configuration is
-        wrong, or can't be taken over now: then all is as it was."""
-        if not self._one_at_a_time.acquire(blocking=False):
+        wrong, or can't be taken over now: then all is as it was. Another reload that is under way
+        is waited for, or this one is refused."""
+        if not self._one_at_a_time.acquire(blocking=waits):
             raise Stopped("another reload is under way: try again", Status.REFUSED)
         try:
             said = self._taken_over(self.read(self.known.configuration.path))
@@ -100,20 +103,21 @@ class Reloader:
     def _taken_over(self, new: Configuration) -> list[str]:
         old = self.known.configuration
         new = in_order_of(new, old)
-        obstacles = [*another_router(old, new), *for_routerd(old, new)]
+        obstacles = list(another_router(old, new))
         if obstacles:
             needs = "needs a new start: `leafrunt down`, then `leafrunt up`"
             raise Stopped("\n".join(f"{each}: {needs}" for each in obstacles), Status.REFUSED)
+        anew = list(for_routerd(old, new))
         with ExitStack() as undone:
             before = self.room.claimed
             self.room.claim(claims_of(new))
             undone.callback(lambda: self.room.give_back(self.room.claimed - before))
             redistributor = self._other_redistributor(old, new, undone)
             table = self._other_table(old, new, undone)
-            said = self._interfaces(old, new, undone)
+            said = self._handed_over(old, new) if anew else self._interfaces(old, new, undone)
             undone.pop_all()
-        self.known.configuration = replace(new, programs=old.programs)
-        if bfd_of(old) != bfd_of(new):
+        self.known.configuration = replace(new, programs=new.programs if anew else old.programs)
+        if anew or bfd_of(old) != bfd_of(new):
             self._in_bridge(self._sessions)
         said += self._kernel(old, new, table)
         if redistributed(old) != redistributed(new):
@@ -125,12 +129,34 @@ class Reloader:
         if old.log_level != new.log_level:
             set_level(new.log_level)
             said.append(f"log_level: {new.log_level}")
-        return said + self._programs(old, new) or ["nothing differs"]
+        said += [] if anew else self._programs(old, new)
+        return anew + said or ["nothing differs"]
+
+    def _handed_over(self, old: Configuration, new: Configuration) -> list[str]:
+        """Another `routerd` takes over; what of the rest it has read with that."""
+        programs = {hook: path for hook, (path, _) in self.known.programs.items()}
+        before = {each.hook: each for each in old.programs}
+        after = {each.hook: each for each in new.programs}
+        said = []
+        for hook in sorted(before | after):
+            program = after.get(hook)
+            if program == before.get(hook) or hook in self.known.by_hand:
+                continue
+            programs.pop(hook, None)
+            if program:
+                programs[hook] = str(program.object)
+            said.append(f"{hook}: {program.object if program else 'no program'}")
+        self.handover.run(new, programs)
+        earlier = {each.name: each for each in old.interfaces}
+        both = [(earlier[each.name], each) for each in new.interfaces if each.name in earlier]
+        return [each for pair in both for each in for_bridge(*pair)] + said
 
     def _sessions(self) -> None:
         """BFD as the configuration has it now."""
         if self.known.sessions:
-            self.known.sessions.take_over(bfd_of(self.known.configuration))
+            configuration = self.known.configuration
+            places: dict[int, Place] = dict(enumerate(configuration.interfaces, 1))
+            self.known.sessions.take_over(bfd_of(configuration), places)
 
     @staticmethod
     def _other_redistributor(
@@ -203,7 +229,8 @@ class Reloader:
     def _activate(self, number: int, settings: InterfaceSettings) -> None:
         """A passive interface gets a link, at the socket that nobody has read until now."""
         ports = self.parts.ports[number - 1]
-        link, udp = self.parts.link_of(interface_of(number, settings, ports)), self.parts.sinks[number]
+        link = self.parts.link_of(interface_of(number, settings, ports))
+        udp = self.parts.sinks[number]
         begin_to_read(udp, ports[0])
         self._in_bridge(lambda: self.parts.bridge.open(link, udp))
         del self.parts.sinks[number]

@@ -8,6 +8,7 @@ from collections.abc import Callable
 from contextlib import ExitStack, nullcontext
 from dataclasses import dataclass
 from functools import partial
+from pathlib import Path
 
 from leafrunt_host.authentication import NeighborNumbers, SequenceNumbers
 from leafrunt_host.bridge import Bridge, CannotOpen, Interface, Link, Watch
@@ -15,7 +16,7 @@ from leafrunt_host.configuration import Configuration, InterfaceSettings
 from leafrunt_host.isolation import World
 from leafrunt_host.rooms import Room
 from leafrunt_host.router import Router, RouterGone
-from leafrunt_host.sockets import LOOPBACK
+from leafrunt_host.sockets import LOOPBACK, udp_socket
 from leafrunt_host.statuses import Stopped
 from leafrunt_host.withheld import NO_EXTERNALS, Database
 
@@ -38,6 +39,12 @@ def free_ports(count: int) -> list[int]:
     finally:
         for one in sockets:
             one.close()
+
+
+def ports_of(world: World, configuration: Configuration) -> Ports:
+    """Two for each interface."""
+    taken = world.do(lambda: free_ports(2 * len(configuration.interfaces)))
+    return list(zip(taken[::2], taken[1::2], strict=True))
 
 
 def sink(port: int) -> socket.socket:
@@ -81,6 +88,24 @@ class Parts:
     link_of: Callable[[Interface], Link]
 
 
+@dataclass
+class Fresh:
+    """A `routerd` that is begun beside the one that runs, with a socket for each of its interfaces,
+    and where the kernel lists its own."""
+
+    router: Router
+    udp: dict[int, socket.socket]
+    sinks: dict[int, socket.socket]
+    ports: Ports
+    listed: Path
+
+    def close(self) -> None:
+        """Ends it, where it isn't to take the other's place."""
+        self.router.quit()
+        for each in (*self.udp.values(), *self.sinks.values()):
+            each.close()
+
+
 class Starter:
     """Begins both, as often as it's asked to."""
 
@@ -106,11 +131,38 @@ class Starter:
                 world.close()
         raise AssertionError("the last try answers or raises")
 
+    def begin_beside(
+        self, configuration: Configuration, told: Callable[[str], None]
+    ) -> Fresh:
+        """Starts `routerd` alone, beside one that runs. `CannotOpen`, `CannotIsolate` or `Stopped`
+        where it can't be had."""
+        world = World(configuration.account)
+        try:
+            return self._begun_beside(world, configuration, told)
+        finally:
+            world.close()
+
+    def _begun_beside(
+        self, world: World, configuration: Configuration, told: Callable[[str], None]
+    ) -> Fresh:
+        ports = ports_of(world, configuration)
+        udp: dict[int, socket.socket] = {}
+        sinks: dict[int, socket.socket] = {}
+        with ExitStack() as undone:
+            for number, each in enumerate(configuration.interfaces, 1):
+                port, peer = ports[number - 1]
+                if each.passive:
+                    sinks[number] = undone.enter_context(world.do(partial(sink, peer)))
+                else:
+                    udp[number] = undone.enter_context(world.do(partial(udp_socket, peer, port)))
+            router = self._started(world, configuration, ports, told)
+            undone.pop_all()
+        return Fresh(router, udp, sinks, ports, world.sockets_of(router.pid))
+
     def _begun(
         self, world: World, configuration: Configuration, told: Callable[[str], None]
     ) -> Parts:
-        taken = world.do(lambda: free_ports(2 * len(configuration.interfaces)))
-        ports = list(zip(taken[::2], taken[1::2], strict=True))
+        ports = ports_of(world, configuration)
         database = Database(no_externals=NO_EXTERNALS)
 
         def link_of(interface: Interface) -> Link:

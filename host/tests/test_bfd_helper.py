@@ -370,13 +370,14 @@ class AsAProcess(unittest.TestCase):
     def test_other_settings(self) -> None:
         """A session goes on with them; one that isn't asked for any more ends."""
         mine = self.come_up()
-        self.sessions.take_over({1: Settings(detect_mult=200)})
+        places = self.sessions._places
+        self.sessions.take_over({1: Settings(detect_mult=200)}, places)
         while decode(self.neighbor.recv(100))[0].detect_mult != 200:
             pass
         self.neighbor.sendto(said_by_neighbor(State.UP, mine), (HERE, CONTROL_PORT))
         self.bridge.turn()
         self.assertEqual((self.state(), self.lost), ("Up", []))
-        self.sessions.take_over({})
+        self.sessions.take_over({}, places)
         while decode(self.neighbor.recv(100))[0].state != State.ADMIN_DOWN:
             pass
         self.assertIsNone(self.state())

@@ -1,10 +1,12 @@
 """A configuration that changes while the box runs: what is taken over, and what is not."""
 from __future__ import annotations
 
+import contextlib
 import os
 import shutil
 import signal
 import socket
+import sys
 import tempfile
 import threading
 import time
@@ -40,7 +42,7 @@ from leafrunt_host.router import RouterGone
 from leafrunt_host.statuses import Status, Stopped
 from leafrunt_host.work_queue import WorkQueue
 from tests.fake_kernel import FakeKernel, FakeNotices
-from tests.test_box import TEXT, Boxes, within
+from tests.test_box import TEXT, Boxes, is_running, within
 
 HEAD = b"BPFH\x01"
 VETO, COUNT = 4, 1
@@ -139,15 +141,91 @@ class Running(Boxes):
         self.assertEqual(self.leafrunt("reload")[0], 3)
         self.assertEqual((self.announced(), self.client().ask("interfaces")), before)
 
-    def test_what_needs_a_new_start(self) -> None:
+    def test_another_router(self) -> None:
+        """No running one can become that."""
         self.up()
-        needs = "needs a new start: `leafrunt down`, then `leafrunt up`"
-        self.write("cost = 20\n")
-        self.reloaded(f"leafrunt: lan0: cost 20 in place of 10: {needs}", status=1)
         (self.folder / "one.toml").write_text(TEXT.format("2.2.2.2"))
-        said = f"leafrunt: router_id: 2.2.2.2 in place of 1.1.1.1: {needs}"
-        self.reloaded(said, status=1)
-        self.assertIn("cost 10", self.client().ask("interfaces")[0])
+        needs = "needs a new start: `leafrunt down`, then `leafrunt up`"
+        self.reloaded(f"leafrunt: router_id: 2.2.2.2 in place of 1.1.1.1: {needs}", status=1)
+
+    def test_a_new_routerd(self) -> None:
+        """It takes the place of the one that runs, with all that was done by hand."""
+        box = self.up(more=self.object("veto.o", VETO) + ANNOUNCE.format("10.1.0.0/16", 1))
+        client = self.client()
+        client.ask("add 10.9.0.0/16 9 2 0")
+        client.ask("attach /by/hand.o")
+        before, announced = self.routerd_of(client), self.announced()
+        more = self.object("veto.o", VETO) + ANNOUNCE.format("10.1.0.0/16", 1)
+        self.write("cost = 20\n" + more)
+        self.reloaded("lan0: cost 20 in place of 10")
+        self.assertNotEqual(self.routerd_of(client), before)
+        self.assertTrue(within(10, lambda: not is_running(before)))
+        self.assertIn("cost 20", client.ask("interfaces")[0])
+        self.assertTrue(within(30, lambda: self.announced() == announced), self.announced())
+        self.assertEqual(client.ask("programs"), ["veto bound 7 /by/hand.o", "end"])
+        self.assertEqual(client.ask("neighbors"), ["neighbor 1 2.2.2.2 Full", "end"])
+        self.reloaded("nothing differs")
+        self.assertEqual(self.leafrunt("down")[0], 0)
+        self.assertEqual(self.ended(box)[0], 0)
+
+    def test_a_new_routerd_that_does_not_start(self) -> None:
+        """The one before goes on, with its configuration."""
+        box = self.up()
+        before = self.routerd_of(self.client())
+        broken = self.folder / "broken"
+        broken.write_text(f"#!{sys.executable} -IS\nprint('hello')\n")
+        broken.chmod(0o755)
+        text = TEXT.replace('routerd = "routerd"', f'routerd = "{broken}"')
+        self.write(ANNOUNCE.format("10.1.0.0/16", 1), text)
+        status, _, said = self.leafrunt("reload")
+        self.assertEqual(status, 3)
+        self.assertIn("didn't start (routerd has ended, status 0): hello", said)
+        self.assertEqual((self.routerd_of(self.client()), self.announced()), (before, []))
+        self.write()
+        self.reloaded("nothing differs")
+        self.assertIsNone(box.poll())
+
+    def test_many_new_ones(self) -> None:
+        """Nothing is left behind of those that were before."""
+        box, client = self.up(), self.client()
+
+        def held() -> tuple[int, int]:
+            return len(os.listdir(f"/proc/{box.pid}/fd")), len(os.listdir(f"/proc/{box.pid}/task"))
+
+        self.write("cost = 20\n")
+        self.reloaded("lan0: cost 20 in place of 10")
+        before = held()
+        for cost in range(30, 36):
+            self.write(f"cost = {cost}\n")
+            self.assertEqual(self.leafrunt("reload")[0], 0)
+        self.assertTrue(within(10, lambda: held() <= before), (before, held()))
+        self.assertIn("cost 35", client.ask("interfaces")[0])
+        tasks = Path(f"/proc/{box.pid}/task").glob("*/children")
+        self.assertEqual(sum(len(each.read_text().split()) for each in tasks), 1)
+
+    def test_one_that_ends_meanwhile(self) -> None:
+        """The box ends, and leaves no `routerd` behind."""
+        box = self.up()
+        slow = self.folder / "slow"
+        text = (self.folder / "routerd").read_text()
+        slow.write_text(text.replace("def answer(line", "time.sleep(1)\n\n\ndef answer(line", 1))
+        slow.chmod(0o755)
+        self.write("", TEXT.replace('"routerd"', f'"{slow}"'))
+        thread = threading.Thread(target=lambda: self.leafrunt("reload"))
+        thread.start()
+        time.sleep(0.7)
+        box.terminate()
+        self.assertEqual(self.ended(box)[0], 0)
+        thread.join()
+
+        def left() -> list[str]:
+            found = []
+            for each in Path("/proc").glob("[0-9]*/cmdline"):
+                with contextlib.suppress(OSError):
+                    found += [str(each)] * (str(slow).encode() in each.read_bytes())
+            return found
+
+        self.assertTrue(within(20, lambda: not left()), left())
 
     def test_a_hundred_times(self) -> None:
         """With SIGHUP in between; nothing is left behind of any."""
@@ -203,6 +281,25 @@ class Running(Boxes):
         wrong = "error: not reloaded: one.toml: interface 1 (lan0), cost: found 0; allowed"
         self.assertTrue(within(30, lambda: wrong in " ".join(self.client().ask("log"))))
         self.assertIsNone(box.poll())
+
+    def test_by_sighup_while_another_is_under_way(self) -> None:
+        """It comes after that, and finds the file as it is then."""
+        box = self.up()
+        slow = self.folder / "slow"
+        text = (self.folder / "routerd").read_text()
+        slow.write_text(text.replace("def answer(line", "time.sleep(1)\n\n\ndef answer(line", 1))
+        slow.chmod(0o755)
+        new = TEXT.replace('"routerd"', f'"{slow}"')
+        self.write("", new)
+        thread = threading.Thread(target=lambda: self.leafrunt("reload"))
+        thread.start()
+        time.sleep(0.5)
+        self.write(ANNOUNCE.format("10.1.0.0/16", 5), new)
+        for _ in range(50):
+            box.send_signal(signal.SIGHUP)
+        self.assertTrue(within(30, lambda: len(self.announced()) == 1))
+        thread.join()
+        self.assertNotIn("not reloaded", " ".join(self.client().ask("log")))
 
     def test_no_box(self) -> None:
         self.assertEqual(self.leafrunt("reload")[0], 3)
@@ -321,7 +418,12 @@ class Fakes:
             SimpleNamespace(want=self.did.append, ask_again=lambda: self.did.append("again")),
             SimpleNamespace(redistribute=lambda it: self.did.append(("redistribute", it))),
             SimpleNamespace(passed_on=self.passed_on),
+            SimpleNamespace(run=self.hand_over),
         )
+
+    def hand_over(self, new: Configuration, programs: dict[str, str]) -> None:
+        self.fails()
+        self.did.append(("handover", programs))
 
     def open(self, link: str, udp: socket.socket) -> None:
         self.fails()
@@ -452,7 +554,7 @@ class Taking(unittest.TestCase):
         it = self.fakes(configuration(one, two))
         asks = replace(two, bfd=Settings())
         it.new = configuration(one, asks)
-        it.known.sessions = SimpleNamespace(take_over=it.did.append)
+        it.known.sessions = SimpleNamespace(take_over=lambda asked, _: it.did.append(asked))
         self.assertEqual(it.reloader.reload(), ["eth2: BFD now"])
         self.assertEqual(it.did, [{2: Settings()}])
         it.new = configuration(replace(one, bfd=Settings(detect_mult=5)), two)
@@ -498,6 +600,39 @@ class Taking(unittest.TestCase):
         it.answer = "attached veto bound 9"
         self.assertEqual(it.reloader.reload(), ["/a.o: attached veto bound 9"])
         self.assertEqual(it.reloader.reload(), ["nothing differs"])
+
+    def test_what_a_new_routerd_gets(self) -> None:
+        """The programs of the file as it is now, but those of the console where it has others; one
+        that was detached there stays so while the file doesn't change."""
+        one, two = configuration().interfaces
+        files = {hook: Program(Path(f"/{hook}.o"), hook, "1") for hook in ("veto", "tag", "price")}
+        it = self.fakes(configuration(one, two, programs=tuple(files.values())))
+        it.known.programs = {"veto": ("/by/hand.o", 7), "tag": ("/tag.o", 7)}
+        it.known.by_hand = frozenset({"veto"})
+        files["veto"] = Program(Path("/other.o"), "veto", "1")
+        files["count"] = Program(Path("/count.o"), "count", "1")
+        others = replace(one, cost=20, keys=KEYS)
+        it.new = configuration(others, two, programs=tuple(files.values()))
+        said = ["eth1: cost 20 in place of 10", "eth1: keys 1, 2", "count: /count.o"]
+        self.assertEqual(it.reloader.reload(), said)
+        programs = {"veto": "/by/hand.o", "tag": "/tag.o", "count": "/count.o"}
+        self.assertEqual(it.did, [("handover", programs)])
+        self.assertEqual(it.reloader.reload(), ["nothing differs"])
+
+    def test_a_handover_that_fails(self) -> None:
+        one, two = configuration().interfaces
+        old = configuration(one, replace(two, passive=True))
+        it = self.fakes(old)
+        it.new = configuration(replace(one, cost=20), two)
+
+        def fails() -> None:
+            raise Stopped("the new routerd isn't Full within 20 s")
+
+        it.fails = fails
+        with self.assertRaises(Stopped):
+            it.reloader.reload()
+        self.assertEqual((it.known.configuration, it.did), (old, []))
+        self.assertEqual(self.room.claimed, set(claims_of(old)))
 
     def test_routerd_that_ends_meanwhile(self) -> None:
         old = configuration(programs=())

@@ -2,8 +2,11 @@
 many packets through it are lost. See `try-network`."""
 from __future__ import annotations
 
+import os
+import signal
 import subprocess
 import sys
+import threading
 import time
 from collections.abc import Callable, Iterable
 from dataclasses import replace
@@ -25,13 +28,17 @@ from tests.network import (
     Try,
     is_full,
     output,
+    prefixes,
     run,
+    started_below,
     within,
 )
 
 NAMES = {"left": "2.2.2.2", "other": "4.4.4.4", "right": "3.3.3.3", "lan": "5.5.5.5"}
-"""BIRDs around the router that is tried, 1.1.1.1: packets go by it from left to right, or by the
+"""BIRDs around the router that is tried, 3.1.1.1: packets go by it from left to right, or by the
 other way."""
+OWN = "3.1.1.1"
+"""One neighbor has a lower Router ID, and one a higher one."""
 FROM, TO = "172.16.2.2", "172.16.3.2"
 SETTLED = 4.0
 """Seconds after which no router changes its routes any more."""
@@ -72,8 +79,8 @@ class Losses:
 
 
 class Transit:
-    """A host - 2.2.2.2 - 1.1.1.1 - 3.3.3.3 - a host, and a longer way by 4.4.4.4 where `is_only`
-    isn't set; and 5.5.5.5 at an interface of 1.1.1.1 that is passive."""
+    """A host - 2.2.2.2 - 3.1.1.1 - 3.3.3.3 - a host, and a longer way by 4.4.4.4 where `is_only`
+    isn't set; and 5.5.5.5 at an interface of 3.1.1.1 that is passive."""
 
     def __init__(
         self, given: Try, kind: str, is_only: bool = False, keys: tuple[Secret, ...] = ()
@@ -120,10 +127,10 @@ class Transit:
     def _tried(self, given: Try) -> Box | Bird | Frr:
         sides, space = self.sides, self.spaces["tried"]
         if self.kind == "a box":
-            return Box(self.network, given.routerd, space, "tried", "1.1.1.1", sides)
+            return Box(self.network, given.routerd, space, "tried", OWN, sides)
         if self.kind == "FRR":
-            return Frr(self.network, space, "1.1.1.1", sides)
-        return Bird(self.network, space, "1.1.1.1", sides)
+            return Frr(self.network, space, OWN, sides)
+        return Bird(self.network, space, OWN, sides)
 
     def start(self) -> None:
         for each in self.birds.values():
@@ -217,7 +224,16 @@ def reload(given: Try) -> None:
             it.start()
             given.looks.timed(f"{kind}: the packets go by it", COMES_UP, it.is_by_tried)
             time.sleep(SETTLED)
-            for change in (destination_comes, keys_change, passive_or_not):
+            for change in (
+                destination_comes,
+                keys_change,
+                passive_or_not,
+                costs_change,
+                intervals_change,
+                interface_comes,
+                many_changes,
+                hindered,
+            ):
                 change(it, given)
         finally:
             it.network.close()
@@ -275,7 +291,119 @@ def passive_or_not(it: Transit, given: Try) -> None:
             given.looks.timed(
                 f"{it.kind}: its interface is {what}",
                 COMES_UP,
-                lambda: is_full(it.birds["lan"], "1.1.1.1") is not is_passive,
+                lambda: is_full(it.birds["lan"], OWN) is not is_passive,
             )
 
         nothing_lost(it, given, f"a third interface becomes {what}", changes)
+
+
+def costs_change(it: Transit, given: Try) -> None:
+    def changes() -> None:
+        changed(it, [replace(each, cost=30) for each in it.sides], (EXTERNAL,))
+        given.looks.timed(
+            f"{it.kind}: the right router has the cost", 20, lambda: "metric 30" in of_own(it)
+        )
+
+    nothing_lost(it, given, "the costs of all interfaces are changed", changes)
+
+
+def of_own(it: Transit) -> str:
+    """What the right router knows of the one that is tried."""
+    return it.birds["right"].says("show", "ospf", "state", "all")
+
+
+def intervals_change(it: Transit, given: Try) -> None:
+    """HelloInterval 2 to 3 and RouterDeadInterval 8 to 12, here and then at the neighbors."""
+
+    def changes() -> None:
+        own = [replace(each, hello=3, dead=12) for each in it.sides[:2]]
+        changed(it, [*own, *it.sides[2:]], (EXTERNAL,))
+        for name in ("left", "right"):
+            bird = it.birds[name]
+            bird.sides = [
+                replace(each, hello=3, dead=12) if each.keys else each for each in bird.sides
+            ]
+            bird.configure()
+        time.sleep(13)
+
+    nothing_lost(it, given, "HelloInterval and RouterDeadInterval are changed at both ends", changes)
+
+
+def interface_comes(it: Transit, given: Try) -> None:
+    lan = it.sides[2]
+    for sides, what in ((it.sides[:2], "goes"), ([lan, *it.sides[:2]], "comes")):
+
+        def changes() -> None:
+            changed(it, sides, (EXTERNAL,))
+            given.looks.timed(
+                f"{it.kind}: its network {what}",
+                20,
+                lambda: ("10.0.5.0/24" in at_left(it)) is (what == "comes"),
+            )
+
+        nothing_lost(it, given, f"an interface {what}", changes)
+
+
+def many_changes(it: Transit, given: Try) -> None:
+    """Another cost five times in a row, with 1,000 destinations and 2,000 of a neighbor's."""
+    own, others = prefixes(110, 1000), prefixes(100, 2000)
+    it.birds["right"].externals = others
+    it.birds["right"].configure()
+    changed(it, it.sides, tuple(own))
+    given.looks.timed(f"{it.kind}: all are known", 60, lambda: has_all(it, own, others))
+
+    def changes() -> None:
+        for cost in range(10, 15):
+            if not changed(it, [replace(each, cost=cost) for each in it.sides], tuple(own)):
+                given.looks.look(f"{it.kind}: cost {cost}", False)
+
+    nothing_lost(it, given, "five costs in a row, with 3,000 externals", changes)
+    given.looks.timed(f"{it.kind}: all are known still", 60, lambda: has_all(it, own, others))
+
+
+def has_all(it: Transit, own: list[str], others: list[str]) -> bool:
+    found = at_left(it).split()
+    return len({*own, *others} & set(found)) == len(own) + len(others)
+
+
+def hindered(it: Transit, given: Try) -> None:
+    """What may come between while another `routerd` gets ready: it is killed, or more are asked
+    for."""
+    box, looks = it.tried, given.looks
+    if not isinstance(box, Box):
+        return
+
+    def begin(cost: int) -> threading.Thread:
+        sides = [replace(each, cost=cost) for each in it.sides]
+        thread = threading.Thread(target=changed, args=(it, sides))
+        thread.start()
+        within(10, lambda: len(started_below(box.folder.parent / "run" / box.name)) > 1)
+        return thread
+
+    def killed() -> None:
+        for seconds in (0.1, 2, 4):
+            before = set(started_below(box.folder.parent / "run" / box.name))
+            thread = begin(40 + int(seconds))
+            time.sleep(seconds)
+            now = set(started_below(box.folder.parent / "run" / box.name))
+            for each in now - before:
+                os.kill(int(each), signal.SIGKILL)
+            thread.join()
+
+    nothing_lost(it, given, "the new routerd is killed, three times", killed)
+    looks.look("a box: its costs are as before", "cost 14" in box.ask("interfaces")[0])
+
+    def stormed() -> None:
+        thread = begin(50)
+        for _ in range(100):
+            box.send_signal(signal.SIGHUP)
+            time.sleep(0.02)
+        box.command("reload")
+        thread.join()
+        within(20, lambda: "cost 50" in box.ask("interfaces")[0])
+
+    nothing_lost(it, given, "100 SIGHUPs and another reload come meanwhile", stormed)
+    looks.look("a box: its costs are the new ones", "cost 50" in box.ask("interfaces")[0])
+    begin(60)
+    status = box.stop()
+    looks.look("a box: SIGTERM comes meanwhile: it ends with status 0", status == 0, f"{status}")

@@ -1,0 +1,189 @@
+"""Another `routerd` takes the place of the one that runs, and nobody notices: what only a new one
+reads, such as a cost, is changed so while packets are forwarded as before."""
+from __future__ import annotations
+
+import logging
+import threading
+from collections.abc import Callable
+from dataclasses import dataclass, replace
+from ipaddress import IPv4Network
+
+from leafrunt_host.announcements import TAKEN, Announced, Announcements
+from leafrunt_host.bridge import CannotOpen, Interface, Link
+from leafrunt_host.configuration import Configuration
+from leafrunt_host.desk import ATTACHED, Desk
+from leafrunt_host.isolation import CannotIsolate
+from leafrunt_host.keeper import Keeper
+from leafrunt_host.packets import Hello, Packet
+from leafrunt_host.rehearsal import Rehearsal, prefixes_of
+from leafrunt_host.router import Router, RouterGone
+from leafrunt_host.starting import Fresh, Parts, Starter, interface_of
+from leafrunt_host.status import Known
+from leafrunt_host.statuses import Stopped
+from leafrunt_host.topology import Topology
+
+log = logging.getLogger("leafrunt.reload")
+
+
+@dataclass
+class Kept:
+    """An interface of both: its numbers before and after, and its link."""
+
+    before: int
+    after: int
+    link: Link
+
+
+@dataclass(frozen=True)
+class Prepared:
+    """What the new one has: programs by their hooks, each with its bound, and destinations."""
+
+    programs: dict[str, tuple[str, int]]
+    given: dict[IPv4Network, Announced]
+
+
+@dataclass
+class Handover:
+    """Begins the new one beside the old one, brings it to where that is, and lets it take over."""
+
+    starter: Starter
+    parts: Parts
+    known: Known
+    keeper: Keeper
+    announcements: Announcements
+    desk: Desk
+    topology: Topology
+    ending: threading.Event
+    quit: Callable[[Router], None]
+    """Ends the old one."""
+
+    def run(self, new: Configuration, programs: dict[str, str]) -> None:
+        """`programs` are those that are to be attached, by their hooks. `Stopped` where the new one
+        can't be had, or doesn't come to where the old one is: then nothing is changed."""
+        if self.topology.left_out:
+            raise Stopped("the database isn't known whole (`leafrunt database` says so)")
+        log.info("another routerd is begun beside the one that runs")
+        try:
+            fresh = self.starter.begin_beside(new, self.known.told)
+        except (CannotOpen, CannotIsolate) as why:
+            raise Stopped(str(why)) from why
+        old = self.parts.router
+        try:
+            prepared = self._taken_over(fresh, new, programs)
+        except (CannotOpen, RouterGone) as why:
+            fresh.close()
+            raise Stopped(str(why)) from why
+        except BaseException:
+            fresh.close()
+            raise
+        # it has taken over
+        self.keeper.serve(fresh.router, lambda: self._know(fresh, new, prepared))
+        self.desk.serve(fresh.router)
+        self.announcements.started_anew(prepared.given)
+        self.quit(old)
+
+    def _taken_over(self, fresh: Fresh, new: Configuration, programs: dict[str, str]) -> Prepared:
+        """Once it has come to where the old one is."""
+        kept = self._kept(new)
+        rehearsal = Rehearsal(
+            fresh, self._hellos(kept, new), self.topology, new.router_id, self.ending
+        )
+        try:
+            rehearsal.come_to_full()
+            prepared = self._prepared(fresh.router, programs)
+            rehearsal.originate()
+            if self._is_to_find_all(new, programs):
+                rehearsal.find(prefixes_of(self.parts.router.ask_list("table") or []))
+            self.parts.bridge.work.do(lambda: self._swap(fresh, new, kept, rehearsal))
+        finally:
+            rehearsal.close()
+        return prepared
+
+    def _kept(self, new: Configuration) -> list[Kept]:
+        """The interfaces that go on as they are for their neighbors."""
+        before = {
+            (each.name, each.address): number
+            for number, each in enumerate(self.known.configuration.interfaces, 1)
+            if number in self.parts.links
+        }
+        found = []
+        for number, each in enumerate(new.interfaces, 1):
+            at = before.get((each.name, each.address))
+            if at is not None and not each.passive:
+                found.append(Kept(at, number, self.parts.links[at]))
+        return found
+
+    def _hellos(self, kept: list[Kept], new: Configuration) -> dict[int, Packet]:
+        """The last Hellos of Full neighbors, by the numbers that their interfaces get, with the
+        intervals that these get: the neighbor may get them within RouterDeadInterval too."""
+        found = {}
+        for each in kept:
+            neighbor, hello = self.known.neighbors.get(each.before), each.link.hello
+            if neighbor and hello and neighbor.state == "Full" and each.link.is_usable:
+                to = new.interfaces[each.after - 1]
+                body = replace(
+                    Hello.decode(hello.body),
+                    hello_interval=to.hello_interval,
+                    dead_interval=to.dead_interval,
+                )
+                found[each.after] = replace(hello, body=body.encode())
+        return found
+
+    def _prepared(self, router: Router, programs: dict[str, str]) -> Prepared:
+        """Attaches the programs and announces all destinations."""
+        attached, given = {}, {}
+        for path in programs.values():
+            answer = router.ask(f"attach {path}")[0]
+            read = ATTACHED.fullmatch(answer)
+            if read is None:
+                raise Stopped(f"{path}: {answer}")
+            attached[read[1]] = path, int(read[2])
+        for prefix, it in dict(self.known.announced).items():
+            answer = router.ask(it.announcement.line())[0]
+            if answer in TAKEN:
+                given[prefix] = it._replace(answer=answer)
+        return Prepared(attached, given)
+
+    def _is_to_find_all(self, new: Configuration, programs: dict[str, str]) -> bool:
+        """Whether it has to have the same destinations: the same interfaces and programs."""
+        old = self.known.configuration
+        names = [[each.name for each in one.interfaces] for one in (old, new)]
+        before = {hook: path for hook, (path, _) in self.known.programs.items()}
+        return names[0] == names[1] and programs == before and bool(self.known.neighbors)
+
+    def _swap(
+        self, fresh: Fresh, new: Configuration, kept: list[Kept], rehearsal: Rehearsal
+    ) -> None:
+        """In the bridge's thread. A neighbor that was lost meanwhile is lost to the new one too."""
+        full = self._hellos(kept, new).keys()
+        if full - rehearsal.numbers:
+            raise Stopped("a neighbor has become Full meanwhile: try again")
+        interfaces = {
+            number: interface_of(number, each, fresh.ports[number - 1])
+            for number, each in enumerate(new.interfaces, 1)
+            if not each.passive
+        }
+        links: dict[int, Link] = {each.after: each.link for each in kept}
+        made = {
+            number: self.parts.link_of(interface)
+            for number, interface in interfaces.items()
+            if number not in links
+        }
+        pairs: list[tuple[Link, Interface]] = [
+            (each.link, interfaces[each.after]) for each in kept
+        ]
+        rehearsal.catch_up()
+        self.parts.bridge.hand_over(pairs, list(made.values()), fresh.udp, fresh.listed)
+        for each in self.parts.sinks.values():
+            each.close()
+        self.parts.router, self.parts.links = fresh.router, links | made
+        self.parts.sinks, self.parts.ports = fresh.sinks, fresh.ports
+        self.parts.bridge.send_of_router(rehearsal.last_packets)
+        for number in rehearsal.numbers - full:
+            self.parts.bridge.neighbor_lost(number)
+
+    def _know(self, fresh: Fresh, new: Configuration, prepared: Prepared) -> None:
+        """In the keeper's thread."""
+        self.known.programs = prepared.programs
+        self.known.links, self.known.routerd = self.parts.links, fresh.router.pid
+        self.known.configuration = new
