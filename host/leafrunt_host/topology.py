@@ -79,6 +79,12 @@ def age_of(data: bytes) -> int:
     return min(MAX_AGE, int.from_bytes(data[:2], "big"))
 
 
+def is_router_lsa_of(router_id: bytes, lsa: bytes) -> bool:
+    """Whether it's that router's own. One that says what the last one said may bring routes too:
+    after a start, `routerd` goes by its own, and others by the one of before."""
+    return lsa[3] == LsType.ROUTER and lsa[8:12] == router_id
+
+
 class Topology:
     """The database. The bridge hands it packets, a thread of its own reads them, and others ask, in
     threads of theirs."""
@@ -139,7 +145,8 @@ class Topology:
             lsas = lsas_of(packet.body)
         except Malformed:
             return
-        if any(self._is_new(data, now) for data in lsas):
+        own = packet.router_id.packed if side is Side.ROUTER else b""
+        if any(is_router_lsa_of(own, data) or self._is_new(data, now) for data in lsas):
             self._news()
         for data in lsas:
             if data[3] not in KINDS:

@@ -452,6 +452,25 @@ class News(unittest.TestCase):
                 with self.subTest(side=side, data=data.hex()):
                     self.assertEqual(bool(came), news)
 
+    def test_the_own_router_lsa(self) -> None:
+        """It is, though it says what the one of before the start said: with it come the routes."""
+        came: list[int] = []
+        topology = Topology(clock=lambda: 0.0, news=lambda: came.append(1))
+        own, other = router_lsa("0.0.0.9"), router_lsa("0.0.0.8")
+        for side, data, news in (
+            (Side.ROUTER, own, True),
+            (Side.ROUTER, other, True),
+            (Side.ROUTER, own, True),
+            (Side.ROUTER, other, False),
+            (Side.WIRE, own, False),
+        ):
+            came.clear()
+            head = (1).to_bytes(4, "big") + data
+            update = Packet(PacketType.LINK_STATE_UPDATE, IPv4Address(9), IPv4Address(0), head)
+            topology.watch(side, update, 0.0)
+            topology.entries()
+            self.assertEqual(bool(came), news)
+
 
 if __name__ == "__main__":
     unittest.main()

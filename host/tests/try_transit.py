@@ -142,16 +142,15 @@ class Transit:
     def losses(self) -> Losses:
         return Losses(self.network, self.spaces["h1"])
 
-    def way(self) -> str:
-        """The interface by which the packets leave the left router."""
-        words = output("ip", "-n", self.spaces["left"], "route", "get", TO).split()
+    def way(self, name: str, to: str) -> str:
+        """The interface by which a router's kernel sends there."""
+        words = output("ip", "-n", self.spaces[name], "route", "get", to).split()
         return words[words.index("dev") + 1] if "dev" in words else ""
 
     def is_connected(self, way: str) -> bool:
         """Whether the packets go that way, both ways."""
-        back = output("ip", "-n", self.spaces["right"], "route", "get", FROM).split()
-        there = {"right": "left", "other": "other"}[way]
-        return self.way() == way and back[2:5:2] == [back[2], there]
+        back = {"right": "left", "other": "other"}[way]
+        return (self.way("left", TO), self.way("right", FROM)) == (way, back)
 
     def is_by_tried(self) -> bool:
         return self.is_connected("right")
