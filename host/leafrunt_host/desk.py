@@ -50,7 +50,8 @@ class Desk:
         self._known, self._router, self._bridge = known, router, bridge
         self._announcements = announcements
         self._topology, self._log, self._end = topology, log, end
-        self._changing = threading.Lock()
+        self.changing = threading.Lock()
+        """Is held while a program is attached or detached, or a capture begins or ends."""
         self._capture: Capture | None = None
         self.reload: Callable[[], list[str]] = lambda: []
         """Takes the configuration over as it is now, and says what it did; `Stopped` where it is
@@ -110,7 +111,7 @@ class Desk:
             return [self._announcements.by_hand(line)]
         if word not in OF_PROGRAMS:
             return self._router.ask(line)
-        with self._changing:
+        with self.changing:
             answer = self._router.ask(line)
             self._note(line, answer[0], is_by_hand)
             return answer
@@ -244,7 +245,7 @@ class Desk:
         if asked.descriptor is None:
             raise Refused("no file came with the line: `leafrunt console` makes it")
         descriptor, asked.descriptor = asked.descriptor, None
-        with self._changing:
+        with self.changing:
             try:
                 capture = Capture(descriptor, rest)
             except ValueError as error:
@@ -260,7 +261,7 @@ class Desk:
 
     def end_capture(self) -> str | None:
         """Ends the capture that is under way, and says how many packets it has."""
-        with self._changing:
+        with self.changing:
             capture, self._capture, self._bridge.tap = self._capture, None, None
         return capture.end() if capture else None
 

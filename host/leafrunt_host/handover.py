@@ -57,9 +57,14 @@ class Handover:
     quit: Callable[[Router], None]
     """Ends the old one."""
 
-    def run(self, new: Configuration, programs: dict[str, str]) -> None:
-        """`programs` are those that are to be attached, by their hooks. `Stopped` where the new one
-        can't be had, or doesn't come to where the old one is: then nothing is changed."""
+    def run(self, new: Configuration, programs: Callable[[], dict[str, str]]) -> None:
+        """`programs` says which are to be attached, by their hooks; nobody else attaches any
+        meanwhile. `Stopped` where the new one can't be had, or doesn't come to where the old one is:
+        then nothing is changed."""
+        with self.desk.changing:
+            self._run(new, programs())
+
+    def _run(self, new: Configuration, programs: dict[str, str]) -> None:
         if self.topology.left_out:
             raise Stopped("the database isn't known whole (`leafrunt database` says so)")
         log.info("another routerd is begun beside the one that runs")
@@ -80,6 +85,7 @@ class Handover:
         self.keeper.serve(fresh.router, lambda: self._know(fresh, new, prepared))
         self.desk.serve(fresh.router)
         self.announcements.started_anew(prepared.given)
+        log.info("routerd is process %d now", fresh.router.pid)
         self.quit(old)
 
     def _taken_over(self, fresh: Fresh, new: Configuration, programs: dict[str, str]) -> Prepared:

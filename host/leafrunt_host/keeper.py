@@ -44,6 +44,8 @@ TWO_WAY = ("ExStart", "Exchange", "Loading", "Full")
 stays in 2-Way."""
 MOST_STEPS = 3
 """Steps of the clock that are told of."""
+SECONDS_TO_SERVE = 150.0
+"""How long a look may take that is under way: `routerd` answers within 120."""
 SECONDS_TO_STOP = 3.0
 """How long the end waits for a look that is under way."""
 
@@ -165,7 +167,7 @@ class Keeper:
             self._router, self._neighbors, self._table = router, [], b""
             self._pace.woken(time.monotonic())
 
-        self._work.do(change)
+        self._work.do(change, SECONDS_TO_SERVE)
 
     def _keep(self) -> None:
         try:

@@ -134,18 +134,22 @@ class Reloader:
 
     def _handed_over(self, old: Configuration, new: Configuration) -> list[str]:
         """Another `routerd` takes over; what of the rest it has read with that."""
-        programs = {hook: path for hook, (path, _) in self.known.programs.items()}
         before = {each.hook: each for each in old.programs}
         after = {each.hook: each for each in new.programs}
-        said = []
-        for hook in sorted(before | after):
-            program = after.get(hook)
-            if program == before.get(hook) or hook in self.known.by_hand:
-                continue
-            programs.pop(hook, None)
-            if program:
-                programs[hook] = str(program.object)
-            said.append(f"{hook}: {program.object if program else 'no program'}")
+        said: list[str] = []
+
+        def programs() -> dict[str, str]:
+            found = {hook: path for hook, (path, _) in self.known.programs.items()}
+            for hook in sorted(before | after):
+                program = after.get(hook)
+                if program == before.get(hook) or hook in self.known.by_hand:
+                    continue
+                found.pop(hook, None)
+                if program:
+                    found[hook] = str(program.object)
+                said.append(f"{hook}: {program.object if program else 'no program'}")
+            return found
+
         self.handover.run(new, programs)
         earlier = {each.name: each for each in old.interfaces}
         both = [(earlier[each.name], each) for each in new.interfaces if each.name in earlier]

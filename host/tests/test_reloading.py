@@ -168,6 +168,27 @@ class Running(Boxes):
         self.assertEqual(self.leafrunt("down")[0], 0)
         self.assertEqual(self.ended(box)[0], 0)
 
+    def test_attached_by_hand_meanwhile(self) -> None:
+        """It waits for the new one, and is attached there."""
+        self.up()
+        self.write("", TEXT.replace('"routerd"', f'"{self.slow()}"'))
+        thread = threading.Thread(target=lambda: self.leafrunt("reload"))
+        thread.start()
+        time.sleep(0.5)
+        client = self.client()
+        self.assertEqual(client.ask("attach /by/hand.o"), ["attached veto bound 7"])
+        thread.join()
+        self.assertEqual(client.ask("programs"), ["veto bound 7 /by/hand.o", "end"])
+        self.reloaded("nothing differs")
+
+    def slow(self) -> Path:
+        """A `routerd` that takes a second to start."""
+        slow = self.folder / "slow"
+        text = (self.folder / "routerd").read_text()
+        slow.write_text(text.replace("def answer(line", "time.sleep(1)\n\n\ndef answer(line", 1))
+        slow.chmod(0o755)
+        return slow
+
     def test_a_new_routerd_that_does_not_start(self) -> None:
         """The one before goes on, with its configuration."""
         box = self.up()
@@ -206,10 +227,7 @@ class Running(Boxes):
     def test_one_that_ends_meanwhile(self) -> None:
         """The box ends, and leaves no `routerd` behind."""
         box = self.up()
-        slow = self.folder / "slow"
-        text = (self.folder / "routerd").read_text()
-        slow.write_text(text.replace("def answer(line", "time.sleep(1)\n\n\ndef answer(line", 1))
-        slow.chmod(0o755)
+        slow = self.slow()
         self.write("", TEXT.replace('"routerd"', f'"{slow}"'))
         thread = threading.Thread(target=lambda: self.leafrunt("reload"))
         thread.start()
@@ -285,10 +303,7 @@ class Running(Boxes):
     def test_by_sighup_while_another_is_under_way(self) -> None:
         """It comes after that, and finds the file as it is then."""
         box = self.up()
-        slow = self.folder / "slow"
-        text = (self.folder / "routerd").read_text()
-        slow.write_text(text.replace("def answer(line", "time.sleep(1)\n\n\ndef answer(line", 1))
-        slow.chmod(0o755)
+        slow = self.slow()
         new = TEXT.replace('"routerd"', f'"{slow}"')
         self.write("", new)
         thread = threading.Thread(target=lambda: self.leafrunt("reload"))
@@ -421,9 +436,9 @@ class Fakes:
             SimpleNamespace(run=self.hand_over),
         )
 
-    def hand_over(self, new: Configuration, programs: dict[str, str]) -> None:
+    def hand_over(self, new: Configuration, programs: Callable[[], dict[str, str]]) -> None:
         self.fails()
-        self.did.append(("handover", programs))
+        self.did.append(("handover", programs()))
 
     def open(self, link: str, udp: socket.socket) -> None:
         self.fails()
