@@ -34,15 +34,14 @@ class CannotTry(Exception):
 
 
 def within(seconds: float, succeeds: Callable[[], object], each: float = 0.2) -> float | None:
-    """After how many seconds it succeeded; None where it didn't within that time."""
+    """After how many seconds it succeeded; None where it didn't within that time. A look counts
+    that began in time: what it takes itself, such as a command on a busy machine, isn't late."""
     start = time.monotonic()
-    while True:
-        is_so, took = succeeds(), time.monotonic() - start
-        if took > seconds:
-            return None
-        if is_so:
-            return took
+    while time.monotonic() - start <= seconds:
+        if succeeds():
+            return time.monotonic() - start
         time.sleep(each)
+    return None
 
 
 def run(*words: object, lines: str | None = None, seconds: float = TOTAL_SECONDS) -> str:

@@ -5,7 +5,11 @@ import importlib.machinery
 import importlib.util
 import tempfile
 import unittest
+from collections.abc import Callable
 from pathlib import Path
+from unittest import mock
+
+from tests import network
 
 PROGRAM = Path(__file__).resolve().parent.parent / "try-network"
 loader = importlib.machinery.SourceFileLoader("try_network", str(PROGRAM))
@@ -39,6 +43,41 @@ class Routerd(unittest.TestCase):
         why = try_network.why_not_routerd(self.program) or ""
         self.assertIn(str(self.program), why)
         self.assertIn("let others pass each folder on the way", why)
+
+
+class Within(unittest.TestCase):
+    def setUp(self) -> None:
+        self.now = 0.0
+        clock = mock.patch("tests.network.time")
+        time = clock.start()
+        self.addCleanup(clock.stop)
+        time.monotonic.side_effect = lambda: self.now
+        time.sleep.side_effect = self.passes
+
+    def passes(self, seconds: float) -> None:
+        self.now += seconds
+
+    def look(self, takes: float, from_then_on: float) -> Callable[[], bool]:
+        """A look at something that is so from a moment on."""
+
+        def looked() -> bool:
+            self.passes(takes)
+            return self.now >= from_then_on
+
+        return looked
+
+    def test_looks(self) -> None:
+        for takes, from_then_on, took in (
+            (0.0, 0.0, 0.0),
+            (0.0, 3.9, 4.0),
+            (0.0, 4.1, None),
+            (5.0, 1.0, 5.0),
+            (3.0, 5.0, 6.5),
+            (3.0, 7.0, None),
+        ):
+            with self.subTest(takes=takes, from_then_on=from_then_on):
+                self.now = 0.0
+                self.assertEqual(network.within(4, self.look(takes, from_then_on), 0.5), took)
 
 
 if __name__ == "__main__":

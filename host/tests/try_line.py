@@ -425,10 +425,14 @@ def links(given: Try) -> None:
     looks.timed("one link down there: one next hop", 4, lambda: has(both[0]))
     run("ip", "-n", far, "link", "set", "eth2", "up")
     looks.timed("up again: two", COMES_UP, lambda: has(*both))
+    before, gone = len(box.log_lines()), "eth2: the kernel has no"
     run("ip", "-n", own, "link", "del", "eth2")
     looks.timed(
-        "an interface is taken away: told", 4, lambda: is_said(box, "eth2: the kernel has no")
+        "an interface is taken away: told in the log",
+        4,
+        lambda: any(gone in each for each in box.log_lines()[before:]),
     )
+    looks.look("and by `leafrunt status`", is_said(box, gone))
     looks.timed("and one next hop", 4, lambda: has(both[0]))
     network.link(*ends["eth2"])
     looks.timed("it is made again: two", COMES_UP, lambda: has(*both))
