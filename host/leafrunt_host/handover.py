@@ -23,6 +23,8 @@ from leafrunt_host.statuses import Stopped
 from leafrunt_host.topology import Topology
 
 log = logging.getLogger("leafrunt.reload")
+SECONDS_TO_GIVE_AGAIN = 2.5
+"""After the new one has taken over."""
 
 
 @dataclass
@@ -99,10 +101,14 @@ class Handover:
             prepared = self._prepared(fresh.router, programs)
             rehearsal.originate()
             if self._is_to_find_all(new, programs):
-                rehearsal.find(prefixes_of(self.parts.router.ask_list("table") or []))
+                old = self.parts.router
+                rehearsal.find(lambda: prefixes_of(old.ask_list("table") or []))
             self.parts.bridge.work.do(lambda: self._swap(fresh, new, kept, rehearsal))
         finally:
             rehearsal.close()
+        again = threading.Timer(SECONDS_TO_GIVE_AGAIN, rehearsal.give_again)
+        again.daemon = True
+        again.start()
         return prepared
 
     def _kept(self, new: Configuration) -> list[Kept]:

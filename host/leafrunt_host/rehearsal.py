@@ -29,6 +29,8 @@ from leafrunt_host.topology import Topology
 SECONDS_TO_FULL, SECONDS_TO_ORIGINATE = 20.0, 15.0
 TURN = 0.05
 LOOKED_EACH = 0.2
+CAUGHT_UP_EACH = 1.5
+"""Seconds: above MinLSArrival."""
 LARGEST = 65_535
 OLDEST = MAX_AGE - 1
 MOST_SENT = 500
@@ -79,6 +81,8 @@ class Rehearsal:
         """What the neighbors have to be sent when it takes the other's place, by its interfaces."""
         self._hellos: dict[int, bytes] = {}
         self._router_lsa = b""
+        self._last: tuple[int, list[bytes]] | None = None
+        """What it was given when it caught up last, and at which interface."""
         self._waiting = selectors.DefaultSelector()
         for number, udp in fresh.udp.items():
             self._waiting.register(udp, selectors.EVENT_READ, number)
@@ -102,11 +106,18 @@ class Rehearsal:
                 f"the new routerd hasn't originated its LSAs within {SECONDS_TO_ORIGINATE:.0f} s"
             )
 
-    def find(self, prefixes: set[str]) -> None:
-        """Until it has routes to these destinations."""
+    def find(self, prefixes: Callable[[], set[str]]) -> None:
+        """Until it has routes to all destinations that the running one has, which may change."""
+        caught_up = time.monotonic()
 
         def has_all() -> bool:
-            return prefixes <= prefixes_of(self._ask("table"))
+            nonlocal caught_up
+            if prefixes() <= prefixes_of(self._ask("table")):
+                return True
+            if time.monotonic() - caught_up >= CAUGHT_UP_EACH:
+                self.catch_up()
+                caught_up = time.monotonic()
+            return False
 
         if not self._until(has_all, SECONDS_TO_FULL):
             raise Stopped("the new routerd doesn't find the routes that the running one has")
@@ -130,7 +141,14 @@ class Rehearsal:
             if key not in now and each[ORIGIN] != self._own.packed
         ]
         first = next(iter(self._proxies))
-        self._give(first, self._proxies[first].update(changed + gone))
+        self._given, self._last = now, (first, self._proxies[first].update(changed + gone))
+        self._give(*self._last)
+
+    def give_again(self) -> None:
+        """The same once more, some seconds after the last time: it takes no LSA within a second of
+        the last one (MinLSArrival), and a neighbor would send it again."""
+        if self._last:
+            self._give(*self._last)
 
     def close(self) -> None:
         """The sockets stay as they are."""

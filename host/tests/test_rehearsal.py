@@ -234,9 +234,23 @@ class Rehearsals(unittest.TestCase):
 
     def test_routes(self) -> None:
         it = self.begin(1)
-        it.find({"10.0.1.0/24"})
+        it.find(lambda: {"10.0.1.0/24"})
         with self.assertRaisesRegex(Stopped, "doesn't find the routes"):
-            it.find({"10.0.1.0/24", "10.0.2.0/24"})
+            it.find(lambda: {"10.0.1.0/24", "10.0.2.0/24"})
+
+    def test_routes_that_come_meanwhile(self) -> None:
+        """It is given the LSAs of those too."""
+        it = self.begin(1)
+        new = external("100.0.1.0/24", str(HIGH))
+        self.watch(new)
+
+        def wanted() -> set[str]:
+            if any(each[2:] == new[2:] for each in self.got(1)):
+                self.router.table.append("100.0.1.0/24 ext2 20 via 1")
+            return {"100.0.1.0/24"}
+
+        with mock.patch.object(rehearsal, "CAUGHT_UP_EACH", 0.05):
+            it.find(wanted)
 
     def test_what_changes_meanwhile(self) -> None:
         it = self.begin(1, 2)
@@ -246,7 +260,12 @@ class Rehearsals(unittest.TestCase):
         it.catch_up()
         self.assertEqual({each[2:] for each in self.got(1)}, {newer[2:], new[2:]})
         self.assertEqual(self.got(2), [])
+        it.give_again()
+        self.assertEqual({each[2:] for each in self.got(1)}, {newer[2:], new[2:]})
+        it.catch_up()
+        self.assertEqual(self.got(1), [])
         it = self.begin(1)
+        it.give_again()
         self.watch(MAX_AGE.to_bytes(2, "big") + newer[2:])
         it.catch_up()
         (gone,) = self.got(1)
@@ -262,9 +281,9 @@ class Rehearsals(unittest.TestCase):
         for each in (own, update_of(self.other).encode(), hello):
             self.routers[1].send(each)
         it.come_to_full()
-        it.find({"10.0.1.0/24"})
+        it.find(lambda: {"10.0.1.0/24"})
         with self.assertRaises(Stopped):
-            it.find({"10.9.9.0/24"})
+            it.find(lambda: {"10.9.9.0/24"})
         self.assertEqual(it.last_packets, {1: [own, hello]})
         for _ in range(3 * rehearsal.MOST_SENT):
             it._took(1, own)
