@@ -26,9 +26,11 @@ from leafrunt_host.status import neighbors_of
 from leafrunt_host.statuses import Stopped
 from leafrunt_host.topology import Topology
 
-SECONDS_TO_FULL, SECONDS_TO_ORIGINATE = 20.0, 15.0
+SECONDS_TO_FULL, SECONDS_TO_ORIGINATE, SECONDS_TO_FIND = 40.0, 30.0, 60.0
+"""At most: a busy machine with thousands of LSAs takes long."""
 TURN = 0.05
 LOOKED_EACH = 0.2
+MOST_NAMED = 4
 CAUGHT_UP_EACH = 1.5
 """Seconds: above MinLSArrival."""
 LARGEST = 65_535
@@ -108,19 +110,23 @@ class Rehearsal:
 
     def find(self, prefixes: Callable[[], set[str]]) -> None:
         """Until it has routes to all destinations that the running one has, which may change."""
-        caught_up = time.monotonic()
+        caught_up, missing = time.monotonic(), set[str]()
 
         def has_all() -> bool:
-            nonlocal caught_up
-            if prefixes() <= prefixes_of(self._ask("table")):
+            nonlocal caught_up, missing
+            missing = prefixes() - prefixes_of(self._ask("table"))
+            if not missing:
                 return True
             if time.monotonic() - caught_up >= CAUGHT_UP_EACH:
                 self.catch_up()
                 caught_up = time.monotonic()
             return False
 
-        if not self._until(has_all, SECONDS_TO_FULL):
-            raise Stopped("the new routerd doesn't find the routes that the running one has")
+        if not self._until(has_all, SECONDS_TO_FIND):
+            first = ", ".join(sorted(missing)[:MOST_NAMED])
+            raise Stopped(
+                f"the new routerd doesn't find {len(missing)} of the routes that the running one has: {first}"
+            )
 
     def catch_up(self) -> None:
         """Gives it what has changed since; what is gone, it flushes. Nothing of this is

@@ -166,7 +166,12 @@ class Rehearsals(unittest.TestCase):
         self.other = external("100.0.0.0/24", str(HIGH))
         self.watch(self.first, self.other)
         patched = mock.patch.multiple(
-            rehearsal, SECONDS_TO_FULL=0.4, SECONDS_TO_ORIGINATE=0.4, LOOKED_EACH=0.01, TURN=0.01
+            rehearsal,
+            SECONDS_TO_FULL=0.4,
+            SECONDS_TO_ORIGINATE=0.4,
+            SECONDS_TO_FIND=0.4,
+            LOOKED_EACH=0.01,
+            TURN=0.01,
         )
         patched.start()
         self.addCleanup(patched.stop)
@@ -235,7 +240,7 @@ class Rehearsals(unittest.TestCase):
     def test_routes(self) -> None:
         it = self.begin(1)
         it.find(lambda: {"10.0.1.0/24"})
-        with self.assertRaisesRegex(Stopped, "doesn't find the routes"):
+        with self.assertRaisesRegex(Stopped, "find 1 of the routes .*: 10.0.2.0/24"):
             it.find(lambda: {"10.0.1.0/24", "10.0.2.0/24"})
 
     def test_routes_that_come_meanwhile(self) -> None:

@@ -21,6 +21,7 @@ from unittest import mock
 
 from leafrunt_host.authentication import Algorithm, Key
 from leafrunt_host.bridge import CannotOpen
+from leafrunt_host.client import Client
 from leafrunt_host.bfd_session import Settings
 from leafrunt_host.configuration import Configuration, InterfaceSettings, Program
 from leafrunt_host.destinations import Announcement, Owner
@@ -61,7 +62,11 @@ class Running(Boxes):
         return f'[[program]]\nobject = "{name}"\n'
 
     def announced(self) -> list[str]:
-        return self.client().ask("announced")[:-1]
+        client = Client(self.run_folder, None)
+        try:
+            return client.ask("announced")[:-1]
+        finally:
+            client.close()
 
     def reloaded(self, *lines: str, status: int = 0) -> None:
         """What `leafrunt reload` prints."""
@@ -312,7 +317,7 @@ class Running(Boxes):
         self.write(ANNOUNCE.format("10.1.0.0/16", 5), new)
         for _ in range(50):
             box.send_signal(signal.SIGHUP)
-        self.assertTrue(within(30, lambda: len(self.announced()) == 1))
+        self.assertTrue(within(90, lambda: len(self.announced()) == 1), self.client().ask("log"))
         thread.join()
         self.assertNotIn("not reloaded", " ".join(self.client().ask("log")))
 
