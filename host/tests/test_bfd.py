@@ -421,6 +421,8 @@ class Resuming(unittest.TestCase):
         self.assertEqual(first.bits, Bits.POLL)
         after.act(5.9)
         self.assertEqual(after.variables.session_state, State.DOWN)
+        with self.assertRaises(ValueError):
+            after.resume(replace(before.variables, local_discr=MINE + 1), 6.0)
 
     def test_what_is_no_session(self) -> None:
         good = kept(Variables(1, 2, 3, 4, 5))

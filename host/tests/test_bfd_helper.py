@@ -230,6 +230,10 @@ class InThisProcess(unittest.TestCase):
         it.add(resumes=True)
         self.assertEqual(it.state, State.UP)
         self.assertEqual(it.helper._ends[1].session.variables.remote_discr, THEIRS)
+        it.end()
+        it.helper, it.discriminator = Helper(it.own, it.memory), 4243
+        it.add(resumes=True)
+        self.assertEqual(it.state, State.DOWN)
 
     def test_a_box_that_is_behind(self) -> None:
         """A loss that couldn't be told is told later."""
@@ -371,7 +375,7 @@ class AsAProcess(unittest.TestCase):
         """A session goes on with them; one that isn't asked for any more ends."""
         mine = self.come_up()
         places = self.sessions._places
-        self.sessions.take_over({1: Settings(detect_mult=200)}, places)
+        self.sessions.take_over({1: Settings(600_000, 600_000, 200)}, places)
         while decode(self.neighbor.recv(100))[0].detect_mult != 200:
             pass
         self.neighbor.sendto(said_by_neighbor(State.UP, mine), (HERE, CONTROL_PORT))
