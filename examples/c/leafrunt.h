@@ -88,8 +88,8 @@ static inline const u64 *counters(void)
 #define WITHIN(prefix, length, block, bits) \
 	((length) >= (bits) && FIRST(prefix, bits) == FIRST(block, bits))
 
-/* ---- loops. The verifier wants a number that falls with each turn. clang counts up wherever it can, so
- * these keep a count that falls, which it can't see through. */
+/* ---- loops. hooktool counts the turns of plain ones, if something ends them. These keep a count that falls,
+ * which clang can't see through: they need no register more, and their turns may be known at run time alone. */
 
 #define KEEP(x) ({ __asm__ volatile("" : "+r"(x)); (x); })
 

@@ -1,5 +1,4 @@
 /* hook: veto
- * fuel: 32
  * A plain loop whose end isn't a count: how many bits of the prefix are set. */
 #include "leafrunt.h"
 

@@ -17,15 +17,15 @@ redirected-append slots heads slot (x ∷ xs) s =
     ∙ ap (λ n. redirected_from slots heads slot (x ∷ xs) ++ slots_at slots heads n s) place
 
 -- one detour more behind those
-pub detours-append : (counter at : ℕ) (heads : List ℕ) (head : ℕ)
-    → detours counter at (heads ++ head ∷ []) ≡ detours counter at heads ++ detour counter (at + 4 * length heads) head
-detours-append counter at [] head = grind arith
-detours-append counter at (h ∷ heads) head =
-    let rest = detours-append counter (at + 4) heads head in
+pub detours-append : (answer : ℕ) (counter at : ℕ) (heads : List ℕ) (head : ℕ)
+    → detours answer counter at (heads ++ head ∷ []) ≡ detours answer counter at heads ++ detour answer counter (at + 4 * length heads) head
+detours-append answer counter at [] head = grind arith
+detours-append answer counter at (h ∷ heads) head =
+    let rest = detours-append answer counter (at + 4) heads head in
     let place : (at + 4) + 4 * length heads ≡ at + 4 * length (h ∷ heads) = omega arith in
-    ap (λ t. detour counter at h ++ t) rest
-    ∙ sym (append_assoc (detour counter at h) (detours counter (at + 4) heads) (detour counter ((at + 4) + 4 * length heads) head))
-    ∙ ap (λ n. detours counter at (h ∷ heads) ++ detour counter n head) place
+    ap (λ t. detour answer counter at h ++ t) rest
+    ∙ sym (append_assoc (detour answer counter at h) (detours answer counter (at + 4) heads) (detour answer counter ((at + 4) + 4 * length heads) head))
+    ∙ ap (λ n. detours answer counter at (h ∷ heads) ++ detour answer counter n head) place
 
 -- a loop that has pushed one slot more
 pub one_more_slot : (slots : ℕ) (heads : List ℕ) (code : List Slot) (i : ℕ) (s d : Slot) (out before after : List Slot) → i < length code
@@ -42,15 +42,15 @@ one_more_slot slots heads code i s d out before after lt is so_far pushed =
     pushed ∙ ap (λ t. t ++ slots_at slots heads i s) so_far ∙ append_assoc out done (slots_at slots heads i s) ∙ ap (λ t. out ++ t) (sym more)
 
 -- a loop that has pushed one detour more
-pub one_more_detour : (counter first : ℕ) (heads : List ℕ) (i at d : ℕ) (out before after : List Slot) → i < length heads → at ≡ first + 4 * i
-    → before ≡ out ++ detours counter first (take i heads) → after ≡ before ++ detour counter at (get_or heads i d)
-    → after ≡ out ++ detours counter first (take (i + 1) heads)
-one_more_detour counter first heads i at d out before after lt at_is so_far pushed =
+pub one_more_detour : (answer : ℕ) (counter first : ℕ) (heads : List ℕ) (i at d : ℕ) (out before after : List Slot) → i < length heads → at ≡ first + 4 * i
+    → before ≡ out ++ detours answer counter first (take i heads) → after ≡ before ++ detour answer counter at (get_or heads i d)
+    → after ≡ out ++ detours answer counter first (take (i + 1) heads)
+one_more_detour answer counter first heads i at d out before after lt at_is so_far pushed =
     let head : ℕ = get_or heads i d in
-    let done : List Slot = detours counter first (take i heads) in
+    let done : List Slot = detours answer counter first (take i heads) in
     let within : i ≤ length heads = omega arith in
     let place : first + 4 * length (take i heads) ≡ at = ap (λ n. first + 4 * n) (length-take-le i heads within) ∙ sym at_is in
-    let more : detours counter first (take (i + 1) heads) ≡ done ++ detour counter at head =
-    ap (λ xs. detours counter first xs) (take_more heads i d lt) ∙ detours-append counter first (take i heads) head
-    ∙ ap (λ n. done ++ detour counter n head) place in
-    pushed ∙ ap (λ t. t ++ detour counter at head) so_far ∙ append_assoc out done (detour counter at head) ∙ ap (λ t. out ++ t) (sym more)
+    let more : detours answer counter first (take (i + 1) heads) ≡ done ++ detour answer counter at head =
+    ap (λ xs. detours answer counter first xs) (take_more heads i d lt) ∙ detours-append answer counter first (take i heads) head
+    ∙ ap (λ n. done ++ detour answer counter n head) place in
+    pushed ∙ ap (λ t. t ++ detour answer counter at head) so_far ∙ append_assoc out done (detour answer counter at head) ∙ ap (λ t. out ++ t) (sym more)

@@ -1,7 +1,7 @@
 -- Code whose turns are counted: a register that the code doesn't name falls with each jump back to
--- one of some heads, and where it comes to 0 the program answers 0.
+-- one of some heads, and where it comes to 0 the program answers a fixed number.
 use Rattle.std.specs.Prelude.{◌≡◌, ℕ, ◌+◌, ◌*◌, ◌≤◌, pos, negsuc, ℤ, ◌-ℤ◌, ◌==◌, nat_le, ◌||◌, Bool}
-use Rattle.std.specs.Prelude.{false}
+use Rattle.std.specs.Prelude.{false, min}
 use Rattle.std.specs.Prelude.{List, [], ◌∷◌, ◌++◌, length, position, Option, Some, None}
 use Rattle.std.specs.Prelude.{if◌then◌else◌}
 use Rattle.isa.specs.declared.instruction.Instruction.{Instruction}
@@ -12,6 +12,8 @@ use Rattle.isa.specs.declared.instruction.Source.{Source}
 use Rattle.isa.specs.declared.instruction.Source.TheVariants as sources
 use Rattle.isa.specs.declared.instruction.Test.TheVariants as tests
 use Rattle.isa.specs.declared.instruction.Width.TheVariants as widths
+use Rattle.isa.specs.declared.hook.Hook.{Hook}
+use Rattle.isa.specs.declared.hook.Hook.TheVariants as hooks
 use Rattle.isa.specs.declared.code.Slot.{Slot}
 use Rattle.isa.specs.declared.code.Slot.TheVariants.{Start, SecondHalf}
 use Rattle.isa.specs.Code.{slots_of}
@@ -99,28 +101,37 @@ abbrev pub with_number : Operation → ℕ → ℤ → Instruction
 with_number operation target number =
     instructions.Arithmetic widths.Bits64 operation target (sources.Immediate number)
 
--- At this slot one is taken off the counter; then the program goes on at the head, or answers 0.
-abbrev pub detour : ℕ → ℕ → ℕ → List Slot
-detour counter at head = Start (with_number operations.Add counter (negsuc 0))
+-- What is answered then: the number that is asked for, else at price the metric that withholds the
+-- destination (LSInfinity), and elsewhere 0.
+abbrev pub answer_without_turns : Hook → (asked : Option ℕ) → ℕ
+answer_without_turns hook (Some answer) = min answer 2147483647
+answer_without_turns hooks.Price None = 16777215
+answer_without_turns other None = 0
+
+-- At this slot one is taken off the counter; then the program goes on at the head, or answers.
+abbrev pub detour : ℕ → ℕ → ℕ → ℕ → List Slot
+detour answer counter at head = Start (with_number operations.Add counter (negsuc 0))
     ∷ Start (instructions.Branch widths.Bits64 tests.NotEqual counter (sources.Immediate (pos 0))
     (distance_between (at + 1) (head + 1)))
-    ∷ Start (with_number operations.Move 0 (pos 0)) ∷ Start instructions.Exit ∷ []
+    ∷ Start (with_number operations.Move 0 (pos answer)) ∷ Start instructions.Exit ∷ []
 
-abbrev pub detours : ℕ → ℕ → List ℕ → List Slot
-detours counter at [] = []
-detours counter at (head ∷ heads) = detour counter at head ++ detours counter (at + 4) heads
+abbrev pub detours : ℕ → ℕ → ℕ → List ℕ → List Slot
+detours answer counter at [] = []
+detours answer counter at (head ∷ heads) =
+    detour answer counter at head ++ detours answer counter (at + 4) heads
 
 -- ---- all of it
 
-abbrev pub counted_code : ℕ → ℕ → List ℕ → List Slot → List Slot
-counted_code counter turns heads code =
+abbrev pub counted_code : ℕ → ℕ → ℕ → List ℕ → List Slot → List Slot
+counted_code answer counter turns heads code =
     slots_of (with_number operations.Move counter (pos (turns + 1)))
-    ++ redirected_from (length code) heads 0 code ++ detours counter (length code + 1) heads
+    ++ redirected_from (length code) heads 0 code ++ detours answer counter (length code + 1) heads
 
 -- The code counts the turns of these loops, in a register that a call leaves as it is.
-pub record IsCounted (turns : ℕ) (heads : List ℕ) (code counted : List Slot) : Type 0 where
+pub record IsCounted (answer : ℕ) (turns : ℕ) (heads : List ℕ) (code counted : List Slot)
+    : Type 0 where
   pub counter : ℕ
   pub least : 6 ≤ counter
   pub most : counter ≤ 9
   pub unnamed : IsUnnamed code counter
-  pub counted_is : counted ≡ counted_code counter turns heads code
+  pub counted_is : counted ≡ counted_code answer counter turns heads code

@@ -18,6 +18,8 @@ pub struct Task<'a> {
     pub hook: Hook,
     pub bytes: &'a [u8],
     pub given: &'a [Statement],
+    /// What code that counts turns answers where they are used up.
+    pub answer: u32,
 }
 
 /// The greatest entry rank that leaves the code within its budget.

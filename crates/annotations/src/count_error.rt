@@ -9,6 +9,8 @@ pub enum CountError {
     NoRegister,
     /// More turns than any program may take: 1,000,000 or more.
     TooMany,
+    /// The answer is 2^31 or more.
+    TooGreat,
     /// The code would have more than 4096 slots, or a jump would go too far.
     TooLong,
     /// Memory ran out.

@@ -1,5 +1,5 @@
 //! Counted code.
-ghost use Rattle.std.specs.Prelude.{◌≡◌, ◌==◌, ◌+◌, ◌*◌, ◌<◌, ◌≤◌, ◌++◌, IfOk, OnOk, length};
+ghost use Rattle.std.specs.Prelude.{◌≡◌, ◌==◌, ◌+◌, ◌*◌, ◌^◌, ◌<◌, ◌≤◌, ◌++◌, IfOk, OnOk, length};
 ghost use Rattle.std.specs.Prelude.{position};
 ghost use Rattle.isa.specs.Flow.{jump_target};
 ghost use Rattle.annotations.specs.CountedCode.{IsCounted, detour, detour_at, detours};
@@ -17,6 +17,9 @@ use std::alloc::Global;
 
 /// So many turns no program may take.
 const MOST_TURNS: u32 = 1_000_000;
+
+/// The greatest number that an instruction moves into a register as it is.
+const MOST_ANSWER: u32 = 0x7fff_ffff;
 
 /// The register becomes the number, or that much more.
 fn with_number(operation: Operation, target: Register, number: i32) -> Instruction
@@ -148,19 +151,21 @@ fn push_code(builder: &mut CodeBuilder, code: &Code, heads: &[usize]) -> Result<
     Ok(())
 }
 
-/// Adds what counts a turn: it goes on at the loop's head, or answers 0 where that was the last
+/// Adds what counts a turn: it goes on at the loop's head, or answers this where that was the last
 /// one.
 fn push_detour(
     builder: &mut CodeBuilder,
+    answer: u32,
     counter: Register,
     at: usize,
     head: usize,
 ) -> Result<(), BuildError>
+    requires answer { answer < 2 ^ 31 }
     requires at { at < 29000 }
     requires head { head < 4096 }
-    ensures { OnOk result (builder.new ≡ builder.old ++ detour counter at head) }
+    ensures { OnOk result (builder.new ≡ builder.old ++ detour answer counter at head) }
 {
-    let Some(answer) = Register::new(0) else {
+    let Some(answered) = Register::new(0) else {
         unreachable!()
     };
     let again = Instruction::Branch {
@@ -173,27 +178,30 @@ fn push_detour(
     builder
         .push(with_number(Operation::Add, counter, -1))
         .and(builder.push(again))
-        .and(builder.push(with_number(Operation::Move, answer, 0)))
+        .and(builder.push(with_number(Operation::Move, answered, answer as i32)))
         .and(builder.push(Instruction::Exit))
 }
 
 /// Adds what counts the turns of each loop.
 fn push_detours(
     builder: &mut CodeBuilder,
+    answer: u32,
     counter: Register,
     slots: usize,
     heads: &[usize],
 ) -> Result<(), BuildError>
+    requires answer { answer < 2 ^ 31 }
     requires slots { slots ≤ 4096 }
     requires few { length heads.now ≤ 4096 }
-    ensures { OnOk result (builder.new ≡ builder.old ++ detours counter (slots + 1) heads.now) }
+    ensures { OnOk result (builder.new ≡ builder.old ++ detours answer counter (slots + 1)
+        heads.now) }
 {
     let mut at = slots + 1;
     for head in heads {
         if *head >= 4096 {
             return Err(BuildError::TooLong);
         }
-        push_detour(builder, counter, at, *head)?;
+        push_detour(builder, answer, counter, at, *head)?;
         at += 4;
     }
     Ok(())
@@ -202,32 +210,40 @@ fn push_detours(
 /// Adds all of the counted code.
 fn push_counted(
     builder: &mut CodeBuilder,
+    answer: u32,
     counter: Register,
     turns: u32,
     code: &Code,
     heads: &[usize],
 ) -> Result<(), BuildError>
+    requires answer { answer < 2 ^ 31 }
     requires few { length heads.now ≤ 4096 }
     requires turns { turns < 1000000 }
-    ensures { OnOk result (builder.new ≡ builder.old ++ counted_code counter turns heads.now
-        code.now) }
+    ensures { OnOk result (builder.new ≡ builder.old ++ counted_code answer counter turns
+        heads.now code.now) }
 {
     builder
         .push(with_number(Operation::Move, counter, turns as i32 + 1))
         .and(push_code(builder, code, heads))
-        .and(push_detours(builder, counter, code.len(), heads))
+        .and(push_detours(builder, answer, counter, code.len(), heads))
 }
 
-/// The code that counts each jump back to one of these heads, and answers 0 instead of going back
+/// The code that counts each jump back to one of these heads, and answers this instead of going back
 /// more often than `turns` times in all. Each slot of the code stands one slot later in it.
 ///
 /// # Errors
 ///
 /// Where the code names each of r6 to r9; where `turns` isn't below 1,000,000, which no program may
-/// take; where the code would be longer than 4096 slots, or a jump go farther than its distance can
+/// take, or `answer` is 2^31 or more; where the code would be longer than 4096 slots, or a jump go farther than its distance can
 /// say; and where memory is refused.
-pub fn counted(alloc: Global, code: &Code, heads: &[usize], turns: u32) -> Result<Code, CountError>
-    ensures { IfOk result (λ counted. IsCounted turns heads.now code.now counted) }
+pub fn counted(
+    alloc: Global,
+    code: &Code,
+    heads: &[usize],
+    turns: u32,
+    answer: u32,
+) -> Result<Code, CountError>
+    ensures { IfOk result (λ counted. IsCounted answer turns heads.now code.now counted) }
 {
     let Some(counter) = unnamed(code) else {
         return Err(CountError::NoRegister);
@@ -235,11 +251,14 @@ pub fn counted(alloc: Global, code: &Code, heads: &[usize], turns: u32) -> Resul
     if turns >= MOST_TURNS {
         return Err(CountError::TooMany);
     }
+    if answer > MOST_ANSWER {
+        return Err(CountError::TooGreat);
+    }
     if heads.len() > code.len() {
         return Err(CountError::TooLong);
     }
     let mut builder = CodeBuilder::new(alloc);
-    match push_counted(&mut builder, counter, turns, code, heads) {
+    match push_counted(&mut builder, answer, counter, turns, code, heads) {
         Ok(()) => builder.finish().ok_or(CountError::TooLong),
         Err(error) => Err(CountError::from(error)),
     }

@@ -1,17 +1,24 @@
 //! The same for code with loops that have no rank: their turns are counted.
-ghost use Rattle.std.specs.Prelude.{IfOk, IfErr, Some};
+ghost use Rattle.std.specs.Prelude.{IfOk, IfErr};
 ghost use Rattle.isa.specs.Spelling.{Spells};
-ghost use Rattle.annotations.specs.Annotated.{CountsLoops};
-ghost use Rattle.annotations.specs.Verdict.{IsNoVerdict, IsOutcome, IsTurnsOutcome};
+ghost use Rattle.annotations.specs.Annotated.{CountsLoops, IsRejected, fuel_of, no_fuel};
+ghost use Rattle.annotations.specs.Verdict.{IsFoundOutcome, IsNoVerdict, IsOutcome, IsTurnsOutcome};
+ghost use Rattle.annotations.specs.Verdict.{IsCountedOutcome};
 
 use crate::attempt::{Task, annotate, kinds_of};
+use crate::count_error::CountError;
 use crate::counted_code::counted;
 use crate::shortfall::Shortfall;
-use crate::verdict::Annotated;
+use crate::verdict::{Annotated, Found, Rejected};
+use inference::most_turns;
 use isa::{Code, decode, encode};
 use object::Statement;
-use ranking_functions::Unranked;
+use ranking_functions::{Endless, Unranked};
 use std::alloc::{AllocError, Global};
+use verifier::BUDGET;
+
+/// So many turns are followed at most.
+const MOST_FOLLOWED: u64 = 20_000;
 
 /// How often more loops are counted at most.
 const MOST_ROUNDS: u32 = 8;
@@ -22,6 +29,22 @@ struct Heads {
     slots: Vec<usize>,
     /// Memory was refused for one of them.
     lacks_memory: bool,
+}
+
+fn no_heads(alloc: Global) -> Heads {
+    Heads {
+        slots: Vec::new(alloc),
+        lacks_memory: false,
+    }
+}
+
+/// The most turns that are looked for: with which the code may stay within its budget, and that are
+/// followed in less than a second.
+fn most_for(code: &Code) -> u32 {
+    match code.len() {
+        0 => 0,
+        slots => (BUDGET / slots as u64).min(MOST_FOLLOWED) as u32,
+    }
 }
 
 /// The statement one slot later.
@@ -62,6 +85,14 @@ fn add_heads(heads: &mut Heads, slots: &[usize], is_one: bool) -> bool {
     heads.lacks_memory | (heads.slots.len() > before)
 }
 
+/// Adds the loops that lack a rank. Whether there are any more.
+fn adds_unranked(heads: &mut Heads, unranked: &Unranked) -> bool {
+    match unranked {
+        Unranked::Alone(slots) => add_heads(heads, slots, false),
+        Unranked::Together(slots) => add_heads(heads, slots, true),
+    }
+}
+
 /// Adds the loops that lack a rank, where that is what is wrong. Whether there are any more.
 fn adds_more(
     heads: &mut Heads,
@@ -69,10 +100,7 @@ fn adds_more(
     unranked: &Unranked,
 ) -> bool {
     match outcome {
-        Err(Shortfall::Refused(_, Some(_))) => match unranked {
-            Unranked::Alone(slots) => add_heads(heads, slots, false),
-            Unranked::Together(slots) => add_heads(heads, slots, true),
-        },
+        Err(Shortfall::Refused(_, Some(_))) => adds_unranked(heads, unranked),
         _ => false,
     }
 }
@@ -85,10 +113,11 @@ fn counted_text(
     turns: u32,
 ) -> Result<Vec<u8>, Shortfall>
     requires { Spells task.now.bytes.now code.now }
-    ensures counts { IfOk result (λ written. CountsLoops turns task.now.bytes.now written.items) }
+    ensures counts { IfOk result (λ written. CountsLoops task.now.answer turns task.now.bytes.now
+        written.items) }
     ensures fault { IfErr result IsNoVerdict }
 {
-    let counted = match counted(task.alloc, code, heads, turns) {
+    let counted = match counted(task.alloc, code, heads, turns, task.answer) {
         Ok(counted) => counted,
         Err(error) => return Err(Shortfall::Uncounted(error)),
     };
@@ -109,6 +138,7 @@ fn try_text(task: &Task<'_>, bytes: &[u8], unranked: &mut Unranked) -> Result<An
                 hook: task.hook,
                 bytes,
                 given: &given,
+                answer: task.answer,
             };
             annotate(&later, unranked)
         }
@@ -125,7 +155,8 @@ fn try_heads(
     unranked: &mut Unranked,
 ) -> Result<Annotated, Shortfall>
     requires { Spells task.now.bytes.now code.now }
-    ensures { IsTurnsOutcome task.now.hook (Some turns) task.now.bytes.now result }
+    ensures { IsTurnsOutcome task.now.hook (fuel_of turns task.now.answer) task.now.bytes.now
+        result }
 {
     if heads.lacks_memory {
         Err(Shortfall::Memory)
@@ -148,7 +179,8 @@ fn annotate_loops(
     unranked: &mut Unranked,
 ) -> Result<Annotated, Shortfall>
     requires { Spells task.now.bytes.now code.now }
-    ensures { IsTurnsOutcome task.now.hook (Some turns) task.now.bytes.now result }
+    ensures { IsTurnsOutcome task.now.hook (fuel_of turns task.now.answer) task.now.bytes.now
+        result }
 {
     for _ in 0..MOST_ROUNDS {
         let outcome = try_heads(task, code, heads, turns, unranked);
@@ -160,23 +192,128 @@ fn annotate_loops(
 }
 
 /// Finds statements and ranks as `annotate` does. Where a loop has no rank, its turns are counted:
-/// the object has other code, which answers 0 instead of more than `turns` turns in all. Loops that
-/// have a rank stay as they are.
+/// the object has other code, which gives the task's answer instead of more than `turns` turns in
+/// all. Loops that have a rank stay as they are.
 pub fn annotate_counted(
     task: &Task<'_>,
     turns: u32,
     unranked: &mut Unranked,
 ) -> Result<Annotated, Shortfall>
-    ensures { IsTurnsOutcome task.now.hook (Some turns) task.now.bytes.now result }
+    ensures { IsTurnsOutcome task.now.hook (fuel_of turns task.now.answer) task.now.bytes.now
+        result }
 {
     match decode(task.alloc, task.bytes) {
         Ok(code) => {
-            let mut heads = Heads {
-                slots: Vec::new(task.alloc),
-                lacks_memory: false,
-            };
+            let mut heads = no_heads(task.alloc);
             annotate_loops(task, &code, &mut heads, turns, unranked)
         }
         Err(error) => Err(Shortfall::Code(error)),
+    }
+}
+
+/// Has the loops at these heads counted by as many turns as they take at most, if that is found.
+/// Nothing where it isn't, or where the verifier refuses the code all the same.
+fn try_bounded(
+    task: &Task<'_>,
+    code: &Code,
+    heads: &Heads,
+    unranked: &mut Unranked,
+) -> Result<Option<Found>, Shortfall>
+    requires { Spells task.now.bytes.now code.now }
+    ensures { IsCountedOutcome task.now.hook task.now.answer task.now.bytes.now result }
+{
+    let turns = match most_turns(task.alloc, code, task.hook, &heads.slots, most_for(code)) {
+        Ok(Some(turns)) => turns,
+        Ok(None) => return Ok(None),
+        Err(_) => return Err(Shortfall::Memory),
+    };
+    match try_heads(task, code, heads, turns, unranked) {
+        Ok(annotated) => Ok(Some(Found {
+            annotated,
+            turns: Some(turns),
+        })),
+        Err(Shortfall::Memory) => Err(Shortfall::Memory),
+        Err(Shortfall::Uncounted(CountError::NoRegister)) => {
+            Err(Shortfall::Uncounted(CountError::NoRegister))
+        }
+        Err(_) => Ok(None),
+    }
+}
+
+/// The same for the loops that lack a rank, and again for those that lack one then.
+fn count_bounded(
+    task: &Task<'_>,
+    code: &Code,
+    unranked: &mut Unranked,
+) -> Result<Option<Found>, Shortfall>
+    requires { Spells task.now.bytes.now code.now }
+    ensures { IsCountedOutcome task.now.hook task.now.answer task.now.bytes.now result }
+{
+    let mut heads = no_heads(task.alloc);
+    for _ in 0..MOST_ROUNDS {
+        if !adds_unranked(&mut heads, unranked) {
+            return Ok(None);
+        }
+        match try_bounded(task, code, &heads, unranked) {
+            Ok(None) => {}
+            outcome => return outcome,
+        }
+    }
+    Ok(None)
+}
+
+/// The same for code that is refused for a loop without a rank.
+fn count_refused(task: &Task<'_>, unranked: &mut Unranked) -> Result<Option<Found>, Shortfall>
+    ensures { IsCountedOutcome task.now.hook task.now.answer task.now.bytes.now result }
+{
+    match decode(task.alloc, task.bytes) {
+        Ok(code) => count_bounded(task, &code, unranked),
+        Err(error) => Err(Shortfall::Code(error)),
+    }
+}
+
+/// Has the loops counted of code that the verifier refuses for this one, if it is found how many
+/// turns they take at most. Else the refusal is told.
+fn count_endless(
+    task: &Task<'_>,
+    rejected: Rejected,
+    endless: Endless,
+    unranked: &mut Unranked,
+) -> Result<Found, Shortfall>
+    requires { IsRejected task.now.hook task.now.bytes.now rejected.object rejected.bytes.items
+        rejected.refusal }
+    ensures { IsFoundOutcome task.now.hook (no_fuel task.now.answer) task.now.bytes.now result }
+{
+    match count_refused(task, unranked) {
+        Ok(Some(found)) => Ok(found),
+        Ok(None) => Err(Shortfall::Refused(rejected, Some(endless))),
+        Err(Shortfall::Uncounted(_)) => {
+            let told = Endless {
+                slot: endless.slot,
+                trouble: endless.trouble,
+                lacks_register: true,
+            };
+            Err(Shortfall::Refused(rejected, Some(told)))
+        }
+        Err(_) => Err(Shortfall::Memory),
+    }
+}
+
+/// Finds statements and ranks as `annotate` does. Where a loop has no rank, and it is found how
+/// many turns the loops take at most, those are counted. Where the verifier refuses that too, what
+/// it says of the given code is told.
+pub fn annotate_bounded(task: &Task<'_>, unranked: &mut Unranked) -> Result<Found, Shortfall>
+    ensures { IsFoundOutcome task.now.hook (no_fuel task.now.answer) task.now.bytes.now result }
+{
+    match annotate(task, unranked) {
+        Ok(annotated) => Ok(Found {
+            annotated,
+            turns: None,
+        }),
+        Err(Shortfall::Refused(rejected, endless)) => match endless {
+            Some(endless) => count_endless(task, rejected, endless, unranked),
+            None => Err(Shortfall::Refused(rejected, None)),
+        },
+        Err(fault) => Err(fault),
     }
 }

@@ -1,13 +1,14 @@
 //! From a file with code, bare or in an object, to an object that the verifier accepts.
 ghost use Rattle.std.specs.Prelude.{◌≡◌, ◌↔◌, IfOk, IfErr, IsTrue, take};
 ghost use Rattle.object.specs.Spelling.{magic};
-ghost use Rattle.annotations.specs.Annotated.{IsAnnotation};
-ghost use Rattle.annotations.specs.Verdict.{IsFileOutcome, IsFileShortfall, IsTurnsOutcome};
+ghost use Rattle.annotations.specs.Annotated.{IsAnnotation, with_found};
+ghost use Rattle.annotations.specs.Verdict.{IsFileOutcome, IsFileShortfall, IsFoundOutcome};
 
-use crate::attempt::{Task, annotate};
-use crate::counting::annotate_counted;
+use crate::attempt::Task;
+use crate::counting::{annotate_bounded, annotate_counted};
+use crate::fuel::Fuel;
 use crate::shortfall::Shortfall;
-use crate::verdict::Annotated;
+use crate::verdict::Found;
 use isa::Hook;
 use object::read;
 use ranking_functions::Unranked;
@@ -22,24 +23,26 @@ fn is_object(bytes: &[u8]) -> bool
 }
 
 /// Finds statements and ranks for the code.
-fn annotate_code(task: &Task<'_>, turns: Option<u32>) -> Result<Annotated, Shortfall>
-    ensures { IsTurnsOutcome task.now.hook turns task.now.bytes.now result }
+fn annotate_code(task: &Task<'_>, turns: Option<u32>) -> Result<Found, Shortfall>
+    ensures { IsFoundOutcome task.now.hook (record { turns = turns; answer = task.now.answer })
+        task.now.bytes.now result }
 {
     let mut unranked = Unranked::Alone(Vec::new(task.alloc));
     match turns {
-        Some(turns) => annotate_counted(task, turns, &mut unranked),
-        None => annotate(task, &mut unranked),
+        Some(turns) => match annotate_counted(task, turns, &mut unranked) {
+            Ok(annotated) => Ok(Found {
+                annotated,
+                turns: None,
+            }),
+            Err(fault) => Err(fault),
+        },
+        None => annotate_bounded(task, &mut unranked),
     }
 }
 
 /// The same for a file that has to be an object.
-fn annotate_object(
-    alloc: Global,
-    hook: Hook,
-    file: &[u8],
-    turns: Option<u32>,
-) -> Result<Annotated, Shortfall>
-    ensures { IsFileOutcome hook turns file.now result }
+fn annotate_object(alloc: Global, hook: Hook, file: &[u8], fuel: Fuel) -> Result<Found, Shortfall>
+    ensures { IsFileOutcome hook fuel file.now result }
 {
     match read(alloc, file) {
         Ok(object) => {
@@ -52,8 +55,9 @@ fn annotate_object(
                     hook,
                     bytes: object.code(),
                     given: object.statements(),
+                    answer: fuel.answer,
                 };
-                annotate_code(&task, turns)
+                annotate_code(&task, fuel.turns)
             }
         }
         Err(error) => Err(Shortfall::Object(error)),
@@ -61,32 +65,29 @@ fn annotate_object(
 }
 
 /// Finds statements and ranks for the code in the file: bare code, or an object with statements of
-/// its own, which may be partial. With `turns` the turns are counted of loops that have no rank.
+/// its own, which may be partial. Of loops that have no rank the turns are counted: as many as the
+/// fuel has, or without that where it is found how many they take at most.
 ///
 /// # Errors
 ///
 /// Where the file is no code, or begins as an object's and is none, or is an object for another
 /// hook; where the verifier refuses the code with the best statements that were found; where turns
 /// can't be counted; and where memory is refused.
-pub fn annotate_file(
-    alloc: Global,
-    hook: Hook,
-    file: &[u8],
-    turns: Option<u32>,
-) -> Result<Annotated, Shortfall>
-    ensures accepted { IfOk result (λ a. IsAnnotation hook turns file.now a.object a.bytes.items
-        a.accepted) }
-    ensures refused { IfErr result (IsFileShortfall hook turns file.now) }
+pub fn annotate_file(alloc: Global, hook: Hook, file: &[u8], fuel: Fuel) -> Result<Found, Shortfall>
+    ensures accepted { IfOk result (λ found. IsAnnotation hook (with_found fuel found.turns)
+        file.now found.annotated.object found.annotated.bytes.items found.annotated.accepted) }
+    ensures refused { IfErr result (IsFileShortfall hook fuel file.now) }
 {
     if is_object(file) {
-        annotate_object(alloc, hook, file, turns)
+        annotate_object(alloc, hook, file, fuel)
     } else {
         let task = Task {
             alloc,
             hook,
             bytes: file,
             given: &[],
+            answer: fuel.answer,
         };
-        annotate_code(&task, turns)
+        annotate_code(&task, fuel.turns)
     }
 }

@@ -113,7 +113,7 @@ fn refusal_in(verdict: &Result<Accepted, VerifyError>) -> Option<Refusal> {
 
 /// What the verifier knows at each slot, up to the one that it refuses.
 fn push_program(page: &mut Page<'_>, program: &Program<'_>) {
-    let first = entry_state(program.memory);
+    let first = entry_state(program.memory, 512);
     let ways = Ways {
         memory: program.memory,
         targets: &program.targets,
@@ -163,7 +163,7 @@ fn push_object(
     if let Some(statement) = entry_statement(object.entry_rank()) {
         let entry = Target {
             statement: &statement,
-            kinds: entry_state(memory).kinds,
+            kinds: entry_state(memory, 0).kinds,
         };
         push_entered(page, memory, object, code, entry, refusal)
     }

@@ -75,7 +75,7 @@ impl Here {
         if let Some(target) = target_at(&program.targets, slot) {
             push_rank(out, "    stated, rank ", target.statement.rank(), "\n");
             self.begun = Some(slot);
-            self.known.state = reset(entry_state(program.memory), target);
+            self.known.state = reset(entry_state(program.memory, 512), target);
             self.known.is_live = true;
         }
     }

@@ -1,7 +1,8 @@
 -- Lines of functions and sections that were built, one behind the other.
 use Rattle.std.proofs.Common.{◌≡◌, ◌∙◌, ◌+◌, ◌||◌, ◌++◌, ap, subst, refl, ℕ, List, [], Bool, true, false, Option, Some, None, codes, inl, inr, length, add-one}
 use Rattle.std.specs.Prelude.{◌⊎◌, IfSome, slice_get, string_bytes}
-use Rattle.annotations.specs.Annotated.{IsAnnotation}
+use Rattle.annotations.specs.Annotated.{IsAnnotation, with_found}
+use Rattle.annotations.specs.declared.fuel.Fuel.{Fuel}
 use Rattle.elf.specs.Files.{IsObjectFile, section_count, section_name}
 use Rattle.elf.specs.Lists.{HasBytes, HasSymbol, functions_of, relocations_of, symbol_bytes, symbol_name}
 use Rattle.elf.specs.declared.lists.LinkedSymbol.{LinkedSymbol}
@@ -9,6 +10,7 @@ use Rattle.isa.specs.Hooks.{hook_name}
 use Rattle.object.specs.Objects.{ObjectParts}
 use Rattle.verifier.specs.Programs.{Program}
 use Rattle.isa.specs.declared.hook.Hook.{Hook}
+use Rattle.hooktool_commands.specs.Annotations.{fuel_for}
 use Rattle.hooktool_commands.specs.Builds.{AreBuiltFunctions, AreBuiltSections, IsBuilt, IsBuiltAt, IsBuiltFunction, IsBuiltSection, IsHookOf, Wanted, built_line}
 use Rattle.hooktool_commands.specs.Orders.{IsBuiltCode}
 use Rattle.hooktool_commands.specs.declared.report.Report.{Report}
@@ -26,8 +28,9 @@ function_built file wanted hook function name code report named name_is has code
     object = found.object;
     bytes = found.bytes;
     accepted = found.accepted;
-    annotation = subst (λ (c : List ℕ). IsAnnotation hook wanted.fuel c found.object found.bytes found.accepted) code_is found.annotation;
-    told = found.told ∙ ap (λ (n : List ℕ). built_line wanted.folder n (hook_name hook) found.accepted.bound) name_is;
+    found = found.found;
+    annotation = subst (λ (c : List ℕ). IsAnnotation hook (with_found (fuel_for hook wanted.fuel) found.found) c found.object found.bytes found.accepted) code_is found.annotation;
+    told = found.told ∙ ap (λ (n : List ℕ). built_line wanted.folder n (hook_name hook) found.accepted.bound found.found) name_is;
   })
 ]
 
@@ -119,13 +122,14 @@ sections_all file wanted n report all so_far =
     subst (λ (m : ℕ). (report.is_refused ≡ true) ⊎ AreBuiltSections file wanted m (string_bytes report.text)) all so_far
 
 -- the code of a function whose object was written
-pub code_built : (wanted : Wanted) (hook : Hook) (shown name code : List ℕ) (object : ObjectParts) (bytes : List ℕ) (accepted : Program) (report : Report)
-    → IsAnnotation hook wanted.fuel code object bytes accepted → shown ≡ name
-    → string_bytes report.text ≡ built_line wanted.folder shown (hook_name hook) accepted.bound → IsBuiltCode wanted hook name code report
-code_built wanted hook shown name code object bytes accepted report annotation is told = inr (record {
+pub code_built : (wanted : Wanted) (hook : Hook) (shown name code : List ℕ) (object : ObjectParts) (bytes : List ℕ) (accepted : Program) (fuel : Fuel) (turns : Option ℕ) (report : Report)
+    → fuel ≡ fuel_for hook wanted.fuel → IsAnnotation hook (with_found fuel turns) code object bytes accepted → shown ≡ name
+    → string_bytes report.text ≡ built_line wanted.folder shown (hook_name hook) accepted.bound turns → IsBuiltCode wanted hook name code report
+code_built wanted hook shown name code object bytes accepted fuel turns report fuel_is annotation is told = inr (record {
   object = object;
   bytes = bytes;
   accepted = accepted;
-  annotation = annotation;
-  told = told ∙ ap (λ (n : List ℕ). built_line wanted.folder n (hook_name hook) accepted.bound) is;
+  found = turns;
+  annotation = subst (λ (f : Fuel). IsAnnotation hook (with_found f turns) code object bytes accepted) fuel_is annotation;
+  told = told ∙ ap (λ (n : List ℕ). built_line wanted.folder n (hook_name hook) accepted.bound turns) is;
 })

@@ -1,26 +1,43 @@
 -- What is told of an object that was found for code.
-use Rattle.std.specs.Prelude.{◌≡◌, ◌⊎◌, ℕ, ◌∷◌, ◌++◌, [], List, Option, true, false, codes, decimal}
+use Rattle.std.specs.Prelude.{◌≡◌, ◌⊎◌, ℕ, ◌∷◌, ◌++◌, [], List, Option, Some, None, true, false, codes, decimal}
 use Rattle.std.specs.Prelude.{string_bytes}
 use Rattle.isa.specs.declared.hook.Hook.{Hook}
 use Rattle.object.specs.Objects.{ObjectParts}
 use Rattle.verifier.specs.Programs.{Program}
-use Rattle.annotations.specs.Annotated.{IsAnnotation}
+use Rattle.annotations.specs.Annotated.{IsAnnotation, with_found}
+use Rattle.annotations.specs.CountedCode.{answer_without_turns}
+use Rattle.annotations.specs.declared.fuel.Fuel.{Fuel}
+use Rattle.hooktool_line.specs.declared.requests.FuelAsked.{FuelAsked}
 use Rattle.hooktool_commands.specs.declared.report.Report.{Report}
 
--- the line that is printed
-abbrev pub accepted_line : (bound : ℕ) → List ℕ
-accepted_line bound = codes "accepted bound " ++ (decimal bound ++ 10 ∷ [])
+-- How many turns may be counted at the hook, and what is answered once they are used up.
+abbrev pub fuel_for : Hook → FuelAsked → Fuel
+fuel_for hook asked = record {
+  turns = asked.turns;
+  answer = answer_without_turns hook asked.answer;
+}
 
--- An object was found of the file's code (with --fuel, of that code with its turns counted) that
--- the verifier accepts, and its bound is told.
-pub record IsFound (hook : Hook) (fuel : Option ℕ) (file : List ℕ) (report : Report) : Type 0 where
+-- how many turns are counted though nobody asked for that
+abbrev pub counted_words : (found : Option ℕ) → List ℕ
+counted_words None = 10 ∷ []
+counted_words (Some turns) = codes ", turns counted, at most " ++ (decimal turns ++ 10 ∷ [])
+
+-- the line that is printed
+abbrev pub accepted_line : (bound : ℕ) → (found : Option ℕ) → List ℕ
+accepted_line bound found = codes "accepted bound " ++ (decimal bound ++ counted_words found)
+
+-- An object was found of the file's code (with --fuel, or where that is told, of that code with its
+-- turns counted) that the verifier accepts, and its bound is told.
+pub record IsFound (hook : Hook) (fuel : FuelAsked) (file : List ℕ) (report : Report) : Type 0 where
   pub object : ObjectParts
   pub bytes : List ℕ
   pub accepted : Program
-  pub annotation : IsAnnotation hook fuel file object bytes accepted
-  pub told : string_bytes report.text ≡ accepted_line accepted.bound
+  pub found : Option ℕ
+  pub annotation : IsAnnotation hook (with_found (fuel_for hook fuel) found) file object bytes
+      accepted
+  pub told : string_bytes report.text ≡ accepted_line accepted.bound found
   pub done : report.is_refused ≡ false
 
 -- Or none was, and that is told.
-abbrev pub IsAnnotated : Hook → Option ℕ → List ℕ → Report → Type 0
+abbrev pub IsAnnotated : Hook → FuelAsked → List ℕ → Report → Type 0
 IsAnnotated hook fuel file report = IsFound hook fuel file report ⊎ (report.is_refused ≡ true)

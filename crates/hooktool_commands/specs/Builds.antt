@@ -5,32 +5,33 @@ use Rattle.isa.specs.declared.hook.Hook.{Hook}
 use Rattle.isa.specs.Hooks.{hook_name}
 use Rattle.object.specs.Objects.{ObjectParts}
 use Rattle.verifier.specs.Programs.{Program}
-use Rattle.annotations.specs.Annotated.{IsAnnotation}
+use Rattle.annotations.specs.Annotated.{IsAnnotation, with_found}
 use Rattle.elf.specs.declared.lists.LinkedSymbol.{LinkedSymbol}
 use Rattle.elf.specs.Entries.{is_code}
 use Rattle.elf.specs.Files.{IsObjectFile, contents_of, section_at, section_count, section_name}
 use Rattle.elf.specs.Lists.{HasBytes, HasSymbol, functions_of, relocations_of, symbol_bytes, symbol_name}
-use Rattle.hooktool_commands.specs.Annotations.{accepted_line}
+use Rattle.hooktool_commands.specs.Annotations.{accepted_line, fuel_for}
+use Rattle.hooktool_line.specs.declared.requests.FuelAsked.{FuelAsked}
 use Rattle.hooktool_commands.specs.declared.report.Report.{Report}
 
 -- what was asked for: the folder, the hook of functions in .text, the turns of loops
 pub record Wanted : Type 0 where
   pub folder : List ℕ
   pub hook : Option Hook
-  pub fuel : Option ℕ
+  pub fuel : FuelAsked
 
 -- FOLDER/FUNCTION.o: HOOK, accepted bound N
-abbrev pub built_line : (folder function hook : List ℕ) → (bound : ℕ) → List ℕ
-built_line folder function hook bound = folder ++ (codes "/" ++ (function ++ (codes ".o: "
-    ++ (hook ++ (codes ", " ++ accepted_line bound)))))
+abbrev pub built_line : (folder function hook : List ℕ) → (bound : ℕ) → (found : Option ℕ) → List ℕ
+built_line folder function hook bound found = folder ++ (codes "/" ++ (function ++ (codes ".o: "
+    ++ (hook ++ (codes ", " ++ accepted_line bound found)))))
 
 -- A section is for the hook that it is named by, and .text for the one that was asked for.
 abbrev pub IsHookOf : Option Hook → List ℕ → Hook → Type 0
 IsHookOf asked section hook = (section ≡ hook_name hook)
     ⊎ ((section ≡ codes ".text") × (asked ≡ Some hook))
 
--- An object was found of the function's code (with --fuel, of that code with its turns counted) that
--- the verifier accepts, and the line tells its bound.
+-- An object was found of the function's code (with --fuel, or where that is told, of that code with
+-- its turns counted) that the verifier accepts, and the line tells its bound.
 pub record IsBuiltFunction (file : List ℕ) (wanted : Wanted) (hook : Hook) (function : LinkedSymbol)
     (line : List ℕ) : Type 0 where
   pub named : HasSymbol file function.table function.index
@@ -38,10 +39,11 @@ pub record IsBuiltFunction (file : List ℕ) (wanted : Wanted) (hook : Hook) (fu
   pub object : ObjectParts
   pub bytes : List ℕ
   pub accepted : Program
-  pub annotation : IsAnnotation hook wanted.fuel (symbol_bytes file function.symbol) object bytes
-      accepted
+  pub found : Option ℕ
+  pub annotation : IsAnnotation hook (with_found (fuel_for hook wanted.fuel) found)
+      (symbol_bytes file function.symbol) object bytes accepted
   pub told : line ≡ built_line wanted.folder (symbol_name file function.table function.index)
-      (hook_name hook) accepted.bound
+      (hook_name hook) accepted.bound found
 
 -- The lines are those of the first n functions.
 abbrev pub AreBuiltFunctions : List ℕ → Wanted → Hook → List LinkedSymbol → ℕ → List ℕ → Type 0

@@ -2,20 +2,39 @@
 
 ghost use Rattle.std.specs.Prelude.{◌≡◌, List, ℕ, false, true, IfOk, string_bytes};
 ghost use Rattle.object_verdicts.specs.Verdicts.{Accepts};
-ghost use Rattle.hooktool_commands.specs.Annotations.{IsAnnotated, accepted_line};
+ghost use Rattle.hooktool_commands.specs.Annotations.{IsAnnotated, accepted_line, counted_words};
+ghost use Rattle.hooktool_commands.specs.Annotations.{fuel_for};
 
 use crate::explaining::lacks_memory;
 use crate::fault::Fault;
 use crate::files;
 use crate::report::Report;
-use annotations::{Annotated, CountError, Endless, Rejected, Shortfall, Trouble, annotate_file};
+use annotations::{
+    CountError, Endless, Found, Fuel, Rejected, Shortfall, Trouble, annotate_file,
+    answer_without_turns,
+};
 use explanations::{Explanation, Text, explain};
+use hooktool_line::FuelAsked;
 use isa::Hook;
 use std::alloc::{AllocError, Global};
 use std::rt::Files;
+use verifier::BUDGET;
 
-/// Which loop has no rank and why, and what an author can do.
-fn push_endless(out: &mut Text, endless: &Endless) {
+/// How great a rank may be at the entry of a program with so many slots.
+fn push_budget(out: &mut Text, slots: usize) {
+    let most = match slots {
+        0 => 0,
+        slots => (BUDGET / slots as u64).saturating_sub(1),
+    };
+    out.fill(
+        "  a run may take (B + 1) * L instructions, {} at most, for a rank B at the entry and L \
+            slots:\n  L is {} here, so B is at most {}; --fuel N makes B N + 1\n",
+        &[u128::from(BUDGET), slots as u128, u128::from(most)],
+    )
+}
+
+/// Which loop has no rank and why, and what an author can do. The program has so many slots.
+fn push_endless(out: &mut Text, endless: &Endless, slots: usize) {
     let (sentence, register, from) = match endless.trouble {
         Trouble::Rises { register } => (
             "the loop at slot {} has no rank: r{} rises with each turn, and none falls\n",
@@ -38,10 +57,16 @@ fn push_endless(out: &mut Text, endless: &Endless) {
         sentence,
         &[endless.slot as u128, u128::from(register), u128::from(from)],
     );
+    if let Trouble::TooHigh { .. } = endless.trouble {
+        push_budget(out, slots)
+    }
     out.push(
         "  either let a register fall with each turn (DOWN and EACH of examples/c/leafrunt.h \
             do)\n  or count the turns: --fuel N\n",
-    )
+    );
+    if endless.lacks_register {
+        out.push("  its turns end, but nothing can count them: the program uses each of r6 to r9\n")
+    }
 }
 
 /// The last two texts of an explanation, and which loop has no rank. An error where the verifier
@@ -50,6 +75,7 @@ fn last_told(
     alloc: Global,
     explanation: &Explanation,
     endless: &Option<Endless>,
+    slots: usize,
 ) -> Result<String, AllocError> {
     if lacks_memory(&explanation.verdict) {
         return Err(AllocError);
@@ -58,7 +84,7 @@ fn last_told(
     text.push(explanation.last.as_str());
     text.push(explanation.told.as_str());
     if let Some(endless) = endless {
-        push_endless(&mut text, endless);
+        push_endless(&mut text, endless, slots);
     }
     text.finish()
 }
@@ -70,7 +96,10 @@ fn rejection_text(
     endless: &Option<Endless>,
 ) -> Result<String, AllocError> {
     match explain(alloc, &rejected.bytes) {
-        Ok(explanation) => last_told(alloc, &explanation, endless),
+        Ok(explanation) => {
+            let slots = rejected.object.code().len() / 8;
+            last_told(alloc, &explanation, endless, slots)
+        }
         Err(_) => Err(AllocError),
     }
 }
@@ -97,6 +126,7 @@ fn uncounted<'a>(error: CountError) -> Fault<'a> {
     let reason = match error {
         CountError::NoRegister => "no turns can be counted: the program uses each of r6 to r9",
         CountError::TooMany => "no turns can be counted: --fuel is 1000000 or more",
+        CountError::TooGreat => "no turns can be counted: --fuel-answer is 2147483648 or more",
         CountError::TooLong =>
             "no turns can be counted: the code would have more than 4096 slots, or a jump would go \
                 too far",
@@ -119,12 +149,33 @@ pub(crate) fn shortfall<'a>(alloc: Global, shortfall: Shortfall) -> Result<Repor
     }
 }
 
-/// What is told of a program that is accepted with this bound.
-fn accepted<'a>(alloc: Global, bound: u64) -> Result<Report, Fault<'a>>
-    ensures told { IfOk result (λ report. string_bytes report.text ≡ accepted_line bound) }
+/// What is told of how many turns are counted though nobody asked for that.
+fn counted_words(alloc: Global, turns: Option<u32>) -> Result<String, AllocError>
+    ensures { IfOk result (λ words. string_bytes words ≡ counted_words turns) }
+{
+    match turns {
+        Some(turns) => format!(in alloc; ", turns counted, at most {turns}\n"),
+        None => format!(in alloc; "\n"),
+    }
+}
+
+/// The line of an object that is written: its bound, and how many turns it counts.
+pub(crate) fn accepted_line(alloc: Global, found: &Found) -> Result<String, AllocError>
+    ensures { IfOk result (λ line. string_bytes line
+        ≡ accepted_line found.now.annotated.accepted.bound found.now.turns) }
+{
+    let bound = found.annotated.accepted.bound();
+    let counted = counted_words(alloc, found.turns)?;
+    format!(in alloc; "accepted bound {bound}{counted}")
+}
+
+/// What is told of a program that is accepted.
+fn accepted<'a>(alloc: Global, found: &Found) -> Result<Report, Fault<'a>>
+    ensures told { IfOk result (λ report. string_bytes report.text
+        ≡ accepted_line found.now.annotated.accepted.bound found.now.turns) }
     ensures done { IfOk result (λ report. report.is_refused ≡ false) }
 {
-    match format!(in alloc; "accepted bound {bound}\n") {
+    match accepted_line(alloc, found) {
         Ok(text) => Ok(Report {
             text,
             is_refused: false,
@@ -137,19 +188,29 @@ fn accepted<'a>(alloc: Global, bound: u64) -> Result<Report, Fault<'a>>
 fn written<'a, R: Files + AllocGlobal>(
     rt: &R,
     path: &'a str,
-    annotated: &Annotated,
+    found: &Found,
 ) -> Result<Report, Fault<'a>>
-    requires { Accepts annotated.now.bytes.items annotated.now.accepted }
+    requires { Accepts found.now.annotated.bytes.items found.now.annotated.accepted }
     ensures told { IfOk result (λ report. string_bytes report.text
-        ≡ accepted_line annotated.now.accepted.bound) }
+        ≡ accepted_line found.now.annotated.accepted.bound found.now.turns) }
     ensures done { IfOk result (λ report. report.is_refused ≡ false) }
 {
-    match accepted(rt.alloc(), annotated.accepted.bound()) {
-        Ok(report) => match files::write_accepted(rt, path, &annotated.bytes) {
+    match accepted(rt.alloc(), found) {
+        Ok(report) => match files::write_accepted(rt, path, &found.annotated.bytes) {
             Ok(()) => Ok(report),
             Err(fault) => Err(fault),
         },
         Err(fault) => Err(fault),
+    }
+}
+
+/// How many turns may be counted at the hook, and what is answered once they are used up.
+pub(crate) fn fuel_for(hook: Hook, asked: FuelAsked) -> Fuel
+    ensures { result ≡ fuel_for hook asked }
+{
+    Fuel {
+        turns: asked.turns,
+        answer: answer_without_turns(hook, asked.answer),
     }
 }
 
@@ -160,12 +221,12 @@ fn annotate_bytes<'a, R: Files + AllocGlobal>(
     hook: Hook,
     file: &[u8],
     object: &'a str,
-    fuel: Option<u32>,
+    fuel: FuelAsked,
 ) -> Result<Report, Fault<'a>>
     ensures { IfOk result (λ report. (file : List ℕ) × IsAnnotated hook fuel file report) }
 {
-    match annotate_file(rt.alloc(), hook, file, fuel) {
-        Ok(annotated) => written(rt, object, &annotated),
+    match annotate_file(rt.alloc(), hook, file, fuel_for(hook, fuel)) {
+        Ok(found) => written(rt, object, &found),
         Err(error) => shortfall(rt.alloc(), error),
     }
 }
@@ -180,7 +241,7 @@ pub(crate) fn annotate<'a, R: Files + AllocGlobal>(
     hook: Hook,
     code: &'a str,
     object: &'a str,
-    fuel: Option<u32>,
+    fuel: FuelAsked,
 ) -> Result<Report, Fault<'a>>
     ensures { IfOk result (λ report. (file : List ℕ) × IsAnnotated hook fuel file report) }
 {

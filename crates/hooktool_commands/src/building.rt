@@ -11,15 +11,16 @@ ghost use Rattle.hooktool_commands.specs.Builds.{IsBuiltAt, IsBuiltFunction, IsB
 ghost use Rattle.hooktool_commands.specs.Builds.{IsHookOf, built_line, is_program_section};
 ghost use Rattle.hooktool_commands.specs.Orders.{IsBuiltCode, wanted_of};
 
-use crate::annotating::shortfall;
+use crate::annotating::{accepted_line, fuel_for, shortfall};
 use crate::fault::Fault;
 use crate::files;
 use crate::names::{as_file_name, shown};
 use crate::relocated::{Section, relocation_report};
 use crate::report::Report;
-use annotations::{Annotated, annotate_file};
+use annotations::{Found, annotate_file};
 use elf::{LinkedSymbol, ObjectFile};
 use explanations::Text;
+use hooktool_line::FuelAsked;
 use isa::Hook;
 use std::alloc::{AllocError, Global};
 use std::rt::Files;
@@ -29,7 +30,7 @@ use std::rt::Files;
 pub(crate) struct Order<'a> {
     pub folder: &'a str,
     pub hook: Option<Hook>,
-    pub fuel: Option<u32>,
+    pub fuel: FuelAsked,
 }
 
 /// A function's name, and that of its section.
@@ -136,12 +137,13 @@ fn line_of(
     folder: &str,
     function: &str,
     hook: &str,
-    bound: u64,
+    found: &Found,
 ) -> Result<String, AllocError>
-    ensures { IfOk result (λ line. string_bytes line
-        ≡ built_line folder.now function.now hook.now bound) }
+    ensures { IfOk result (λ line. string_bytes line ≡ built_line folder.now function.now hook.now
+        found.now.annotated.accepted.bound found.now.turns) }
 {
-    let line = format!(in alloc; "{folder}/{function}.o: {hook}, accepted bound {bound}\n")?;
+    let accepted = accepted_line(alloc, found)?;
+    let line = format!(in alloc; "{folder}/{function}.o: {hook}, {accepted}")?;
     Ok(line)
 }
 
@@ -151,18 +153,17 @@ fn write_function<'a, R: Files + AllocGlobal>(
     order: &Order<'a>,
     hook: Hook,
     function: &str,
-    annotated: &Annotated,
+    found: &Found,
 ) -> Result<Report, Fault<'a>>
-    requires { Accepts annotated.now.bytes.items annotated.now.accepted }
+    requires { Accepts found.now.annotated.bytes.items found.now.annotated.accepted }
     ensures { IfOk result (λ report. string_bytes report.text
         ≡ built_line order.now.folder.now function.now (hook_name hook)
-        annotated.now.accepted.bound) }
+        found.now.annotated.accepted.bound found.now.turns) }
 {
     let folder = order.folder;
     let path = format!(in rt.alloc(); "{folder}/{function}.o")?;
-    let bound = annotated.accepted.bound();
-    let text = line_of(rt.alloc(), folder, function, hook.name(), bound)?;
-    match files::write_accepted(rt, path.as_str(), &annotated.bytes) {
+    let text = line_of(rt.alloc(), folder, function, hook.name(), found)?;
+    match files::write_accepted(rt, path.as_str(), &found.annotated.bytes) {
         Ok(()) => Ok(Report {
             text,
             is_refused: false,
@@ -188,8 +189,8 @@ fn build_code<'a, R: Files + AllocGlobal>(
         text.push(": its name can't be a file's\n");
         return Ok(refusal(text)?);
     };
-    match annotate_file(rt.alloc(), hook, code, order.fuel) {
-        Ok(annotated) => Ok(write_function(rt, order, hook, name, &annotated)?),
+    match annotate_file(rt.alloc(), hook, code, fuel_for(hook, order.fuel)) {
+        Ok(found) => Ok(write_function(rt, order, hook, name, &found)?),
         Err(error) => {
             let why = shortfall(rt.alloc(), error);
             Ok(function_refusal(rt.alloc(), names, why)?)

@@ -17,6 +17,7 @@ use Rattle.isa.specs.declared.hook.Hook.{Hook}
 use Rattle.hooktool_line.specs.Questions.{HasQuestion}
 use Rattle.hooktool_line.specs.Requests.{HasFuel, HasHook, HasWord, IsMade, IsWrong, IsWrongWord, MadeBy, Makes, MakesNone, command_of}
 use Rattle.hooktool_line.specs.Words.{ReadsOrLacks}
+use Rattle.hooktool_line.specs.declared.requests.FuelAsked.{FuelAsked}
 use Rattle.hooktool_line.specs.declared.requests.Question.{Question}
 use Rattle.hooktool_line.specs.declared.values.NotRead.{NotRead}
 use Rattle.hooktool_line.specs.declared.values.NotRead.TheVariants as not_read
@@ -48,7 +49,7 @@ explain≢try : codes "try" ≡ codes "explain" → ⊥
 explain≢try e = let bad : ◌≡◌ {A = ℕ} 116 101 = ap (λ (t : List ℕ). slice_index t 0) e in absurd (omega arith)
 
 pub no_annotate : (rows : List Row)
-    → ((hook : Hook) (code object : Text) (fuel : Option ℕ) → HasWord rows (codes "HOOK") (hook_name hook) → HasWord rows (codes "CODE") code
+    → ((hook : Hook) (code object : Text) (fuel : FuelAsked) → HasWord rows (codes "HOOK") (hook_name hook) → HasWord rows (codes "CODE") code
     → HasWord rows (codes "OBJECT") object → HasFuel rows fuel → ⊥)
     → MadeBy (codes "annotate") rows None
 no_annotate rows none (requests.Annotate hook code object fuel) named has = none hook code.now object.now fuel has.0 has.1 has.2 has.3
@@ -57,7 +58,7 @@ no_annotate rows none (requests.Explain object) named has = absurd (annotate≢e
 no_annotate rows none (requests.Try object question) named has = absurd (annotate≢try named)
 
 pub no_build : (rows : List Row)
-    → ((file folder : Text) (hook : Option Hook) (fuel : Option ℕ) → HasWord rows (codes "FILE") file → HasWord rows (codes "FOLDER") folder
+    → ((file folder : Text) (hook : Option Hook) (fuel : FuelAsked) → HasWord rows (codes "FILE") file → HasWord rows (codes "FOLDER") folder
     → HasHook rows hook → HasFuel rows fuel → ⊥)
     → MadeBy (codes "build") rows None
 no_build rows none (requests.Annotate hook code object fuel) named has = absurd (annotate≢build (sym named))

@@ -19,19 +19,19 @@ repeated_option id = record (option id) { action = Some Append }
 abbrev pub command : Text → List Rule → Shape
 command name rules = record (new_shape name) { rules = rules }
 
--- annotate HOOK CODE OBJECT [--fuel N]
+-- annotate HOOK CODE OBJECT [--fuel N] [--fuel-answer N]
 abbrev pub annotate : Shape
 annotate =
     command (codes "annotate")
     (required_word (codes "HOOK") ∷ required_word (codes "CODE") ∷ required_word (codes "OBJECT")
-    ∷ option (codes "fuel") ∷ [])
+    ∷ option (codes "fuel") ∷ option (codes "fuel-answer") ∷ [])
 
--- build FILE FOLDER [--hook HOOK] [--fuel N]
+-- build FILE FOLDER [--hook HOOK] [--fuel N] [--fuel-answer N]
 abbrev pub build : Shape
 build =
     command (codes "build")
     (required_word (codes "FILE") ∷ required_word (codes "FOLDER") ∷ option (codes "hook")
-    ∷ option (codes "fuel") ∷ [])
+    ∷ option (codes "fuel") ∷ option (codes "fuel-answer") ∷ [])
 
 -- explain OBJECT
 abbrev pub explain : Shape

@@ -13,6 +13,7 @@ use Rattle.isa.specs.declared.hook.Hook.{Hook}
 use Rattle.hooktool_line.specs.CommandLine.{line}
 use Rattle.hooktool_line.specs.Questions.{HasQuestion}
 use Rattle.hooktool_line.specs.Words.{IsNumber, OrElse}
+use Rattle.hooktool_line.specs.declared.requests.FuelAsked.{FuelAsked}
 use Rattle.hooktool_line.specs.declared.requests.Request.{Request}
 use Rattle.hooktool_line.specs.declared.requests.Request.TheVariants as requests
 use Rattle.hooktool_line.specs.declared.values.NotRead.{NotRead}
@@ -29,13 +30,26 @@ command_of (requests.Try object question) = codes "try"
 abbrev pub HasWord : List Row → Text → Text → Type 0
 HasWord rows name word = first_of name rows ≡ Some word
 
--- how many turns a loop may take, where that is told
-abbrev pub IsFuel : Text → Option ℕ → Type 0
-IsFuel word (Some turns) = IsNumber 1 999999 word turns
-IsFuel word None = ⊥
+-- how many turns loops may take, where that is told
+abbrev pub IsTurns : Text → Option ℕ → Type 0
+IsTurns word (Some turns) = IsNumber 1 999999 word turns
+IsTurns word None = ⊥
 
-abbrev pub HasFuel : List Row → Option ℕ → Type 0
-HasFuel rows fuel = OrElse (first_of (codes "fuel") rows) (fuel ≡ None) (λ word. IsFuel word fuel)
+abbrev pub HasTurns : List Row → Option ℕ → Type 0
+HasTurns rows turns =
+    OrElse (first_of (codes "fuel") rows) (turns ≡ None) (λ word. IsTurns word turns)
+
+-- what is answered once they are used up, where that is told
+abbrev pub IsAnswer : Text → Option ℕ → Type 0
+IsAnswer word (Some answer) = IsNumber 0 2147483647 word answer
+IsAnswer word None = ⊥
+
+abbrev pub HasAnswer : List Row → Option ℕ → Type 0
+HasAnswer rows answer =
+    OrElse (first_of (codes "fuel-answer") rows) (answer ≡ None) (λ word. IsAnswer word answer)
+
+abbrev pub HasFuel : List Row → FuelAsked → Type 0
+HasFuel rows fuel = HasTurns rows fuel.turns × HasAnswer rows fuel.answer
 
 -- the hook that a word names
 abbrev pub IsHook : Text → Option Hook → Type 0

@@ -27,8 +27,12 @@ where price.bin is made of C by
   llvm-objcopy -O binary --only-section=.text price.elf price.bin
 
 CODE may be an object too, which begins with BPFH: the statements that it has are kept.
-With --fuel N each loop that has no rank counts its turns, and the code answers 0 after
-N of them.
+
+A loop that counts up has no rank, a number that falls with each turn. If it is found how often
+such loops go back at most, the code counts that, and never uses it up: turns counted, at most
+N, is printed then. With --fuel N you say how often they may go back in one run, all loops
+together, those in one another too. Where they would go back more often, the program answers
+what --fuel-answer says: without it 0, at price 16777215, which withholds the destination.
 
 Prints accepted bound N, as routerd verify does: OBJECT was written. Or prints where the
 verifier refuses, by which rule, what it knows there, what is allowed, and what an author can
@@ -54,7 +58,7 @@ where bogons.elf is made of C by
 
 (tools/hooktool-build calls both.) A function is for the hook that its section is named by, as
 SEC(\"veto\") in C, and its object is FOLDER/FUNCTION.o. With --hook also the functions of .text,
-those without SEC, are programs, for that hook. With --fuel N as in annotate.
+those without SEC, are programs, for that hook. --fuel and --fuel-answer are annotate's.
 
 Prints for each function FOLDER/FUNCTION.o: HOOK, accepted bound N, and it was written; or why it
 isn't: what the code uses or calls that a program doesn't have, by its name and the slot, or what
@@ -98,9 +102,10 @@ Examples: hooktool try falling_metric.o --prefix 203.0.113.0/24 --metric 50
 Options that a hook's question doesn't have change nothing: docs/FORMATS.md, 'Contexts', has
 each hook's fields. What isn't given is 0, type 2, intra, no packet and no rows.
 
-Prints for each run the answer in the hook's terms (metric 20, withheld, tag 7, let in, not
-installed, counted) and how many instructions it took of those that the object allows; or a trap,
-with its slot, instruction and registers. Then the counters and cells that aren't 0.
+Prints for each run the answer in the hook's terms (metric 20, withheld, tag 7, installed, not
+installed; at count answer 3, which isn't used) and how many instructions it took of those that
+the object allows; or a trap, with its slot, instruction and registers. Then the counters and
+cells that aren't 0.
 
 Statuses:
   0  each run answered
@@ -112,11 +117,14 @@ Statuses:
 
 const HOOK: &str = "The hook that the code is for: count, tag, price or veto";
 
-const CODE: &str = "Bare code, or an object whose statements lack";
+const CODE: &str = "Bare code, or an object that lacks statements";
 
 const TYPE: &str = "The type of the external destination";
 
-const FUEL: &str = "How many turns each loop without a rank may take, 1 to 999999";
+const FUEL: &str = "How often loops without a rank may go back in one run, in all, 1 to 999999";
+
+const FUEL_ANSWER: &str =
+    "What is answered once --fuel is used up, 0 to 2147483647; 0 unless told, at price 16777215";
 
 const INTERFACE: &str =
     "The interface that the packet came on, or by which the route leaves, 0 to 63";
@@ -164,7 +172,7 @@ pub(crate) struct Form {
     pub words: &'static [Word],
 }
 
-const ANNOTATE_WORDS: [Word; 4] = [
+const ANNOTATE_WORDS: [Word; 5] = [
     Word {
         given: Given::Required,
         name: "HOOK",
@@ -189,9 +197,15 @@ const ANNOTATE_WORDS: [Word; 4] = [
         value: "N",
         help: FUEL,
     },
+    Word {
+        given: Given::Once,
+        name: "fuel-answer",
+        value: "N",
+        help: FUEL_ANSWER,
+    },
 ];
 
-const BUILD_WORDS: [Word; 4] = [
+const BUILD_WORDS: [Word; 5] = [
     Word {
         given: Given::Required,
         name: "FILE",
@@ -215,6 +229,12 @@ const BUILD_WORDS: [Word; 4] = [
         name: "fuel",
         value: "N",
         help: FUEL,
+    },
+    Word {
+        given: Given::Once,
+        name: "fuel-answer",
+        value: "N",
+        help: FUEL_ANSWER,
     },
 ];
 

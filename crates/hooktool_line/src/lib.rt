@@ -13,4 +13,4 @@ mod values;
 
 pub use asked::{Asked, context_of};
 pub use reading::{parse, unread};
-pub use requests::{Packet, Question, Request};
+pub use requests::{FuelAsked, Packet, Question, Request};

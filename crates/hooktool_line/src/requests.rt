@@ -7,7 +7,8 @@ ghost use Rattle.clap.specs.Values.{kind_of};
 ghost use Rattle.clap.specs.Walk.{rows_of};
 ghost use Rattle.clap.specs.declared.error.kind.ErrorKind.TheVariants as kinds;
 ghost use Rattle.hooktool_line.specs.Questions.{HasAsked, HasQuestion, asked_of};
-ghost use Rattle.hooktool_line.specs.Requests.{HasFuel, HasHook, IsFuel, IsHook, IsMade, IsWrong};
+ghost use Rattle.hooktool_line.specs.Requests.{HasAnswer, HasFuel, HasHook, HasTurns, IsAnswer};
+ghost use Rattle.hooktool_line.specs.Requests.{IsHook, IsMade, IsTurns, IsWrong};
 ghost use Rattle.hooktool_line.specs.Requests.{IsWrongWord, MadeBy, Makes};
 ghost use Rattle.hooktool_line.specs.Words.{Reads, ReadsOrLacks};
 
@@ -40,16 +41,23 @@ pub struct Question<'a> {
     pub times: u32,
 }
 
+/// How many turns loops without a rank may take, 1 to 999,999, and what is answered once they are
+/// used up, 0 to 2^31 - 1: where that is told.
+#[derive(Clone, Copy)]
+pub struct FuelAsked {
+    pub turns: Option<u32>,
+    pub answer: Option<u32>,
+}
+
 /// What the words of a command line ask for.
 #[derive(Drop)]
 pub enum Request<'a> {
-    /// Find statements for code at a hook, and write the object. Where `fuel` is told, loops
-    /// without a rank may take so many turns.
+    /// Find statements for code at a hook, and write the object.
     Annotate {
         hook: Hook,
         code: &'a str,
         object: &'a str,
-        fuel: Option<u32>,
+        fuel: FuelAsked,
     },
     /// Make an object of each function of an ELF file that is for a hook, in the folder. `hook` is
     /// that of functions outside of the sections that hooks name.
@@ -57,7 +65,7 @@ pub enum Request<'a> {
         file: &'a str,
         folder: &'a str,
         hook: Option<Hook>,
-        fuel: Option<u32>,
+        fuel: FuelAsked,
     },
     /// Tell what the verifier knows of an object's program.
     Explain {
@@ -129,7 +137,7 @@ fn question_of<'a>(alloc: Global, matches: &ArgMatches<'a>) -> Result<Question<'
 
 /// The number of turns that a word gives.
 fn turns_of(word: &str) -> Option<Option<u32>>
-    ensures { Reads (IsFuel word.now) result }
+    ensures { Reads (IsTurns word.now) result }
 {
     match read_within(word, 1, 999_999) {
         Some(turns) => Some(Some(turns as u32)),
@@ -137,13 +145,47 @@ fn turns_of(word: &str) -> Option<Option<u32>>
     }
 }
 
-/// How many turns a loop may take, where that is told. None where the word is no such number.
-fn fuel_of(matches: &ArgMatches<'_>) -> Option<Option<u32>>
-    ensures { Reads (HasFuel (rows_of (found_of matches.now))) result }
+/// How many turns loops may take, where that is told. None where the word is no such number.
+fn turns_in(matches: &ArgMatches<'_>) -> Option<Option<u32>>
+    ensures { Reads (HasTurns (rows_of (found_of matches.now))) result }
 {
     match word_of(matches, "fuel") {
         None => Some(None),
         Some(word) => turns_of(word),
+    }
+}
+
+/// The answer that a word gives.
+fn answer_of(word: &str) -> Option<Option<u32>>
+    ensures { Reads (IsAnswer word.now) result }
+{
+    match read_within(word, 0, 0x7fff_ffff) {
+        Some(answer) => Some(Some(answer as u32)),
+        None => None,
+    }
+}
+
+/// What is answered once the turns are used up, where that is told. None where the word is no such
+/// number.
+fn answer_in(matches: &ArgMatches<'_>) -> Option<Option<u32>>
+    ensures { Reads (HasAnswer (rows_of (found_of matches.now))) result }
+{
+    match word_of(matches, "fuel-answer") {
+        None => Some(None),
+        Some(word) => answer_of(word),
+    }
+}
+
+/// What the options say of fuel. None where one of their words is no such number.
+fn fuel_of(matches: &ArgMatches<'_>) -> Option<FuelAsked>
+    ensures { Reads (HasFuel (rows_of (found_of matches.now))) result }
+{
+    let Some(turns) = turns_in(matches) else {
+        return None;
+    };
+    match answer_in(matches) {
+        Some(answer) => Some(FuelAsked { turns, answer }),
+        None => None,
     }
 }
 
@@ -271,17 +313,22 @@ fn wrong_option(matches: &ArgMatches<'_>) -> &'static str {
     "--packet is neither hex digits, two a byte, nor @FILE, or --row isn't A.B.C.D/L=COST"
 }
 
+// Which of the options about fuel has no meaning, where one has none, else the other word.
+fn wrong_fuel(matches: &ArgMatches<'_>, other: &'static str) -> &'static str {
+    let Some(_) = turns_in(matches) else {
+        return "--fuel is no number from 1 to 999999";
+    };
+    match answer_in(matches) {
+        Some(_) => other,
+        None => "--fuel-answer is no number from 0 to 2147483647",
+    }
+}
+
 // What is wrong with the words of a command that makes nothing of them.
 fn wrong_word(name: &str, matches: &ArgMatches<'_>) -> &'static str {
     match name {
-        "annotate" => match fuel_of(matches) {
-            Some(_) => "HOOK is none of count, tag, price and veto",
-            None => "--fuel is no number from 1 to 999999",
-        },
-        "build" => match fuel_of(matches) {
-            Some(_) => "--hook is none of count, tag, price and veto",
-            None => "--fuel is no number from 1 to 999999",
-        },
+        "annotate" => wrong_fuel(matches, "HOOK is none of count, tag, price and veto"),
+        "build" => wrong_fuel(matches, "--hook is none of count, tag, price and veto"),
         _ => wrong_option(matches),
     }
 }

@@ -4,6 +4,7 @@ use crate::edges::{Edge, registers_of};
 use crate::joining::{Growth, Value, first_statement, joined_statement};
 use crate::liveness::Registers;
 use crate::memory::{Memory, element_or};
+use crate::turns::Turns;
 use crate::widening::Widening;
 use kinds::{State, put};
 use object::Statement;
@@ -17,6 +18,8 @@ pub enum Purpose {
     Fall,
     /// It keeps the edge.
     Gather,
+    /// It collects what comes to each site, turn by turn, and counts the turns.
+    Unroll,
 }
 
 /// The statements so far, a place for each site.
@@ -37,9 +40,10 @@ pub struct Draft {
     /// Which statements stay as they are.
     kept: Vec<bool>,
     pub stated: Vec<Option<Statement>>,
-    /// What a falling pass finds.
+    /// What a falling pass finds, or what has come to the site and isn't followed yet.
     found: Vec<Option<Statement>>,
     pub edges: Vec<Edge>,
+    pub turns: Turns,
 }
 
 /// An edge to a site: the site's slot, the site that the edge comes from, or the number behind the
@@ -85,6 +89,7 @@ impl Draft {
             stated: memory.filled(None, size),
             found: memory.filled(None, size),
             edges: Vec::new(memory.alloc),
+            turns: Turns::new(memory, size),
         }
     }
 
@@ -223,10 +228,30 @@ impl Draft {
 
     /// Takes an edge, at which this is known.
     pub fn take(&mut self, memory: &Memory, arrival: &Arrival, state: &State<Value>) {
-        if matches!(self.purpose, Purpose::Gather) {
-            self.gather(memory, arrival, state)
-        } else if !element_or(&self.kept, arrival.site, false) {
-            self.grow(arrival, state)
+        match self.purpose {
+            Purpose::Gather => self.gather(memory, arrival, state),
+            Purpose::Unroll => {
+                self.turns.take(arrival.site, arrival.is_back);
+                self.grow(arrival, state)
+            }
+            Purpose::Rise | Purpose::Fall => {
+                if !element_or(&self.kept, arrival.site, false) {
+                    self.grow(arrival, state)
+                }
+            }
         }
+    }
+
+    /// Whether something has come to the site that isn't followed yet.
+    pub fn is_pending(&self, site: usize) -> bool {
+        element_or(&self.found, site, None).is_some()
+    }
+
+    /// What has come to the site, which is followed from there now.
+    pub fn take_pending(&mut self, site: usize) -> Option<Statement> {
+        let pending = element_or(&self.found, site, None);
+        put(&mut self.found, site, None);
+        self.turns.leave(site);
+        pending
     }
 }

@@ -3,7 +3,7 @@
 use crate::draft::{Draft, Purpose};
 use crate::edges::Edge;
 use crate::flow::{Passes, Program};
-use crate::liveness::live_registers;
+use crate::liveness::{live_registers, reads_frame};
 use crate::memory::Memory;
 use crate::sites::{Sites, sites_of};
 use crate::widening::limits_of;
@@ -71,7 +71,7 @@ fn find(passes: &mut Passes<'_>) {
 }
 
 /// The program of the code at the hook.
-fn program_of<'a>(
+pub fn program_of<'a>(
     memory: &'a Memory,
     code: &'a Code,
     hook: Hook,
@@ -83,6 +83,7 @@ fn program_of<'a>(
         hook,
         sites: sites_of(memory, code, given),
         live: memory.list(live_registers(memory.alloc, code, hook)),
+        depth: if reads_frame(code, hook) { 512 } else { 0 },
     }
 }
 

@@ -24,6 +24,9 @@ pub struct Program<'a> {
     pub hook: Hook,
     pub sites: Sites,
     pub live: Vec<Registers>,
+    /// Of how many bytes of the stack something may be known: all 512, or none of a program that
+    /// never reaches it.
+    pub depth: usize,
 }
 
 /// What is known at a slot: in the segment that begins at the site, or at the entry, which has the
@@ -56,14 +59,15 @@ struct Branch {
     to: usize,
 }
 
-/// What is known where a run begins: r1 points to the context.
-pub fn entry_state(memory: &Memory) -> State<Value> {
+/// What is known where a run begins: r1 points to the context, and of so many bytes of the stack
+/// something may be known.
+pub fn entry_state(memory: &Memory, depth: usize) -> State<Value> {
     let mut kinds = memory.filled(Kind::Empty, 10);
     put(&mut kinds, 1, Kind::Pointer(Place::Context(0)));
     State {
         kinds,
         facts: memory.filled(None, 10),
-        entries: memory.filled(Entry::Unknown, 512),
+        entries: memory.filled(Entry::Unknown, depth),
     }
 }
 
@@ -84,11 +88,11 @@ fn narrow(here: &mut Here, branch: &Branch, values: Option<(Value, Value)>) {
     }
 }
 
-/// What is known at the entry of a program with so many sites.
-fn entry(memory: &Memory, sites: usize, is_live: bool) -> Here {
+/// What is known at the entry of the program.
+fn entry(program: &Program<'_>, is_live: bool) -> Here {
     Here {
-        begun: sites,
-        state: entry_state(memory),
+        begun: program.sites.len(),
+        state: entry_state(program.memory, program.depth),
         is_live,
         is_idle: false,
     }
@@ -97,7 +101,7 @@ fn entry(memory: &Memory, sites: usize, is_live: bool) -> Here {
 impl<'a> Passes<'a> {
     /// No pass yet.
     pub fn new(program: Program<'a>, draft: Draft) -> Passes<'a> {
-        let here = entry(program.memory, program.sites.len(), false);
+        let here = entry(&program, false);
         Passes {
             program,
             draft,
@@ -198,13 +202,13 @@ impl<'a> Passes<'a> {
     }
 
     /// Begins a segment at the site of which this is stated.
-    fn begin(&mut self, site: usize, statement: &Statement) {
+    pub fn begin(&mut self, site: usize, statement: &Statement) {
         let memory = self.program.memory;
         match target_of(memory.alloc, statement) {
             Ok(target) => {
                 self.here = Here {
                     begun: site,
-                    state: reset(entry_state(memory), &target),
+                    state: reset(entry_state(memory, self.program.depth), &target),
                     is_live: true,
                     is_idle: false,
                 }
@@ -252,6 +256,29 @@ impl<'a> Passes<'a> {
         }
     }
 
+    /// Begins at the entry of the program: at slot 0, where that has no statement.
+    pub fn begin_at_entry(&mut self) {
+        let is_live = self.program.sites.at(0).is_none();
+        self.here = entry(&self.program, is_live);
+        self.enter(0, false)
+    }
+
+    /// Follows the segment from the slot on, where it begins. How many instructions it has.
+    pub fn follow_segment(&mut self, first: usize) -> usize {
+        let code = self.program.code;
+        let mut steps = 0usize;
+        for slot in first..code.len() {
+            if !self.here.is_live {
+                break;
+            }
+            if let Some(Slot::Start(instruction)) = code.at(slot as u64) {
+                self.step(slot, instruction);
+                steps = steps.saturating_add(1);
+            }
+        }
+        steps
+    }
+
     /// Comes to the instruction at the slot, and goes on by it.
     fn visit(&mut self, slot: usize, instruction: Instruction)
         requires { slot < 4096 }
@@ -265,12 +292,8 @@ impl<'a> Passes<'a> {
     /// Passes over the code once. Where slot 0 has a statement, that is entered, by no jump back:
     /// the edge comes from before the first slot.
     pub fn pass(&mut self) {
-        let program = &self.program;
-        self.here = entry(
-            program.memory,
-            program.sites.len(),
-            self.draft.is_entry_due(),
-        );
+        let is_due = self.draft.is_entry_due();
+        self.here = entry(&self.program, is_due);
         self.enter(0, false);
         let code = self.program.code;
         for slot in 0..code.len() {

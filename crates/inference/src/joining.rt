@@ -176,7 +176,7 @@ fn kinds_of(live: Registers, known: &[Known<Value>]) -> [Kind; 10] {
 /// The bytes among these of the stack that are known to be bytes.
 fn bytes_of(state: &State<Value>, others: &StackBytes) -> StackBytes {
     let mut bytes = StackBytes::new();
-    for place in 0..512 {
+    for place in 0..state.entries.len().min(512) {
         if others.contains(place) && are_bytes(&state.entries, place, place + 1) {
             bytes.insert_range(place, place + 1);
         }

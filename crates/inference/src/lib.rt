@@ -10,6 +10,8 @@ mod joining;
 pub mod liveness;
 pub mod memory;
 mod sites;
+mod turns;
+mod unrolling;
 mod widening;
 
 pub use edges::{Edge, copy_of};
@@ -17,3 +19,4 @@ pub use fixpoint::{Inference, infer_statements};
 pub use flow::entry_state;
 pub use joining::Value;
 pub use sites::Sites;
+pub use unrolling::most_turns;

@@ -32,7 +32,7 @@ fn arguments(hook: Hook, number: i32) -> Registers {
     }
 }
 
-/// The registers that the instruction reads, but r10.
+/// The registers that the instruction reads.
 pub fn reads(hook: Hook, instruction: &Instruction) -> Registers {
     match *instruction {
         Instruction::Arithmetic {
@@ -72,6 +72,18 @@ pub fn reads(hook: Hook, instruction: &Instruction) -> Registers {
         Instruction::Exit => 1,
         _ => 0,
     }
+}
+
+/// Whether an instruction of the code reads r10, without which none reaches the stack.
+pub fn reads_frame(code: &Code, hook: Hook) -> bool {
+    for slot in code.slots() {
+        if let Slot::Start(instruction) = slot {
+            if has(reads(hook, instruction), 10) {
+                return true;
+            }
+        }
+    }
+    false
 }
 
 /// The register that the instruction fills, other than a call.

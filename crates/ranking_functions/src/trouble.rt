@@ -18,6 +18,8 @@ pub enum Trouble {
 pub struct Endless {
     pub slot: usize,
     pub trouble: Trouble,
+    /// Its turns are bounded, but no register is left to count them.
+    pub lacks_register: bool,
 }
 
 /// Why the register is none that bounds the loop's turns.
@@ -53,6 +55,7 @@ fn endless_at(graph: &Graph<'_>, head: usize) -> Option<Endless> {
         Some(Endless {
             slot: graph.sites.slot(head),
             trouble: trouble_at(graph, &circle, head),
+            lacks_register: false,
         })
     } else {
         None
