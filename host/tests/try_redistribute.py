@@ -157,6 +157,7 @@ def redistribute(given: Try) -> None:
     odd_routes(it)
     by_hand(it)
     decided(it, objects)
+    reloaded(it)
     it.stop()
 
 
@@ -264,6 +265,19 @@ def decided(it: Scene, objects: list[Path]) -> None:
     withheld = "10.30.2.0/29 30 2 0 withheld static" in it.box.ask("announced")
     is_out = "10.30.2.0/29" not in it.there()
     it.looks.look("one that it withholds isn't announced", withheld and is_out)
+
+
+def reloaded(it: Scene) -> None:
+    """A section that isn't there any more, and one that is there again."""
+    box = it.both[0]
+    before, it.box.more = it.box.more, "[redistribute.connected]\n"
+    for more, is_there in ((it.box.more, False), (before, True)):
+        it.box.more = more
+        it.box.configure()
+        it.box.command("reload")
+        it.follows(box, "a static route after a reload", "10.30.1.0/28", is_there, AGAIN)
+        what = "and a connected network, which stays announced"
+        it.looks.look(what, "10.11.0.0/24" in it.there())
 
 
 def thousands(given: Try) -> None:
