@@ -30,6 +30,8 @@ wait a second before it calculates its routes."""
 AGAIN = 5 + FOLLOWS
 """The same of what was announced already within MinLSInterval."""
 MANY, MOST = 10_000, 4096
+SLOWLY = 180
+"""Seconds that are waited for thousands, of which each LSA is acknowledged, on a busy machine."""
 PRICE = """hook price
 rank 0
 r2 = *u32 r1 8
@@ -305,7 +307,7 @@ def loaded(it: Scene, one: Announcing) -> None:
         return sum(each.startswith(first) for each in it.there())
 
     batch(one, [f"route add {each} via 10.{one.number}.0.2" for each in all_of_them])
-    show(it, one, f"{MANY} static routes: {most} in the neighbor's kernel", 60, lambda: count() >= most)
+    show(it, one, f"{MANY} static routes: {most} in the neighbor's kernel", SLOWLY, lambda: count() >= most)
     if not one.is_box:
         return
     time.sleep(2)
@@ -315,7 +317,7 @@ def loaded(it: Scene, one: Announcing) -> None:
     print("     " + "\n     ".join(each for each in status.splitlines() if "announced" in each))
     batch(one, [f"route del {each} via 10.11.0.2" for each in all_of_them[: MANY - MOST + 1]])
     left = set(all_of_them[MANY - MOST + 1 :])
-    show(it, one, f"{len(left)} are left: all of those", 60, lambda: count() == len(left) and left <= it.there())
+    show(it, one, f"{len(left)} are left: all of those", SLOWLY, lambda: count() == len(left) and left <= it.there())
     it.looks.timed("and nothing is told", 10, lambda: "announced:" not in it.box.status())
 
 
@@ -345,4 +347,4 @@ def flapping(it: Scene) -> None:
     looks.look(f"{len(its)} routes flap: the adjacency stays Full", is_up, measured)
     lines = len(it.box.log_lines()) - log
     looks.look("the log has no more than 40 lines of it", lines <= 40, str(lines))
-    show(it, box, "and then all are there again", 60, lambda: set(its) <= it.there())
+    show(it, box, "and then all are there again", SLOWLY, lambda: set(its) <= it.there())
