@@ -1,5 +1,6 @@
 //! How long a turn takes for a Hello at a router with one interface: what a turn costs beside its
 //! event.
+ghost use Rattle.std.specs.Prelude.{◌≡◌};
 ghost use Rattle.worker.specs.Opening.{IsSetUpFor};
 
 use crate::figures::{MEASUREMENTS, Times, nanoseconds_since};
@@ -81,11 +82,16 @@ fn measure<L: Site, R: Wait + Clock>(
     Ok(nanoseconds)
 }
 
-// At a hub that begins with a new router.
-fn measure_at<L: Site, R: Wait + Clock>(rt: &R, alloc: Global, setup: Setup) -> Result<u64>
+// At a hub that begins with this router.
+fn measure_at<L: Site, R: Wait + Clock>(
+    rt: &R,
+    alloc: Global,
+    setup: Setup,
+    core: Core,
+) -> Result<u64>
     requires setup { IsSetUpFor L.name L.parts L.words L.history setup }
+    requires origin { core ≡ L.origin }
 {
-    let core = Core::new(alloc, &config(alloc)?)?;
     let (hub, mut ports, _rest) = open_hub::<L>(alloc, setup, core)?;
     let measured = measure(rt, alloc, &hub, ports.pop());
     let (book, _shared) = hub.into_parts();
@@ -98,23 +104,26 @@ fn measure_beside<L: Site, R: Wait + Clock>(
     rt: &R,
     alloc: Global,
     setup: Setup,
+    core: Core,
     loader: &mut Loader<&R>,
     counts: bool,
 ) -> Result<u64>
     requires setup { IsSetUpFor L.name L.parts L.words L.history setup }
+    requires origin { core ≡ L.origin }
 {
     if counts {
         let adds = "hook count\nrank 0\nr1 = 5\nr2 = 1\ncall 1\nexit\n";
         loader.attach(program(alloc, adds)?)?;
     }
-    measure_at::<L, R>(rt, alloc, setup)
+    measure_at::<L, R>(rt, alloc, setup, core)
 }
 
 // One measurement, in nanoseconds.
 #[tactic(auto, using(crate::proofs::Fresh::all_ask))]
 fn measure_once<R: Wait + Clock>(rt: &R, alloc: Global, counts: bool) -> Result<u64> {
     let (mut loader, setup) = Setup::new(alloc, rt, 2)?;
-    measure_beside::<Brand, R>(rt, alloc, setup, &mut loader, counts)
+    let core = Core::new(alloc, &config(alloc)?)?;
+    measure_beside::<Brand, R>(rt, alloc, setup, core, &mut loader, counts)
 }
 
 fn print_turns<R: Wait + Clock + Print + AllocGlobal>(

@@ -1,6 +1,6 @@
 -- A journal with one more event.
-use Rattle.std.proofs.Common.{◌≡◌, List, [], ◌∷◌, ◌++◌, map, sym, subst, refl, ap, ◌∙◌}
-use Rattle.std.proofs.lemmas.List.{map-append}
+use Rattle.std.proofs.Common.{◌≡◌, ℕ, ◌+◌, List, [], ◌∷◌, ◌++◌, map, sym, subst, refl, ap, ◌∙◌}
+use Rattle.std.proofs.lemmas.List.{length-append, map-append}
 use Rattle.std.proofs.lemmas.List.Sums.{fold-append}
 use Rattle.events.specs.declared.model.Out.{Out}
 use Rattle.events.specs.Events.{Happens, Run, Step}
@@ -8,7 +8,7 @@ use Rattle.events.specs.Routers.{Router}
 use Rattle.flood.specs.Occurrences.{occurrence_of}
 use Rattle.book.specs.declared.entry.Entry.{Entry}
 use Rattle.book.specs.Bytes.{bytes_of, with_event}
-use Rattle.book.specs.Replay.{Replays, entry_occurrence, step_occurrence}
+use Rattle.book.specs.Replay.{Leads, Replays, entry_occurrence, step_occurrence}
 
 abbrev step : Entry → List Out → Step
 step e outs = record { moment = e.moment; event = occurrence_of e.event; outs = outs }
@@ -32,6 +32,12 @@ pub replays_on : (start : Router) (journal : List Entry) (before after : Router)
     → Replays start (journal ++ e ∷ []) after
 replays_on start journal before after e outs (steps, same, run) now =
     (steps ++ step e outs ∷ [], same_on steps journal (step e outs) e same refl, run_on steps start before after (step e outs) run now)
+
+-- one event more leads on
+pub leads_on : (origin : Router) (taken : ℕ) (before after : Router) (e : Entry) (outs : List Out)
+    → Leads origin taken before → Happens before e.moment (occurrence_of e.event) outs after → Leads origin (taken + 1) after
+leads_on origin taken before after e outs (steps, run, many) now =
+    (steps ++ step e outs ∷ [], run_on steps origin before after (step e outs) run now, length-append steps (step e outs ∷ []) ∙ ap (λ n. n + 1) many)
 
 -- the bytes of a journal with one more event
 pub bytes_with : (journal : List Entry) (e : Entry) → bytes_of (journal ++ e ∷ []) ≡ with_event (bytes_of journal) e.event

@@ -24,6 +24,10 @@ Replays start journal now =
     (steps : List Step) × (map step_occurrence steps ≡ map entry_occurrence journal)
     × Run start steps now
 
+-- so many events, one after the other, lead from one router to the other, whatever they sent
+abbrev pub Leads : (origin : Router) → (taken : ℕ) → (now : Router) → Type 0
+Leads origin taken now = (steps : List Step) × Run origin steps now × (length steps ≡ taken)
+
 -- what contracts see of a book
 pub record BookView : Type 0 where
   pub start : Router
@@ -57,10 +61,11 @@ IsNoted old e new =
     ((new.start ≡ old.start) × (new.journal ≡ old.journal ++ e ∷ []))
     ⊎ (IsDue old × (new.start ≡ old.current) × (new.journal ≡ e ∷ []))
 
--- what holds of the fields of every book, beside the total of its ledger
-pub record IsKept (start : Router) (journal : List Entry) (now : Router)
+-- what holds of the fields of every book that began with this router, beside the total of its ledger
+pub record IsKept (origin : Router) (start : Router) (journal : List Entry) (now : Router)
     (noted taken total : ℕ) : Type 0 where
   pub replays : Replays start journal now
+  pub leads : Leads origin taken now
   pub weighed : noted ≡ bytes_of journal
   pub room : length journal ≤ 65536
   pub few : taken ≤ 9223372036854775808

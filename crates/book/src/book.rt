@@ -6,18 +6,19 @@ ghost use Rattle.flood.specs.Occurrences.{occurrence_of};
 ghost use Rattle.flood.specs.Early.{early_refusal};
 ghost use Rattle.flood.specs.Offers.{IsStaleNow};
 ghost use Rattle.book.specs.Refusals.{Answers, AnswersAnew};
-ghost use Rattle.book.specs.Replay.{IsNoted, IsSameOrMarked, Replays, entry, marked_book};
-ghost use Rattle.book.specs.Replay.{started_book};
+ghost use Rattle.book.specs.Replay.{IsNoted, IsSameOrMarked, Leads, Replays, entry};
+ghost use Rattle.book.specs.Replay.{marked_book, started_book};
 
 use crate::entry::Entry;
 use crate::error::BookError;
+use crate::origin::Origin;
 use crate::weight::with_event;
 use flood::{Core, Event, Out};
 use std::alloc::{AllocError, Global};
 use std::marker::Model;
 use std::mem::replace;
 use std::sync::ledger;
-use std::sync::ledger::{Blank, Ledger, Share};
+use std::sync::ledger::{Blank, Share};
 use words::Second;
 
 /// The most events in a journal.
@@ -32,9 +33,10 @@ pub const NOTED: u64 = 64 << 20;
 /// A router with its past: the router at the start, the events since, and the router as it is now.
 ///
 /// Clauses see these and how many events were taken in all, before the start too. `L` is the ledger
-/// in which every event counts once, for the share that it was taken with.
+/// in which every event counts once, for the share that it was taken with, and names the router
+/// that the first event found.
 #[derive(Drop)]
-pub struct Book<L: Ledger> {
+pub struct Book<L: Origin> {
     alloc: Global,
     start: Core,
     current: Core,
@@ -45,7 +47,7 @@ pub struct Book<L: Ledger> {
     total: ledger::Book<L>,
 }
 
-impl<L: Ledger> Model for Book<L> {
+impl<L: Origin> Model for Book<L> {
     ghost use Rattle.std.specs.Prelude.{ℕ};
     ghost use Rattle.std.specs.Coded.{codes};
     ghost use Rattle.std.specs.FinMap as finite;
@@ -74,10 +76,11 @@ impl<L: Ledger> Model for Book<L> {
       taken = b.taken;
     } };
 
-    ghost invariant = { λ b. IsKept b.start b.journal.items b.current b.noted b.taken b.total.total };
+    ghost invariant = { λ b.
+        IsKept L.origin b.start b.journal.items b.current b.noted b.taken b.total.total };
 }
 
-impl<L: Ledger> Book<L> {
+impl<L: Origin> Book<L> {
     /// A book that starts with this router and has taken nothing, and the share that has every part
     /// of the ledger.
     ///
@@ -85,6 +88,7 @@ impl<L: Ledger> Book<L> {
     pub fn new(alloc: Global, blank: Blank, core: Core) -> Result<(Book<L>, Share<L>), AllocError>
         requires name { blank.name ≡ L.name }
         requires parts { blank.parts ≡ L.parts }
+        requires origin { core ≡ L.origin }
         ensures book { IfOk result (λ r. r.0 ≡ started_book core) }
         ensures share { IfOk result (λ r. (r.1.parts ≡ L.parts) × (r.1.amount ≡ 0)) }
     {
@@ -251,9 +255,11 @@ impl<L: Ledger> Book<L> {
         &self.start
     }
 
-    /// The router as it is now.
+    /// The router as it is now. The events that were taken lead there from the one that the book
+    /// began with.
     pub fn now(&self) -> &Core
-        ensures { result.now ≡ self.now.current }
+        ensures router { result.now ≡ self.now.current }
+        ensures leads { Leads L.origin self.now.taken self.now.current }
     {
         &self.current
     }

@@ -45,6 +45,7 @@ pub fn side_by_side<
     console: &mut Console<'_, S, I, O>,
 ) -> Result<Closed<L>, AllocError>
     requires setup { IsSetUpFor L.name L.parts L.words L.history setup }
+    requires origin { core ≡ L.origin }
     requires links { vec_len setup.seats ≡ vec_len links + 1 }
     requires interfaces { CountDownTo 1 (map (λ l. l.own) links.items) }
     ensures taken { IfOk result (λ r.

@@ -2,6 +2,7 @@
 ghost use Rattle.std.specs.Prelude.{◌≡◌, ◌⊎◌, ◌≤◌, ◌+◌, IfOk, IsTrue, if◌then◌else◌, map, vec_len};
 ghost use Rattle.links.specs.Descending.{CountDownTo};
 ghost use Rattle.hooks.specs.Known.{history_of};
+ghost use Rattle.worker.specs.events.Events.{initial};
 ghost use Rattle.worker.specs.Opening.{IsSetUpFor};
 
 use crate::crew::side_by_side;
@@ -61,7 +62,10 @@ fn config_of<C: Seconds>(
     })
 }
 
-fn core_of(alloc: Global, config: &Config) -> Result<Core, RouteError> {
+// The router at its start.
+fn core_of(alloc: Global, config: &Config) -> Result<Core, RouteError>
+    ensures { IfOk result (λ core. core ≡ initial config.now) }
+{
     match Core::new(alloc, config) {
         Ok(core) => Ok(core),
         Err(ConfigError::Memory) => Err(RouteError::Memory),
@@ -100,20 +104,20 @@ fn run_crew<
 >(
     rt: &R,
     setup: Setup,
-    config: &Config,
+    core: Core,
     workers: &Workers<'_, R>,
     links: Vec<Sockets<'_>>,
     desk: &mut Desk<L, Q, Sockets<'_>, SystemSeconds<'_, R>>,
     console: &mut Console<'_, R, I, O>,
 ) -> Result<u8, RouteError>
     requires setup { IsSetUpFor L.name L.parts L.words L.history setup }
+    requires origin { core ≡ L.origin }
     requires links { vec_len setup.seats ≡ vec_len links + 1 }
     requires interfaces { CountDownTo 1 (map (λ l. l.own) links.items) }
     ensures ended { IfOk result (λ status. (status ≡ 0) ⊎ (status ≡ 3)) }
     ensures own { IsTrue desk.new.outlet.failed → IfOk result (λ status. status ≡ 3) }
 {
     let alloc = workers.alloc;
-    let core = core_of(alloc, config)?;
     let closed = side_by_side(rt, alloc, setup, core, workers, links, desk, console)?;
     let Closed {
         taken: _,
@@ -139,7 +143,7 @@ fn run_all<
     rt: &'x R,
     setup: Setup,
     loader: Loader<Q>,
-    config: &Config,
+    core: Core,
     links: Vec<Sockets<'x>>,
     own: Sockets<'x>,
     input: &'x mut I,
@@ -147,6 +151,7 @@ fn run_all<
 ) -> Result<u8, RouteError>
     requires setup { IsSetUpFor L.name L.parts L.words L.history setup }
     requires history { history_of loader ≡ L.history }
+    requires origin { core ≡ L.origin }
     requires links { vec_len setup.seats ≡ vec_len links + 1 }
     requires interfaces { CountDownTo 1 (map (λ l. l.own) links.items) }
     ensures ended { IfOk result (λ status. (status ≡ 0) ⊎ (status ≡ 3)) }
@@ -182,7 +187,7 @@ fn run_all<
         mute: false,
         deaf: false,
     };
-    run_crew(rt, setup, config, &workers, links, &mut desk, &mut console)
+    run_crew(rt, setup, core, &workers, links, &mut desk, &mut console)
 }
 
 /// Runs this router over these links, one for each interface and that of the first one last, and
@@ -212,7 +217,8 @@ pub fn operate<
 {
     let ports = links.len().saturating_add(1);
     let (loader, setup) = Setup::new(rt.alloc(), rt, ports)?;
-    run_all::<Brand, R, &R, I, O>(rt, setup, loader, config, links, own, input, output)
+    let core = core_of(rt.alloc(), config)?;
+    run_all::<Brand, R, &R, I, O>(rt, setup, loader, core, links, own, input, output)
 }
 
 // Runs the router of a configuration over the sockets of its interfaces.

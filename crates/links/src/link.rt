@@ -1,8 +1,8 @@
 //! What a worker receives and sends through, and its clock.
-ghost use Rattle.std.specs.Prelude.{◌≡◌, ℕ, ◌<◌, ◌≤◌, List, Option, IfOk, IfSome, OnOk, OnErr};
-ghost use Rattle.links.specs.Datagrams.{datagram_in};
+ghost use Rattle.std.specs.Prelude.{◌≡◌, ℕ, ◌<◌, List, Option, IfOk, IfSome, OnOk, OnErr};
 
-use words::Second;
+use std::alloc::Global;
+use words::{Second, Sequence};
 
 /// A link failed. No cause is told.
 #[derive(Clone, Copy, Debug, PartialEq, Eq)]
@@ -21,12 +21,15 @@ pub trait Link {
 
     ghost hears: { Self → Option (List ℕ) → Self → Type 0 };
 
-    /// The length of a datagram, which stands at the buffer's front, or none where none came within
-    /// a second. A datagram longer than the buffer is cut to 8,193 bytes, one more than a packet
-    /// may have.
-    fn receive(&mut self, buffer: &mut [u8; 8193]) -> Result<Option<usize>, LinkFault>
-        ensures length { IfOk result (λ n. IfSome n (λ n. n ≤ 8193)) }
-        ensures heard { IfOk result (λ n. hears self.old (datagram_in buffer.new n) self.new) }
+    /// A datagram, or none where none came within a second, or there is no memory for the one that
+    /// came, which is lost then. It is heard by the buffer: one that is longer is cut to 8,193
+    /// bytes, one more than a packet may have.
+    fn receive(
+        &mut self,
+        alloc: Global,
+        buffer: &mut [u8; 8193],
+    ) -> Result<Option<Sequence<u8>>, LinkFault>
+        ensures heard { IfOk result (λ heard. hears self.old heard self.new) }
         ensures fine { OnOk result (faults self.new ≡ faults self.old) }
         ensures fault { OnErr result (faults self.old < faults self.new) };
 
@@ -36,6 +39,14 @@ pub trait Link {
         ensures given { OnOk result (gives self.old interface bytes.now self.new) }
         ensures fine { OnOk result (faults self.new ≡ faults self.old) }
         ensures fault { OnErr result (faults self.old < faults self.new) };
+}
+
+/// The datagram of these bytes; None where there is no memory for it.
+pub fn datagram(alloc: Global, bytes: &[u8]) -> Option<Sequence<u8>>
+    ensures { IfSome result (λ datagram. datagram ≡ bytes.now) }
+{
+    let copy = Vec::from_slice(alloc, bytes).ok()?;
+    Some(Sequence::from_vec(copy))
 }
 
 /// A clock of whole seconds. What it says of the second that it showed is left open here: only who

@@ -2,7 +2,8 @@
 ghost use Rattle.std.specs.Prelude.{◌≡◌, ◌≢◌, ℕ, ◌+◌, ◌<◌, ◌≤◌};
 ghost use Rattle.links.specs.declared.script.Played.TheVariants.{Fault};
 
-use crate::link::{Link, LinkFault, Seconds};
+use crate::link::{Link, LinkFault, Seconds, datagram};
+use std::alloc::Global;
 use std::sync::atomic::{AtomicBool, Ordering};
 use words::{Second, Sequence};
 
@@ -74,16 +75,13 @@ impl<'a> Script<'a> {
         }
     }
 
-    // Copies the datagram at this place, and tells its length.
-    fn put(&self, at: usize, buffer: &mut [u8; 8193]) -> usize
-        ensures { result ≤ 8193 }
-    {
+    // A copy of the datagram at this place, cut to 8,193 bytes; None where there is no memory.
+    fn copied(&self, alloc: Global, at: usize) -> Option<Sequence<u8>> {
         let Some(Answer::Datagram(bytes)) = self.answers.get(at) else {
-            return 0;
+            return None;
         };
         let length = bytes.as_slice().len().min(8193);
-        buffer[..length].copy_from_slice(&bytes.as_slice()[..length]);
-        length
+        datagram(alloc, &bytes.as_slice()[..length])
     }
 }
 
@@ -96,9 +94,13 @@ impl<'a> Link for Script<'a> {
     // At most one datagram more was sent.
     ghost gives = { λ s interface bytes t. t.sent ≤ s.sent + 1 };
 
-    fn receive(&mut self, buffer: &mut [u8; 8193]) -> Result<Option<usize>, LinkFault> {
+    fn receive(
+        &mut self,
+        alloc: Global,
+        _buffer: &mut [u8; 8193],
+    ) -> Result<Option<Sequence<u8>>, LinkFault> {
         match self.next() {
-            Played::Datagram(at) => Ok(Some(self.put(at, buffer))),
+            Played::Datagram(at) => Ok(self.copied(alloc, at)),
             Played::Nothing => Ok(None),
             Played::Fault => Err(LinkFault {}),
         }

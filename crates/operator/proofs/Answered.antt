@@ -1,12 +1,11 @@
 -- Answers of lines, and an answer by another name.
-use Rattle.std.proofs.Common.{◌≡◌, ℕ, List, Option, None, Some, Result, Ok, Err, String, Global, refl, sym, subst}
+use Rattle.std.proofs.Common.{◌≡◌, ℕ, List, Option, None, Some, Result, Ok, Err, String, Global, sym, subst}
 use Rattle.std.specs.Prelude.{IfOk, MatchResult, string_bytes}
 use Rattle.console.specs.declared.command.Command.{Command}
 use Rattle.console.specs.declared.command.Command.TheVariants as commands
 use Rattle.console.specs.Commands.{LineAsks}
-use Rattle.hooks.specs.declared.operation.Operation.{Operation}
 use Rattle.operator.specs.declared.programs.AttachError.{AttachError}
-use Rattle.operator.specs.Answers.{AreLines, Change, Holds, IsAnswerTo, IsAnswerToAttach, IsCarriedOut, IsObeyed, Sources, change}
+use Rattle.operator.specs.Answers.{AreLines, Change, IsAnswerTo, IsAnswerToAttach, IsCarriedOut, IsObeyed, Sources}
 use Rattle.operator.specs.Reasons.{IsReason, reason_text}
 use Rattle.operator.specs.declared.told.Told.{Told}
 use Rattle.operator.specs.declared.told.Told.TheVariants as told
@@ -17,28 +16,25 @@ made IsText (Ok text) answer is told = subst (AreLines IsText) (sym told) is
 made IsText (Err refused) answer is told = subst (AreLines IsText) (sym told) tt
 
 -- a command and its answer, and what they changed, by other names
-pub moved : (s : Sources) (interfaces : ℕ) (before now here : List Operation) (counted counts count : ℕ) (command same : Command) (answer told : Told)
-    → now ≡ here → counts ≡ count → command ≡ same → answer ≡ told
-    → IsAnswerTo s interfaces (change before here counted count) same told → IsAnswerTo s interfaces (change before now counted counts) command answer
-moved s interfaces before now here counted counts count command same answer told is_now is_count is_same is_told is =
-    let C = subst (λ (x : Command). IsAnswerTo s interfaces (change before here counted count) x told) (sym is_same) is in
-    let T = subst (λ (x : Told). IsAnswerTo s interfaces (change before here counted count) command x) (sym is_told) C in
-    let N = subst (λ (x : List Operation). IsAnswerTo s interfaces (change before x counted count) command answer) (sym is_now) T in
-    subst (λ (x : ℕ). IsAnswerTo s interfaces (change before now counted x) command answer) (sym is_count) N
+pub moved : (s : Sources) (interfaces : ℕ) (c d : Change) (command same : Command) (answer told : Told)
+    → c ≡ d → command ≡ same → answer ≡ told → IsAnswerTo s interfaces d same told → IsAnswerTo s interfaces c command answer
+moved s interfaces c d command same answer told is_change is_same is_told is =
+    let C = subst (λ (x : Command). IsAnswerTo s interfaces d x told) (sym is_same) is in
+    let T = subst (λ (x : Told). IsAnswerTo s interfaces d command x) (sym is_told) C in
+    subst (λ (x : Change). IsAnswerTo s interfaces x command answer) (sym is_change) T
 
 -- a line that was obeyed at a desk that is as it was
-pub obeyed_from : (s : Sources) (n m : ℕ) (before here now : List Operation) (counted counts : ℕ) (line : List ℕ) (answer : Option Told) → m ≡ n → here ≡ before
-    → IsObeyed s m (change here now counted counts) line answer → IsObeyed s n (change before now counted counts) line answer
-obeyed_from s n m before here now counted counts line answer same_n same_before is =
-    let N = subst (λ (x : ℕ). IsObeyed s x (change here now counted counts) line answer) same_n is in
-    subst (λ (x : List Operation). IsObeyed s n (change x now counted counts) line answer) same_before N
+pub obeyed_from : (s : Sources) (n m : ℕ) (c d : Change) (line : List ℕ) (answer : Option Told) → m ≡ n → d ≡ c
+    → IsObeyed s m d line answer → IsObeyed s n c line answer
+obeyed_from s n m c d line answer same_n same is =
+    subst (λ (x : Change). IsObeyed s n x line answer) same (subst (λ (x : ℕ). IsObeyed s x d line answer) same_n is)
 
 -- the line of a reason, or want of memory for it
-pub told_why : {E : Type 0} (holds : Holds) (before : List Operation) (path : List ℕ) (e : AttachError) (lines : Result (String Global) E) (answer : Told) → IsReason holds path e
-    → IfOk lines (λ text. string_bytes text ≡ reason_text path e) → MatchResult lines (λ text. answer ≡ told.Lines text) (λ _. answer ≡ told.Memory)
-    → IsAnswerToAttach holds before before path answer
-told_why holds before path e (Ok text) answer why says told = subst (IsAnswerToAttach holds before before path) (sym told) (refl, (e, why, says))
-told_why holds before path e (Err refused) answer why says told = subst (IsAnswerToAttach holds before before path) (sym told) refl
+pub told_why : {E : Type 0} (s : Sources) (c : Change) (path : List ℕ) (e : AttachError) (lines : Result (String Global) E) (answer : Told)
+    → c.now ≡ c.before → IsReason s.holds s.unreadable path e → IfOk lines (λ text. string_bytes text ≡ reason_text path e)
+    → MatchResult lines (λ text. answer ≡ told.Lines text) (λ _. answer ≡ told.Memory) → IsAnswerToAttach s c path answer
+told_why s c path e (Ok text) answer same why says told = subst (IsAnswerToAttach s c path) (sym told) (same, (e, why, says))
+told_why s c path e (Err refused) answer same why says told = subst (IsAnswerToAttach s c path) (sym told) same
 
 -- no command is answered that it is none
 never_unknown : (s : Sources) (n : ℕ) (c : Change) (command : Command) → IsAnswerTo s n c command told.Unknown → ⊥

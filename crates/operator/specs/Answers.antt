@@ -1,6 +1,6 @@
 -- What a line of the console is answered. Each answer may be that memory was refused.
 use Rattle.std.specs.Prelude.{◌≡◌, ℕ, Bool, true, false, List, [], ◌∷◌, ◌++◌, Option, None, Some}
-use Rattle.std.specs.Prelude.{string_bytes}
+use Rattle.std.specs.Prelude.{MatchBool, string_bytes}
 use mathlib.Core.List.{IsPrefix}
 use Rattle.words.specs.Numbers.{Moment, RouterNumber}
 use Rattle.words.specs.Prefixes.{Network}
@@ -10,11 +10,12 @@ use Rattle.adjacency.specs.declared.state.State.{State}
 use Rattle.events.specs.declared.model.Out.{Out}
 use Rattle.verifier.specs.Programs.{Program}
 use Rattle.object_verdicts.specs.Verdicts.{Accepts}
+use Rattle.maps.specs.Words.{SeatView}
 use Rattle.hooks.specs.declared.operation.Operation.{Operation}
 use Rattle.hooks.specs.declared.operation.Operation.TheVariants.{Attach, Detach}
 use Rattle.worker.specs.Numbers.{turn_error_number}
 use Rattle.worker.specs.TurnError.{TurnError}
-use Rattle.worker.specs.Turns.{AreNeighbors, Offers, TakesFor, Took}
+use Rattle.worker.specs.Turns.{Offers, Refuses, RefusesFor, TakesFor, Took}
 use Rattle.worker.specs.Work.{Work}
 use Rattle.worker.specs.Work.TheVariants as work
 use Rattle.console.specs.Commands.{LineAsks}
@@ -22,7 +23,7 @@ use Rattle.console.specs.declared.command.Command.{Command}
 use Rattle.console.specs.declared.command.Command.TheVariants as commands
 use Rattle.operator.specs.declared.told.Told.{Told}
 use Rattle.operator.specs.declared.told.Told.TheVariants as told
-use Rattle.operator.specs.Reasons.{IsReasonText}
+use Rattle.operator.specs.Reasons.{Holds, IsReasonText, Unreadable}
 use Rattle.operator.specs.Shown.{IsCountersText, ShowsNeighbors, ShowsTable}
 
 -- ---- what answers rest on
@@ -31,50 +32,64 @@ use Rattle.operator.specs.Shown.{IsCountersText, ShowsNeighbors, ShowsTable}
 abbrev pub Lists : Type 1
 Lists = (interfaces : ℕ) → List (Option (RouterNumber × State)) → Type 0
 
--- they are those of one router
-abbrev pub ListedBy : {B : Type 0} → (at : B → ℕ → Option (RouterNumber × State)) → Lists
-ListedBy {B = B} at interfaces neighbors = (book : B) × AreNeighbors (at book) interfaces neighbors
-
--- what is said of the bytes of the file at a path
-abbrev pub Holds : Type 1
-Holds = (path : List ℕ) → (bytes : List ℕ) → Type 0
-
 -- nothing is known of the files of the system
 abbrev pub IsAnyFile : Holds
 IsAnyFile path bytes = Unit {0}
+
+abbrev pub IsAnyPath : Unreadable
+IsAnyPath path = Unit {0}
 
 -- what is said of the destinations that a router announces, or doesn't
 abbrev pub Wanted : Type 1
 Wanted = Network → Bool → Type 0
 
--- what the router says: what it offers, what comes of the events that it takes, what it announces
--- and who its neighbors are; and what files hold
+-- what the router says: what it offers, what comes of the events that it takes and why it takes
+-- others not, what it announces and who its neighbors are; and what files hold, and which can't be
+-- read
 pub record Sources : Type 1 where
   pub offers : Offers
   pub took : Took
+  pub refuses : Refuses
   pub wanted : Wanted
   pub lists : Lists
   pub holds : Holds
+  pub unreadable : Unreadable
 
-abbrev pub sources : Offers → Took → Wanted → Lists → Holds → Sources
-sources offers took wanted lists holds = record {
+abbrev pub sources : Offers → Took → Refuses → Wanted → Lists → Holds → Unreadable → Sources
+sources offers took refuses wanted lists holds unreadable = record {
   offers = offers;
   took = took;
+  refuses = refuses;
   wanted = wanted;
   lists = lists;
   holds = holds;
+  unreadable = unreadable;
 }
 
--- what a line changes: the loader's operations, and how many events count in the port's share
+-- What a line changes: the loader's operations, those that the port knows then, whether a refresh of
+-- the table is due then, how many events count in the port's share, and the port's seat.
 pub record Change : Type 0 where
   pub before : List Operation
   pub now : List Operation
+  pub known : List Operation
+  pub due : Bool
   pub counted : ℕ
   pub counts : ℕ
+  pub seat : SeatView
+  pub seated : SeatView
 
-abbrev pub change : (before now : List Operation) → (counted counts : ℕ) → Change
-change before now counted counts =
-    record { before = before; now = now; counted = counted; counts = counts }
+abbrev pub change : (before now known : List Operation) → (due : Bool) → (counted counts : ℕ)
+    → (seat seated : SeatView) → Change
+change before now known due counted counts seat seated = record {
+  before = before;
+  now = now;
+  known = known;
+  due = due;
+  counted = counted;
+  counts = counts;
+  seat = seat;
+  seated = seated;
+}
 
 -- the router took the event of this work, at some moment, whatever was known of the programs
 abbrev pub IsDone : Offers → Took → Work → Type 0
@@ -82,69 +97,91 @@ IsDone offers took w =
     (known : List Operation) × (moment : Moment) × (outs : List Out)
     × TakesFor offers took known moment w outs
 
--- a turn was refused, with this number, and no event counts
-abbrev pub IsRefusal : (counted counts : ℕ) → (number : ℕ) → Type 0
-IsRefusal counted counts number =
-    (error : TurnError) × (number ≡ turn_error_number error) × (counts ≡ counted)
+-- the event of this work was refused for this, or its questions were, at some moment, whatever was
+-- known of the programs
+abbrev pub IsRefusedOnce : Offers → Refuses → Work → TurnError → Type 0
+IsRefusedOnce offers refuses w error =
+    (known : List Operation) × (moment : Moment) × RefusesFor offers refuses known moment w error
+
+-- a turn for this work was refused, with this number, and no event counts
+abbrev pub IsRefusal : Offers → Refuses → Work → (counted counts : ℕ) → (number : ℕ) → Type 0
+IsRefusal offers refuses w counted counts number =
+    (error : TurnError) × IsRefusedOnce offers refuses w error
+    × (number ≡ turn_error_number error) × (counts ≡ counted)
+
+-- Where a refresh of the table is due, it's tried: the router takes it, or it's due still, and
+-- nothing counts. Else nothing is done.
+abbrev pub IsMadeUp : Offers → Took → (due still : Bool) → (before counted : ℕ)
+    → (seat between : SeatView) → Type 0
+IsMadeUp offers took false still before counted seat between =
+    (still ≡ false) × (counted ≡ before) × (between ≡ seat)
+IsMadeUp offers took true still before counted seat between =
+    MatchBool still (counted ≡ before) (IsDone offers took work.Refresh)
 
 -- ---- answers
 
--- The program was published at its hook, with its bound, and the port's own programs are no older;
--- or memory was refused, and nothing was.
-abbrev pub IsPublished : (before now known : List Operation) → Program → Told → Type 0
-IsPublished before now known program (told.Attached hook bound) =
-    (now ≡ before ++ Attach program ∷ []) × IsPrefix now known
+-- After the programs were changed those of the port are no older, and the router took a refresh of
+-- its table, or one is due.
+pub record IsFollowed (offers : Offers) (took : Took) (c : Change) : Type 0 where
+  pub learnt : IsPrefix c.now c.known
+  pub refreshed : MatchBool c.due (Unit {0}) (IsDone offers took work.Refresh)
+
+-- the program was published at its hook, with its bound; or memory was refused, and nothing was
+abbrev pub IsPublished : Offers → Took → Change → Program → Told → Type 0
+IsPublished offers took c program (told.Attached hook bound) =
+    (c.now ≡ c.before ++ Attach program ∷ []) × IsFollowed offers took c
     × (program.hook ≡ hook) × (program.bound ≡ bound)
-IsPublished before now known program told.Memory = now ≡ before
-IsPublished before now known program other = ⊥
+IsPublished offers took c program told.Memory = c.now ≡ c.before
+IsPublished offers took c program other = ⊥
 
 -- a program of this hook was published, the one that the file at the path holds, which is accepted
 -- within this bound
-pub record IsAttached (holds : Holds) (before now : List Operation) (path : List ℕ) (hook : Hook)
-    (bound : ℕ) : Type 0 where
+pub record IsAttached (s : Sources) (c : Change) (path : List ℕ) (hook : Hook) (bound : ℕ)
+    : Type 0 where
   pub bytes : List ℕ
   pub program : Program
-  pub held : holds path bytes
+  pub held : s.holds path bytes
   pub accepted : Accepts bytes program
-  pub published : now ≡ before ++ Attach program ∷ []
+  pub published : c.now ≡ c.before ++ Attach program ∷ []
+  pub followed : IsFollowed s.offers s.took c
   pub of_hook : program.hook ≡ hook
   pub of_bound : program.bound ≡ bound
 
 -- a program was published, or lines say why none was
-abbrev pub IsAnswerToAttach : Holds → (before now : List Operation) → (path : List ℕ) → Told
-    → Type 0
-IsAnswerToAttach holds before now path (told.Attached hook bound) =
-    IsAttached holds before now path hook bound
-IsAnswerToAttach holds before now path (told.Lines reason) =
-    (now ≡ before) × IsReasonText holds path (string_bytes reason)
-IsAnswerToAttach holds before now path told.Memory = now ≡ before
-IsAnswerToAttach holds before now path other = ⊥
+abbrev pub IsAnswerToAttach : Sources → Change → (path : List ℕ) → Told → Type 0
+IsAnswerToAttach s c path (told.Attached hook bound) = IsAttached s c path hook bound
+IsAnswerToAttach s c path (told.Lines reason) =
+    (c.now ≡ c.before) × IsReasonText s.holds s.unreadable path (string_bytes reason)
+IsAnswerToAttach s c path told.Memory = c.now ≡ c.before
+IsAnswerToAttach s c path other = ⊥
 
 -- that hook has no program
-abbrev pub IsAnswerToDetach : (before now : List Operation) → Hook → Told → Type 0
-IsAnswerToDetach before now hook (told.Detached of) =
-    (of ≡ hook) × (now ≡ before ++ Detach hook ∷ [])
-IsAnswerToDetach before now hook told.Memory = now ≡ before
-IsAnswerToDetach before now hook other = ⊥
+abbrev pub IsAnswerToDetach : Offers → Took → Change → Hook → Told → Type 0
+IsAnswerToDetach offers took c hook (told.Detached of) =
+    (of ≡ hook) × (c.now ≡ c.before ++ Detach hook ∷ []) × IsFollowed offers took c
+IsAnswerToDetach offers took c hook told.Memory = c.now ≡ c.before
+IsAnswerToDetach offers took c hook other = ⊥
 
 -- the router took the announcement, and announces the destination or doesn't; or the turn was
 -- refused
-abbrev pub IsAnswerToAdd : Offers → Took → Wanted → External → (counted counts : ℕ) → Told → Type 0
-IsAnswerToAdd offers took wanted external counted counts told.Originated =
+abbrev pub IsAnswerToAdd : Offers → Took → Refuses → Wanted → External → (counted counts : ℕ)
+    → Told → Type 0
+IsAnswerToAdd offers took refuses wanted external counted counts told.Originated =
     IsDone offers took (work.Add external) × wanted external.prefix true
-IsAnswerToAdd offers took wanted external counted counts told.Withheld =
+IsAnswerToAdd offers took refuses wanted external counted counts told.Withheld =
     IsDone offers took (work.Add external) × wanted external.prefix false
-IsAnswerToAdd offers took wanted external counted counts (told.Refused number) =
-    IsRefusal counted counts number
-IsAnswerToAdd offers took wanted external counted counts other = ⊥
+IsAnswerToAdd offers took refuses wanted external counted counts (told.Refused number) =
+    IsRefusal offers refuses (work.Add external) counted counts number
+IsAnswerToAdd offers took refuses wanted external counted counts other = ⊥
 
 -- the router took the withdrawal, or the turn was refused
-abbrev pub IsAnswerToWithdraw : Offers → Took → Network → (counted counts : ℕ) → Told → Type 0
-IsAnswerToWithdraw offers took prefix counted counts told.Withdrawn =
+abbrev pub IsAnswerToWithdraw : Offers → Took → Refuses → Network → (counted counts : ℕ) → Told
+    → Type 0
+IsAnswerToWithdraw offers took refuses prefix counted counts told.Withdrawn =
     IsDone offers took (work.Withdraw prefix)
-IsAnswerToWithdraw offers took prefix counted counts (told.Refused number) =
-    IsRefusal counted counts number
-IsAnswerToWithdraw offers took prefix counted counts other = ⊥
+IsAnswerToWithdraw offers took refuses prefix counted counts (told.Refused number) =
+    IsRefusal offers refuses (work.Withdraw prefix) counted counts number
+IsAnswerToWithdraw offers took refuses prefix counted counts other = ⊥
 
 -- lines, of this text
 abbrev pub AreLines : (IsText : List ℕ → Type 0) → Told → Type 0
@@ -155,17 +192,18 @@ AreLines IsText other = ⊥
 -- what each command is answered at a router of so many interfaces
 abbrev pub IsAnswerTo : Sources → (interfaces : ℕ) → Change → Command → Told → Type 0
 IsAnswerTo s interfaces c (commands.Attach path) answer =
-    IsAnswerToAttach s.holds c.before c.now path.now answer
+    IsAnswerToAttach s c path.now answer
 IsAnswerTo s interfaces c (commands.Detach hook) answer =
-    IsAnswerToDetach c.before c.now hook answer
+    IsAnswerToDetach s.offers s.took c hook answer
 IsAnswerTo s interfaces c (commands.Add external) answer =
-    IsAnswerToAdd s.offers s.took s.wanted external c.counted c.counts answer
+    IsAnswerToAdd s.offers s.took s.refuses s.wanted external c.counted c.counts answer
 IsAnswerTo s interfaces c (commands.Withdraw prefix) answer =
-    IsAnswerToWithdraw s.offers s.took prefix c.counted c.counts answer
+    IsAnswerToWithdraw s.offers s.took s.refuses prefix c.counted c.counts answer
 IsAnswerTo s interfaces c commands.Table answer = AreLines (ShowsTable s.offers) answer
 IsAnswerTo s interfaces c commands.Neighbors answer =
     AreLines (ShowsNeighbors (s.lists interfaces)) answer
-IsAnswerTo s interfaces c commands.Counters answer = AreLines IsCountersText answer
+IsAnswerTo s interfaces c commands.Counters answer =
+    AreLines (IsCountersText c.seat c.seated) answer
 IsAnswerTo s interfaces c commands.Quit answer = ⊥
 
 -- a command that is answered; none is where the console ends

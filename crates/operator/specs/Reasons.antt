@@ -15,6 +15,14 @@ use Rattle.object_verdicts.specs.declared.error.VerifyError.TheVariants as verdi
 use Rattle.operator.specs.declared.programs.AttachError.{AttachError}
 use Rattle.operator.specs.declared.programs.AttachError.TheVariants as errors
 
+-- what is said of the bytes of the file at a path
+abbrev pub Holds : Type 1
+Holds = (path : List ℕ) → (bytes : List ℕ) → Type 0
+
+-- what is said of a path whose file can't be read
+abbrev pub Unreadable : Type 1
+Unreadable = (path : List ℕ) → Type 0
+
 -- how a verdict is told: want of memory as such, everything else with its numbers
 abbrev pub object_error : ReadError → AttachError
 object_error reading.Memory = errors.Memory
@@ -35,8 +43,7 @@ error_of (verdicts.Refused refusal) = rule_error refusal.slot refusal.rule
 
 -- The error says why the bytes that the file at the path holds aren't accepted: what they aren't,
 -- or at which slot and by which rule they are refused.
-pub record IsVerdict (holds : List ℕ → List ℕ → Type 0) (path : List ℕ) (e : AttachError)
-    : Type 0 where
+pub record IsVerdict (holds : Holds) (path : List ℕ) (e : AttachError) : Type 0 where
   pub bytes : List ℕ
   pub verdict : VerifyError
   pub held : holds path bytes
@@ -44,8 +51,9 @@ pub record IsVerdict (holds : List ℕ → List ℕ → Type 0) (path : List ℕ
   pub told : e ≡ error_of verdict
 
 -- the file can't be read, memory was refused, or that is why
-abbrev pub IsReason : (holds : List ℕ → List ℕ → Type 0) → (path : List ℕ) → AttachError → Type 0
-IsReason holds path e = (e ≡ errors.Read) ⊎ (e ≡ errors.Memory) ⊎ IsVerdict holds path e
+abbrev pub IsReason : Holds → Unreadable → (path : List ℕ) → AttachError → Type 0
+IsReason holds unreadable path e =
+    ((e ≡ errors.Read) × unreadable path) ⊎ (e ≡ errors.Memory) ⊎ IsVerdict holds path e
 
 -- the line of an error, with its line feed (10)
 abbrev pub reason_text : (path : List ℕ) → AttachError → List ℕ
@@ -58,6 +66,6 @@ reason_text path (errors.Refused slot rule) =
 reason_text path errors.Memory = codes "out of memory\n"
 
 -- the line of some error that says why
-abbrev pub IsReasonText : (holds : List ℕ → List ℕ → Type 0) → (path : List ℕ) → List ℕ → Type 0
-IsReasonText holds path text =
-    (error : AttachError) × IsReason holds path error × (text ≡ reason_text path error)
+abbrev pub IsReasonText : Holds → Unreadable → (path : List ℕ) → List ℕ → Type 0
+IsReasonText holds unreadable path text =
+    (error : AttachError) × IsReason holds unreadable path error × (text ≡ reason_text path error)

@@ -1,14 +1,17 @@
 -- What the console shows of a router.
-use Rattle.std.specs.Prelude.{◌≡◌, ℕ, List, Option, length}
+use Rattle.std.specs.Prelude.{◌≡◌, ℕ, suc, List, [], ◌∷◌, Option, length}
 use Rattle.std.specs.List.{Contains}
 use Rattle.words.specs.Numbers.{RouterNumber}
 use Rattle.words.specs.declared.route.Route.{Route}
 use Rattle.words.specs.declared.route.TableRow.{TableRow}
+use Rattle.maps.specs.Words.{SeatView, seat_after}
+use Rattle.maps.specs.declared.access.Access.TheVariants.{Read}
 use Rattle.adjacency.specs.declared.state.State.{State}
 use Rattle.tables.specs.Parts.{Ascend}
 use Rattle.tables.specs.Rows.{rows_of}
 use Rattle.events.specs.Routers.{Router}
 use Rattle.worker.specs.Offers.{IsTableNow}
+use Rattle.worker.specs.Replay.{Leads}
 use Rattle.worker.specs.Turns.{IsOfferedBySome, Offers}
 use Rattle.console.specs.Answers.{counters_text, neighbors_text, table_text}
 
@@ -18,10 +21,12 @@ pub record IsPartOf (routes part : List Route) : Type 0 where
   pub each : (r : Route) → Contains part r → Contains routes r
   pub ascending : Ascend part
 
--- the text of a router's routing table, at the moment of its last event
-abbrev pub IsTableText : List ℕ → Type 0
-IsTableText text =
-    (r : Router) × (table : List Route) × IsTableNow r table × (text ≡ table_text table)
+-- the text of the routing table, at the moment of its last event, of a router to which events lead
+-- from this one
+abbrev pub IsTableText : (origin : Router) → List ℕ → Type 0
+IsTableText origin text =
+    (taken : ℕ) × (r : Router) × (table : List Route)
+    × Leads origin taken r × IsTableNow r table × (text ≡ table_text table)
 
 -- The text of a table that was offered: of candidates, and beside them the rows of those that are
 -- in the table, it is the text of just these.
@@ -31,9 +36,11 @@ ShowsTable offers text =
     × ((table : List Route) → IsPartOf candidates table → rows ≡ rows_of table
     → text ≡ table_text table)
 
--- what is shown as a book's table is the text of a router's table
+-- what is shown as the table of a book that began with a router is the text of such a table
 abbrev pub ABookShowsItsTable : Type 0
-ABookShowsItsTable = (text : List ℕ) → ShowsTable IsOfferedBySome text → IsTableText text
+ABookShowsItsTable =
+    (origin : Router) (text : List ℕ) → ShowsTable (IsOfferedBySome origin) text
+    → IsTableText origin text
 
 -- the text of neighbors, of which this is said
 abbrev pub ShowsNeighbors : (IsList : List (Option (RouterNumber × State)) → Type 0) → List ℕ
@@ -42,7 +49,13 @@ ShowsNeighbors IsList text =
     (neighbors : List (Option (RouterNumber × State))) × IsList neighbors
     × (text ≡ neighbors_text neighbors)
 
--- the text of 256 counters
-abbrev pub IsCountersText : List ℕ → Type 0
-IsCountersText text =
-    (sums : List ℕ) × (length sums ≡ 256) × (text ≡ counters_text sums)
+-- a seat after it has read the counters from this number on, and found these in them
+abbrev pub after_reads : SeatView → (first : ℕ) → (sums : List ℕ) → SeatView
+after_reads seat first [] = seat
+after_reads seat first (sum ∷ sums) = after_reads (seat_after seat (Read first sum)) (suc first) sums
+
+-- the text of the 256 counters, each as the seat read it, once, in their order
+abbrev pub IsCountersText : (before after : SeatView) → List ℕ → Type 0
+IsCountersText before after text =
+    (sums : List ℕ) × (length sums ≡ 256) × (after ≡ after_reads before 0 sums)
+    × (text ≡ counters_text sums)

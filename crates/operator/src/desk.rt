@@ -1,18 +1,21 @@
 //! Lines in, answers out, at port 0.
-ghost use Rattle.std.specs.Prelude.{◌≡◌, ℕ, MatchBool};
+ghost use Rattle.std.specs.Prelude.{◌≡◌, ℕ, Bool, MatchBool};
 ghost use mathlib.Core.List.{IsPrefix};
+ghost use Rattle.maps.specs.Words.{SeatView};
 ghost use Rattle.hooks.specs.Known.{history_of, known_to, operations_of};
+ghost use Rattle.worker.specs.Turns.{IsListed};
 ghost use Rattle.operator.specs.Answers.{
   IsAnswerToAdd,
   IsAnswerToAttach,
   IsAnswerToDetach,
   IsAnswerToWithdraw,
   IsAnyFile,
+  IsAnyPath,
   IsCarriedOut,
   IsDone,
+  IsMadeUp,
   IsObeyed,
   IsPublished,
-  ListedBy,
   change,
   sources,
 };
@@ -54,7 +57,7 @@ fn add<L: Site, B: Taker<L>, R: Wait, K: Link + Drop, C: Seconds + Drop>(
     outlet: &mut Outlet<K, C>,
     external: External,
 ) -> Told
-    ensures { IsAnswerToAdd B.offers B.took B.wanted external
+    ensures { IsAnswerToAdd B.offers B.took B.refuses B.wanted external
         port.old.share.amount port.new.share.amount result }
 {
     let prefix = external.prefix;
@@ -78,7 +81,7 @@ fn withdraw<L: Site, B: Taker<L>, R: Wait, K: Link + Drop, C: Seconds + Drop>(
     outlet: &mut Outlet<K, C>,
     prefix: Prefix,
 ) -> Told
-    ensures { IsAnswerToWithdraw B.offers B.took prefix
+    ensures { IsAnswerToWithdraw B.offers B.took B.refuses prefix
         port.old.share.amount port.new.share.amount result }
 {
     match outlet.take(rt, hub, port, &Work::Withdraw(prefix)) {
@@ -123,8 +126,11 @@ impl<L: Site, Q: Wait + Drop, K: Link + Drop, C: Seconds + Drop> Desk<L, Q, K, C
         port: &mut Port<L>,
         program: Accepted,
     ) -> Told
-        ensures told { IsPublished (operations_of self.old.loader) (operations_of self.new.loader)
-            (known_to port.new.asker) program result }
+        ensures told { IsPublished B.offers B.took
+            (change (operations_of self.old.loader) (operations_of self.new.loader)
+            (known_to port.new.asker) self.new.unrefreshed
+            port.old.share.amount port.new.share.amount port.old.seat port.new.seat)
+            program result }
         ensures interfaces { self.new.interfaces ≡ self.old.interfaces }
     {
         let hook = program.hook();
@@ -144,8 +150,13 @@ impl<L: Site, Q: Wait + Drop, K: Link + Drop, C: Seconds + Drop> Desk<L, Q, K, C
         port: &mut Port<L>,
         path: &str,
     ) -> Told
-        ensures told { IsAnswerToAttach F.holds (operations_of self.old.loader)
-            (operations_of self.new.loader) path.now result }
+        ensures told { IsAnswerToAttach
+            (sources B.offers B.took B.refuses B.wanted (IsListed B.own B.neighbor_at)
+            F.holds F.unreadable)
+            (change (operations_of self.old.loader) (operations_of self.new.loader)
+            (known_to port.new.asker) self.new.unrefreshed
+            port.old.share.amount port.new.share.amount port.old.seat port.new.seat)
+            path.now result }
         ensures interfaces { self.new.interfaces ≡ self.old.interfaces }
     {
         match read_program(self.alloc, files, path) {
@@ -161,8 +172,11 @@ impl<L: Site, Q: Wait + Drop, K: Link + Drop, C: Seconds + Drop> Desk<L, Q, K, C
         port: &mut Port<L>,
         hook: Hook,
     ) -> Told
-        ensures told { IsAnswerToDetach (operations_of self.old.loader)
-            (operations_of self.new.loader) hook result }
+        ensures told { IsAnswerToDetach B.offers B.took
+            (change (operations_of self.old.loader) (operations_of self.new.loader)
+            (known_to port.new.asker) self.new.unrefreshed
+            port.old.share.amount port.new.share.amount port.old.seat port.new.seat)
+            hook result }
         ensures interfaces { self.new.interfaces ≡ self.old.interfaces }
     {
         if self.loader.detach(hook).is_err() {
@@ -182,10 +196,12 @@ impl<L: Site, Q: Wait + Drop, K: Link + Drop, C: Seconds + Drop> Desk<L, Q, K, C
         command: &Command<'_>,
     ) -> Option<Told>
         ensures told { IsCarriedOut
-            (sources B.offers B.took B.wanted (ListedBy B.neighbor_at) F.holds)
+            (sources B.offers B.took B.refuses B.wanted (IsListed B.own B.neighbor_at)
+            F.holds F.unreadable)
             self.old.interfaces
             (change (operations_of self.old.loader) (operations_of self.new.loader)
-            port.old.share.amount port.new.share.amount)
+            (known_to port.new.asker) self.new.unrefreshed
+            port.old.share.amount port.new.share.amount port.old.seat port.new.seat)
             command.now result }
         ensures interfaces { self.new.interfaces ≡ self.old.interfaces }
     {
@@ -210,6 +226,8 @@ impl<L: Site, Q: Wait + Drop, K: Link + Drop, C: Seconds + Drop> Desk<L, Q, K, C
 
     // Makes the table anew where that is due.
     fn make_up<B: Taker<L>, R: Wait>(&mut self, rt: &R, hub: &Hub<L, B>, port: &mut Port<L>)
+        ensures made_up { IsMadeUp B.offers B.took self.old.unrefreshed self.new.unrefreshed
+            port.old.share.amount port.new.share.amount port.old.seat port.new.seat }
         ensures loader { self.new.loader ≡ self.old.loader }
         ensures interfaces { self.new.interfaces ≡ self.old.interfaces }
     {
@@ -229,10 +247,12 @@ impl<L: Site, Q: Wait + Drop, K: Link + Drop, C: Seconds + Drop> Desk<L, Q, K, C
         line: &str,
     ) -> Option<Told>
         ensures told { IsObeyed
-            (sources B.offers B.took B.wanted (ListedBy B.neighbor_at) F.holds)
+            (sources B.offers B.took B.refuses B.wanted (IsListed B.own B.neighbor_at)
+            F.holds F.unreadable)
             self.old.interfaces
             (change (operations_of self.old.loader) (operations_of self.new.loader)
-            port.old.share.amount port.new.share.amount)
+            (known_to port.new.asker) self.new.unrefreshed
+            port.old.share.amount port.new.share.amount port.old.seat port.new.seat)
             line.now result }
         ensures interfaces { self.new.interfaces ≡ self.old.interfaces }
     {
@@ -255,11 +275,16 @@ impl<L: Site, Q: Wait + Drop, K: Link + Drop, C: Seconds + Drop> Desk<L, Q, K, C
         port: &mut Port<L>,
         line: &str,
     ) -> Option<Told>
-        ensures told { (counted : ℕ) × IsObeyed
-            (sources B.offers B.took B.wanted (ListedBy B.neighbor_at) F.holds)
+        ensures told { (still : Bool) × (counted : ℕ) × (seat : SeatView)
+            × IsMadeUp B.offers B.took self.old.unrefreshed still
+            port.old.share.amount counted port.old.seat seat
+            × IsObeyed
+            (sources B.offers B.took B.refuses B.wanted (IsListed B.own B.neighbor_at)
+            F.holds F.unreadable)
             self.old.interfaces
             (change (operations_of self.old.loader) (operations_of self.new.loader)
-            counted port.new.share.amount)
+            (known_to port.new.asker) self.new.unrefreshed
+            counted port.new.share.amount seat port.new.seat)
             line.now result }
         ensures interfaces { self.new.interfaces ≡ self.old.interfaces }
     {
@@ -275,11 +300,16 @@ impl<L: Site, Q: Wait + Drop, K: Link + Drop, C: Seconds + Drop> Desk<L, Q, K, C
         port: &mut Port<L>,
         line: &str,
     ) -> Option<Told>
-        ensures told { (counted : ℕ) × IsObeyed
-            (sources B.offers B.took B.wanted (ListedBy B.neighbor_at) IsAnyFile)
+        ensures told { (still : Bool) × (counted : ℕ) × (seat : SeatView)
+            × IsMadeUp B.offers B.took self.old.unrefreshed still
+            port.old.share.amount counted port.old.seat seat
+            × IsObeyed
+            (sources B.offers B.took B.refuses B.wanted (IsListed B.own B.neighbor_at)
+            IsAnyFile IsAnyPath)
             self.old.interfaces
             (change (operations_of self.old.loader) (operations_of self.new.loader)
-            counted port.new.share.amount)
+            (known_to port.new.asker) self.new.unrefreshed
+            counted port.new.share.amount seat port.new.seat)
             line.now result }
         ensures interfaces { self.new.interfaces ≡ self.old.interfaces }
     {

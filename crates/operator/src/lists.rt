@@ -2,7 +2,8 @@
 ghost use Rattle.std.specs.Prelude.{◌≡◌, List, IfOk, MatchResult, string_bytes, vec_len};
 ghost use Rattle.words.specs.declared.route.Route.{Route};
 ghost use Rattle.tables.specs.Rows.{rows_of};
-ghost use Rattle.operator.specs.Answers.{ListedBy};
+ghost use Rattle.hooks.specs.Known.{known_to};
+ghost use Rattle.worker.specs.Turns.{IsListed};
 ghost use Rattle.operator.specs.Shown.{IsCountersText, IsPartOf, ShowsNeighbors, ShowsTable};
 ghost use Rattle.operator.specs.declared.told.Told.TheVariants as told;
 
@@ -68,7 +69,7 @@ pub fn neighbors<L: Site, B: Taker<L>, R: Wait>(
     interfaces: u16,
 ) -> Result<String, AllocError>
     ensures { IfOk result (λ text.
-        ShowsNeighbors (ListedBy B.neighbor_at interfaces) (string_bytes text)) }
+        ShowsNeighbors (IsListed B.own B.neighbor_at interfaces) (string_bytes text)) }
 {
     let neighbors = hub.neighbors(rt, alloc, interfaces)?;
     let text = neighbors_text(alloc, &neighbors)?;
@@ -81,7 +82,9 @@ pub fn counters<L: Site, B: Taker<L>>(
     hub: &Hub<L, B>,
     port: &mut Port<L>,
 ) -> Result<String, AllocError>
-    ensures text { IfOk result (λ text. IsCountersText (string_bytes text)) }
+    ensures text { IfOk result (λ text.
+        IsCountersText port.old.seat port.new.seat (string_bytes text)) }
+    ensures known { known_to port.new.asker ≡ known_to port.old.asker }
     ensures share { port.new.share ≡ port.old.share }
 {
     let mut sums = Vec::new(alloc);

@@ -1,8 +1,8 @@
 //! Where port 0 sends.
-ghost use Rattle.std.specs.Prelude.{◌≡◌, ◌<◌, ◌⊎◌, ◌↔◌, OnErr, OnOk, IsTrue};
+ghost use Rattle.std.specs.Prelude.{◌≡◌, ◌<◌, ◌⊎◌, ◌↔◌, IfErr, OnErr, OnOk, IsTrue};
 ghost use mathlib.Core.List.{IsPrefix};
 ghost use Rattle.hooks.specs.Known.{known_to};
-ghost use Rattle.operator.specs.Answers.{IsDone};
+ghost use Rattle.operator.specs.Answers.{IsDone, IsRefusedOnce};
 
 use links::{Link, Seconds};
 use std::sync::Wait;
@@ -28,6 +28,8 @@ impl<K: Link + Drop, C: Seconds + Drop> Outlet<K, C> {
         work: &Work,
     ) -> Result<(), TurnError>
         ensures taken { OnOk result (IsDone B.offers B.took work.now) }
+        ensures refused { IfErr result (λ error.
+            IsRefusedOnce B.offers B.refuses work.now error) }
         ensures counted { OnOk result (port.old.share.amount < port.new.share.amount) }
         ensures err { OnErr result (port.new.share.amount ≡ port.old.share.amount) }
         ensures known { IsPrefix (known_to port.old.asker) (known_to port.new.asker) }

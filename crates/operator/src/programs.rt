@@ -1,7 +1,7 @@
 //! Programs from object files.
-ghost use Rattle.std.specs.Prelude.{◌≡◌, List, ℕ, IfErr, IfOk, string_bytes};
+ghost use Rattle.std.specs.Prelude.{◌≡◌, List, ℕ, Err, IfErr, IfOk, string_bytes};
 ghost use Rattle.object_verdicts.specs.Verdicts.{Accepts};
-ghost use Rattle.operator.specs.Reasons.{IsReason, reason_text};
+ghost use Rattle.operator.specs.Reasons.{Holds, IsReason, Unreadable, reason_text};
 
 use isa::DecodeFault;
 use object_verdicts::{VerifyError, verify_object};
@@ -12,14 +12,18 @@ use whole_files::{ReadFault, read};
 
 /// Gives the bytes of files.
 ///
-/// What is so of the bytes that stand at a path is left open here: who reads by this trait alone
-/// can say it only of bytes that were read there.
+/// What is so of the bytes that stand at a path, and of a path whose file can't be read, is left
+/// open here: who reads by this trait alone can say it only of bytes that were read there, and of a
+/// path that was tried.
 pub trait ReadsFiles {
-    ghost holds: { List ℕ → List ℕ → Type 0 };
+    ghost holds: { Holds };
+
+    ghost unreadable: { Unreadable };
 
     /// The bytes of the file at the path.
     fn bytes(&self, path: &str) -> Result<Vec<u8>, ReadFault>
-        ensures { IfOk result (λ bytes. holds path.now bytes.items) };
+        ensures bytes { IfOk result (λ bytes. holds path.now bytes.items) }
+        ensures unreadable { result ≡ Err ReadFault.Unreadable → unreadable path.now };
 }
 
 /// The files of the system, of which nothing is known.
@@ -30,6 +34,8 @@ pub struct SystemFiles<'a, R> {
 
 impl<'a, R: Files + AllocGlobal> ReadsFiles for SystemFiles<'a, R> {
     ghost holds = { λ path bytes. Unit {0} };
+
+    ghost unreadable = { λ path. Unit {0} };
 
     fn bytes(&self, path: &str) -> Result<Vec<u8>, ReadFault> {
         read(self.rt, path)
@@ -95,7 +101,7 @@ pub fn read_program<F: ReadsFiles>(
 ) -> Result<Accepted, AttachError>
     ensures ok { IfOk result (λ program.
         (bytes : List ℕ) × F.holds path.now bytes × Accepts bytes program) }
-    ensures err { IfErr result (IsReason F.holds path.now) }
+    ensures err { IfErr result (IsReason F.holds F.unreadable path.now) }
 {
     match files.bytes(path) {
         Ok(bytes) => match verify_object(alloc, &bytes) {

@@ -7,7 +7,7 @@ use crate::error::SocketError;
 use crate::refusals::{came, sent};
 use crate::socket::DatagramSocket;
 use crate::wire::{Wire, wire_at};
-use links::{Link, LinkFault};
+use links::{Link, LinkFault, datagram};
 use mio::net::UdpSocket;
 use mio::unix::SourceFd;
 use mio::{Events, Interest, Poll, Token};
@@ -16,6 +16,7 @@ use std::io::{self, ErrorKind};
 use std::net::Net;
 use std::os::fd::AsRawFd;
 use std::time::Duration;
+use words::Sequence;
 
 /// Where a worker waits for its interface's datagrams.
 #[derive(Drop)]
@@ -180,7 +181,11 @@ impl<'a, S: DatagramSocket> Link for Sockets<'a, S> {
 
     ghost hears = { λ s heard _. IsHeardAt S.hands s.wires.now s.own heard };
 
-    fn receive(&mut self, buffer: &mut [u8; 8193]) -> Result<Option<usize>, LinkFault> {
+    fn receive(
+        &mut self,
+        alloc: Global,
+        buffer: &mut [u8; 8193],
+    ) -> Result<Option<Sequence<u8>>, LinkFault> {
         if self.faults > 0 {
             return Ok(None);
         }
@@ -191,7 +196,8 @@ impl<'a, S: DatagramSocket> Link for Sockets<'a, S> {
             return Ok(None);
         };
         match hear(wire, ear, buffer) {
-            Ok(length) => Ok(length),
+            Ok(Some(length)) => Ok(datagram(alloc, &buffer[..length])),
+            Ok(None) => Ok(None),
             Err(fault) => {
                 self.faults = 1;
                 Err(fault)

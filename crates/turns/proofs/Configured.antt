@@ -8,6 +8,7 @@ use Rattle.maps.specs.Words.{SeatView}
 use Rattle.hooks.specs.declared.operation.Operation.{Operation}
 use Rattle.hooks.specs.Questions.{ExternalAnswer, price_input, tag_input}
 use Rattle.hooks.specs.Vacant.{IsAnsweredByNone}
+use Rattle.book.specs.events.Routers.{Router}
 use Rattle.book.specs.Event.{Event}
 use Rattle.book.specs.Event.TheVariants as event
 use Rattle.turns.specs.Laws.{AnswersAreBesideATable}
@@ -29,12 +30,12 @@ configured offers known now seat external moment tag price on_tag on_price tagge
   refl,
 )
 
-asked_beside : (known : List Operation) (moment : Moment) (external : External) (candidates : List Route) (rows : List TableRow) (tag price : ExternalAnswer)
-    → IsOfferedBySome candidates rows → AreAsked IsOfferedBySome known external moment tag price
-    → (candidates : List Route) × (rows : List TableRow) × IsOfferedBySome candidates rows × AreBeside known external moment rows tag price
-asked_beside known moment external candidates rows tag price offered (inl beside) = beside
-asked_beside known moment external candidates rows tag price offered (inr beside) = (candidates, rows, offered, beside rows)
+asked_beside : (origin : Router) (known : List Operation) (moment : Moment) (external : External) (candidates : List Route) (rows : List TableRow) (tag price : ExternalAnswer)
+    → IsOfferedBySome origin candidates rows → AreAsked (IsOfferedBySome origin) known external moment tag price
+    → (candidates : List Route) × (rows : List TableRow) × IsOfferedBySome origin candidates rows × AreBeside known external moment rows tag price
+asked_beside origin known moment external candidates rows tag price offered (inl beside) = beside
+asked_beside origin known moment external candidates rows tag price offered (inr beside) = (candidates, rows, offered, beside rows)
 
 pub beside_a_table : AnswersAreBesideATable
-beside_a_table candidates rows known moment external e offered (tag, price, asked, is) =
-    let b = asked_beside known moment external candidates rows tag price offered asked in (b.0, b.1, tag, price, b.2, b.3, is)
+beside_a_table origin candidates rows known moment external e offered (tag, price, asked, is) =
+    let b = asked_beside origin known moment external candidates rows tag price offered asked in (b.0, b.1, tag, price, b.2, b.3, is)

@@ -1,5 +1,5 @@
 -- What is so of this router is so of some router.
-use Rattle.std.proofs.Common.{◌≡◌, List, IfOk, subst}
+use Rattle.std.proofs.Common.{◌≡◌, ℕ, List, IfErr, IfOk, subst}
 use Rattle.std.specs.Prelude.{Result, Ok, Err}
 use Rattle.words.specs.Numbers.{Moment}
 use Rattle.words.specs.declared.route.Route.{Route}
@@ -9,16 +9,20 @@ use Rattle.book.specs.events.Events.{Happens}
 use Rattle.book.specs.events.Routers.{Router}
 use Rattle.book.specs.Event.{Event}
 use Rattle.book.specs.Occurrences.{occurrence_of}
+use Rattle.book.specs.Refusals.{AnswersAnew}
+use Rattle.book.specs.Replay.{BookView, Leads}
+use Rattle.book.specs.declared.error.BookError.{BookError}
+use Rattle.book.specs.declared.error.BookError.TheVariants as refusing
 use Rattle.book.specs.Offers.{AreCandidatesNow, IsOffered}
-use Rattle.turns.specs.Turns.{IsOfferedBySome, Sends, taken_at}
+use Rattle.turns.specs.Turns.{IsOfferedBySome, IsRefusedBySome, RefusesAt, Sends, taken_at}
 use Rattle.turns.proofs.Tables.{rows_beside}
 
-pub sent_by_some : {V E : Type 0} (items : V → List Out) (moment at : Moment) (e : Event) (old new : Router) (r : Result V E)
-    → at ≡ taken_at e moment old.moment
-    → IfOk r (λ outs. Happens old at (occurrence_of e) (items outs) new) → IfOk r (λ outs. Sends moment e (items outs))
-sent_by_some items moment at e old new (Ok x) is h =
-    (old, new, subst (λ (m : Moment). Happens old m (occurrence_of e) (items x) new) is h)
-sent_by_some items moment at e old new (Err x) is h = h
+pub sent_by_some : {V E : Type 0} (items : V → List Out) (origin : Router) (taken : ℕ) (moment at : Moment) (e : Event) (old new : Router)
+    (r : Result V E) → Leads origin taken old → at ≡ taken_at e moment old.moment
+    → IfOk r (λ outs. Happens old at (occurrence_of e) (items outs) new) → IfOk r (λ outs. Sends origin moment e (items outs))
+sent_by_some items origin taken moment at e old new (Ok x) leads is h =
+    (taken, old, new, leads, subst (λ (m : Moment). Happens old m (occurrence_of e) (items x) new) is h)
+sent_by_some items origin taken moment at e old new (Err x) leads is h = h
 
 pub taken_then : {V E : Type 0} (items : V → List Out) (moment at : Moment) (e : Event) (old new : Router) (r : Result V E)
     → at ≡ taken_at e moment old.moment
@@ -28,12 +32,33 @@ taken_then items moment at e old new (Ok x) is h =
     subst (λ (m : Moment). Happens old m (occurrence_of e) (items x) new) is h
 taken_then items moment at e old new (Err x) is h = h
 
-pub offered_by_some : {V E : Type 0} (candidates : V → List Route) (rows : V → List TableRow) (now : Router) (r : Result V E)
-    → IfOk r (λ o. IsOffered now (candidates o) (rows o)) → IfOk r (λ o. IsOfferedBySome (candidates o) (rows o))
-offered_by_some candidates rows now (Ok x) h = (now, h)
-offered_by_some candidates rows now (Err x) h = h
+pub offered_by_some : {V E : Type 0} (candidates : V → List Route) (rows : V → List TableRow) (origin : Router) (taken : ℕ) (now : Router)
+    (r : Result V E) → Leads origin taken now
+    → IfOk r (λ o. IsOffered now (candidates o) (rows o)) → IfOk r (λ o. IsOfferedBySome origin (candidates o) (rows o))
+offered_by_some candidates rows origin taken now (Ok x) leads h = (taken, now, leads, h)
+offered_by_some candidates rows origin taken now (Err x) leads h = h
 
-pub candidates_of_some : {V E : Type 0} (candidates : V → List Route) (now : Router) (r : Result V E)
-    → IfOk r (λ c. AreCandidatesNow now (candidates c)) → IfOk r (λ c. (rows : List TableRow) × IsOfferedBySome (candidates c) rows)
-candidates_of_some candidates now (Ok x) h = let beside = rows_beside now (candidates x) h in (beside.0, (now, beside.1))
-candidates_of_some candidates now (Err x) h = h
+pub candidates_of_some : {V E : Type 0} (candidates : V → List Route) (origin : Router) (taken : ℕ) (now : Router) (r : Result V E)
+    → Leads origin taken now → IfOk r (λ c. AreCandidatesNow now (candidates c))
+    → IfOk r (λ c. (rows : List TableRow) × IsOfferedBySome origin (candidates c) rows)
+candidates_of_some candidates origin taken now (Ok x) leads h =
+    let beside = rows_beside now (candidates x) h in (beside.0, (taken, now, leads, beside.1))
+candidates_of_some candidates origin taken now (Err x) leads h = h
+
+-- an answer that is a refusal, without what it would have given
+error_alone : (V : Type 0) (b : BookView) (moment : Moment) (e : Event) (why : BookError)
+    → AnswersAnew {X = V} b moment e (Err why) → AnswersAnew {X = Unit {0}} b moment e (Err why)
+error_alone V b moment e refusing.Journal h = h
+error_alone V b moment e (refusing.Core x) h = h
+
+pub refused_now : {V : Type 0} (moment at : Moment) (e : Event) (b : BookView) (r : Result V BookError)
+    → at ≡ taken_at e moment b.current.moment → AnswersAnew b at e r → IfErr r (λ error. RefusesAt b moment e error)
+refused_now moment at e b (Ok x) is h = tt
+refused_now {V = V} moment at e b (Err why) is h =
+    subst (λ (m : Moment). AnswersAnew {X = Unit {0}} b m e (Err why)) is (error_alone V b at e why h)
+
+pub refused_by_some : {V : Type 0} (origin : Router) (moment at : Moment) (e : Event) (b : BookView) (r : Result V BookError)
+    → Leads origin b.taken b.current → at ≡ taken_at e moment b.current.moment → AnswersAnew b at e r
+    → IfErr r (λ error. IsRefusedBySome origin moment e error)
+refused_by_some origin moment at e b (Ok x) leads is h = tt
+refused_by_some {V = V} origin moment at e b (Err why) leads is h = (b, leads, refused_now {V = V} moment at e b (Err why) is h)

@@ -13,8 +13,9 @@ use Rattle.hooks.specs.declared.operation.Operation.{Operation}
 use Rattle.hooks.specs.Questions.{ExternalAnswer, RouteAnswer}
 use Rattle.hooks.proofs.Fronts.{prefix_trans}
 use Rattle.book.specs.Event.{Event}
-use Rattle.turns.specs.Turns.{AreAsked, AreBeside, AreVetoes, IsFor, IsInstall, IsPriceOn, IsRedistribute, IsTagOn, IsTurned, IsVetoOn, IsWordOn, Offers, TakesFor, Took}
+use Rattle.turns.specs.Turns.{AreAsked, AreBeside, AreVetoes, IsFor, IsInstall, IsPriceOn, IsRedistribute, IsTagOn, IsTurned, IsVetoOn, IsWordOn, Offers, Refuses, RefusesFor, TakesFor, Took}
 use Rattle.turns.specs.declared.turned.Turned.{Turned}
+use Rattle.turns.specs.declared.turned.TurnError.{TurnError}
 use Rattle.turns.specs.declared.work.Work.{Work}
 use Rattle.turns.specs.declared.work.Work.TheVariants as work
 
@@ -70,6 +71,12 @@ module _ (known more : List Operation) (longer : IsPrefix known more) where
   pub takes_longer : (offers : Offers) (took : Took) (moment : Moment) (w : Work) (outs : List Out)
       → TakesFor offers took more moment w outs → TakesFor offers took known moment w outs
   takes_longer offers took moment w outs (e, is, taken) = (e, for_longer offers w moment e is, taken)
+
+  pub refused_longer : (offers : Offers) (refuses : Refuses) (moment : Moment) (w : Work) (error : TurnError)
+      → RefusesFor offers refuses more moment w error → RefusesFor offers refuses known moment w error
+  refused_longer offers refuses moment w error (inl unasked) = inl unasked
+  refused_longer offers refuses moment w error (inr (e, why, is, refused, same)) =
+      inr (e, why, for_longer offers w moment e is, refused, same)
 
   refreshed_longer : {X : Type 0} (items : X → List Out) (offers : Offers) (took : Took) (moment : Moment) (none : Type 0) (some : Type 0) (o : Option X)
       → MatchOption o none (λ x. TakesFor offers took more moment work.Refresh (items x) × some)

@@ -5,6 +5,7 @@ use Rattle.words.specs.declared.route.External.{External}
 use Rattle.words.specs.declared.route.Route.{Route}
 use Rattle.words.specs.declared.route.TableRow.{TableRow}
 use Rattle.book.specs.events.declared.model.Out.{Out}
+use Rattle.book.specs.events.Routers.{Router}
 use Rattle.hooks.specs.declared.operation.Operation.{Operation}
 use Rattle.hooks.specs.Questions.{ExternalAnswer}
 use Rattle.book.specs.Event.{Event}
@@ -16,20 +17,20 @@ use Rattle.turns.specs.declared.work.Work.TheVariants as work
 -- what the router sends at it, whatever programs are loaded.
 abbrev pub CountReachesNoEvent : Type 0
 CountReachesNoEvent =
-    (known : List Operation) (moment : Moment) (number : InterfaceNumber) (bytes : List ℕ)
-    (outs : List Out)
-    → TakesFor IsOfferedBySome Sends known moment (work.Datagram number bytes) outs
-    ↔ Sends moment (event.Packet number bytes) outs
+    (origin : Router) (known : List Operation) (moment : Moment) (number : InterfaceNumber)
+    (bytes : List ℕ) (outs : List Out)
+    → TakesFor (IsOfferedBySome origin) (Sends origin) known moment (work.Datagram number bytes) outs
+    ↔ Sends origin moment (event.Packet number bytes) outs
 
 -- Wherever a table is offered, the answers of an announcement are beside the rows of one that is:
 -- those for which none was asked are the same beside each.
 abbrev pub AnswersAreBesideATable : Type 0
 AnswersAreBesideATable =
-    (candidates : List Route) (rows : List TableRow)
+    (origin : Router) (candidates : List Route) (rows : List TableRow)
     (known : List Operation) (moment : Moment) (external : External) (e : Event)
-    → IsOfferedBySome candidates rows
-    → IsFor IsOfferedBySome known (work.Add external) moment e
+    → IsOfferedBySome origin candidates rows
+    → IsFor (IsOfferedBySome origin) known (work.Add external) moment e
     → (candidates : List Route) × (rows : List TableRow)
     × (tag : ExternalAnswer) × (price : ExternalAnswer)
-    × IsOfferedBySome candidates rows × AreBeside known external moment rows tag price
+    × IsOfferedBySome origin candidates rows × AreBeside known external moment rows tag price
     × (e ≡ event.Redistribute tag price)

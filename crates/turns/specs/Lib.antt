@@ -1,5 +1,7 @@
 -- what a router offers, for those above
 pub use Rattle.book.specs.Offers
+-- and which routers events lead to
+pub use Rattle.book.specs.Replay
 pub mod Turns
 pub mod Laws
 pub mod Numbers

@@ -1,6 +1,6 @@
 -- What a turn gives to the book, and what comes of it.
 use Rattle.std.specs.Prelude.{◌≡◌, ◌⊎◌, ℕ, ◌+◌, ◌<◌, Bool, List, [], Option, Some, MatchOption}
-use Rattle.std.specs.Prelude.{length, map, max, slice_get}
+use Rattle.std.specs.Prelude.{Result, Err, length, map, max, slice_get}
 use Rattle.std.specs.FinMap as finite
 use Rattle.std.specs.List.{All}
 use mathlib.Core.List.{IsPrefix}
@@ -23,11 +23,14 @@ use Rattle.hooks.specs.Answered.{IsAnswered}
 use Rattle.hooks.specs.Operations.{Answers}
 use Rattle.hooks.specs.Questions.{ExternalAnswer, RouteAnswer}
 use Rattle.hooks.specs.Questions.{count_input, price_input, tag_input, veto_input}
+use Rattle.book.specs.declared.error.BookError.{BookError}
 use Rattle.book.specs.declared.error.BookError.TheVariants as book_error
 use Rattle.book.specs.Event.{Event}
 use Rattle.book.specs.Event.TheVariants as event
 use Rattle.book.specs.Occurrences.{occurrence_of}
 use Rattle.book.specs.Offers.{IsOffered}
+use Rattle.book.specs.Refusals.{AnswersAnew}
+use Rattle.book.specs.Replay.{BookView, Leads}
 use Rattle.book.specs.State.{State}
 use Rattle.turns.specs.declared.turned.Turned.{Turned}
 use Rattle.turns.specs.declared.turned.TurnError.{TurnError}
@@ -40,6 +43,10 @@ use Rattle.turns.specs.declared.work.Work.TheVariants as work
 -- what is said of an event that was taken, with what it sent
 abbrev pub Took : Type 1
 Took = Moment → Event → List Out → Type 0
+
+-- what is said of an event that was refused, and why
+abbrev pub Refuses : Type 1
+Refuses = Moment → Event → BookError → Type 0
 
 -- what is said of candidates, and of the rows of the table beside them
 abbrev pub Offers : Type 1
@@ -55,29 +62,55 @@ taken_at (event.Withdraw prefix) moment last = moment
 taken_at (event.Install answers) moment last = max moment last
 taken_at (event.LinkDown number) moment last = moment
 
--- a book says: from some router, the event that is given at this moment sends these
-abbrev pub Sends : Moment → Event → List Out → Type 0
-Sends moment e outs =
-    (old : Router) × (new : Router)
+-- a book that began with this router says: the event that is given at this moment sends these, from
+-- a router to which events lead from there
+abbrev pub Sends : (origin : Router) → Moment → Event → List Out → Type 0
+Sends origin moment e outs =
+    (taken : ℕ) × (old : Router) × (new : Router) × Leads origin taken old
     × Happens old (taken_at e moment old.moment) (occurrence_of e) outs new
 
--- a book says: they are those of some router
-abbrev pub IsOfferedBySome : List Route → List TableRow → Type 0
-IsOfferedBySome candidates rows = (r : Router) × IsOffered r candidates rows
+-- a book says: given at this moment, the event is refused so, by the state that the book has then
+abbrev pub RefusesAt : BookView → Moment → Event → BookError → Type 0
+RefusesAt b moment e error =
+    AnswersAnew {X = Unit {0}} b (taken_at e moment b.current.moment) e (Err error)
+
+-- a book that began with this router says: it is refused so, at a router to which events lead from
+-- there
+abbrev pub IsRefusedBySome : (origin : Router) → Moment → Event → BookError → Type 0
+IsRefusedBySome origin moment e error =
+    (b : BookView) × Leads origin b.taken b.current × RefusesAt b moment e error
+
+-- a book that began with this router says: they are those of a router to which events lead from
+-- there
+abbrev pub IsOfferedBySome : (origin : Router) → List Route → List TableRow → Type 0
+IsOfferedBySome origin candidates rows =
+    (taken : ℕ) × (r : Router) × Leads origin taken r × IsOffered r candidates rows
 
 -- whether a router announces the destination of this prefix
 abbrev pub announces : Router → Network → Bool
 announces r prefix = is_for prefix (finite.get r.announced (external_key r.id prefix))
 
--- a book says: some router does, or doesn't
-abbrev pub IsWantedBySome : Network → Bool → Type 0
-IsWantedBySome prefix wanted = (r : Router) × (wanted ≡ announces r prefix)
+-- a book that began with this router says: a router to which events lead from there does, or doesn't
+abbrev pub IsWantedBySome : (origin : Router) → Network → Bool → Type 0
+IsWantedBySome origin prefix wanted =
+    (taken : ℕ) × (r : Router) × Leads origin taken r × (wanted ≡ announces r prefix)
+
+-- a book is one that began with this router
+abbrev pub IsOwn : (origin : Router) → BookView → Type 0
+IsOwn origin b = Leads origin b.taken b.current
 
 -- the neighbors at the interfaces 1 to so many, each as it is found at its own
 pub record AreNeighbors (at : InterfaceNumber → Option (RouterNumber × State))
     (interfaces : ℕ) (neighbors : List (Option (RouterNumber × State))) : Type 0 where
   pub all : length neighbors ≡ interfaces
   pub each : (k : ℕ) → k < interfaces → slice_get neighbors k ≡ Some (at (k + 1))
+
+-- they are those of one book, which is its own where there is an interface
+abbrev pub IsListed : {B : Type 0} → (own : B → Type 0)
+    → (at : B → InterfaceNumber → Option (RouterNumber × State)) → (interfaces : ℕ)
+    → List (Option (RouterNumber × State)) → Type 0
+IsListed {B = B} own at interfaces neighbors =
+    (book : B) × (0 < interfaces → own book) × AreNeighbors (at book) interfaces neighbors
 
 -- ---- answers to questions
 
@@ -194,7 +227,27 @@ pub record IsTurned (offers : Offers) (took : Took) (known : List Operation) (mo
 abbrev pub IsInstalling : Event → Type 0
 IsInstalling e = (answers : List RouteAnswer) × (e ≡ event.Install answers)
 
--- what the questions are refused for: no reading, or no memory
+-- what questions are refused for: no reading, or no memory
 abbrev pub IsUnasked : TurnError → Type 0
 IsUnasked e =
     (e ≡ turn_error.Away) ⊎ (e ≡ turn_error.Book (book_error.Core core_error.Memory))
+
+-- What a work is refused for before its event is given. A datagram has no question, but is copied;
+-- a Tick, a withdrawal and a link's end need neither a reading nor memory.
+abbrev pub IsUnaskedFor : Work → TurnError → Type 0
+IsUnaskedFor (work.Datagram number bytes) e =
+    e ≡ turn_error.Book (book_error.Core core_error.Memory)
+IsUnaskedFor work.Tick e = ⊥
+IsUnaskedFor (work.Add external) e = IsUnasked e
+IsUnaskedFor (work.Withdraw prefix) e = ⊥
+IsUnaskedFor (work.Down number) e = ⊥
+IsUnaskedFor work.Refresh e = IsUnasked e
+
+-- The work's event was given at this moment and refused, for this; or one of its questions was
+-- refused before.
+abbrev pub RefusesFor : Offers → Refuses → (known : List Operation) → Moment → Work → TurnError
+    → Type 0
+RefusesFor offers refuses known moment w error =
+    IsUnaskedFor w error
+    ⊎ ((e : Event) × (why : BookError) × IsFor offers known w moment e × refuses moment e why
+    × (error ≡ turn_error.Book why))

@@ -1,5 +1,6 @@
 //! The book under its lock.
-ghost use Rattle.std.specs.Prelude.{◌≡◌, ◌+◌, ◌<◌, ◌≤◌, List, Err, IfOk, OnOk, OnErr, max};
+ghost use Rattle.std.specs.Prelude.{◌≡◌, ◌+◌, ◌<◌, ◌≤◌, List, Err};
+ghost use Rattle.std.specs.Prelude.{IfErr, IfOk, OnOk, OnErr, max};
 ghost use mathlib.Core.List.{IsPrefix};
 ghost use Rattle.words.specs.Constants.{clock_end};
 ghost use Rattle.words.specs.declared.route.TableRow.{TableRow};
@@ -7,7 +8,7 @@ ghost use Rattle.maps.specs.Access.{floor};
 ghost use Rattle.maps.specs.Words.{seat_after};
 ghost use Rattle.maps.specs.declared.access.Access.TheVariants.{Read};
 ghost use Rattle.hooks.specs.Known.{known_to};
-ghost use Rattle.turns.specs.Turns.{AreNeighbors, IsInstalling};
+ghost use Rattle.turns.specs.Turns.{AreNeighbors, IsInstalling, IsListed};
 
 use crate::port::Port;
 use crate::site::Site;
@@ -49,6 +50,7 @@ fn take<L: Site, B: Taker<L>>(
 ) -> Result<Taken, BookError>
     requires { 0 < mine.old.parts }
     ensures ok { IfOk result (λ r. B.took moment event r.outs.items) }
+    ensures refused { IfErr result (λ error. B.refuses moment event error) }
     ensures share { OnOk result (mine.new.amount ≡ mine.old.amount + 1) }
     ensures parts { mine.new.parts ≡ mine.old.parts }
     ensures err { OnErr result (mine.new.amount ≡ mine.old.amount) }
@@ -70,8 +72,9 @@ fn neighbors_of<L: Site, B: Taker<L>>(
     book: &B,
     interfaces: u16,
 ) -> Result<Vec<Option<(RouterId, State)>>, AllocError>
-    ensures { IfOk result (λ all.
+    ensures neighbors { IfOk result (λ all.
         AreNeighbors (B.neighbor_at book.now) interfaces all.items) }
+    ensures own { 0 < interfaces → IfOk result (λ _. B.own book.now) }
 {
     let mut neighbors = Vec::new(alloc);
     for interface in 0..interfaces {
@@ -142,6 +145,7 @@ impl<L: Site, B: Taker<L>> Hub<L, B> {
     ) -> Result<Taken, BookError>
         requires { 0 < mine.old.parts }
         ensures ok { IfOk result (λ r. B.took moment event r.outs.items) }
+        ensures refused { IfErr result (λ error. B.refuses moment event error) }
         ensures share { OnOk result (mine.new.amount ≡ mine.old.amount + 1) }
         ensures parts { mine.new.parts ≡ mine.old.parts }
         ensures err { OnErr result (mine.new.amount ≡ mine.old.amount) }
@@ -197,7 +201,7 @@ impl<L: Site, B: Taker<L>> Hub<L, B> {
     /// The neighbor at the interface of this number and its state, or None where it is Down or
     /// there is no such interface.
     pub fn neighbor<R: Wait>(&self, rt: &R, interface: u16) -> Option<(RouterId, State)>
-        ensures { (book : B) × (result ≡ B.neighbor_at book interface) }
+        ensures { (book : B) × B.own book × (result ≡ B.neighbor_at book interface) }
     {
         let guard = self.book.lock(rt);
         let book: &B = &*guard;
@@ -213,7 +217,7 @@ impl<L: Site, B: Taker<L>> Hub<L, B> {
         interfaces: u16,
     ) -> Result<Vec<Option<(RouterId, State)>>, AllocError>
         ensures { IfOk result (λ all.
-            (book : B) × AreNeighbors (B.neighbor_at book) interfaces all.items) }
+            IsListed B.own B.neighbor_at interfaces all.items) }
     {
         let guard = self.book.lock(rt);
         let book: &B = &*guard;

@@ -17,7 +17,8 @@ mod turns;
 mod work;
 
 pub use book::{
-    Book, BookError, Config, ConfigError, Core, CoreError, Event, Interface, Offered, Out, State,
+    Book, BookError, Config, ConfigError, Core, CoreError, Event, Interface, Offered, Origin, Out,
+    State,
 };
 pub use gate::{Gate, Open};
 pub use hub::Hub;

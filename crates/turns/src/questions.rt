@@ -11,6 +11,7 @@ ghost use Rattle.turns.specs.Turns.{
   IsPriceOn,
   IsTagOn,
   IsUnasked,
+  IsUnaskedFor,
   IsVetoOn,
 };
 
@@ -40,7 +41,7 @@ pub fn asked<L: Site, B: Taker<L>, R: Wait>(
         IsFor B.offers (known_to asker.old) work.now moment event) }
     ensures counted { CountsFor (known_to asker.old) (known_to asker.new) seat.old seat.new
         work.now moment }
-    ensures err { IfErr result IsUnasked }
+    ensures err { IfErr result (IsUnaskedFor work.now) }
     ensures seat { IsOf L.words seat.new }
     ensures history { asks_of asker.new ≡ asks_of asker.old }
     ensures known { IsPrefix (known_to asker.old) (known_to asker.new) }

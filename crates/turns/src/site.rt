@@ -4,16 +4,16 @@ ghost use Rattle.logbook.specs.Pages.{Book as History};
 ghost use Rattle.maps.specs.Words.{IsOf, SharedWords};
 ghost use Rattle.hooks.specs.Known.{asks_of};
 
+use book::Origin;
 use hooks::Asker;
 use maps::Seat;
 use std::marker::{Brand, PhantomData};
-use std::sync::ledger::Ledger;
 
-/// Which ledger counts the events, which table of shared words the seats are of and how many it
+/// Which ledger counts the events, which router began, which table of shared words the seats are of and how many it
 /// gave, and whose published programs the askers run.
 ///
 /// A hub's type and its ports' types name it. Who starts workers picks it, by `Brand`.
-pub trait Site: Ledger {
+pub trait Site: Origin {
     ghost words: { SharedWords };
 
     ghost history: { History };

@@ -1,6 +1,6 @@
 //! What takes events, as a turn sees it.
 ghost use Rattle.std.specs.Prelude.{◌≡◌, ◌+◌, ◌<◌, ◌≤◌, Bool, List, Option, Err, IfOk, OnOk, OnErr};
-ghost use Rattle.std.specs.Prelude.{max};
+ghost use Rattle.std.specs.Prelude.{IfErr, max};
 ghost use Rattle.words.specs.Constants.{clock_end};
 ghost use Rattle.words.specs.Numbers.{InterfaceNumber, Moment, RouterNumber};
 ghost use Rattle.words.specs.Prefixes.{Network};
@@ -16,28 +16,37 @@ ghost use Rattle.book.specs.State.{State};
 ghost use Rattle.turns.specs.Turns.{
   IsInstalling,
   IsOfferedBySome,
+  IsOwn,
+  IsRefusedBySome,
   IsWantedBySome,
+  Refuses,
+  RefusesAt,
   Sends,
   announces,
   taken_at,
 };
 
-use book::{Book, BookError, CoreError, Event, Offered, Out, State};
+use book::{Book, BookError, CoreError, Event, Offered, Origin, Out, State};
 use std::alloc::AllocError;
-use std::sync::ledger::{Ledger, Share};
+use std::sync::ledger::Share;
 use words::{Prefix, Route, RouterId, Second};
 
 /// Takes events, and tells what it offers.
 ///
-/// What it says of an event that it took, and of what it offers and wants, is left open here: a
-/// turn, which is proved for any such type, can say it only by the call itself. So a turn that gave
-/// another event, at another moment, or to another book, couldn't say what it promises.
-pub trait Taker<L: Ledger> {
+/// What it says of an event that it took or refused, and of what it offers and wants, is left open
+/// here: a turn, which is proved for any such type, can say it only by the call itself. So a turn
+/// that gave another event, at another moment, or to another book, couldn't say what it promises,
+/// nor could one that gave none.
+pub trait Taker<L: Origin> {
     ghost took: { Moment → Event → List Out → Type 0 };
+
+    ghost refuses: { Refuses };
 
     ghost offers: { List RouteValue → List TableRow → Type 0 };
 
     ghost wanted: { Network → Bool → Type 0 };
+
+    ghost own: { Self → Type 0 };
 
     ghost neighbor_at: { Self → InterfaceNumber → Option (RouterNumber × State) };
 
@@ -55,6 +64,7 @@ pub trait Taker<L: Ledger> {
     ) -> Result<Vec<Out>, BookError>
         requires { 0 < mine.old.parts }
         ensures ok { IfOk result (λ outs. took moment event outs.items) }
+        ensures refused { IfErr result (λ error. refuses moment event error) }
         ensures share { OnOk result (mine.new.amount ≡ mine.old.amount + 1) }
         ensures parts { mine.new.parts ≡ mine.old.parts }
         ensures err { OnErr result (mine.new.amount ≡ mine.old.amount) }
@@ -81,7 +91,8 @@ pub trait Taker<L: Ledger> {
     /// The neighbor at the interface of this number and its state now, or None where it is Down or
     /// there is no such interface.
     fn neighbor(&self, interface: u16) -> Option<(RouterId, State)>
-        ensures { result ≡ neighbor_at self.now interface };
+        ensures at { result ≡ neighbor_at self.now interface }
+        ensures own { own self.now };
 }
 
 // When an event that is given at a moment is taken, after one that came last: an installation isn't
@@ -101,13 +112,18 @@ fn taken_at(event: &Event, moment: Second, last: Second) -> Second
 
 /// A book takes an event by [`Book::apply_anew`], an installation at the moment of its last event
 /// where this is later. What is sent is what the event makes of its own router, which is then the
-/// one that the event leaves.
-impl<L: Ledger> Taker<L> for Book<L> {
-    ghost took = { λ moment e outs. Sends moment e outs };
+/// one that the event leaves; and all that it says is of a router to which the events that it took
+/// lead from the one that it began with.
+impl<L: Origin> Taker<L> for Book<L> {
+    ghost took = { λ moment e outs. Sends L.origin moment e outs };
 
-    ghost offers = { λ candidates rows. IsOfferedBySome candidates rows };
+    ghost refuses = { λ moment e error. IsRefusedBySome L.origin moment e error };
 
-    ghost wanted = { λ prefix wanted. IsWantedBySome prefix wanted };
+    ghost offers = { λ candidates rows. IsOfferedBySome L.origin candidates rows };
+
+    ghost wanted = { λ prefix wanted. IsWantedBySome L.origin prefix wanted };
+
+    ghost own = { λ book. IsOwn L.origin book };
 
     ghost neighbor_at = { λ book interface. shown_at book.current interface };
 
@@ -123,7 +139,9 @@ impl<L: Ledger> Taker<L> for Book<L> {
         ensures now { IfOk result (λ outs. Happens
             self.old.current (taken_at event moment self.old.current.moment)
             (occurrence_of event) outs.items self.new.current) }
-        ensures ok { IfOk result (λ outs. Sends moment event outs.items) }
+        ensures ok { IfOk result (λ outs. Sends L.origin moment event outs.items) }
+        ensures refused_now { IfErr result (λ error. RefusesAt self.old moment event error) }
+        ensures refused { IfErr result (λ error. IsRefusedBySome L.origin moment event error) }
         ensures share { OnOk result (mine.new.amount ≡ mine.old.amount + 1) }
         ensures parts { mine.new.parts ≡ mine.old.parts }
         ensures err { OnErr result (mine.new.amount ≡ mine.old.amount) }
@@ -142,21 +160,21 @@ impl<L: Ledger> Taker<L> for Book<L> {
     fn offered(&self) -> Result<Offered, AllocError>
         ensures now { IfOk result (λ o.
             IsOffered self.now.current o.candidates.items o.rows.items) }
-        ensures some { IfOk result (λ o. IsOfferedBySome o.candidates.items o.rows.items) }
+        ensures some { IfOk result (λ o. IsOfferedBySome L.origin o.candidates.items o.rows.items) }
     {
         self.now().offered()
     }
 
     fn candidates(&self) -> Result<Vec<Route>, AllocError>
         ensures now { IfOk result (λ c. AreCandidatesNow self.now.current c.items) }
-        ensures some { IfOk result (λ c. (rows : List TableRow) × IsOfferedBySome c.items rows) }
+        ensures some { IfOk result (λ c. (rows : List TableRow) × IsOfferedBySome L.origin c.items rows) }
     {
         self.now().candidates()
     }
 
     fn wants(&self, prefix: Prefix) -> bool
         ensures now { result ≡ announces self.now.current prefix }
-        ensures some { IsWantedBySome prefix result }
+        ensures some { IsWantedBySome L.origin prefix result }
     {
         self.now().wants(prefix)
     }

@@ -1,9 +1,10 @@
 //! A turn of a worker.
-ghost use Rattle.std.specs.Prelude.{◌≡◌, ◌+◌, ◌≤◌, Err, IfOk, MatchOption, OnOk, OnErr, max};
+ghost use Rattle.std.specs.Prelude.{◌≡◌, ◌+◌, ◌≤◌, Err, IfErr, IfOk, MatchOption};
+ghost use Rattle.std.specs.Prelude.{OnOk, OnErr, max};
 ghost use mathlib.Core.List.{IsPrefix};
 ghost use Rattle.words.specs.Constants.{clock_end};
 ghost use Rattle.hooks.specs.Known.{known_to};
-ghost use Rattle.turns.specs.Turns.{IsTurned, TakesFor};
+ghost use Rattle.turns.specs.Turns.{IsTurned, RefusesFor, TakesFor};
 
 use crate::gate::Gate;
 use crate::hub::Hub;
@@ -43,6 +44,8 @@ pub fn turn<L: Site, B: Taker<L>, G: Gate, R: Wait>(
 ) -> Result<Turned, TurnError>
     ensures turned { IfOk result (λ r. IsTurned B.offers B.took (known_to port.old.asker)
         moment work.now port.old.share.amount port.new.share.amount r) }
+    ensures refused { IfErr result (λ error. RefusesFor B.offers B.refuses
+        (known_to port.old.asker) moment work.now error) }
     ensures passed { OnOk result (G.passed gate.now port.old.number) }
     ensures err { OnErr result (port.new.share.amount ≡ port.old.share.amount) }
     ensures clock { work.now ≡ Work.Refresh

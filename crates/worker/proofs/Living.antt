@@ -3,67 +3,76 @@ use Rattle.std.proofs.Common.{◌≡◌, ◌≢◌, ◌⊎◌, inl, inr, ℕ, ze
 use Rattle.std.specs.Prelude.{MatchResult}
 use mathlib.Core.List.{IsPrefix}
 use Rattle.hooks.specs.declared.operation.Operation.{Operation}
-use Rattle.turns.specs.Turns.{IsTurned, Offers, Took}
-use Rattle.turns.proofs.Longer.{turned_longer}
+use Rattle.turns.specs.Turns.{IsTurned, Offers, Refuses, RefusesFor, Took}
+use Rattle.turns.proofs.Longer.{refused_longer, turned_longer}
 use Rattle.turns.specs.declared.turned.Turned.{Turned}
 use Rattle.turns.specs.declared.turned.TurnError.{TurnError}
 use Rattle.turns.specs.declared.work.Work.{Work}
 use Rattle.turns.specs.declared.work.Work.TheVariants.{Datagram, Tick}
 use Rattle.worker.specs.Refusals.{clock_back}
 use Rattle.worker.specs.Sending.{Gives}
-use Rattle.worker.specs.Lives.{HasLived, Hears, IsHeard, IsSent, IsTried, IsTurnedTo, Listens, Lives, Round, Senses, Serves, Shows, ShowsEach, Standing, Ticks, latest, senses_of}
+use Rattle.worker.specs.Lives.{AreAhead, HasLived, Hears, IsHeard, IsSent, IsTried, IsTurnedTo, Listens, Lives, Round, Senses, Serves, Shows, ShowsEach, Standing, Ticks, latest, senses_of}
 
 -- a turn was tried so often again, until now
-pub record IsTriedSo {Clock : Type 0} (shows : Shows Clock) (before : Clock) (first : ℕ) (now : Clock) (last tries : ℕ) : Type 0 where
+pub record IsTriedSo {Clock : Type 0} (shows : Shows Clock) (refused : (moment : ℕ) → TurnError → Type 0) (before : Clock) (first : ℕ)
+    (now : Clock) (last tries : ℕ) : Type 0 where
   pub again : List ℕ
   pub many : length again ≡ tries
   pub shown : ShowsEach shows before again now
+  pub ahead : AreAhead refused first again
   pub at_last : last ≡ latest first again
 
-pub not_again : {Clock : Type 0} (shows : Shows Clock) (clock : Clock) (moment : ℕ) → IsTriedSo shows clock moment clock moment 0
-not_again shows clock moment = record { again = []; many = refl; shown = refl; at_last = refl }
+module _ {Clock : Type 0} (shows : Shows Clock) (refused : (moment : ℕ) → TurnError → Type 0) where
+  pub not_again : (clock : Clock) (moment : ℕ) → IsTriedSo shows refused clock moment clock moment 0
+  not_again clock moment = record { again = []; many = refl; shown = refl; ahead = tt; at_last = refl }
 
-pub once_more : {Clock : Type 0} (shows : Shows Clock) (before : Clock) (first : ℕ) (now : Clock) (last tries : ℕ) (next : Clock)
-    (moment : ℕ) → IsTriedSo shows before first now last tries → shows now moment next
-    → IsTriedSo shows before first next moment (tries + 1)
-once_more shows before first now last tries next moment so shown =
-    record { again = moment ∷ so.again; many = omega (arith, so.many); shown = (now, so.shown, shown); at_last = refl }
+  pub once_more : (before : Clock) (first : ℕ) (now : Clock) (last tries : ℕ) (next : Clock) (moment : ℕ)
+      → IsTriedSo shows refused before first now last tries → refused last clock_back → shows now moment next
+      → IsTriedSo shows refused before first next moment (tries + 1)
+  once_more before first now last tries next moment so back shown = record {
+    again = moment ∷ so.again;
+    many = omega (arith, so.many);
+    shown = (now, so.shown, shown);
+    ahead = (subst (λ m. refused m clock_back) so.at_last back, so.ahead);
+    at_last = refl;
+  }
 
-pub at_last : {Clock : Type 0} (shows : Shows Clock) (before : Clock) (first : ℕ) (after : Clock) (last tries : ℕ)
-    (outcome : Result Turned TurnError) → IsTriedSo shows before first after last tries → tries ≤ 3
-    → (outcome ≡ Err clock_back → tries ≡ 3) → IsTried shows before first after last outcome
-at_last shows before first after last tries outcome so few thrice =
-    record {
-      again = so.again;
-      few = omega (arith, so.many, few);
-      shown = so.shown;
-      at_last = so.at_last;
-      thrice = λ back. so.many ∙ thrice back;
-    }
+  pub at_last : (before : Clock) (first : ℕ) (after : Clock) (last tries : ℕ) (outcome : Result Turned TurnError)
+      → IsTriedSo shows refused before first after last tries → tries ≤ 3 → (outcome ≡ Err clock_back → tries ≡ 3)
+      → IsTried shows refused before first after last outcome
+  at_last before first after last tries outcome so few thrice = record {
+    again = so.again;
+    few = omega (arith, so.many, few);
+    shown = so.shown;
+    ahead = so.ahead;
+    at_last = so.at_last;
+    thrice = λ back. so.many ∙ thrice back;
+  }
 
 -- ---- a turn
 
 pub served : {Link Clock : Type 0} (senses : Senses Link Clock) (moment : ℕ) (work : Work) (before : Standing Link Clock)
     (ended : ℕ) (after : Standing Link Clock) (outcome : Result Turned TurnError) (turned : Turned) → outcome ≡ Ok turned
-    → IsTried senses.shows before.clock moment after.clock ended outcome
+    → IsTried senses.shows (λ m. senses.refusals m work) before.clock moment after.clock ended outcome
     → senses.turns ended work before.events after.events turned → IsSent senses.gives before.link turned after.link
     → Serves senses moment work before ended after
 served senses moment work before ended after outcome turned is tried turns sent =
     record {
       outcome = Ok turned;
-      tried = subst (IsTried senses.shows before.clock moment after.clock ended) is tried;
+      tried = subst (IsTried senses.shows (λ m. senses.refusals m work) before.clock moment after.clock ended) is tried;
       given = (turns, sent);
     }
 
 pub refused : {Link Clock : Type 0} (senses : Senses Link Clock) (moment : ℕ) (work : Work) (before : Standing Link Clock)
     (ended : ℕ) (after : Standing Link Clock) (outcome : Result Turned TurnError) (error : TurnError) → outcome ≡ Err error
-    → IsTried senses.shows before.clock moment after.clock ended outcome → after.link ≡ before.link → after.events ≡ before.events
+    → IsTried senses.shows (λ m. senses.refusals m work) before.clock moment after.clock ended outcome
+    → senses.refusals ended work error → after.link ≡ before.link → after.events ≡ before.events
     → Serves senses moment work before ended after
-refused senses moment work before ended after outcome error is tried link events =
+refused senses moment work before ended after outcome error is tried why link events =
     record {
       outcome = Err error;
-      tried = subst (IsTried senses.shows before.clock moment after.clock ended) is tried;
-      given = (link, events);
+      tried = subst (IsTried senses.shows (λ m. senses.refusals m work) before.clock moment after.clock ended) is tried;
+      given = (why, link, events);
     }
 
 -- ---- a round
@@ -85,7 +94,7 @@ pub turned_to : {Link Clock : Type 0} (senses : Senses Link Clock) (bytes : List
     (shown : Clock) (ended : ℕ) (after : Standing Link Clock) → senses.shows before.clock moment shown
     → Serves senses moment (Datagram senses.number bytes) (record before { clock = shown }) ended after
     → IsTurnedTo senses bytes before after
-turned_to senses bytes before moment shown ended after is_shown serves = inr (moment, shown, ended, is_shown, serves)
+turned_to senses bytes before moment shown ended after is_shown serves = (moment, shown, ended, is_shown, serves)
 
 pub listened : {Link Clock : Type 0} (senses : Senses Link Clock) (before after : Standing Link Clock) (heard : Option (List ℕ))
     (between : Link) → senses.hears before.link heard between → IsHeard senses heard (record before { link = between }) after
@@ -96,28 +105,51 @@ listened senses before after heard between is_heard turn =
 -- ---- what begins with more than was known begins with that
 
 module _ {Link Clock : Type 0} (gives : Gives Link) (hears : Hears Link) (shows : Shows Clock) (offers : Offers) (took : Took)
-    (known more : List Operation) (longer : IsPrefix known more) (number : ℕ) where
+    (refuses : Refuses) (known more : List Operation) (longer : IsPrefix known more) (number : ℕ) where
   abbrev after_more : Senses Link Clock
-  after_more = senses_of gives hears shows offers took more number
+  after_more = senses_of gives hears shows offers took refuses more number
 
   abbrev after_known : Senses Link Clock
-  after_known = senses_of gives hears shows offers took known number
+  after_known = senses_of gives hears shows offers took refuses known number
 
   given_longer : (work : Work) (ended : ℕ) (before after : Standing Link Clock) (outcome : Result Turned TurnError)
       → MatchResult outcome
       (λ turned. IsTurned offers took more ended work before.events after.events turned × IsSent gives before.link turned after.link)
-      (λ _. (after.link ≡ before.link) × (after.events ≡ before.events))
+      (λ error. RefusesFor offers refuses more ended work error × (after.link ≡ before.link) × (after.events ≡ before.events))
       → MatchResult outcome
       (λ turned. IsTurned offers took known ended work before.events after.events turned × IsSent gives before.link turned after.link)
-      (λ _. (after.link ≡ before.link) × (after.events ≡ before.events))
+      (λ error. RefusesFor offers refuses known ended work error × (after.link ≡ before.link) × (after.events ≡ before.events))
   given_longer work ended before after (Ok turned) h =
       (turned_longer known more longer offers took ended work before.events after.events turned h.0, h.1)
-  given_longer work ended before after (Err error) h = h
+  given_longer work ended before after (Err error) h =
+      (refused_longer known more longer offers refuses ended work error h.0, h.1, h.2)
+
+  ahead_longer : (work : Work) (first : ℕ) (again : List ℕ) → AreAhead (λ m. RefusesFor offers refuses more m work) first again
+      → AreAhead (λ m. RefusesFor offers refuses known m work) first again
+  ahead_longer work first [] h = tt
+  ahead_longer work first (moment ∷ again) h =
+      (refused_longer known more longer offers refuses (latest first again) work clock_back h.0, ahead_longer work first again h.1)
+
+  tried_longer : (work : Work) (before : Clock) (first : ℕ) (after : Clock) (last : ℕ) (outcome : Result Turned TurnError)
+      → IsTried shows (λ m. RefusesFor offers refuses more m work) before first after last outcome
+      → IsTried shows (λ m. RefusesFor offers refuses known m work) before first after last outcome
+  tried_longer work before first after last outcome h = record {
+    again = h.again;
+    few = h.few;
+    shown = h.shown;
+    ahead = ahead_longer work first h.again h.ahead;
+    at_last = h.at_last;
+    thrice = h.thrice;
+  }
 
   serves_longer : (moment : ℕ) (work : Work) (before : Standing Link Clock) (ended : ℕ) (after : Standing Link Clock)
       → Serves after_more moment work before ended after → Serves after_known moment work before ended after
   serves_longer moment work before ended after h =
-      record { outcome = h.outcome; tried = h.tried; given = given_longer work ended before after h.outcome h.given }
+      record {
+        outcome = h.outcome;
+        tried = tried_longer work before.clock moment after.clock ended h.outcome h.tried;
+        given = given_longer work ended before after h.outcome h.given;
+      }
 
   ticks_turn_longer : (ticked next : Option ℕ) (moment : ℕ) (before after : Standing Link Clock)
       → ((ticked ≡ Some moment) × (next ≡ ticked) × (after ≡ before))
@@ -140,9 +172,8 @@ module _ {Link Clock : Type 0} (gives : Gives Link) (hears : Hears Link) (shows 
 
   turned_to_longer : (bytes : List ℕ) (before after : Standing Link Clock) → IsTurnedTo after_more bytes before after
       → IsTurnedTo after_known bytes before after
-  turned_to_longer bytes before after (inl lost) = inl lost
-  turned_to_longer bytes before after (inr (moment, shown, ended, is_shown, serves)) =
-      inr (moment, shown, ended, is_shown, serves_longer moment (Datagram number bytes) (record before { clock = shown }) ended after serves)
+  turned_to_longer bytes before after (moment, shown, ended, is_shown, serves) =
+      (moment, shown, ended, is_shown, serves_longer moment (Datagram number bytes) (record before { clock = shown }) ended after serves)
 
   heard_longer : (heard : Option (List ℕ)) (before after : Standing Link Clock) → IsHeard after_more heard before after
       → IsHeard after_known heard before after
@@ -165,18 +196,18 @@ module _ {Link Clock : Type 0} (gives : Gives Link) (hears : Hears Link) (shows 
 
 -- the time and then the link, at a port that had learnt more between
 pub in_turn : {Link Clock A E : Type 0} (gives : Gives Link) (hears : Hears Link) (shows : Shows Clock) (offers : Offers) (took : Took)
-    (known more : List Operation) (number now : ℕ) (ticked : Option ℕ) (before : Standing Link Clock) (next : Option ℕ)
+    (refuses : Refuses) (known more : List Operation) (number now : ℕ) (ticked : Option ℕ) (before : Standing Link Clock) (next : Option ℕ)
     (between after : Standing Link Clock) (result : Result A E) → IsPrefix known more → now ≡ number
-    → Ticks (senses_of gives hears shows offers took known number) ticked before next between
-    → OnOk result (Listens (senses_of gives hears shows offers took more now) between after)
-    → OnOk result (Round (senses_of gives hears shows offers took known number) ticked before next after)
-in_turn gives hears shows offers took known more number now ticked before next between after (Ok done) longer same ticks listens = (
+    → Ticks (senses_of gives hears shows offers took refuses known number) ticked before next between
+    → OnOk result (Listens (senses_of gives hears shows offers took refuses more now) between after)
+    → OnOk result (Round (senses_of gives hears shows offers took refuses known number) ticked before next after)
+in_turn gives hears shows offers took refuses known more number now ticked before next between after (Ok done) longer same ticks listens = (
   between,
   ticks,
-  listens_longer gives hears shows offers took known more longer number between after
-      (subst (λ n. Listens (senses_of gives hears shows offers took more n) between after) same listens),
+  listens_longer gives hears shows offers took refuses known more longer number between after
+      (subst (λ n. Listens (senses_of gives hears shows offers took refuses more n) between after) same listens),
 )
-in_turn gives hears shows offers took known more number now ticked before next between after (Err error) longer same ticks listens = tt
+in_turn gives hears shows offers took refuses known more number now ticked before next between after (Err error) longer same ticks listens = tt
 
 -- ---- the rounds
 

@@ -1,14 +1,14 @@
 -- A turn that is tried again, by a port that has learnt more.
-use Rattle.std.proofs.Common.{◌≡◌, ℕ, List, Result, Ok, Err, IfOk, subst}
+use Rattle.std.proofs.Common.{◌≡◌, ℕ, List, Result, Ok, Err, IfErr, IfOk, subst}
 use mathlib.Core.List.{IsPrefix}
 use Rattle.words.specs.Numbers.{Moment}
 use Rattle.hooks.specs.declared.operation.Operation.{Operation}
 use Rattle.hooks.proofs.Fronts.{prefix_self, prefix_trans}
-use Rattle.turns.specs.Turns.{IsTurned, Offers, Took}
+use Rattle.turns.specs.Turns.{IsTurned, Offers, Refuses, RefusesFor, Took}
 use Rattle.turns.specs.declared.turned.Turned.{Turned}
 use Rattle.turns.specs.declared.turned.TurnError.{TurnError}
 use Rattle.turns.specs.declared.work.Work.{Work}
-use Rattle.turns.proofs.Longer.{turned_longer}
+use Rattle.turns.proofs.Longer.{refused_longer, turned_longer}
 
 -- what it gives begins with what the port knew at first
 pub turned_first : (offers : Offers) (took : Took) (known more : List Operation) (moment : Moment) (w : Work) (before now after : ℕ)
@@ -25,6 +25,21 @@ pub answered_first : (offers : Offers) (took : Took) (known more : List Operatio
 answered_first offers took known more moment w before now after (Ok turned) longer same h =
     turned_first offers took known more moment w before now after turned longer same h
 answered_first offers took known more moment w before now after (Err error) longer same h = h
+
+-- and of what was refused
+pub refused_first : (offers : Offers) (refuses : Refuses) (known more : List Operation) (moment : Moment) (w : Work)
+    (outcome : Result Turned TurnError) → IsPrefix known more
+    → IfErr outcome (λ error. RefusesFor offers refuses more moment w error)
+    → IfErr outcome (λ error. RefusesFor offers refuses known moment w error)
+refused_first offers refuses known more moment w (Ok turned) longer h = h
+refused_first offers refuses known more moment w (Err error) longer h = refused_longer known more longer offers refuses moment w error h
+
+-- so a turn that is tried again was refused at the moment before
+pub refused_so : (offers : Offers) (refuses : Refuses) (known more : List Operation) (moment : Moment) (w : Work)
+    (outcome : Result Turned TurnError) (error : TurnError) → IsPrefix known more → outcome ≡ Err error
+    → IfErr outcome (λ error. RefusesFor offers refuses more moment w error) → RefusesFor offers refuses known moment w error
+refused_so offers refuses known more moment w outcome error longer is h =
+    subst (λ o. IfErr o (λ e. RefusesFor offers refuses known moment w e)) is (refused_first offers refuses known more moment w outcome longer h)
 
 pub known_first : (known : List Operation) → IsPrefix known known
 known_first known = prefix_self known

@@ -1,5 +1,6 @@
 -- what a router offers, and what a turn is, for those above
 pub use Rattle.turns.specs.Offers
+pub use Rattle.turns.specs.Replay
 pub use Rattle.turns.specs.Turns
 pub use Rattle.turns.specs.Numbers
 pub use Rattle.turns.specs.declared.turned.TurnError
@@ -8,3 +9,5 @@ pub mod Sending
 pub mod Refusals
 pub mod Lives
 pub mod Opening
+-- what crates above name of those below
+pub use Rattle.turns.specs.events as events

@@ -4,7 +4,7 @@ use Rattle.std.specs.Prelude.{◌≡◌, ◌≢◌, ◌⊎◌, ℕ, zero, suc, �
 use Rattle.std.specs.Prelude.{Option, Some, None, MatchOption}
 use Rattle.std.specs.Prelude.{Result, Ok, Err, MatchResult}
 use Rattle.hooks.specs.declared.operation.Operation.{Operation}
-use Rattle.turns.specs.Turns.{IsTurned, Offers, Took}
+use Rattle.turns.specs.Turns.{IsTurned, Offers, Refuses, RefusesFor, Took}
 use Rattle.turns.specs.declared.turned.Turned.{Turned}
 use Rattle.turns.specs.declared.turned.TurnError.{TurnError}
 use Rattle.turns.specs.declared.work.Work.{Work}
@@ -26,12 +26,17 @@ Hears Link = (before : Link) → (heard : Option (List ℕ)) → (after : Link) 
 abbrev pub Turns : Type 1
 Turns = (moment : ℕ) → Work → (before after : ℕ) → Turned → Type 0
 
+-- a turn at a moment, for a work, that was refused, and why
+abbrev pub Refusals : Type 1
+Refusals = (moment : ℕ) → Work → TurnError → Type 0
+
 -- all of it, and the number of the worker's port
 pub record Senses (Link Clock : Type 0) : Type 1 where
   pub gives : Gives Link
   pub hears : Hears Link
   pub shows : Shows Clock
   pub turns : Turns
+  pub refusals : Refusals
   pub number : ℕ
 
 -- its link, its clock, and how many events its port has given to the router
@@ -45,17 +50,15 @@ pub record Standing (Link Clock : Type 0) : Type 0 where
 -- what is said of a worker at the port of this number that knew these operations, with such a link
 -- and such a clock
 abbrev pub senses_of : {Link Clock : Type 0} → Gives Link → Hears Link → Shows Clock → Offers → Took
-    → (known : List Operation)
-    → (number : ℕ) → Senses Link Clock
-senses_of gives hears shows offers took known number =
-    record {
-      gives = gives;
-      hears = hears;
-      shows = shows;
-      turns = IsTurned offers took known;
-      number
-          = number;
-    }
+    → Refuses → (known : List Operation) → (number : ℕ) → Senses Link Clock
+senses_of gives hears shows offers took refuses known number = record {
+  gives = gives;
+  hears = hears;
+  shows = shows;
+  turns = IsTurned offers took known;
+  refusals = RefusesFor offers refuses known;
+  number = number;
+}
 
 -- the link was given what it sends, and then what its refresh sends
 abbrev pub IsSent : {Link : Type 0} → Gives Link → (before : Link) → Turned → (after : Link)
@@ -76,15 +79,22 @@ abbrev pub latest : (first : ℕ) → List ℕ → ℕ
 latest first [] = first
 latest first (moment ∷ moments) = moment
 
--- a turn was tried at the first moment, and then at most three times again, each time at a moment
--- that the clock showed then; where it is refused since the router's clock is ahead, it was tried
--- three times again
-pub record IsTried {Clock : Type 0} (shows : Shows Clock) (before : Clock) (first : ℕ)
-    (after : Clock) (last : ℕ)
-    (outcome : Result Turned TurnError) : Type 0 where
+-- the turn was refused at each moment but the last, since the router's clock is ahead of it
+abbrev pub AreAhead : (refused : (moment : ℕ) → TurnError → Type 0) → (first : ℕ) → List ℕ → Type 0
+AreAhead refused first [] = Unit {0}
+AreAhead refused first (moment ∷ moments) =
+    refused (latest first moments) clock_back × AreAhead refused first moments
+
+-- A turn was tried at the first moment, and then at most three times again, each time at a moment
+-- that the clock showed then, since the one before was refused by a router whose clock is ahead;
+-- where it is refused so at last, it was tried three times again.
+pub record IsTried {Clock : Type 0} (shows : Shows Clock)
+    (refused : (moment : ℕ) → TurnError → Type 0) (before : Clock) (first : ℕ)
+    (after : Clock) (last : ℕ) (outcome : Result Turned TurnError) : Type 0 where
   pub again : List ℕ
   pub few : length again ≤ 3
   pub shown : ShowsEach shows before again after
+  pub ahead : AreAhead refused first again
   pub at_last : last ≡ latest first again
   pub thrice : outcome ≡ Err clock_back → length again ≡ 3
 
@@ -93,11 +103,13 @@ pub record IsTried {Clock : Type 0} (shows : Shows Clock) (before : Clock) (firs
 pub record Serves {Link Clock : Type 0} (senses : Senses Link Clock) (moment : ℕ) (work : Work)
     (before : Standing Link Clock) (ended : ℕ) (after : Standing Link Clock) : Type 0 where
   pub outcome : Result Turned TurnError
-  pub tried : IsTried senses.shows before.clock moment after.clock ended outcome
+  pub tried : IsTried senses.shows (λ m. senses.refusals m work)
+      before.clock moment after.clock ended outcome
   pub given : MatchResult outcome
       (λ turned. senses.turns ended work before.events after.events turned
       × IsSent senses.gives before.link turned after.link)
-      (λ _. (after.link ≡ before.link) × (after.events ≡ before.events))
+      (λ error. senses.refusals ended work error
+      × (after.link ≡ before.link) × (after.events ≡ before.events))
 
 -- ---- a round
 
@@ -113,14 +125,13 @@ pub record Ticks {Link Clock : Type 0} (senses : Senses Link Clock) (ticked : Op
       × Serves senses moment Tick (record before { clock = shown }) ended after))
 
 -- a datagram came: there is a turn with it at the interface of the worker's port, at a moment that
--- the clock showed then; or there was no memory for it, and it is lost
+-- the clock showed then
 abbrev pub IsTurnedTo : {Link Clock : Type 0} → Senses Link Clock → (bytes : List ℕ)
     → (before after : Standing Link Clock) → Type 0
 IsTurnedTo {Clock = Clock} senses bytes before after =
-    (after ≡ before)
-    ⊎ ((moment : ℕ) × (shown : Clock) × (ended : ℕ) × senses.shows before.clock moment shown
+    (moment : ℕ) × (shown : Clock) × (ended : ℕ) × senses.shows before.clock moment shown
     × Serves senses moment (Datagram senses.number bytes) (record before { clock = shown }) ended
-    after)
+    after
 
 -- what is done about what was heard
 abbrev pub IsHeard : {Link Clock : Type 0} → Senses Link Clock → Option (List ℕ)

@@ -13,5 +13,5 @@ pub use settling::{Closed, Settled, close_hub, settle};
 pub use setup::Setup;
 pub use turns::{
     Book, BookError, Config, ConfigError, Core, CoreError, Event, Gate, Hub, Interface, Offered,
-    Open, Out, Place, Port, Site, State, Taker, TurnError, Turned, Work, turn,
+    Open, Origin, Out, Place, Port, Site, State, Taker, TurnError, Turned, Work, turn,
 };

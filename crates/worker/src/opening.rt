@@ -12,7 +12,7 @@ use std::alloc::{AllocError, Global};
 use std::sync::ledger::Share;
 use turns::{Book, Core, Hub, Place, Port, Site};
 
-/// Opens a hub with a book that begins with this router, and a port for each seat of the setup. The
+/// Opens a hub with a book that begins with this router, the one that its type names, and a port for each seat of the setup. The
 /// last port has number 0, the one before it number 1, and so on. Beside them comes what is left of
 /// the ledger when each port has its part.
 ///
@@ -22,7 +22,8 @@ pub fn open_hub<L: Site>(
     setup: Setup,
     core: Core,
 ) -> Result<(Hub<L, Book<L>>, Vec<Port<L>>, Share<L>), AllocError>
-    requires { IsSetUpFor L.name L.parts L.words L.history setup }
+    requires setup { IsSetUpFor L.name L.parts L.words L.history setup }
+    requires origin { core ≡ L.origin }
     ensures ports { IfOk result (λ r. vec_len r.1 ≡ vec_len setup.seats) }
     ensures numbers { IfOk result (λ r. CountDownTo 0 (map (λ p. p.number) r.1.items)) }
     ensures parts { IfOk result (λ r. r.2.parts + vec_len r.1 ≡ L.parts) }

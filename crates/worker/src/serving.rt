@@ -1,8 +1,10 @@
 //! The loop of a worker.
-ghost use Rattle.std.specs.Prelude.{◌≡◌, ◌<◌, ◌++◌, ◌↔◌, IfOk, MatchOption, OnOk, OnErr};
+ghost use Rattle.std.specs.Prelude.{◌≡◌, ◌<◌, ◌++◌, ◌↔◌, Err, IfErr, IfOk, MatchOption};
+ghost use Rattle.std.specs.Prelude.{OnOk, OnErr, false, true};
 ghost use mathlib.Core.List.{IsPrefix};
 ghost use Rattle.hooks.specs.Known.{known_to};
-ghost use Rattle.turns.specs.Turns.{IsTurned};
+ghost use Rattle.turns.specs.Turns.{IsTurned, RefusesFor};
+ghost use Rattle.worker.specs.Refusals.{clock_back};
 ghost use Rattle.worker.specs.Sending.{IsGivenEach};
 ghost use Rattle.worker.specs.Lives.{HasLived, IsTried, IsTurnedTo, Listens, Round, Serves, Ticks};
 ghost use Rattle.worker.specs.Lives.{senses_of};
@@ -58,8 +60,8 @@ pub fn run<L: Site, B: Taker<L>, G: Gate, K: Link, S: Seconds, R: Wait>(
 ) -> Ended
     ensures ended { (result ≡ Fault) ↔ (K.faults link.old < K.faults link.new) }
     ensures lived { result ≡ Quit → HasLived
-        (senses_of K.gives K.hears S.shows B.offers B.took (known_to port.old.asker)
-        port.old.number)
+        (senses_of K.gives K.hears S.shows B.offers B.took B.refuses
+        (known_to port.old.asker) port.old.number)
         (record { link = link.old; clock = clock.old; events = port.old.share.amount })
         (record { link = link.new; clock = clock.new; events = port.new.share.amount }) }
     ensures number { port.new.number ≡ port.old.number }
@@ -103,8 +105,8 @@ fn round<L: Site, B: Taker<L>, G: Gate, K: Link, S: Seconds, R: Wait>(
     buffer: &mut [u8; 8193],
 ) -> Result<(), LinkFault>
     ensures round { OnOk result (Round
-        (senses_of K.gives K.hears S.shows B.offers B.took (known_to port.old.asker)
-        port.old.number) ticked.old
+        (senses_of K.gives K.hears S.shows B.offers B.took B.refuses
+        (known_to port.old.asker) port.old.number) ticked.old
         (record { link = link.old; clock = clock.old; events = port.old.share.amount }) ticked.new
         (record { link = link.new; clock = clock.new; events = port.new.share.amount })) }
     ensures number { port.new.number ≡ port.old.number }
@@ -128,8 +130,8 @@ fn tick<L: Site, B: Taker<L>, G: Gate, K: Link, S: Seconds, R: Wait>(
     ticked: &mut Option<Second>,
 ) -> Result<(), LinkFault>
     ensures ticks { OnOk result (Ticks
-        (senses_of K.gives K.hears S.shows B.offers B.took (known_to port.old.asker)
-        port.old.number) ticked.old
+        (senses_of K.gives K.hears S.shows B.offers B.took B.refuses
+        (known_to port.old.asker) port.old.number) ticked.old
         (record { link = link.old; clock = clock.old; events = port.old.share.amount }) ticked.new
         (record { link = link.new; clock = clock.new; events = port.new.share.amount })) }
     ensures number { port.new.number ≡ port.old.number }
@@ -159,8 +161,8 @@ fn listen<L: Site, B: Taker<L>, G: Gate, K: Link, S: Seconds, R: Wait>(
     buffer: &mut [u8; 8193],
 ) -> Result<(), LinkFault>
     ensures listens { OnOk result (Listens
-        (senses_of K.gives K.hears S.shows B.offers B.took (known_to port.old.asker)
-        port.old.number)
+        (senses_of K.gives K.hears S.shows B.offers B.took B.refuses
+        (known_to port.old.asker) port.old.number)
         (record { link = link.old; clock = clock.old; events = port.old.share.amount })
         (record { link = link.new; clock = clock.new; events = port.new.share.amount })) }
     ensures number { port.new.number ≡ port.old.number }
@@ -168,30 +170,26 @@ fn listen<L: Site, B: Taker<L>, G: Gate, K: Link, S: Seconds, R: Wait>(
     ensures fine { OnOk result (K.faults link.new ≡ K.faults link.old) }
     ensures fault { OnErr result (K.faults link.old < K.faults link.new) }
 {
-    match link.receive(buffer)? {
-        Some(length) => {
-            let heard = &buffer[..length];
-            hear(rt, alloc, hub, port, gate, link, clock, heard)
-        }
+    match link.receive(alloc, buffer)? {
+        Some(bytes) => hear(rt, hub, port, gate, link, clock, bytes),
         None => Ok(()),
     }
 }
 
-// A turn with a datagram. Without memory it is lost.
+// A turn with a datagram.
 #[tactic(auto, using(crate::proofs::Living::turned_to, crate::proofs::Tries::known_first))]
 fn hear<L: Site, B: Taker<L>, G: Gate, K: Link, S: Seconds, R: Wait>(
     rt: &R,
-    alloc: Global,
     hub: &Hub<L, B>,
     port: &mut Port<L>,
     gate: &G,
     link: &mut K,
     clock: &mut S,
-    heard: &[u8],
+    heard: Sequence<u8>,
 ) -> Result<(), LinkFault>
     ensures turned { OnOk result (IsTurnedTo
-        (senses_of K.gives K.hears S.shows B.offers B.took (known_to port.old.asker)
-        port.old.number) heard.now
+        (senses_of K.gives K.hears S.shows B.offers B.took B.refuses
+        (known_to port.old.asker) port.old.number) heard
         (record { link = link.old; clock = clock.old; events = port.old.share.amount })
         (record { link = link.new; clock = clock.new; events = port.new.share.amount })) }
     ensures number { port.new.number ≡ port.old.number }
@@ -199,10 +197,7 @@ fn hear<L: Site, B: Taker<L>, G: Gate, K: Link, S: Seconds, R: Wait>(
     ensures fine { OnOk result (K.faults link.new ≡ K.faults link.old) }
     ensures fault { OnErr result (K.faults link.old < K.faults link.new) }
 {
-    let Ok(bytes) = Vec::from_slice(alloc, heard) else {
-        return Ok(());
-    };
-    let work = Work::Datagram(port.number(), Sequence::from_vec(bytes));
+    let work = Work::Datagram(port.number(), heard);
     let mut now = clock.second();
     serve(rt, hub, port, gate, link, clock, &mut now, &work)
 }
@@ -221,8 +216,8 @@ fn serve<L: Site, B: Taker<L>, G: Gate, K: Link, S: Seconds, R: Wait>(
     work: &Work,
 ) -> Result<(), LinkFault>
     ensures serves { OnOk result (Serves
-        (senses_of K.gives K.hears S.shows B.offers B.took (known_to port.old.asker)
-        port.old.number) moment.old work.now
+        (senses_of K.gives K.hears S.shows B.offers B.took B.refuses
+        (known_to port.old.asker) port.old.number) moment.old work.now
         (record { link = link.old; clock = clock.old; events = port.old.share.amount }) moment.new
         (record { link = link.new; clock = clock.new; events = port.new.share.amount })) }
     ensures number { port.new.number ≡ port.old.number }
@@ -234,6 +229,17 @@ fn serve<L: Site, B: Taker<L>, G: Gate, K: Link, S: Seconds, R: Wait>(
         Ok(turned) => send_all(link, &turned),
         Err(_) => Ok(()),
     }
+}
+
+// Whether the turn was refused since the router's clock is ahead.
+fn is_clock_back(turned: &Result<Turned, TurnError>) -> bool
+    ensures back { result ≡ true → turned.now ≡ Err clock_back }
+    ensures other { result ≡ false → turned.now ≡ Err clock_back → ⊥ }
+{
+    matches!(
+        turned,
+        Err(TurnError::Book(BookError::Core(CoreError::ClockBack)))
+    )
 }
 
 /// A turn at the moment. Where the clock of the router is ahead of this one it is tried again, at
@@ -251,18 +257,21 @@ pub fn tried<L: Site, B: Taker<L>, G: Gate, S: Seconds, R: Wait>(
 ) -> Result<Turned, TurnError>
     ensures turned { IfOk result (λ r. IsTurned B.offers B.took (known_to port.old.asker)
         moment.new work.now port.old.share.amount port.new.share.amount r) }
+    ensures refused { IfErr result (λ error. RefusesFor B.offers B.refuses
+        (known_to port.old.asker) moment.new work.now error) }
     ensures err { OnErr result (port.new.share.amount ≡ port.old.share.amount) }
-    ensures tried { IsTried S.shows clock.old moment.old clock.new moment.new result }
+    ensures tried { IsTried S.shows
+        (λ m error. RefusesFor B.offers B.refuses (known_to port.old.asker) m work.now error)
+        clock.old moment.old clock.new moment.new result }
     ensures number { port.new.number ≡ port.old.number }
     ensures known { IsPrefix (known_to port.old.asker) (known_to port.new.asker) }
 {
     for _tries in 0..3u32 {
-        match turn(rt, hub, port, gate, *moment, work) {
-            Err(TurnError::Book(BookError::Core(CoreError::ClockBack))) => {
-                *moment = clock.second();
-            }
-            other => return other,
+        let turned = turn(rt, hub, port, gate, *moment, work);
+        if !is_clock_back(&turned) {
+            return turned;
         }
+        *moment = clock.second();
     }
     turn(rt, hub, port, gate, *moment, work)
 }

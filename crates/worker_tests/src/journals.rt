@@ -8,10 +8,10 @@ use std::alloc::{AllocError, Global};
 use std::marker::Brand;
 use std::process::Abort;
 use std::sync::Wait;
-use std::sync::ledger::{Blank, Ledger, Share};
+use std::sync::ledger::{Blank, Share};
 use std::test::Fail;
 use words::{Address, Hops, Prefix, Route, RouteKind, Second, Sequence};
-use worker::{Book, BookError, Core, Event, Out, Taker};
+use worker::{Book, BookError, Core, Event, Origin, Out, Taker};
 
 // What a book is called for.
 #[derive(Clone, Copy, PartialEq, Eq)]
@@ -52,7 +52,7 @@ fn number_of(answer: Result<Vec<Out>, BookError>) -> u8 {
 }
 
 // How many candidates there are, alone as beside the rows.
-fn candidates_of<L: Ledger>(book: &Book<L>) -> Result<u8, AllocError> {
+fn candidates_of<L: Origin>(book: &Book<L>) -> Result<u8, AllocError> {
     let routes = book.candidates()?;
     let offered = book.offered()?;
     if routes.as_slice() != offered.candidates.as_slice() {
@@ -61,7 +61,7 @@ fn candidates_of<L: Ledger>(book: &Book<L>) -> Result<u8, AllocError> {
     Ok(u8::try_from(routes.len()).unwrap_or(u8::MAX))
 }
 
-fn called<L: Ledger>(book: &mut Book<L>, share: &mut Share<L>, call: Call, event: &Event) -> u8
+fn called<L: Origin>(book: &mut Book<L>, share: &mut Share<L>, call: Call, event: &Event) -> u8
     requires { 0 < share.old.parts }
     ensures { share.new.parts ≡ share.old.parts }
 {
@@ -83,7 +83,7 @@ const MEMORY: u8 = 6;
 
 // What a refusal leaves as it was: the journal's length and how many events were taken, the
 // router's moment, how many LSAs it has, and whether there are neighbors.
-fn shown<L: Ledger>(book: &Book<L>) -> (usize, u64, Second, usize, bool) {
+fn shown<L: Origin>(book: &Book<L>) -> (usize, u64, Second, usize, bool) {
     let router = book.now();
     let heard = router.neighbor(1).is_some() || router.neighbor(2).is_some();
     (
@@ -97,7 +97,7 @@ fn shown<L: Ledger>(book: &Book<L>) -> (usize, u64, Second, usize, bool) {
 
 // The answer of a call. An allocation may be refused once, as a run of the tests with a refusal
 // makes it: then the book is as it was, and answers in full the next time.
-fn answered<L: Ledger>(book: &mut Book<L>, share: &mut Share<L>, call: Call, event: &Event) -> u8
+fn answered<L: Origin>(book: &mut Book<L>, share: &mut Share<L>, call: Call, event: &Event) -> u8
     requires { 0 < share.old.parts }
     ensures { share.new.parts ≡ share.old.parts }
 {
@@ -113,7 +113,7 @@ fn answered<L: Ledger>(book: &mut Book<L>, share: &mut Share<L>, call: Call, eve
 }
 
 // The last answer of so many calls.
-fn called_often<L: Ledger>(book: &mut Book<L>, share: &mut Share<L>, row: &Row, event: &Event) -> u8
+fn called_often<L: Origin>(book: &mut Book<L>, share: &mut Share<L>, row: &Row, event: &Event) -> u8
     requires { 0 < share.old.parts }
     ensures { share.new.parts ≡ share.old.parts }
 {
@@ -126,7 +126,7 @@ fn called_often<L: Ledger>(book: &mut Book<L>, share: &mut Share<L>, row: &Row, 
 
 // Whether the journal grew on where it was to start anew, which no memory was left for: a mark for
 // the journal's bytes alone refuses nothing.
-fn play_rows<L: Ledger, R: Abort>(
+fn play_rows<L: Origin, R: Abort>(
     rt: &R,
     book: &mut Book<L>,
     share: &mut Share<L>,
@@ -149,7 +149,7 @@ fn play_rows<L: Ledger, R: Abort>(
     is_late
 }
 
-fn play<L: Ledger, R: Abort>(
+fn play<L: Origin, R: Abort>(
     rt: &R,
     alloc: Global,
     blank: Blank,
@@ -159,6 +159,7 @@ fn play<L: Ledger, R: Abort>(
 ) -> Result<bool, AllocError>
     requires name { blank.name ≡ L.name }
     requires parts { (blank.parts ≡ L.parts) × (blank.parts ≡ 1) }
+    requires origin { core ≡ L.origin }
 {
     let (mut book, mut share) = Book::<L>::new(alloc, blank, core)?;
     let is_late = play_rows(rt, &mut book, &mut share, event, rows);

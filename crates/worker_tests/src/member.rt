@@ -83,7 +83,8 @@ pub fn opened<L: Site>(
     setup: Setup,
     core: Core,
 ) -> Result<(Hub<L, Book<L>>, Member<L>), AllocError>
-    requires { IsSetUpFor L.name L.parts L.words L.history setup }
+    requires setup { IsSetUpFor L.name L.parts L.words L.history setup }
+    requires origin { core ≡ L.origin }
 {
     let (hub, mut ports, rest) = open_hub::<L>(alloc, setup, core)?;
     drop(rest);

@@ -24,6 +24,8 @@ struct NoFiles {}
 impl ReadsFiles for NoFiles {
     ghost holds = { λ path bytes. Unit {0} };
 
+    ghost unreadable = { λ path. Unit {0} };
+
     fn bytes(&self, _path: &str) -> Result<Vec<u8>, ReadFault> {
         Err(ReadFault::Unreadable)
     }

@@ -11,7 +11,7 @@ use std::process::Abort;
 use std::sync::Wait;
 use std::test::Fail;
 use words::{ExternalType, Second};
-use worker::{Book, Hub, Setup, Site, Taker, Work};
+use worker::{Book, Core, Hub, Setup, Site, Taker, Work};
 
 // The worker of `from` does this work, and what it sends comes in at `to`. Whether all was taken.
 fn works<L: Site, M: Site, B: Taker<L>, R: Wait>(
@@ -107,35 +107,37 @@ fn live_on<L: Site, M: Site, B: Taker<L>, C: Taker<M>, R: Wait>(
     }
 }
 
-// 1.1.1.1, with 10.0.1.1/24, at its worker's port.
-fn one_at<L: Site>(alloc: Global, setup: Setup) -> Result<(Hub<L, Book<L>>, Member<L>), Fail>
-    requires { IsSetUpFor L.name L.parts L.words L.history setup }
-{
-    let core = router(alloc, 0x0101_0101, &[interface(0x0a00_0101, 10)])?;
-    Ok(opened::<L>(alloc, setup, core)?)
+/// A router at its start, and what its worker starts with.
+#[derive(Drop)]
+struct Start {
+    core: Core,
+    setup: Setup,
 }
 
-// 2.2.2.2, with 10.0.1.2/24 and with another network at cost 5, at its worker's port.
-fn other_at<L: Site>(alloc: Global, setup: Setup) -> Result<(Hub<L, Book<L>>, Member<L>), Fail>
-    requires { IsSetUpFor L.name L.parts L.words L.history setup }
-{
+// 1.1.1.1, with 10.0.1.1/24.
+fn one(alloc: Global) -> Result<Core, Fail> {
+    router(alloc, 0x0101_0101, &[interface(0x0a00_0101, 10)])
+}
+
+// 2.2.2.2, with 10.0.1.2/24 and with another network at cost 5.
+fn other(alloc: Global) -> Result<Core, Fail> {
     let interfaces = [interface(0x0a00_0102, 10), interface(0x0a00_0202, 5)];
-    let core = router(alloc, 0x0202_0202, &interfaces)?;
-    Ok(opened::<L>(alloc, setup, core)?)
+    router(alloc, 0x0202_0202, &interfaces)
 }
 
 // The table of 1.1.1.1 after its life beside the other, whose work after thirty rounds this is.
 fn table_beside<L: Site, M: Site, C: Taker<M>, R: Wait>(
     rt: &R,
     alloc: Global,
-    setup: Setup,
+    start: Start,
     other_hub: &Hub<M, C>,
     other: &mut Member<M>,
     work: Option<&Work>,
 ) -> Result<String, Fail>
-    requires { IsSetUpFor L.name L.parts L.words L.history setup }
+    requires setup { IsSetUpFor L.name L.parts L.words L.history start.setup }
+    requires origin { start.core ≡ L.origin }
 {
-    let (hub, mut one) = one_at::<L>(alloc, setup)?;
+    let (hub, mut one) = opened::<L>(alloc, start.setup, start.core)?;
     let is_fine = live_on(rt, &hub, &mut one, other_hub, other, work);
     drop(one);
     Ok(table_of(alloc, hub, is_fine)?)
@@ -145,16 +147,16 @@ fn table_beside<L: Site, M: Site, C: Taker<M>, R: Wait>(
 fn table<L: Site, M: Site, R: Wait, Q: Wait + Drop>(
     rt: &R,
     alloc: Global,
-    one: Setup,
-    other: Setup,
+    one: Start,
+    other: Start,
     work: Option<&Work>,
     _one: &Loader<Q>,
     _other: &Loader<Q>,
 ) -> Result<String, Fail>
-    requires one { IsSetUpFor L.name L.parts L.words L.history one }
-    requires other { IsSetUpFor M.name M.parts M.words M.history other }
+    requires one { IsSetUpFor L.name L.parts L.words L.history one.setup × (one.core ≡ L.origin) }
+    requires other { IsSetUpFor M.name M.parts M.words M.history other.setup × (other.core ≡ M.origin) }
 {
-    let (hub, mut other) = other_at::<M>(alloc, other)?;
+    let (hub, mut other) = opened::<M>(alloc, other.setup, other.core)?;
     let table = table_beside::<L, M, Book<M>, R>(rt, alloc, one, &hub, &mut other, work);
     drop(other);
     let_go(hub);
@@ -163,8 +165,12 @@ fn table<L: Site, M: Site, R: Wait, Q: Wait + Drop>(
 
 #[tactic(auto, using(crate::proofs::Fresh::all_ask))]
 fn found<R: Wait>(rt: &R, alloc: Global, work: Option<&Work>) -> Result<String, Fail> {
-    let (one_loader, one) = Setup::new(alloc, rt, 1)?;
-    let (other_loader, other) = Setup::new(alloc, rt, 1)?;
+    let (one_loader, setup) = Setup::new(alloc, rt, 1)?;
+    let core = one(alloc)?;
+    let one = Start { core, setup };
+    let (other_loader, setup) = Setup::new(alloc, rt, 1)?;
+    let core = other(alloc)?;
+    let other = Start { core, setup };
     table::<Brand, Brand, R, &R>(rt, alloc, one, other, work, &one_loader, &other_loader)
 }
 

@@ -109,6 +109,7 @@ fn play_at<L: Site + Send + Sync, R: Threads + Wait + Clock + Abort + Sync, Q: W
     scene: Scene<'_>,
 ) -> Result<End, Fail>
     requires setup { IsSetUpFor L.name L.parts L.words L.history setup }
+    requires origin { core ≡ L.origin }
     requires history { history_of loader ≡ L.history }
 {
     let Ok((hub, ports, rest)) = open_hub::<L>(alloc, setup, core) else {

@@ -28,9 +28,13 @@ struct Tableless<L: Site> {
 impl<L: Site> Taker<L> for Tableless<L> {
     ghost took = { λ moment event outs. ⊤ };
 
+    ghost refuses = { λ moment event error. ⊤ };
+
     ghost offers = { λ candidates rows. ⊤ };
 
     ghost wanted = { λ prefix wanted. ⊤ };
+
+    ghost own = { λ it. ⊤ };
 
     ghost neighbor_at = { λ it interface. shown_at it.book.current interface };
 
@@ -101,6 +105,7 @@ fn announce_at<L: Site, R: Wait, Q: Wait + Drop>(
     external: External,
 ) -> u8
     requires setup { IsSetUpFor L.name L.parts L.words L.history setup }
+    requires origin { core ≡ L.origin }
     requires history { history_of loader ≡ L.history }
 {
     let Ok((hub, mut ports, rest)) = open_hub::<L>(alloc, setup, core) else {

@@ -7,7 +7,7 @@ use Rattle.worker.proofs.serving.run.Goals as goal
 
 pub loop-preserved : goal.loop-preserved
 loop-preserved g c =
-    let senses = senses_of g.K.Link.gives g.K.Link.hears g.S.Seconds.shows g.B.Taker.offers g.B.Taker.took in
+    let senses = senses_of g.K.Link.gives g.K.Link.hears g.S.Seconds.shows g.B.Taker.offers g.B.Taker.took g.B.Taker.refuses in
     let round =
     subst (λ n. Round (senses (known_to c.loop.port.asker) n) c.loop.ticked
     (record { link = c.loop.link; clock = c.loop.clock; events = c.loop.port.share.amount })
@@ -15,7 +15,7 @@ loop-preserved g c =
     (record { link = c.round.new.link; clock = c.round.new.clock; events = c.round.new.port.share.amount }))
     c.loop.invariant.number c.in-Ok.ensures.round in
     let longer =
-    round_longer g.K.Link.gives g.K.Link.hears g.S.Seconds.shows g.B.Taker.offers g.B.Taker.took
+    round_longer g.K.Link.gives g.K.Link.hears g.S.Seconds.shows g.B.Taker.offers g.B.Taker.took g.B.Taker.refuses
     (known_to c.args.port.now.asker) (known_to c.loop.port.asker) c.loop.invariant.known c.args.port.now.number c.loop.ticked
     (record { link = c.loop.link; clock = c.loop.clock; events = c.loop.port.share.amount })
     c.round.new.ticked

@@ -1,6 +1,7 @@
 use Rattle.std.specs.Prelude.{◌≡◌}
 use mathlib.Core.List.{IsPrefix}
 use Rattle.hooks.specs.Known.{known_to}
+use Rattle.turns.specs.Turns.{RefusesFor}
 use Rattle.worker.proofs.Living.{IsTriedSo}
 use Rattle.worker.proofs.serving.tried.Given as goal
 
@@ -9,5 +10,7 @@ invariant-loop-tries g l = record {
   events : l.port.share.amount ≡ l.initial.port.share.amount;
   number : l.port.number ≡ l.initial.port.number;
   known : IsPrefix (known_to l.initial.port.asker) (known_to l.port.asker);
-  so : IsTriedSo g.S.Seconds.shows l.initial.clock l.initial.moment l.clock l.moment l._tries;
+  so : IsTriedSo g.S.Seconds.shows
+      (λ m. RefusesFor g.B.Taker.offers g.B.Taker.refuses (known_to l.initial.port.asker) m l.initial.work)
+      l.initial.clock l.initial.moment l.clock l.moment l._tries;
 }

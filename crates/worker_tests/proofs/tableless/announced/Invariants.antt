@@ -5,6 +5,10 @@ use Rattle.worker_tests.proofs.tableless.announced.Given as goal
 abbrev pub ghosts-announce_at-L-Ledger : goal.ghosts-announce_at-L-Ledger
 ghosts-announce_at-L-Ledger g a = record { name = a.setup.blank.name; parts = a.setup.blank.parts }
 
+-- the router begins as it is given
+abbrev pub ghosts-announce_at-L-Origin : goal.ghosts-announce_at-L-Origin
+ghosts-announce_at-L-Origin g a = record { origin = a.core }
+
 -- and the workers share its words, and ask the programs of the loader
 abbrev pub ghosts-announce_at-L-Site : goal.ghosts-announce_at-L-Site
 ghosts-announce_at-L-Site g a = record { words = a.setup.shared; history = history_of a.loader }

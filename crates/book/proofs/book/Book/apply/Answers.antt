@@ -2,7 +2,7 @@ use Rattle.std.proofs.Common.{◌≡◌, ◌+◌, List, [], ◌∷◌, ◌++◌,
 use Rattle.book.specs.declared.entry.Entry.{Entry}
 use Rattle.book.specs.Bytes.{bytes_of, with_event}
 use Rattle.book.specs.Replay.{Replays, entry}
-use Rattle.book.proofs.Replayed.{bytes_with, replays_on}
+use Rattle.book.proofs.Replayed.{bytes_with, leads_on, replays_on}
 use Rattle.book.proofs.book.Book.apply.Goals as goal
 
 pub invariant_of-self-2 : goal.invariant_of-self-2
@@ -16,6 +16,7 @@ invariant_of-self-2 g c =
       replays =
           (let P : List Entry → Type 0 = λ l. Replays c.self.inside.start l after in
           subst P (sym grown) (replays_on _ journal _ _ last _ kept.replays c.in_ok-outs.ensures.ok));
+      leads = leads_on _ c.self.inside.taken c.self.inside.current after last _ kept.leads c.in_ok-outs.ensures.ok;
       weighed =
           c.with_event-self-inside.ensures ∙ (ap (λ n. with_event n c.args.event) kept.weighed
           ∙ (sym (bytes_with journal last) ∙ ap bytes_of (sym grown)));

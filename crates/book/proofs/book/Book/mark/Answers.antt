@@ -12,6 +12,7 @@ invariant_of-self g c =
       replays =
           (let P : List Entry → Type 0 = λ journal. Replays c.replace.new.dest journal c.self.inside.current in
           subst P (sym emptied) ([], refl, sym (c.replace.ensures.after ∙ c.in_ok-now.ensures)));
+      leads = kept.leads;
       weighed = (let P : List Entry → Type 0 = λ journal. 0 ≡ bytes_of journal in subst P (sym emptied) refl);
       room = (let P : List Entry → Type 0 = λ journal. length journal ≤ 65536 in subst P (sym emptied) (search rules));
       few = kept.few;

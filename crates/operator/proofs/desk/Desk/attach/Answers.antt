@@ -1,8 +1,18 @@
-use Rattle.hooks.specs.Known.{operations_of}
+use Rattle.std.proofs.Common.{refl}
+use Rattle.hooks.specs.Known.{known_to, operations_of}
+use Rattle.worker.specs.Turns.{IsListed}
+use Rattle.operator.specs.Answers.{change, sources}
 use Rattle.operator.proofs.Answered.{told_why}
 use Rattle.operator.proofs.desk.Desk.attach.Goals as goal
 
 pub returns-in-Err-clause-told : goal.returns-in-Err-clause-told
 returns-in-Err-clause-told g c =
-    told_why g.F.ReadsFiles.holds (operations_of c.args.self.now.loader) c.args.path.now c.in-Err.error c.reason.result c.lines.result
-    c.in-Err.ensures.err c.reason.ensures c.lines.ensures
+    let desk = c.args.self.now in
+    let port = c.args.port.now in
+    let lists = IsListed g.B.Taker.own g.B.Taker.neighbor_at in
+    let s =
+    sources g.B.Taker.offers g.B.Taker.took g.B.Taker.refuses g.B.Taker.wanted lists g.F.ReadsFiles.holds g.F.ReadsFiles.unreadable in
+    let operations = operations_of desk.loader in
+    let same =
+    change operations operations (known_to port.asker) desk.unrefreshed port.share.amount port.share.amount port.seat port.seat in
+    told_why s same c.args.path.now c.in-Err.error c.reason.result c.lines.result refl c.in-Err.ensures.err c.reason.ensures c.lines.ensures

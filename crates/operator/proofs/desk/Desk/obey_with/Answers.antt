@@ -1,16 +1,28 @@
-use Rattle.std.proofs.Common.{ap}
-use Rattle.hooks.specs.Known.{operations_of}
-use Rattle.operator.specs.Answers.{ListedBy, sources}
+use Rattle.hooks.specs.Known.{known_to, operations_of}
+use Rattle.worker.specs.Turns.{IsListed}
+use Rattle.operator.specs.Answers.{change, sources}
 use Rattle.operator.proofs.Answered.{obeyed_from}
 use Rattle.operator.proofs.desk.Desk.obey_with.Goals as goal
 
 pub returns-clause-told : goal.returns-clause-told
 returns-clause-told g c =
-    let s = sources g.B.Taker.offers g.B.Taker.took g.B.Taker.wanted (ListedBy g.B.Taker.neighbor_at) g.F.ReadsFiles.holds in
-    let counted = c.make_up.new.port.share.amount in
-    let here = operations_of c.make_up.new.self.loader in (
-      counted,
-      obeyed_from s c.args.self.now.interfaces c.make_up.new.self.interfaces (operations_of c.args.self.now.loader) here
-          (operations_of c.answer.new.self.loader) counted c.answer.new.port.share.amount c.args.line.now c.answer.result
-          c.make_up.ensures.interfaces (ap (λ l. operations_of l) c.make_up.ensures.loader) c.answer.ensures.told,
+    let lists = IsListed g.B.Taker.own g.B.Taker.neighbor_at in
+    let s =
+    sources g.B.Taker.offers g.B.Taker.took g.B.Taker.refuses g.B.Taker.wanted lists g.F.ReadsFiles.holds g.F.ReadsFiles.unreadable in
+    let between = c.make_up.new.port in
+    let after = c.answer.new.port in
+    let desk = c.answer.new.self in (
+      c.make_up.new.self.unrefreshed,
+      between.share.amount,
+      between.seat,
+      c.make_up.ensures.made_up,
+      obeyed_from s c.args.self.now.interfaces c.make_up.new.self.interfaces
+          (change (operations_of c.args.self.now.loader) (operations_of desk.loader) (known_to after.asker) desk.unrefreshed
+          between.share.amount after.share.amount between.seat after.seat)
+          (change (operations_of c.make_up.new.self.loader) (operations_of desk.loader) (known_to after.asker) desk.unrefreshed
+          between.share.amount after.share.amount between.seat after.seat)
+          c.args.line.now c.answer.result c.make_up.ensures.interfaces
+          (λ i. change (operations_of (c.make_up.ensures.loader i)) (operations_of desk.loader) (known_to after.asker) desk.unrefreshed
+          between.share.amount after.share.amount between.seat after.seat)
+          c.answer.ensures.told,
     )

@@ -1,6 +1,11 @@
+use Rattle.std.proofs.Common.{subst, sym}
+use Rattle.book.specs.events.Routers.{Router}
+use Rattle.book.specs.Replay.{Leads}
 use Rattle.turns.proofs.FromSome.{candidates_of_some}
 use Rattle.turns.proofs.taker.BookTaker.candidates.Goals as goal
 
 pub returns-clause-some : goal.returns-clause-some
 returns-clause-some g c =
-    candidates_of_some (λ routes. routes.items) c.now.result.now c.candidates.result c.candidates.ensures
+    let P : Router → Type 0 = λ r. Leads g.L.Origin.origin c.args.self.now.taken r in
+    candidates_of_some (λ routes. routes.items) g.L.Origin.origin c.args.self.now.taken c.now.result.now c.candidates.result
+    (subst P (sym c.now.ensures.router) c.now.ensures.leads) c.candidates.ensures

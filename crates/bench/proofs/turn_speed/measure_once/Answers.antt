@@ -1,0 +1,9 @@
+use Rattle.std.proofs.Common.{refl}
+use Rattle.hooks.specs.Known.{history_of}
+use Rattle.bench.proofs.Fresh.{all_ask}
+use Rattle.bench.proofs.turn_speed.measure_once.Goals as goal
+
+pub measure_beside-requires-clause-setup : goal.measure_beside-requires-clause-setup
+measure_beside-requires-clause-setup g c =
+    let loader = c.in_ok-loader in
+    (refl, refl, refl, all_ask (history_of loader.loader) loader.setup.askers.items loader.ensures.loader.1)

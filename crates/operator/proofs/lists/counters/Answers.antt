@@ -1,0 +1,14 @@
+use Rattle.std.proofs.Common.{rules, sym, ◌∙◌}
+use Rattle.operator.proofs.Read.{read_more}
+use Rattle.operator.proofs.lists.counters.Goals as goal
+
+pub loop-index-preserved : goal.loop-index-preserved
+loop-index-preserved g c = record {
+  count = search rules;
+  read =
+      read_more c.args.port.now.seat c.loop-index.port.seat c.counter.new.port.seat c.loop-index.sums.items c.push.new.self.items
+      c.loop-index.index c.counter.result c.loop-index.invariant.read (sym c.loop-index.invariant.count ∙ c.loop-index.sums.ok.0)
+      c.in_ok-push.ensures.items c.counter.ensures.read;
+  share = search rules;
+  known = search rules;
+}
