@@ -44,6 +44,11 @@ class TestPackage(unittest.TestCase):
         with self.assertRaisesRegex(package.Fault, "no section"):
             package.changelog("99.0", "0123")
 
+    def test_the_help_of_the_programs_says_this_version(self) -> None:
+        version = (TOP / "VERSION").read_text().strip()
+        for file in ("command_line/src/commands.rt",):
+            self.assertIn(f'\n\nLeafrunt {version}";', (TOP / "crates" / file).read_text(), file)
+
     def test_the_commands_of_a_program(self) -> None:
         self.assertEqual(package.commands_of(CLAP), ["raw", "route"])
         box = subprocess.run([sys.executable, TOP / "host/leafrunt", "--help"], capture_output=True, text=True).stdout

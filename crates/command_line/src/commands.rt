@@ -35,8 +35,8 @@ Statuses:
   3  the file can't be read, or the output can't be written
   4  memory was refused
 
-docs/FORMATS.md has the format of the code and each refusal,
-docs/MACHINE.md each trap.";
+docs/reference/FORMATS.md has the format of the code and each refusal,
+docs/reference/MACHINE.md each trap.";
 
 const RUN: &str =
     "Runs the program of an object file once, on no table rows, and prints its answer and how many \
@@ -54,8 +54,8 @@ Statuses:
   3  the file can't be read, or the output can't be written
   4  memory was refused
 
-docs/FORMATS.md has the format of the object, the context and each refusal,
-docs/MACHINE.md each trap.";
+docs/reference/FORMATS.md has the format of the object, the context and each refusal,
+docs/reference/MACHINE.md each trap.";
 
 const CONTEXT: &str = "The 64 bytes of the context as 128 hex digits, or - for zeros";
 
@@ -75,7 +75,7 @@ Statuses:
   3  the text can't be read, or the object file or the output can't be written
   4  memory was refused
 
-docs/FORMATS.md has the format of the text, of the object and each refusal.";
+docs/reference/FORMATS.md has the format of the text, of the object and each refusal.";
 
 const LIST: &str = "Prints a text that assembles to the object file";
 
@@ -89,7 +89,7 @@ Statuses:
   3  the file can't be read, or the output can't be written
   4  memory was refused
 
-docs/FORMATS.md has the format of the object, of the text and each refusal.";
+docs/reference/FORMATS.md has the format of the object, of the text and each refusal.";
 
 const VERIFY: &str =
     "Verifies the program of an object file: whether each run of it is safe, and within how many \
@@ -128,8 +128,9 @@ Statuses:
   4  memory was refused
 
 hooktool explain OBJECT tells which register and value break the rule, and what is allowed.
-For each rule docs/VERIFIER.md has the smallest program that breaks it, and how to mend it.
-docs/FORMATS.md has the format of object files and of statements, and each other refusal.";
+For each rule docs/reference/VERIFIER.md has the smallest program that breaks it, and how to mend
+it. docs/reference/FORMATS.md has the format of object files and of statements, and each other
+refusal.";
 
 const ROUTE: &str =
     "Runs a router (OSPFv2, RFC 2328) by a configuration, with a console on the standard input and \
@@ -154,10 +155,11 @@ Statuses:
      failed while the router ran
   4  memory was refused, or a thread
 
-docs/OPERATING.md has the form of the configuration, each line of the console and each refusal.";
+docs/use/OPERATING.md has the form of the configuration, each line of the console and each
+refusal.";
 
-// What is written behind the top help: a line for each command and what it prints, and the
-// statuses.
+// What is written behind the top help: a line for each command and what it prints, the statuses and
+// the version.
 const WORKED: &str = "\
 Examples:
   routerd raw count adds.bin 2  prints seat 1 answer 0 used 4, seat 2 answer 0 used 4, counter 5 6
@@ -167,7 +169,9 @@ Examples:
   routerd run sum.o - -         prints answer 55 used 33
   routerd route one.conf        runs a router with a console
 
-Statuses: 0 done, 1 refused or stuck, 2 usage, 3 file, socket or stream, 4 memory.";
+Statuses: 0 done, 1 refused or stuck, 2 usage, 3 file, socket or stream, 4 memory.
+
+Leafrunt 0.4.0";
 
 // The names of the hooks, `Hook::name`'s: a `static` can't call it, and the clause of `hook` holds
 // of no others.

@@ -36,8 +36,8 @@ const SEARCH_MORE: &str = "\
 Example: simulation search --topology row --routers 3 --externals 2 --hello 2 --dead 10
            --retransmit 2 --seeds 200
 
-Prints each history that was found, act by act, and how many there are. docs/ROUTER.md tells the
-shortest ones packet by packet. Routers R are counted from 0 on:
+Prints each history that was found, act by act, and how many there are. docs/reference/ROUTER.md
+tells the shortest ones packet by packet. Routers R are counted from 0 on:
   Comes, Lost, Twice, Exchanged   what becomes of the next packet (Exchanged: it and the one after
                                   it change places)
   Again(N)                        the packet comes that was sent N before the end
