@@ -32,7 +32,7 @@ LONGEST_NAMES = 1 << 16
 MOST_RANGES = 1024
 """Entries of a filter."""
 TYPES = (UNICAST, BLACKHOLE, UNREACHABLE, PROHIBIT)
-"""Types of routes that are announced: a router may announce what it discards, as of an aggregate."""
+"""Types of routes that are announced: a router may announce what it discards, as an aggregate."""
 RANGE = re.compile(r"([0-9./]{9,18})(?: ge ([0-9]{1,2}))?(?: le ([0-9]{1,2}))?")
 FORM = '"A.B.C.D/L", with `ge N`, `le N` or both after it: L <= N <= 32'
 NOT_ANNOUNCED = ("0.0.0.0/8", "127.0.0.0/8", "169.254.0.0/16", "224.0.0.0/3")

@@ -116,7 +116,8 @@ class Scene:
     def start(self) -> None:
         for each in (self.neighbor, *(it.router for it in self.both)):
             each.start()
-        self.looks.timed("all are Full", COMES_UP, lambda: is_full(self.neighbor, "1.1.1.1", "3.3.3.3"))
+        ids = ("1.1.1.1", "3.3.3.3")
+        self.looks.timed("all are Full", COMES_UP, lambda: is_full(self.neighbor, *ids))
 
     def stop(self) -> None:
         for each in (*(it.router for it in self.both), self.neighbor):
@@ -307,17 +308,20 @@ def loaded(it: Scene, one: Announcing) -> None:
         return sum(each.startswith(first) for each in it.there())
 
     batch(one, [f"route add {each} via 10.{one.number}.0.2" for each in all_of_them])
-    show(it, one, f"{MANY} static routes: {most} in the neighbor's kernel", SLOWLY, lambda: count() >= most)
+    what = f"{MANY} static routes: {most} in the neighbor's kernel"
+    show(it, one, what, SLOWLY, lambda: count() >= most)
     if not one.is_box:
         return
     time.sleep(2)
     told = f"{MANY - MOST - 4} more destinations aren't announced"
     status = it.box.status()
-    it.looks.look(f"{MOST} of them, and what doesn't fit is told", count() == MOST and told in status)
+    is_told = count() == MOST and told in status
+    it.looks.look(f"{MOST} of them, and what doesn't fit is told", is_told)
     print("     " + "\n     ".join(each for each in status.splitlines() if "announced" in each))
     batch(one, [f"route del {each} via 10.11.0.2" for each in all_of_them[: MANY - MOST + 1]])
     left = set(all_of_them[MANY - MOST + 1 :])
-    show(it, one, f"{len(left)} are left: all of those", SLOWLY, lambda: count() == len(left) and left <= it.there())
+    what = f"{len(left)} are left: all of those"
+    show(it, one, what, SLOWLY, lambda: count() == len(left) and left <= it.there())
     it.looks.timed("and nothing is told", 10, lambda: "announced:" not in it.box.status())
 
 
