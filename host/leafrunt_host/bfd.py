@@ -6,6 +6,7 @@ process is gone, changes nothing, and neither does a neighbor that doesn't speak
 """
 from __future__ import annotations
 
+import contextlib
 import json
 import logging
 import os
@@ -21,7 +22,7 @@ from pathlib import Path
 from threading import RLock
 from typing import Protocol
 
-from leafrunt_host.bfd_helper import KEPT_SIZE, LARGEST_MESSAGE, message_of
+from leafrunt_host.bfd_helper import KEPT_SIZE, LARGEST_MESSAGE, PRIORITY, message_of
 from leafrunt_host.bfd_packets import LARGEST_NUMBER, State, diagnostic_text
 from leafrunt_host.bfd_session import MICROSECONDS, Session, Settings, kept_of
 from leafrunt_host.bfd_sockets import CONTROL_PORT, hearing_sockets, sending_socket
@@ -157,6 +158,9 @@ class Helper:
             raise CannotHold(f"{sys.executable} can't be run: {error.strerror}") from error
         finally:
             other.close()
+        with contextlib.suppress(OSError):
+            # (it does so itself, and says what keeps it from that: so its start isn't kept waiting)
+            os.sched_setscheduler(self._ran.pid, os.SCHED_RR, os.sched_param(PRIORITY))
         self.own.setblocking(False)
 
     def say(self, said: Json, files: Iterable[socket.socket] = ()) -> None:
