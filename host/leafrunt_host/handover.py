@@ -9,11 +9,12 @@ from dataclasses import dataclass, replace
 from ipaddress import IPv4Network
 
 from leafrunt_host.announcements import TAKEN, Announced, Announcements
-from leafrunt_host.bridge import CannotOpen, Interface, Link
+from leafrunt_host.bridge import CannotOpen
 from leafrunt_host.configuration import Configuration
 from leafrunt_host.desk import ATTACHED, Desk
 from leafrunt_host.isolation import CannotIsolate
 from leafrunt_host.keeper import Keeper
+from leafrunt_host.link import Interface, Link
 from leafrunt_host.packets import Hello, Packet
 from leafrunt_host.rehearsal import Rehearsal, prefixes_of
 from leafrunt_host.router import Router, RouterGone

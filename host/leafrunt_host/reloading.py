@@ -18,7 +18,7 @@ from pathlib import Path
 from leafrunt_host import bfd_session
 from leafrunt_host.announcements import Announcements
 from leafrunt_host.announcer import Announcer
-from leafrunt_host.bridge import CannotOpen, Link
+from leafrunt_host.bridge import CannotOpen
 from leafrunt_host.configuration import Configuration, InterfaceSettings, Program
 from leafrunt_host.desk import Desk
 from leafrunt_host.destinations import Owner
@@ -34,6 +34,7 @@ from leafrunt_host.handover import Handover
 from leafrunt_host.journal import set_level
 from leafrunt_host.keeper import Keeper
 from leafrunt_host.kernel_settings import KernelSettings
+from leafrunt_host.link import Link
 from leafrunt_host.redistributor import Redistributor, redistributor_of
 from leafrunt_host.rooms import Room
 from leafrunt_host.sockets import LOOPBACK, Place

@@ -11,9 +11,10 @@ from functools import partial
 from pathlib import Path
 
 from leafrunt_host.authentication import NeighborNumbers, SequenceNumbers
-from leafrunt_host.bridge import Bridge, CannotOpen, Interface, Link, Watch
+from leafrunt_host.bridge import Bridge, CannotOpen
 from leafrunt_host.configuration import Configuration, InterfaceSettings
 from leafrunt_host.isolation import World
+from leafrunt_host.link import Interface, Link, Watch
 from leafrunt_host.rooms import Room
 from leafrunt_host.router import Router, RouterGone
 from leafrunt_host.sockets import LOOPBACK, udp_socket

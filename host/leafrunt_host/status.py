@@ -10,12 +10,12 @@ from ipaddress import IPv4Address, IPv4Network
 from leafrunt_host.announcements import Announced
 from leafrunt_host.bfd import Sessions
 from leafrunt_host.bfd_packets import Diagnostic, diagnostic_text
-from leafrunt_host.bridge import Link
 from leafrunt_host.clock import Step, moment_text
 from leafrunt_host.configuration import Configuration, InterfaceSettings
 from leafrunt_host.documents import schema_of
 from leafrunt_host.forwarding import host_warnings
 from leafrunt_host.kernel import Json
+from leafrunt_host.link import Link
 from leafrunt_host.observing import Adjacencies
 from leafrunt_host.rtnetlink import MAIN
 from leafrunt_host.table_changes import MOST_KEPT, TableChange, change_document

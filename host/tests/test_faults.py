@@ -8,10 +8,11 @@ from ipaddress import IPv4Address
 from leafrunt_host.area import area_of
 from leafrunt_host.area_map import map_lines
 from leafrunt_host.authentication import Key, SequenceNumbers
-from leafrunt_host.bridge import Link, ip_packet
 from leafrunt_host.inbox import Inbox
 from leafrunt_host.interfaces import KernelState
+from leafrunt_host.link import Link
 from leafrunt_host.lsas import MAX_AGE
+from leafrunt_host.packet_filter import ip_packet
 from leafrunt_host.packets import ROUTER_MTU, Description, PacketType, lsas_of, read
 from leafrunt_host.topology import Topology, database_lines, whole_lines
 from tests import captured, faults

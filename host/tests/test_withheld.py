@@ -6,7 +6,7 @@ from dataclasses import replace
 from ipaddress import IPv4Address
 from unittest import mock
 
-from leafrunt_host.bridge import WITHHELD, Link
+from leafrunt_host.link import WITHHELD, Link
 from leafrunt_host.packets import Description, Flags, Packet, PacketType, lsas_of, read
 from leafrunt_host.withheld import (
     GIVEN_IN_VAIN,

@@ -10,8 +10,9 @@ from family import Broken, Errors, Family, changed
 from leafrunt_host.area import area_of
 from leafrunt_host.area_map import map_lines
 from leafrunt_host.authentication import SequenceNumbers, sign
-from leafrunt_host.bridge import Link, Sent, ip_packet
 from leafrunt_host.inbox import Inbox
+from leafrunt_host.link import Link, Sent
+from leafrunt_host.packet_filter import ip_packet
 from leafrunt_host.topology import Topology, database_lines, whole_lines
 from leafrunt_host.withheld import Database
 from tests import captured, test_bridge
