@@ -2,7 +2,7 @@
 
 use verifier::Rule;
 
-/// The names of the rules, as docs/VERIFIER.md has them, by their numbers from 1 on.
+/// The names of the rules, as docs/reference/VERIFIER.md has them, by their numbers from 1 on.
 const NAMES: [&str; 16] = [
     "Target",
     "FallsOff",
@@ -78,7 +78,7 @@ fn row_of(table: &[&'static str], rule: Rule) -> &'static str {
     table.get(place).copied().unwrap_or("")
 }
 
-/// The name of a rule, as docs/VERIFIER.md has it.
+/// The name of a rule, as docs/reference/VERIFIER.md has it.
 pub fn rule_name(rule: Rule) -> &'static str {
     row_of(&NAMES, rule)
 }

@@ -7,7 +7,7 @@ use isa::Code;
 use machine::{Content, Pointer};
 
 // The traps in the order of their numbers, which begin with 1: the faults' names are those of
-// docs/MACHINE.md.
+// docs/reference/MACHINE.md.
 const TRAPS: [&str; 11] = [
     "trap {} Outside at slot {}: ",
     "trap {} HalfWide at slot {}: ",

@@ -45,7 +45,7 @@ Statuses:
   3  CODE can't be read, or OBJECT or the output can't be written
   4  memory was refused
 
-docs/HOOKTOOL.md says which C is accepted, and what to write instead of what isn't.";
+docs/use/HOOKTOOL.md says which C is accepted, and what to write instead of what isn't.";
 
 const BUILD_ABOUT: &str =
     "Makes an object of each function that clang compiled for a hook, as annotate does of bare code";
@@ -89,7 +89,7 @@ Statuses:
   3  the file can't be read, or the output can't be written
   4  memory was refused
 
-docs/VERIFIER.md has each rule, and docs/HOOKTOOL.md how to read what is printed.";
+docs/reference/VERIFIER.md has each rule, and docs/use/HOOKTOOL.md how to read what is printed.";
 
 const TRY_ABOUT: &str =
     "Runs the program of an object file on a question that its hook may be asked, accepted or not, \
@@ -99,8 +99,8 @@ const TRY_MORE: &str = "\
 Examples: hooktool try falling_metric.o --prefix 203.0.113.0/24 --metric 50
           hooktool try count_types.o --packet 0201 --interface 1 --times 3
 
-Options that a hook's question doesn't have change nothing: docs/FORMATS.md, 'Contexts', has
-each hook's fields. What isn't given is 0, type 2, intra, no packet and no rows.
+Options that a hook's question doesn't have change nothing: docs/reference/FORMATS.md, 'Contexts',
+has each hook's fields. What isn't given is 0, type 2, intra, no packet and no rows.
 
 Prints for each run the answer in the hook's terms (metric 20, withheld, tag 7, installed, not
 installed; at count answer 3, which isn't used) and how many instructions it took of those that
@@ -141,7 +141,9 @@ Examples:
   hooktool explain price.o                     prints what the verifier knows at each slot
   hooktool try price.o --metric 50             prints metric 20, used 12 of 42
 
-Statuses: 0 done, 1 refused or stuck, 2 usage, 3 file or stream, 4 memory.";
+Statuses: 0 done, 1 refused or stuck, 2 usage, 3 file or stream, 4 memory.
+
+Leafrunt 0.4.0";
 
 /// How a word of a command is given.
 #[derive(Clone, Copy)]
