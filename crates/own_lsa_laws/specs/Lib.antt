@@ -1,0 +1,2 @@
+pub mod OwnCopies
+pub mod Worked

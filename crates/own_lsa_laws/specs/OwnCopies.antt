@@ -1,0 +1,86 @@
+-- What stands in the database as this router's own, whoever brought it: the router wants to say it,
+-- or it is replaced or flushed, once MinLSInterval is over (RFC 2328, sections 12.4 and 13.4).
+use Rattle.std.specs.Prelude.{◌≡◌, ◌≤◌, ◌<◌, ◌+◌, ◌⊎◌, true, false, List, [], ◌∷◌, Some}
+use Rattle.std.specs.FinMap as finite
+use Rattle.std.specs.FinSet as set
+use Rattle.words.specs.Constants.{min_ls_interval}
+use Rattle.words.specs.Numbers.{Moment}
+use Rattle.words.specs.declared.key.Key.{Key}
+use Rattle.lsa.specs.declared.body.Body.{Body}
+use Rattle.lsdb.specs.Copies.{DatabaseCopy, is_aged_out}
+use Rattle.events.specs.declared.model.Config.{Config}
+use Rattle.events.specs.declared.model.Out.{Out}
+use Rattle.events.specs.Endings.{same_body}
+use Rattle.events.specs.Events.{Happens, Run, Step, initial}
+use Rattle.events.specs.Originations.{wanted_body}
+use Rattle.events.specs.Routers.{Occurrence, Router}
+
+-- ---- a copy that speaks for this router
+
+-- it bears the own Router ID as its Advertising Router, and is below MaxAge
+pub record IsOwnCopy (r : Router) (key : Key) (copy : DatabaseCopy) : Type 0 where
+  pub there : finite.get r.area.database key ≡ Some copy
+  pub own : copy.lsa.header.advertising_router ≡ r.id
+  pub young : is_aged_out r.moment copy ≡ false
+
+-- the router wants an LSA of this key, and the copy says what that is to say
+pub record SaysWhatIsWanted (r : Router) (key : Key) (copy : DatabaseCopy) : Type 0 where
+  pub says : Body
+  pub wanted : wanted_body r key ≡ Some says
+  pub same : same_body copy.lsa.body says ≡ true
+
+-- the router wants an LSA of this key, and waits for a Tick to originate it
+pub record IsToBeReplaced (r : Router) (key : Key) : Type 0 where
+  pub says : Body
+  pub wanted : wanted_body r key ≡ Some says
+  pub waits : set.contains r.waiting key ≡ true
+
+-- MinLSInterval alone keeps the router from that: it originated an instance less than five seconds
+-- ago, and the copy is no older
+pub record IsHeldBack (r : Router) (key : Key) (copy : DatabaseCopy) : Type 0 where
+  pub replaced : IsToBeReplaced r key
+  pub originated : Moment
+  pub last : finite.get r.originated key ≡ Some originated
+  pub before : originated ≤ copy.stored
+  pub recent : r.moment < originated + min_ls_interval
+
+-- ---- a router
+
+-- each such copy says what the router wants to say, or waits to be replaced; what isn't wanted is
+-- at MaxAge
+abbrev pub SpeaksForItself : Router → Type 0
+SpeaksForItself r = (key : Key) (copy : DatabaseCopy) → IsOwnCopy r key copy
+    → SaysWhatIsWanted r key copy ⊎ IsToBeReplaced r key
+
+-- as a Tick leaves it: MinLSInterval alone holds back
+abbrev pub SpeaksForItselfAfterTick : Router → Type 0
+SpeaksForItselfAfterTick r = (key : Key) (copy : DatabaseCopy) → IsOwnCopy r key copy
+    → SaysWhatIsWanted r key copy ⊎ IsHeldBack r key copy
+
+-- ---- the law
+
+-- no event is earlier than the one before it
+abbrev pub ClockRunsOn : Moment → List Step → Type 0
+ClockRunsOn moment [] = Unit {0}
+ClockRunsOn moment (s ∷ steps) = (moment ≤ s.moment) × ClockRunsOn s.moment steps
+
+-- a Tick at the end of a run from the start
+pub record EndsWithTick (c : Config) (moment : Moment) (r : Router) : Type 0 where
+  pub steps : List Step
+  pub before : Router
+  pub outs : List Out
+  pub run : Run (initial c) steps before
+  pub clock : ClockRunsOn c.start steps
+  pub later : before.moment ≤ moment
+  pub tick : Happens before moment Occurrence.Tick outs r
+
+pub record NobodySpeaksForThisRouter : Type 0 where
+  -- after every run, and so after each event
+  pub always : (c : Config) (steps : List Step) (r : Router) → ClockRunsOn c.start steps
+      → Run (initial c) steps r → SpeaksForItself r
+  pub tick : (c : Config) (moment : Moment) (r : Router) → EndsWithTick c moment r
+      → SpeaksForItselfAfterTick r
+  -- so the first Tick from the fifth second on has replaced or flushed what was stored before
+  pub in_five_seconds : (c : Config) (moment : Moment) (r : Router) → EndsWithTick c moment r
+      → (key : Key) (copy : DatabaseCopy) → IsOwnCopy r key copy
+      → copy.stored + min_ls_interval ≤ moment → SaysWhatIsWanted r key copy
