@@ -48,20 +48,20 @@ tied_key q k is = keys_exact q k (equal (key_cmp q k) is)
 
 -- ---- parts that leave them as they are
 
-abbrev Told : Type 0
+abbrev pub Told : Type 0
 Told = RouterNumber × ByKey External
 
-abbrev told : EventState → Told
+abbrev pub told : EventState → Told
 told p = (p.router.id, p.router.announced)
 
-abbrev Leaves : (EventState → EventState) → Type 0
+abbrev pub Leaves : (EventState → EventState) → Type 0
 Leaves f = (p : EventState) → told (f p) ≡ told p
 
 either : (t : Told) (b : Bool) (x y : EventState) → told x ≡ t → told y ≡ t → told (cond b x y) ≡ t
 either t true x y one other = one
 either t false x y one other = other
 
-by_body : (may_now : Bool) (moment : Moment) (key : Key) (s : Option LsaBody) → Leaves (originate_body may_now moment key s)
+pub by_body : (may_now : Bool) (moment : Moment) (key : Key) (s : Option LsaBody) → Leaves (originate_body may_now moment key s)
 by_body may_now moment key None p = refl
 by_body may_now moment key (Some s) p =
     either (told p) (has_max_sequence (finite.get p.router.area.database key)) (flush moment key p)
@@ -75,7 +75,7 @@ each_due : (moment : Moment) (keys : List Key) → Leaves (originate_due moment 
 each_due moment [] p = refl
 each_due moment (key ∷ keys) p = each_due moment keys (originate_or_wait moment key p) ∙ originates moment key p
 
-ticked : (moment : Moment) → Leaves (after_tick moment)
+pub ticked : (moment : Moment) → Leaves (after_tick moment)
 ticked moment p =
     let q : EventState = on_router (forget_originations moment) (on_area (on_links (map (run_out moment))) p) in
     each_due moment (due_keys moment q.router) q
@@ -121,13 +121,13 @@ from moment number router in_exchange (body.Request keys) p = either (told p) in
 from moment number router in_exchange (body.Update lsas) p = either (told p) in_exchange (after_lsas moment number lsas p) p (updated moment number lsas p) refl
 from moment number router in_exchange (body.Acknowledgment headers) p = either (told p) in_exchange (on_area (acknowledged_by moment number headers) p) p refl refl
 
-received : (moment : Moment) (number : InterfaceNumber) (packet : Packet) → Leaves (after_packet moment number packet)
+pub received : (moment : Moment) (number : InterfaceNumber) (packet : Packet) → Leaves (after_packet moment number packet)
 received moment number packet p =
     let n = neighbor_at number p.router.area.links in
     either (told p) (is_heard p.router.id packet n) (from_neighbor moment number packet.router (is_in_exchange n) packet.body p) p
     (from moment number packet.router (is_in_exchange n) packet.body p) refl
 
-ended : (old : Router) (moment : Moment) → Leaves (end_event old moment)
+pub ended : (old : Router) (moment : Moment) → Leaves (end_event old moment)
 ended old moment p =
     let loaded : EventState = loading_done p in
     let key : Key = router_key loaded.router.id in
@@ -212,7 +212,7 @@ withdrawn moment prefix p = by_choice (is_for prefix (finite.get p.router.announ
     by_choice true = without_one p.router.id (Occurrence.Withdraw prefix) p.router.announced (external_key p.router.id prefix)
     by_choice false = same_grows p.router.id (Occurrence.Withdraw prefix) p.router.announced p.router.announced refl
 
-redistributed_id : (moment : Moment) (asked : External) (tag price : ℕ) (p : EventState) → (after_redistribute moment asked tag price p).router.id ≡ p.router.id
+pub redistributed_id : (moment : Moment) (asked : External) (tag price : ℕ) (p : EventState) → (after_redistribute moment asked tag price p).router.id ≡ p.router.id
 redistributed_id moment asked tag price p = by_price_too (nat_le ls_infinity price)
   where
     by_same_too : (c : Bool) → (cond c p (originate_anyway moment (external_key p.router.id asked.prefix) (on_router (announce (external_key p.router.id asked.prefix) (answered_external asked tag price)) p))).router.id ≡ p.router.id
@@ -226,7 +226,7 @@ redistributed_id moment asked tag price p = by_price_too (nat_le ls_infinity pri
     by_price_too true = refl
     by_price_too false = by_same_too (is_announced_as (answered_external asked tag price) (finite.get p.router.announced (external_key p.router.id asked.prefix)))
 
-withdrawn_id : (moment : Moment) (prefix : Network) (p : EventState) → (after_withdraw moment prefix p).router.id ≡ p.router.id
+pub withdrawn_id : (moment : Moment) (prefix : Network) (p : EventState) → (after_withdraw moment prefix p).router.id ≡ p.router.id
 withdrawn_id moment prefix p = by_choice_too (is_for prefix (finite.get p.router.announced (external_key p.router.id prefix)))
   where
     by_choice_too : (b : Bool) → (cond b (end_want moment (external_key p.router.id prefix) p) p).router.id ≡ p.router.id

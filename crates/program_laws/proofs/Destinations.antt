@@ -2,7 +2,7 @@
 use Rattle.std.proofs.Common.{◌≡◌, Bool, true, false, cond, not, ◌&&◌, ◌||◌, List, [], ◌∷◌, ◌++◌, map, Option, None, Some, is_some, refl, sym, ◌∙◌, ap, subst}
 use Rattle.std.specs.Prelude.{nat_lt}
 use Rattle.std.specs.Cmp.{tied_itself}
-use Rattle.std.specs.List.{flat_map}
+use Rattle.std.specs.List.{filter, flat_map}
 use Rattle.std.specs.Ordering.{is_eq}
 use Rattle.std.specs.FinMap as finite
 use Rattle.std.specs.FinSet as set
@@ -26,25 +26,25 @@ use Rattle.adjacency.specs.Neighbors.{Neighbor}
 use Rattle.adjacency.specs.Requests.{may_request, next_request, request_next}
 use Rattle.received.specs.Flooding.{flood_to}
 use Rattle.received.specs.Links.{Link, any_exchange_or_loading, any_has_retransmission, neighbor_is_exchange_or_loading}
-use Rattle.received.specs.Outcomes.{Outcome, Stepping, each_neighbor, on_database, on_links, stepping_sends}
+use Rattle.received.specs.Outcomes.{Outcome, Send, Stepping, each_neighbor, on_database, on_links, stepping_sends}
 use Rattle.events.specs.Endings as Endings
 use Rattle.events.specs.Endings.{copy_has_body, describe_router, describe_router_later, end_event, is_at, is_current, link_loading_done, links_differ, loading_done, loading_done_on, remove_aged, request_all, same_body, stays_as}
 use Rattle.events.specs.EventState.{EventState, flood_from_nobody, on_area, on_router}
 use Rattle.events.specs.Originations.{announced_body, as_originated, flush_copy, has_max_sequence, has_room, interval_is_over, originate_body, originate_or_wait, wanted_body, install_and_flood, links_of, new_instance, router_body, router_key, wait}
 use Rattle.events.specs.Routers.{Router}
-use Rattle.program_laws.specs.Destinations.{link_without, neighbor_on_without, router_without}
+use Rattle.program_laws.specs.Destinations.{link_without, neighbor_on_without, router_without, sends_without, updates}
 use Rattle.program_laws.proofs.Apart as apart
 
 module _ (key : Key) where
-  -- ---- an event in the making, but for the key and for what was sent
+  -- ---- an event in the making, but for the key
 
   abbrev pub cut : EventState → EventState
-  cut p = record { router = router_without key p.router; sends = [] }
+  cut p = record { router = router_without key p.router; sends = sends_without key p.sends }
 
   abbrev pub cut_outcome : Outcome → Outcome
   cut_outcome o = record {
     area = record { links = map (link_without key) o.area.links; database = finite.remove o.area.database key };
-    sends = [];
+    sends = sends_without key o.sends;
   }
 
   -- the part does to the rest just what it does without the key
@@ -55,6 +55,25 @@ module _ (key : Key) where
   OverlooksIn f = (o : Outcome)
       → (map (link_without key) (f o).area.links ≡ map (link_without key) (f (cut_outcome o)).area.links)
       × (finite.remove (f o).area.database key ≡ finite.remove (f (cut_outcome o)).area.database key)
+      × (sends_without key (f o).sends ≡ sends_without key (f (cut_outcome o)).sends)
+
+  -- what is sent
+
+  more_sent : (b : Bool) (s : Send) (xs ys : List Send) → not (updates key s.content) ≡ b → sends_without key (xs ++ ys) ≡ sends_without key (sends_without key xs ++ ys)
+      → cond b (s ∷ sends_without key (xs ++ ys)) (sends_without key (xs ++ ys)) ≡ sends_without key (cond b (s ∷ sends_without key xs) (sends_without key xs) ++ ys)
+  more_sent true s xs ys is rest = ap (λ (zs : List Send). s ∷ zs) rest ∙ sym (ap (λ (b : Bool). cond b (s ∷ sends_without key (sends_without key xs ++ ys)) (sends_without key (sends_without key xs ++ ys))) is)
+  more_sent false s xs ys is rest = rest
+
+  pub sent_more : (xs ys : List Send) → sends_without key (xs ++ ys) ≡ sends_without key (sends_without key xs ++ ys)
+  sent_more [] ys = refl
+  sent_more (s ∷ xs) ys = more_sent (not (updates key s.content)) s xs ys refl (sent_more xs ys)
+
+  nothing_more : (xs : List Send) → xs ++ [] ≡ xs
+  nothing_more [] = refl
+  nothing_more (s ∷ xs) = ap (λ (zs : List Send). s ∷ zs) (nothing_more xs)
+
+  pub sent_twice : (xs : List Send) → sends_without key xs ≡ sends_without key (sends_without key xs)
+  sent_twice xs = ap (sends_without key) (sym (nothing_more xs)) ∙ sent_more xs [] ∙ ap (sends_without key) (nothing_more (sends_without key xs))
 
   set_twice : (s : KeySet) → set.remove s key ≡ set.remove (set.remove s key) key
   set_twice s = set.same_set keys_total keys_exact _ _ (λ q.
@@ -89,7 +108,7 @@ module _ (key : Key) where
           waiting = waiting i;
           originated = originated i;
         };
-        sends = [];
+        sends = both.2 i;
       }
 
   pub stays : Overlooks (λ p. p)
@@ -99,6 +118,7 @@ module _ (key : Key) where
       let announced = apart.twice key p.router.announced in
       let waiting = set_twice p.router.waiting in
       let originated = apart.twice key p.router.originated in
+      let sends = sent_twice p.sends in
       λ i. record {
         router = record p.router {
           area = record { links = links i; database = database i };
@@ -106,7 +126,7 @@ module _ (key : Key) where
           waiting = waiting i;
           originated = originated i;
         };
-        sends = [];
+        sends = sends i;
       }
 
   pub one_after_another : (f g : EventState → EventState) → Overlooks f → Overlooks g → Overlooks (λ p. g (f p))
@@ -123,6 +143,7 @@ module _ (key : Key) where
         apart.stepped_alike key f overlooks o.area.links,
         apart.same_but key _ _ (apart.all_marked_agree key moment (stepping_sends f o.area.links) db (finite.remove db key) (apart.turned key (finite.remove db key) db (apart.removed_agrees key db)))
             ∙ ap (λ sends. finite.remove (apart.marked_all key moment (finite.remove db key) sends) key) sends,
+        sent_more o.sends (stepping_sends f o.area.links) ∙ ap (λ (more : List Send). sends_without key (sends_without key o.sends ++ more)) sends,
       )
 
   each : (moment : Moment) (f : Stepping) → apart.Overlooks key f → OverlooksIn (each_neighbor moment f)
@@ -132,27 +153,33 @@ module _ (key : Key) where
         apart.stepped_alike key f overlooks o.area.links,
         apart.same_but key _ _ (apart.all_marked_agree key moment (stepping_sends f o.area.links) db (finite.remove db key) (apart.turned key (finite.remove db key) db (apart.removed_agrees key db)))
             ∙ ap (λ sends. finite.remove (apart.marked_all key moment (finite.remove db key) sends) key) sends,
+        sent_more o.sends (stepping_sends f o.area.links) ∙ ap (λ (more : List Send). sends_without key (sends_without key o.sends ++ more)) sends,
       )
 
   -- ---- parts of an outcome
 
   nothing : OverlooksIn (λ o. o)
-  nothing o = (links_twice o.area.links, apart.twice key o.area.database)
+  nothing o = (links_twice o.area.links, apart.twice key o.area.database, sent_twice o.sends)
 
   after : (f g : Outcome → Outcome) → OverlooksIn f → OverlooksIn g → OverlooksIn (λ o. g (f o))
   after f g first second o =
       let both = first o in
-      let same : cut_outcome (f o) ≡ cut_outcome (f (cut_outcome o)) = λ i. record { area = record { links = both.0 i; database = both.1 i }; sends = [] } in
+      let same : cut_outcome (f o) ≡ cut_outcome (f (cut_outcome o)) = λ i. record { area = record { links = both.0 i; database = both.1 i }; sends = both.2 i } in
       let here = second (f o) in
       let there = second (f (cut_outcome o)) in (
         here.0 ∙ ap (λ (x : Outcome). map (link_without key) (g x).area.links) same ∙ sym there.0,
         here.1 ∙ ap (λ (x : Outcome). finite.remove (g x).area.database key) same ∙ sym there.1,
+        here.2 ∙ ap (λ (x : Outcome). sends_without key (g x).sends) same ∙ sym there.2,
       )
 
   changed_in : (h : Database → Database) → ((d e : Database) → apart.Agree key d e → apart.Agree key (h d) (h e)) → OverlooksIn (on_database h)
   changed_in h agree o =
       let d : Database = o.area.database in
-      (links_twice o.area.links, apart.same_but key (h d) (h (finite.remove d key)) (agree d (finite.remove d key) (apart.turned key (finite.remove d key) d (apart.removed_agrees key d))))
+      (
+        links_twice o.area.links,
+        apart.same_but key (h d) (h (finite.remove d key)) (agree d (finite.remove d key) (apart.turned key (finite.remove d key) d (apart.removed_agrees key d))),
+        sent_twice o.sends,
+      )
 
   aged_copy : (moment : Moment) (k : Key) (c : DatabaseCopy) (b : Bool) → OverlooksIn (λ o. cond b o (flood_from_nobody moment (lsa_aged max_age c.lsa) (on_database (age_out moment k) o)))
   aged_copy moment k c true = nothing
@@ -193,6 +220,7 @@ module _ (key : Key) where
       set.contains-remove keys_total r.waiting k q ∙ ap (λ b. not (same_key q k) && b) (left_set r.waiting q other) ∙ sym (set.contains-remove keys_total (set.remove r.waiting key) k q)) in
       let originated = apart.same_but key (finite.insert r.originated k moment) (finite.insert (finite.remove r.originated key) k moment)
       (apart.agree_inserted key r.originated (finite.remove r.originated key) (apart.turned key (finite.remove r.originated key) r.originated (apart.removed_agrees key r.originated)) k moment) in
+      let sends = sent_twice p.sends in
       λ i. record {
         router = record r {
           area = record { links = links i; database = database i };
@@ -200,7 +228,7 @@ module _ (key : Key) where
           waiting = waiting i;
           originated = originated i;
         };
-        sends = [];
+        sends = sends i;
       }
 
   waits : (k : Key) → Overlooks (on_router (wait k))
@@ -212,6 +240,7 @@ module _ (key : Key) where
       let originated = apart.twice key r.originated in
       let waiting = same_set_but (set.insert r.waiting k) (set.insert (set.remove r.waiting key) k) (λ q other.
       set.contains-insert keys_total r.waiting k q ∙ ap (λ b. same_key q k || b) (left_set r.waiting q other) ∙ sym (set.contains-insert keys_total (set.remove r.waiting key) k q)) in
+      let sends = sent_twice p.sends in
       λ i. record {
         router = record r {
           area = record { links = links i; database = database i };
@@ -219,7 +248,7 @@ module _ (key : Key) where
           waiting = waiting i;
           originated = originated i;
         };
-        sends = [];
+        sends = sends i;
       }
 
   chosen : (b : Bool) (x y z w : EventState) → cut x ≡ cut z → cut y ≡ cut w → cut (cond b x y) ≡ cut (cond b z w)
@@ -255,7 +284,7 @@ module _ (key : Key) where
   bodies : (links : List Link) → router_body links ≡ router_body (map (link_without key) links)
   bodies links = ap (λ l. says.Router (record { flags = 2; links = l })) (link_bodies links)
 
-  itself : (k : Key) → same_key k k ≡ true
+  pub itself : (k : Key) → same_key k k ≡ true
   itself k = ap is_eq (tied_itself keys_total k)
 
   module _ (other : (id : RouterNumber) → same_key (router_key id) key ≡ false) where
@@ -333,7 +362,7 @@ module _ (key : Key) where
         on (Some n) = ap (λ (m : Neighbor). Some m) (loading_by n.state n)
 
     loads : Overlooks loading_done
-    loads = on_outcome (on_links (map link_loading_done)) (λ o. (loading_links o.area.links, apart.twice key o.area.database))
+    loads = on_outcome (on_links (map link_loading_done)) (λ o. (loading_links o.area.links, apart.twice key o.area.database, sent_twice o.sends))
 
     -- ---- the rest of an event's end
 
@@ -395,22 +424,26 @@ module _ (key : Key) where
         ∙ (λ i. cond (stays_as moment (on_lists q apart_ links i) (sym (apart.removed_agrees key d q apart_) i)) (sym (apart.removed_agrees key d q apart_) i) None)
         ∙ sym (finite.get-retain_keys e keeps_so q (λ x is. ap keeps_so (sym (keys_exact q x is))))) in
         let P : Bool → Type 0 = λ b. (map (link_without key) (cond (any_exchange_or_loading links) o left).area.links ≡ map (link_without key) (cond b (cut_outcome o) left_so).area.links)
-        × (finite.remove (cond (any_exchange_or_loading links) o left).area.database key ≡ finite.remove (cond b (cut_outcome o) left_so).area.database key) in
-        subst P (exchanging links) (by_state (any_exchange_or_loading links) o left (cut_outcome o) left_so (links_twice links) (apart.twice key d) (links_twice links) all)
+        × (finite.remove (cond (any_exchange_or_loading links) o left).area.database key ≡ finite.remove (cond b (cut_outcome o) left_so).area.database key)
+        × (sends_without key (cond (any_exchange_or_loading links) o left).sends ≡ sends_without key (cond b (cut_outcome o) left_so).sends) in
+        subst P (exchanging links)
+        (by_state (any_exchange_or_loading links) o left (cut_outcome o) left_so (links_twice links) (apart.twice key d) (links_twice links) all (sent_twice o.sends) (sent_twice o.sends))
       where
         by_state : (b : Bool) (x y z w : Outcome)
             → map (link_without key) x.area.links ≡ map (link_without key) z.area.links → finite.remove x.area.database key ≡ finite.remove z.area.database key
             → map (link_without key) y.area.links ≡ map (link_without key) w.area.links → finite.remove y.area.database key ≡ finite.remove w.area.database key
+            → sends_without key x.sends ≡ sends_without key z.sends → sends_without key y.sends ≡ sends_without key w.sends
             → (map (link_without key) (cond b x y).area.links ≡ map (link_without key) (cond b z w).area.links)
             × (finite.remove (cond b x y).area.database key ≡ finite.remove (cond b z w).area.database key)
-        by_state true x y z w l d m e = (l, d)
-        by_state false x y z w l d m e = (m, e)
+            × (sends_without key (cond b x y).sends ≡ sends_without key (cond b z w).sends)
+        by_state true x y z w l d m e s t = (l, d, s)
+        by_state false x y z w l d m e s t = (m, e, t)
 
     abbrev last : Moment → EventState → EventState
     last moment p = on_router (λ (r : Router). record r { moment = moment }) (on_area (λ o. remove_aged moment (request_all moment o)) p)
 
     at_moment : (moment : Moment) → Overlooks (on_router (λ (r : Router). record r { moment = moment }))
-    at_moment moment p = ap (λ (q : EventState). record { router = record q.router { moment = moment }; sends = [] }) (stays p)
+    at_moment moment p = ap (λ (q : EventState). record { router = record q.router { moment = moment }; sends = q.sends }) (stays p)
 
     lasts : (moment : Moment) → Overlooks (last moment)
     lasts moment =

@@ -8,3 +8,4 @@ pub mod Destinations
 pub mod OneDestination
 pub mod Unheard
 pub mod Vetoes
+pub mod Announcements

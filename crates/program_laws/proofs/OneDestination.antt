@@ -30,7 +30,7 @@ use Rattle.events.specs.EventState.{EventState, flood_from_nobody, on_area, on_r
 use Rattle.events.specs.Originations.{announced_body, as_originated, external_body, external_key, flush, flush_copy, has_max_sequence, install_and_flood, may_originate, new_instance, originate, originate_anyway, originate_body, router_key, wait}
 use Rattle.events.specs.Routers.{Occurrence, Router}
 use Rattle.events.specs.declared.model.Out.{Out}
-use Rattle.program_laws.specs.Destinations.{AnswersReachOneDestination, IsUnderItsKey, is_requested, link_without, neighbor_on_without, router_without}
+use Rattle.program_laws.specs.Destinations.{AnswersReachOneDestination, IsUnderItsKey, is_requested, link_without, neighbor_on_without, router_without, sends_without, updates}
 use Rattle.program_laws.proofs.Apart as apart
 use Rattle.program_laws.proofs.Destinations as rest
 
@@ -97,23 +97,39 @@ module _ (key : Key) (is_external : key.ls_type ≡ 5) where
 
   -- the rest stays
   abbrev IsKept : Outcome → Outcome → Type 0
-  IsKept x o = (map (link_without key) x.area.links ≡ map (link_without key) o.area.links) × (finite.remove x.area.database key ≡ finite.remove o.area.database key)
+  IsKept x o =
+      (map (link_without key) x.area.links ≡ map (link_without key) o.area.links) × (finite.remove x.area.database key ≡ finite.remove o.area.database key)
+      × (sends_without key x.sends ≡ sends_without key o.sends)
+
+  -- its own Updates don't count
+  own_unsent : (lsa : Lsa) → lsa_key lsa ≡ key → (sends : List Send) → AllOwn lsa sends → sends_without key sends ≡ []
+  own_unsent lsa is [] own = refl
+  own_unsent lsa is (s ∷ sends) (content, own) =
+      let updated : updates key s.content ≡ true = ap (updates key) content ∙ ap (λ (k : Key). same_key k key) is ∙ rest.itself key key in
+      ap (λ (b : Bool). cond (not b) (s ∷ sends_without key sends) (sends_without key sends)) updated ∙ own_unsent lsa is sends own
+
+  own_unsent_more : (lsa : Lsa) → lsa_key lsa ≡ key → (xs sends : List Send) → AllOwn lsa sends → sends_without key (xs ++ sends) ≡ sends_without key xs
+  own_unsent_more lsa is [] sends own = own_unsent lsa is sends own
+  own_unsent_more lsa is (x ∷ xs) sends own =
+      let others = own_unsent_more lsa is xs sends own in
+      λ i. cond (not (updates key x.content)) (x ∷ others i) (others i)
 
   own_flooded : (moment : Moment) (lsa : Lsa) → lsa_key lsa ≡ key → (o : Outcome) → NotRequested o.area.links → IsKept (flood_from_nobody moment lsa o) o
   own_flooded moment lsa is o none = (
     own_links moment lsa is 1 o.area.links none,
     apart.same_but key _ _ (own_marked moment lsa is o.area.database (stepping_sends (flood_to moment None lsa) o.area.links) (sends_own moment lsa 1 o.area.links)),
+    own_unsent_more lsa is o.sends (stepping_sends (flood_to moment None lsa) o.area.links) (sends_own moment lsa 1 o.area.links),
   )
 
   own_flushed : (moment : Moment) (x : Option DatabaseCopy) → ((c : DatabaseCopy) → x ≡ Some c → lsa_key c.lsa ≡ key) → (o : Outcome) → NotRequested o.area.links → IsKept (flush_copy moment key x o) o
-  own_flushed moment None under o none = (refl, refl)
+  own_flushed moment None under o none = (refl, refl, refl)
   own_flushed moment (Some c) under o none = by_age (is_aged_out moment c)
     where
       by_age : (b : Bool) → IsKept (cond b o (flood_from_nobody moment (lsa_aged max_age c.lsa) (on_database (age_out moment key) o))) o
-      by_age true = (refl, refl)
+      by_age true = (refl, refl, refl)
       by_age false =
           let kept = own_flooded moment (lsa_aged max_age c.lsa) (under c refl) (on_database (age_out moment key) o) none in
-          (kept.0, kept.1 ∙ apart.same_but key _ _ (apart.own_copy_agrees key key refl (λ c. record c { lsa = lsa_aged max_age c.lsa; stored = moment }) o.area.database))
+          (kept.0, kept.1 ∙ apart.same_but key _ _ (apart.own_copy_agrees key key refl (λ c. record c { lsa = lsa_aged max_age c.lsa; stored = moment }) o.area.database), kept.2)
 
   own_installed : (moment : Moment) (lsa : Lsa) → lsa_key lsa ≡ key → (o : Outcome) → NotRequested o.area.links → IsKept (install_and_flood moment lsa o) o
   own_installed moment lsa is o none =
@@ -121,7 +137,7 @@ module _ (key : Key) (is_external : key.ls_type ≡ 5) where
       let copy : DatabaseCopy = record { lsa = lsa; stored = moment; installed = None; sent = None } in
       let kept = own_flooded moment lsa is (on_database (install_originated moment lsa) o) none in
       let P : Key → Type 0 = λ k. finite.remove (finite.insert d k copy) key ≡ finite.remove d key in
-      (kept.0, kept.1 ∙ subst P (sym is) (apart.same_but key _ _ (apart.inserted_agrees key d copy)))
+      (kept.0, kept.1 ∙ subst P (sym is) (apart.same_but key _ _ (apart.inserted_agrees key d copy)), kept.2)
 
   -- ---- in the making of an event
 
@@ -136,7 +152,7 @@ module _ (key : Key) (is_external : key.ls_type ≡ 5) where
       waiting = set.remove p.router.waiting key;
       originated = finite.remove p.router.originated key;
     };
-    sends = [];
+    sends = kept.2 i;
   }
 
   -- other wants, and other times
@@ -154,7 +170,7 @@ module _ (key : Key) (is_external : key.ls_type ≡ 5) where
           waiting = w i;
           originated = o i;
         };
-        sends = [];
+        sends = sends_without key p.sends;
       }
 
   unchanged : {X : Type 0} (m : ByKey X) → apart.Agree key m m
@@ -300,10 +316,11 @@ own_part moment e tag price p none under =
 apart_from_router : (id own : RouterNumber) (e : External) → same_key (router_key id) (external_key own e.prefix) ≡ false
 apart_from_router id own e = refl
 
+-- but for the key the event makes and sends what it would without it
 half : (old : Router) (moment : Moment) (e : External) (tagged : External) (tag price : ℕ) (outs : List Out) (new : Router)
     → is_requested (external_key old.id e.prefix) old.area.links ≡ false → finite.contains_key old.area.database (router_key old.id) ≡ true
-    → IsUnderItsKey (external_key old.id e.prefix) old.area.database → Happens old moment (Occurrence.Redistribute tagged tag e price) outs new
-    → router_without (external_key old.id e.prefix) new ≡ (rest.cut (external_key old.id e.prefix) (end_event old moment (rest.cut (external_key old.id e.prefix) (start_event moment old)))).router
+    → IsUnderItsKey (external_key old.id e.prefix) old.area.database → (event : Happens old moment (Occurrence.Redistribute tagged tag e price) outs new)
+    → rest.cut (external_key old.id e.prefix) (end_event old moment event.after) ≡ rest.cut (external_key old.id e.prefix) (end_event old moment (rest.cut (external_key old.id e.prefix) (start_event moment old)))
 half old moment e tagged tag price outs new none there under event =
     let k : Key = external_key old.id e.prefix in
     let rk : Key = router_key old.id in
@@ -318,8 +335,13 @@ half old moment e tagged tag price outs new none there under event =
     left event.after ∙ ap (λ (z : EventState). finite.contains_key z.router.area.database rk) own ∙ sym (left p) ∙ ready.2 in
     let P : RouterNumber → Type 0 = λ i. finite.contains_key event.after.router.area.database (router_key i) ≡ true in
     let end = rest.ended k out old moment event.after (subst P (sym id) has) in
-    ap (router_without k) event.router ∙ ap (λ (z : EventState). z.router) (end ∙ ap (λ (z : EventState). rest.cut k (end_event old moment z)) own)
+    end ∙ ap (λ (z : EventState). rest.cut k (end_event old moment z)) own
 
 pub answers_reach_one_destination : AnswersReachOneDestination
 answers_reach_one_destination old moment e tagged others tag price another_tag another_price outs these new next none there under first second =
-    half old moment e tagged tag price outs new none there under first ∙ sym (half old moment e others another_tag another_price these next none there under second)
+    let k : Key = external_key old.id e.prefix in
+    let same : rest.cut k (end_event old moment first.after) ≡ rest.cut k (end_event old moment second.after) =
+    half old moment e tagged tag price outs new none there under first ∙ sym (half old moment e others another_tag another_price these next none there under second) in (
+      ap (router_without k) first.router ∙ ap (λ (z : EventState). z.router) same ∙ sym (ap (router_without k) second.router),
+      ap (λ (z : EventState). z.sends) same,
+    )

@@ -1,7 +1,7 @@
 -- What programs at `tag` and `price` can do: decide about the one destination that they are asked
 -- about. Of two routers that differ in their answers alone, all else stays the same.
-use Rattle.std.specs.Prelude.{◌≡◌, ℕ, Bool, true, false, List, map, Option, None, Some}
-use Rattle.std.specs.List.{list_any}
+use Rattle.std.specs.Prelude.{◌≡◌, ℕ, Bool, true, false, not, List, map, Option, None, Some}
+use Rattle.std.specs.List.{filter, list_any}
 use Rattle.std.specs.FinMap as finite
 use Rattle.std.specs.FinSet as set
 use Rattle.words.specs.Numbers.{Moment}
@@ -9,9 +9,13 @@ use Rattle.words.specs.declared.key.Key.{Key}
 use Rattle.words.specs.declared.route.External.{External}
 use Rattle.lsdb.specs.Copies.{Database, DatabaseCopy}
 use Rattle.lsdb.specs.Headers.{lsa_key}
+use Rattle.lsdb.specs.Keys.{same_key}
 use Rattle.adjacency.specs.Asked.{was_requested}
+use Rattle.adjacency.specs.Contents.{Content}
 use Rattle.adjacency.specs.Neighbors.{Neighbor}
 use Rattle.received.specs.Links.{Link}
+use Rattle.received.specs.Outcomes.{Send}
+use Rattle.events.specs.Endings.{end_event}
 use Rattle.events.specs.Events.{Happens}
 use Rattle.events.specs.Originations.{external_key, router_key}
 use Rattle.events.specs.Routers.{Occurrence, Router}
@@ -47,6 +51,18 @@ router_without key r = record r {
   originated = finite.remove r.originated key;
 }
 
+-- an Update of the LSA of the key
+abbrev pub updates : Key → Content → Bool
+updates key (Content.SendsHello hello) = false
+updates key (Content.Describes description) = false
+updates key (Content.Requests keys) = false
+updates key (Content.Updates lsa) = same_key (lsa_key lsa) key
+updates key (Content.Acknowledges header) = false
+
+-- what is sent at which interface, in the order in which it arises, but for those
+abbrev pub sends_without : Key → List Send → List Send
+sends_without key sends = filter (λ s. not (updates key s.content)) sends
+
 -- ---- two answers
 
 -- some neighbor is still asked for the LSA of this key
@@ -58,9 +74,11 @@ abbrev pub IsUnderItsKey : Key → Database → Type 0
 IsUnderItsKey key database =
     (c : DatabaseCopy) → finite.get database key ≡ Some c → lsa_key c.lsa ≡ key
 
--- Two Redistributes of one destination at one moment, with any answers. No neighbor is being asked
--- for the LSA, whose flooding may end that neighbor's Loading; and the router-LSA has its place in
--- the database, which the external LSA can't take then.
+-- Two Redistributes of one destination at one moment, with any answers: what is sent is the same but
+-- for Updates of the destination's LSA, and so is what the router is afterwards but for what it keeps
+-- under that LSA's key. No neighbor is being asked for the LSA, whose flooding may end that
+-- neighbor's Loading; and the router-LSA has its place in the database, which the external LSA can't
+-- take then.
 abbrev pub AnswersReachOneDestination : Type 0
 AnswersReachOneDestination =
     (old : Router) (moment : Moment) (destination : External)
@@ -69,8 +87,11 @@ AnswersReachOneDestination =
     → is_requested (external_key old.id destination.prefix) old.area.links ≡ false
     → finite.contains_key old.area.database (router_key old.id) ≡ true
     → IsUnderItsKey (external_key old.id destination.prefix) old.area.database
-    → Happens old moment (Occurrence.Redistribute tagged tag destination price) outs new
-    → Happens old moment
-    (Occurrence.Redistribute others another_tag destination another_price) these next
-    → router_without (external_key old.id destination.prefix) new
-    ≡ router_without (external_key old.id destination.prefix) next
+    → (one : Happens old moment (Occurrence.Redistribute tagged tag destination price) outs new)
+    → (other : Happens old moment
+    (Occurrence.Redistribute others another_tag destination another_price) these next)
+    → (router_without (external_key old.id destination.prefix) new
+    ≡ router_without (external_key old.id destination.prefix) next)
+    × (sends_without (external_key old.id destination.prefix) (end_event old moment one.after).sends
+    ≡ sends_without (external_key old.id destination.prefix)
+    (end_event old moment other.after).sends)

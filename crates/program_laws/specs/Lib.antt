@@ -7,3 +7,4 @@ pub mod Destinations
 pub mod Tables
 pub mod Vetoes
 pub mod Unheard
+pub mod Announcements

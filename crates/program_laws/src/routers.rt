@@ -1,6 +1,7 @@
 //! Laws on what a loaded program can do to a router and to its neighbors, each carried by a
 //! function that does nothing: whatever a program answers, this is all that follows.
 ghost use Rattle.program_laws.specs.Announced.{WhatIsAnnouncedWasAskedFor};
+ghost use Rattle.program_laws.specs.Announcements.{OtherAnnouncementsStayTheSame};
 ghost use Rattle.program_laws.specs.Destinations.{AnswersReachOneDestination};
 ghost use Rattle.program_laws.specs.Tables.{VetoesOnlyKeepRoutesOut};
 ghost use Rattle.program_laws.specs.Unheard.{VetoesAreNeverHeard};
@@ -34,11 +35,19 @@ pub fn what_is_announced_was_asked_for()
 {}
 
 /// What programs answer at `tag` and `price` reaches the one destination that they are asked about:
-/// of two Redistributes of one destination at one moment with any answers, the router is afterwards
-/// the same but for what it keeps under the key of that destination's LSA. Each other copy in the
-/// database, each other destination, each other entry of a list, and each neighbor's state is the
-/// same. It supposes that no neighbor is being asked for that very LSA, and that the router-LSA has
-/// a copy.
+/// of two Redistributes of one destination at one moment with any answers, what is sent is the same
+/// but for Updates of that destination's LSA, and the router is afterwards the same but for what it
+/// keeps under the key of that LSA. Each other copy in the database, each other destination, each
+/// other entry of a list, and each neighbor's state is the same. It supposes that no neighbor is
+/// being asked for that very LSA, and that the router-LSA has a copy.
 pub fn answers_reach_one_destination()
     ensures { AnswersReachOneDestination }
+{}
+
+/// What follows from such an answer, over whole runs: where an operator asks for the same and programs
+/// answer the same but about one destination, the router announces the same of every other one, and
+/// wants to say the same in each of its other AS-external-LSAs, however long after, and whatever
+/// packets come in, at whatever moments, in the one run and in the other.
+pub fn other_announcements_stay_the_same()
+    ensures { OtherAnnouncementsStayTheSame }
 {}
