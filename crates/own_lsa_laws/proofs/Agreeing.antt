@@ -21,7 +21,7 @@ use Rattle.received.proofs.Marks.{tied}
 use Rattle.events.specs.Endings.{link_loading_done, links_differ, loading_done_on, same_body}
 use Rattle.events.specs.Originations.{router_body, stub}
 use Rattle.events.specs.Ticks.{run_out, settled_exchange}
-use Rattle.own_lsa_laws.proofs.Faces.{Face, body_by_faces, face, face_links, faces, faces_body, full_router, told_to}
+use Rattle.own_lsa_laws.proofs.Faces.{Face, body_by_faces, face_links, faces, faces_body, full_router, told_to}
 
 -- ---- texts
 

@@ -1,7 +1,7 @@
 -- An event's own part, and the end that all events share, leave the router's own copies as they are to stand.
-use Rattle.std.proofs.Common.{◌≡◌, ℕ, ◌+◌, ◌<◌, ◌≤◌, Bool, true, false, cond, not, ◌&&◌, ◌||◌, ◌⊎◌, inl, inr, List, [], ◌∷◌, map, Option, None, Some, is_some, refl, sym, ap, subst, ◌∙◌, arith}
-use Rattle.std.specs.Prelude.{◌==◌, nat_le}
-use Rattle.std.specs.List.{filter, fold, list_all, list_any}
+use Rattle.std.proofs.Common.{◌≡◌, ℕ, Bool, true, false, cond, not, ◌&&◌, ◌||◌, ◌⊎◌, inl, inr, List, [], ◌∷◌, map, Option, None, Some, is_some, refl, sym, ap, subst, ◌∙◌, arith}
+use Rattle.std.specs.Prelude.{nat_le}
+use Rattle.std.specs.List.{filter, list_all, list_any}
 use Rattle.std.specs.FinMap as finite
 use Rattle.std.specs.FinSet as set
 use Rattle.words.specs.Constants.{ls_infinity}
@@ -10,10 +10,10 @@ use Rattle.words.specs.declared.key.Key.{Key}
 use Rattle.words.specs.declared.route.External.{External}
 use Rattle.lsa.specs.Text.{body_text}
 use Rattle.lsa.specs.declared.body.Body.{Body}
-use Rattle.lsdb.specs.Copies.{Database, DatabaseCopy, age_out, is_aged_out}
+use Rattle.lsdb.specs.Copies.{DatabaseCopy, age_out, is_aged_out}
 use Rattle.lsdb.specs.Headers.{Lsa, lsa_aged}
 use Rattle.lsdb.specs.Keys.{ByKey, KeySet, same_key}
-use Rattle.lsdb.proofs.Keys.{keys_exact, keys_total}
+use Rattle.lsdb.proofs.Keys.{keys_total}
 use Rattle.packet.specs.declared.model.Body.{Body as PacketBody}
 use Rattle.packet.specs.declared.model.Body.TheVariants as body
 use Rattle.packet.specs.declared.model.Hello.{Hello}
@@ -33,14 +33,14 @@ use Rattle.events.specs.Endings.{copy_has_body, describe_router, describe_router
 use Rattle.events.specs.EventState.{EventState, flood_from_nobody, on_area, on_router}
 use Rattle.events.specs.Hellos.{accepts, names}
 use Rattle.events.specs.Originations.{announced_body, due_keys, external_body, external_key, flush, flush_copy, forget_originations, has_max_sequence, has_room, is_due, may_originate, originate, originate_anyway, originate_body, originate_due, originate_or_wait, router_body, router_key, wait, wanted_body, wanted_keys}
-use Rattle.events.specs.Packets.{after_lsas, after_packet, from_neighbor, hear, heard_on, is_heard, is_in_exchange, is_there, requested_from, requested_lsas}
+use Rattle.events.specs.Packets.{after_packet, from_neighbor, hear, heard_on, is_heard, is_in_exchange, is_there, requested_from, requested_lsas}
 use Rattle.events.specs.Routers.{Router}
-use Rattle.events.specs.Ticks.{acknowledge_all, acknowledgments_on, after_tick, again, hello_sent_on, run_out, send_all_again, send_hellos, sends_of, with_hello_sent, without_acknowledgments}
+use Rattle.events.specs.Ticks.{acknowledge_all, acknowledgments_on, after_tick, again, hello_sent_on, run_out, send_all_again, sends_of, with_hello_sent, without_acknowledgments}
 use Rattle.flood_laws.proofs.Limits.{one_less, one_more, tied_key}
 use Rattle.own_lsa_laws.proofs.Agreeing.{never_differs, once, text_of_same, undiffering}
-use Rattle.own_lsa_laws.proofs.Faces.{Face, StaysFaced, again_so, asks_so, body_faces, each_faces, faces, mapped_faces, same_faces}
-use Rattle.own_lsa_laws.proofs.Parts.{FitsAt, InProgress, StaysElsewhere, Tells, at_other, at_same, excused_fit, excusing, flush_kept, full, lsas_kept, not_and_so, nothing_changes, or_first, or_so, or_wait_kept, originated_now, other_than, others_fit, roomy, sent_kept, some_kept, still_tells, wait_kept, waits_there}
-use Rattle.own_lsa_laws.proofs.Standing.{Fits, IsWanted, Recasts, Standing, Terms, aged_at, all_so, at_copy, closed_at, flushed_age, is_wanted_of, marked, marks, recast, same_itself, wants}
+use Rattle.own_lsa_laws.proofs.Faces.{StaysFaced, again_so, asks_so, body_faces, each_faces, faces, mapped_faces, same_faces}
+use Rattle.own_lsa_laws.proofs.Parts.{FitsAt, InProgress, Tells, at_other, at_same, excused_fit, excusing, flush_kept, full, lsas_kept, not_and_so, nothing_changes, or_first, or_wait_kept, originated_now, others_fit, roomy, sent_kept, some_kept, still_tells, wait_kept, waits_there}
+use Rattle.own_lsa_laws.proofs.Standing.{Fits, IsWanted, Standing, Terms, aged_at, all_so, at_copy, closed_at, flushed_age, marked, marks, recast, same_itself, wants}
 
 -- a state after a change of links and database
 abbrev pub with_outcome : EventState → Outcome → EventState

@@ -10,18 +10,16 @@ use Rattle.lsa.specs.declared.body.Body.TheVariants as body
 use Rattle.lsa.specs.declared.body.Link.{Link as RouterLink}
 use Rattle.lsa.specs.declared.body.LinkKind.TheVariants.{PointToPoint}
 use Rattle.lsdb.specs.Copies.{Database, DatabaseCopy, age_out, has_just_aged_out, is_aged_out, lsa_now}
-use Rattle.lsdb.specs.Headers.{Header, Lsa, lsa_aged, lsa_key}
+use Rattle.lsdb.specs.Headers.{Lsa, lsa_aged, lsa_key}
 use Rattle.packet.specs.declared.model.Description.{Description}
 use Rattle.adjacency.specs.declared.interface.Interface.{Interface}
-use Rattle.adjacency.specs.declared.state.State.{State}
-use Rattle.adjacency.specs.declared.state.State.TheVariants.{Init, ExStart, Exchange, Loading, Full}
 use Rattle.adjacency.specs.Adjacencies.{has_passed}
 use Rattle.adjacency.specs.Contents.{Requests, Step, Updates, no_sends}
 use Rattle.adjacency.specs.Descriptions.{repeat}
 use Rattle.adjacency.specs.Floods.{flooded_in_exchange, meets, passes, request_of, without_met_request}
 use Rattle.adjacency.specs.Neighbors.{Neighbor, is_exchange_or_later, is_full}
 use Rattle.adjacency.specs.Requests.{may_request, next_request, request_next, still_outstanding, without_request}
-use Rattle.adjacency.specs.Retransmissions.{add_retransmission, describe_again, next_retransmissions, remove_retransmission, repeats_description, request_again, send_again, update_again}
+use Rattle.adjacency.specs.Retransmissions.{add_retransmission, describe_again, next_retransmissions, remove_retransmission, repeats_description, request_again, update_again}
 use Rattle.adjacency.proofs.Kept.{chosen}
 use Rattle.received.specs.Cases.{Case}
 use Rattle.received.specs.Flooding.{flood, flood_to, is_sender}
@@ -30,7 +28,7 @@ use Rattle.received.specs.Outcomes.{Outcome, Stepping, each_neighbor, on_databas
 use Rattle.received.specs.Updates.{after_case, goes_on, send_copy}
 use Rattle.events.specs.Endings.{with_age}
 use Rattle.events.specs.EventState.{EventState, flood_from_nobody, on_area, on_router}
-use Rattle.events.specs.Originations.{flush, flush_copy, has_max_sequence, links_of, may_originate, new_instance, originate, originate_body, originate_or_flush, point_to_point, receive_self_originated, router_body, stub, wait}
+use Rattle.events.specs.Originations.{flush, flush_copy, has_max_sequence, links_of, may_originate, new_instance, originate, originate_body, point_to_point, router_body, stub, wait}
 use Rattle.events.specs.Ticks.{again}
 
 -- ---- what is shown

@@ -1,7 +1,7 @@
 -- What each part of an event leaves of the router's own copies.
-use Rattle.std.proofs.Common.{◌≡◌, ℕ, ◌+◌, ◌-◌, ◌<◌, ◌≤◌, Bool, true, false, cond, not, ◌&&◌, ◌||◌, ◌⊎◌, inl, inr, List, [], ◌∷◌, map, Option, None, Some, is_some, refl, sym, ap, subst, ◌∙◌, arith, eq-eqb, leb-false}
-use Rattle.std.specs.Prelude.{◌==◌, nat_le}
-use Rattle.std.specs.List.{fold, list_all}
+use Rattle.std.proofs.Common.{◌≡◌, ℕ, ◌+◌, ◌-◌, ◌<◌, ◌≤◌, Bool, true, false, cond, not, ◌&&◌, ◌||◌, List, [], ◌∷◌, Option, None, Some, is_some, refl, sym, ap, subst, ◌∙◌, arith, eq-eqb, leb-false}
+use Rattle.std.specs.Prelude.{◌==◌}
+use Rattle.std.specs.List.{fold}
 use Rattle.std.specs.FinMap as finite
 use Rattle.std.specs.FinSet as set
 use Rattle.words.specs.declared.key.Key.{Key}
@@ -13,7 +13,6 @@ use Rattle.lsa.specs.declared.body.Body.{Body}
 use Rattle.lsdb.specs.Copies.{Database, DatabaseCopy, age_out, has_just_aged_out, is_aged_out, lsa_now}
 use Rattle.lsdb.specs.Headers.{Lsa, lsa_aged, lsa_key}
 use Rattle.lsdb.specs.Keys.{ByKey, KeySet, same_key}
-use Rattle.lsdb.specs.Limits.{is_own_external, own_externals}
 use Rattle.lsdb.proofs.Keys.{keys_total}
 use Rattle.adjacency.specs.Adjacencies as adjacencies
 use Rattle.adjacency.specs.Contents.{Content, no_sends}
@@ -26,12 +25,12 @@ use Rattle.received.specs.Outcomes.{Outcome, Send, on_database, only_at, steppin
 use Rattle.received.specs.Updates.{after_case, case_at, goes_on, send_copy}
 use Rattle.events.specs.Endings.{with_age}
 use Rattle.events.specs.EventState.{EventState, flood_from_nobody, on_area, on_router}
-use Rattle.events.specs.Originations.{as_originated, flush, flush_copy, has_max_sequence, has_room, install_and_flood, interval_is_over, is_wanted, may_originate, new_instance, originate, originate_body, originate_or_flush, originate_or_wait, receive_self_originated, router_body, router_key, wait, wanted_body}
+use Rattle.events.specs.Originations.{flush, flush_copy, has_max_sequence, has_room, interval_is_over, is_wanted, may_originate, new_instance, originate, originate_body, originate_or_flush, originate_or_wait, receive_self_originated, router_body, router_key, wait, wanted_body}
 use Rattle.events.specs.Packets.{after_lsa, after_lsas, after_self_originated, after_unread, case_in}
 use Rattle.events.specs.Routers.{Router}
-use Rattle.flood_laws.proofs.Limits.{AreExternal, new_key, tied_key, wanted_type}
-use Rattle.own_lsa_laws.proofs.Faces.{StaysFaced, body_faces, case_faces, faces, flush_faces, same_faces}
-use Rattle.own_lsa_laws.proofs.Standing.{Fits, IsWanted, Recasts, Standing, Terms, Wants, aged_at, all_so, closed_at, flushed_age, is_wanted_of, marked, marks, put_at, recast, same_itself, wanted_as}
+use Rattle.flood_laws.proofs.Limits.{AreExternal, new_key, wanted_type}
+use Rattle.own_lsa_laws.proofs.Faces.{StaysFaced, body_faces, case_faces, flush_faces, same_faces}
+use Rattle.own_lsa_laws.proofs.Standing.{Fits, Standing, Terms, Wants, aged_at, all_so, closed_at, flushed_age, is_wanted_of, marked, marks, put_at, recast, same_itself, wanted_as}
 
 -- ---- a point of an event
 

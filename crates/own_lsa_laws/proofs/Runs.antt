@@ -1,5 +1,5 @@
 -- Every event leaves the router's own copies as they are to stand, and so does every run from the start.
-use Rattle.std.proofs.Common.{◌≡◌, ℕ, ◌+◌, ◌<◌, ◌≤◌, Bool, true, false, cond, not, ◌&&◌, ◌⊎◌, inl, inr, List, [], ◌∷◌, map, Option, None, Some, refl, sym, ap, subst, ◌∙◌, arith, true≢false}
+use Rattle.std.proofs.Common.{◌≡◌, ℕ, ◌+◌, ◌<◌, ◌≤◌, Bool, true, false, cond, ◌&&◌, ◌⊎◌, inl, inr, List, [], ◌∷◌, map, Option, None, Some, refl, sym, ap, subst, ◌∙◌, arith, true≢false}
 use Rattle.std.specs.FinMap as finite
 use Rattle.std.specs.FinSet as set
 use Rattle.words.specs.declared.key.Key.{Key}
@@ -12,23 +12,21 @@ use Rattle.lsdb.specs.Keys.{ByKey, KeySet, key_cmp, same_key}
 use Rattle.lsdb.proofs.Keys.{keys_total}
 use Rattle.adjacency.proofs.Kept.{chosen}
 use Rattle.adjacency.proofs.Maps.{AllIn, none_in}
-use Rattle.received.specs.Links.{Link}
 use Rattle.events.specs.declared.model.Config.{Config}
 use Rattle.events.specs.declared.model.Out.{Out}
-use Rattle.events.specs.Endings.{end_event, link_loading_done, same_body, start_event}
+use Rattle.events.specs.Endings.{end_event, link_loading_done, start_event}
 use Rattle.events.specs.Events.{Happens, OwnPart, Run, Step, initial}
-use Rattle.events.specs.EventState.{EventState, on_area, on_router}
-use Rattle.events.specs.Originations.{due_keys, external_body, flush, has_max_sequence, has_room, interval_is_over, is_recent, may_originate, originate, originate_body, originate_or_wait, router_body, router_key, wait, wanted_body}
-use Rattle.events.specs.Packets.{after_packet}
-use Rattle.events.specs.Routers.{Occurrence, Router, fresh_link, unannounced_router}
-use Rattle.events.specs.Ticks.{after_tick, run_out}
+use Rattle.events.specs.EventState.{EventState, on_router}
+use Rattle.events.specs.Originations.{due_keys, external_body, flush, has_max_sequence, has_room, is_recent, may_originate, originate, originate_body, originate_or_wait, router_body, router_key, wait, wanted_body}
+use Rattle.events.specs.Routers.{Occurrence, Router, unannounced_router}
+use Rattle.events.specs.Ticks.{after_tick}
 use Rattle.flood_laws.proofs.Retransmitted.{retransmissions_are_of_the_database}
 use Rattle.own_lsa_laws.specs.OwnCopies.{ClockRunsOn, EndsWithTick, IsHeldBack, IsOwnCopy, IsToBeReplaced, NobodySpeaksForThisRouter, SaysWhatIsWanted}
 use Rattle.own_lsa_laws.proofs.Agreeing.{same_of_text, tick_agrees}
-use Rattle.own_lsa_laws.proofs.Ended.{Rests, among, ended_kept, is_among, outcome, packet_kept, redistribute_kept, run_down, text_of, tick_faces, tick_kept, told, waits_are_due, wants_router_lsa, withdraw_kept}
+use Rattle.own_lsa_laws.proofs.Ended.{Rests, among, ended_kept, is_among, packet_kept, redistribute_kept, run_down, text_of, tick_faces, tick_kept, told, waits_are_due, withdraw_kept}
 use Rattle.own_lsa_laws.proofs.Faces.{ages_faces, body_faces, faces, same_faces}
-use Rattle.own_lsa_laws.proofs.Parts.{FitsAt, InProgress, Tells, ages_kept, excused, full, or_wait_kept}
-use Rattle.own_lsa_laws.proofs.Standing.{Fits, IsWanted, Recasts, Standing, Terms, all_so, at_copy, recast, stays_aged, wanted_external, wanted_router_lsa, wants}
+use Rattle.own_lsa_laws.proofs.Parts.{FitsAt, InProgress, ages_kept, excused, full, or_wait_kept}
+use Rattle.own_lsa_laws.proofs.Standing.{Fits, IsWanted, Standing, Terms, all_so, at_copy, recast, stays_aged, wanted_external, wanted_router_lsa, wants}
 
 -- ---- a router between events
 

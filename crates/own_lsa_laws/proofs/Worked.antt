@@ -1,9 +1,8 @@
 -- The worked routers speak for themselves, or don't.
-use Rattle.std.proofs.Common.{◌≡◌, ℕ, ◌+◌, ◌<◌, ◌≤◌, Bool, true, false, cond, ◌⊎◌, inl, inr, [], Option, None, Some, refl, sym, ap, subst, ◌∙◌, arith, true≢false}
+use Rattle.std.proofs.Common.{◌≡◌, ℕ, ◌+◌, ◌<◌, Bool, true, false, cond, ◌⊎◌, inl, inr, [], Option, None, Some, refl, sym, ap, subst, ◌∙◌, arith, true≢false}
 use Rattle.std.specs.FinMap as finite
 use Rattle.std.specs.FinSet as set
 use Rattle.words.specs.declared.key.Key.{Key}
-use Rattle.words.specs.declared.route.External.{External}
 use Rattle.lsa.specs.declared.body.Body.{Body}
 use Rattle.lsdb.specs.Copies.{Database, DatabaseCopy, is_aged_out}
 use Rattle.lsdb.specs.Headers.{Lsa, lsa_aged}

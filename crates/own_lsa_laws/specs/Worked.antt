@@ -1,5 +1,5 @@
 -- Router 7, without a neighbor, and LSAs in its name that came from elsewhere at moment 20.
-use Rattle.std.specs.Prelude.{ℕ, pos, [], ◌∷◌, None, Some}
+use Rattle.std.specs.Prelude.{pos, [], ◌∷◌, None, Some}
 use Rattle.std.specs.FinMap as finite
 use Rattle.std.specs.FinSet as set
 use Rattle.words.specs.Numbers.{Moment}
@@ -9,9 +9,7 @@ use Rattle.words.specs.declared.route.ExternalType.TheVariants.{Type1}
 use Rattle.lsa.specs.declared.body.Body.{Body}
 use Rattle.lsa.specs.declared.body.Body.TheVariants as body
 use Rattle.lsa.specs.declared.body.LinkKind.TheVariants.{Stub}
-use Rattle.lsdb.specs.Copies.{DatabaseCopy}
 use Rattle.lsdb.specs.Headers.{Lsa}
-use Rattle.events.specs.EventState.{EventState}
 use Rattle.events.specs.Originations.{external_body, flush, router_key}
 use Rattle.events.specs.Routers.{Router, with_links}
 use Rattle.own_lsa_laws.specs.OwnCopies.{SpeaksForItself, SpeaksForItselfAfterTick}

@@ -9,7 +9,7 @@ use Rattle.words.specs.Prefixes.{Network}
 use Rattle.words.specs.declared.key.Key.{Key}
 use Rattle.words.specs.declared.route.External.{External}
 use Rattle.lsdb.specs.Keys.{ByKey, same_key}
-use Rattle.events.specs.Commands.{after_redistribute, after_withdraw, announce, announce_as, answered_external, end_want, is_announced_as, is_for}
+use Rattle.events.specs.Commands.{after_redistribute, announce, announce_as, answered_external, end_want, is_announced_as, is_for}
 use Rattle.events.specs.Endings.{end_event, start_event}
 use Rattle.events.specs.Events.{Happens, OwnPart, Run, Step}
 use Rattle.events.specs.EventState.{EventState, on_router}
