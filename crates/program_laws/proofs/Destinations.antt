@@ -174,8 +174,7 @@ module _ (key : Key) where
 
   changed_in : (h : Database → Database) → ((d e : Database) → apart.Agree key d e → apart.Agree key (h d) (h e)) → OverlooksIn (on_database h)
   changed_in h agree o =
-      let d : Database = o.area.database in
-      (
+      let d : Database = o.area.database in (
         links_twice o.area.links,
         apart.same_but key (h d) (h (finite.remove d key)) (agree d (finite.remove d key) (apart.turned key (finite.remove d key) d (apart.removed_agrees key d))),
         sent_twice o.sends,
