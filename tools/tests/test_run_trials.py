@@ -30,6 +30,9 @@ class RunTrials(unittest.TestCase):
     def test_what_is_as_expected_is_right(self):
         rows = """let SIX 060606
 == all words
+$ routerd {0a*3}b
+> {0a*2}0ab
+= 0
 file bytes hex 0102*2 {SIX}
 length bytes 7
 holds bytes at 3 hex 0206
@@ -56,7 +59,7 @@ folder new
 remove new
 nothing new
 """
-        self.assertEqual(self.play(rows), (0, "run-trials: 1 cases, 3 commands, 0 wrong\n"))
+        self.assertEqual(self.play(rows), (0, "run-trials: 1 cases, 4 commands, 0 wrong\n"))
 
     def test_what_is_otherwise_is_told(self):
         for wrong in ("> 8\n= 0", "> 7\n= 1", "~ 8\n= 0", "- 7\n= 0", "= 0", "> 7\n! usage\n= 0"):
