@@ -3,8 +3,11 @@
 //! The router is 1.1.1.1, begun at 0, with as many interfaces as the first line says: 10.0.N.1/24 of
 //! cost 10, HelloInterval 10, RouterDeadInterval 40, RxmtInterval 5, InfTransDelay 1. Each question
 //! is answered as if no program stood at any hook.
+//!
+//! Or an area, into which LSAs come, and the candidates of one of its routers.
 #![tactic(auto)]
 
+mod area;
 mod fault;
 mod line;
 mod operator;

@@ -1,4 +1,5 @@
 //! The router of a script, played.
+use crate::area::{Area, bytes_of, root_of};
 use crate::fault::ScriptError;
 use crate::line::{Happening, Line, Shown, interfaces_of, line_of};
 use crate::operator::Operator;
@@ -7,7 +8,6 @@ use crate::telling::{
     push_table,
 };
 use flood::{Config, Core, Event, Interface};
-use hex::FromHexError;
 use std::alloc::{AllocError, Global};
 use std::fmt::Write;
 use std::sync::Wait;
@@ -47,18 +47,6 @@ fn configured(alloc: Global, interfaces: u32) -> Result<Config, AllocError> {
         start: Second::new(0),
         interfaces: Sequence::from_vec(taken),
     })
-}
-
-// The bytes of a word; None where it is none.
-fn bytes_of(alloc: Global, digits: &str) -> Result<Option<Vec<u8>>, AllocError> {
-    if digits == "-" {
-        return Ok(Some(Vec::new(alloc)));
-    }
-    match hex::decode(alloc, digits) {
-        Ok(bytes) => Ok(Some(bytes)),
-        Err(FromHexError::OutOfMemory) => Err(AllocError),
-        Err(_) => Ok(None),
-    }
 }
 
 fn packet(alloc: Global, interface: u16, digits: &str) -> Result<Option<Event>, AllocError> {
@@ -215,7 +203,29 @@ impl<R: Wait + Drop> Stage<R> {
     }
 }
 
-fn play_behind<R: Wait + Drop + Copy>(
+// Plays the lines of an area behind the first.
+fn play_area_lines(area: &mut Area, alloc: Global, lines: &[&str]) -> Result<(), ScriptError> {
+    for (index, line) in lines.iter().enumerate() {
+        let is_left_out = line.is_empty() || line.starts_with('#');
+        let words: Vec<&str> = line.split(' ').collect(alloc)?;
+        if !is_left_out && !area.takes(&words)? {
+            return Err(ScriptError::Line(index.saturating_add(2)));
+        }
+    }
+    Ok(())
+}
+
+// Plays the lines behind a first one of these words, `area ROUTER ADDRESS..`.
+fn play_area(alloc: Global, words: &[&str], lines: &[&str]) -> Result<String, ScriptError> {
+    let Some(root) = root_of(alloc, words)? else {
+        return Err(ScriptError::Line(1));
+    };
+    let mut area = Area::new(alloc, root);
+    play_area_lines(&mut area, alloc, lines)?;
+    Ok(area.told())
+}
+
+fn play_router<R: Wait + Drop + Copy>(
     alloc: Global,
     rt: R,
     interfaces: u32,
@@ -228,13 +238,37 @@ fn play_behind<R: Wait + Drop + Copy>(
     Ok(text)
 }
 
+// Plays the lines behind the first, which says whose they are.
+fn play_behind<R: Wait + Drop + Copy>(
+    alloc: Global,
+    rt: R,
+    first: &str,
+    lines: &[&str],
+) -> Result<String, ScriptError> {
+    let words: Vec<&str> = first.split(' ').collect(alloc)?;
+    if let Some((name, of)) = words.split_first() {
+        if *name == "area" {
+            return play_area(alloc, of, lines);
+        }
+    }
+    match interfaces_of(first) {
+        Some(interfaces) => play_router(alloc, rt, interfaces, lines),
+        None => Err(ScriptError::Line(1)),
+    }
+}
+
 /// Plays the script, and answers what is printed.
 ///
-/// The first line is `interfaces N`. Each other line lets something happen (`MOMENT tick`, `MOMENT
-/// packet I HEX`, `MOMENT announce P METRIC`, `MOMENT withdraw P`, `MOMENT down I`, `MOMENT install
-/// all`, `MOMENT install nothing`), or shows something (`neighbors`, `table`, `candidates`,
-/// `offered`, `stale`, `walks`, `lsas`, `lsa TYPE ID ROUTER`, `announced P`). What goes out is
-/// printed as `MOMENT sends I HEX`, a refusal as `MOMENT refused: ` and why.
+/// The first line is `interfaces N`, and each other one lets something happen at a router (`MOMENT
+/// tick`, `MOMENT packet I HEX`, `MOMENT announce P METRIC`, `MOMENT withdraw P`, `MOMENT down I`,
+/// `MOMENT install all`, `MOMENT install nothing`), or shows something (`neighbors`, `table`,
+/// `candidates`, `offered`, `stale`, `walks`, `lsas`, `lsa TYPE ID ROUTER`, `announced P`). What
+/// goes out is printed as `MOMENT sends I HEX`, a refusal as `MOMENT refused: ` and why.
+///
+/// Or the first line is `area ROUTER ADDRESS..`: a router and the addresses of its interfaces. Then
+/// `MOMENT lsa HEX` lets an LSA come in, `MOMENT candidates` shows the routes that all LSAs offer
+/// the router, and `lsa HEX` and `packet HEX` show how bytes are written once they are read, or
+/// `refused` and the number of their refusal.
 ///
 /// # Errors
 /// `Line` where a line says nothing of this, `Memory` where an allocation was refused.
@@ -244,11 +278,8 @@ pub fn play<R: Wait + Drop + Copy>(
     script: &str,
 ) -> Result<String, ScriptError> {
     let lines: Vec<&str> = script.split('\n').collect(alloc)?;
-    let Some((first, behind)) = lines.split_first() else {
-        return Err(ScriptError::Line(1));
-    };
-    match interfaces_of(first) {
-        Some(interfaces) => play_behind(alloc, rt, interfaces, behind),
+    match lines.split_first() {
+        Some((first, behind)) => play_behind(alloc, rt, first, behind),
         None => Err(ScriptError::Line(1)),
     }
 }

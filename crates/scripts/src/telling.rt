@@ -5,7 +5,8 @@ use std::alloc::{AllocError, Global};
 use std::fmt::Write;
 use words::{Key, Prefix, Route, Second};
 
-fn push_hex(text: &mut String, bytes: &[u8]) -> Result<(), AllocError> {
+/// Adds the digits of bytes, and the end of the line.
+pub fn push_hex(text: &mut String, bytes: &[u8]) -> Result<(), AllocError> {
     for byte in bytes {
         write!(text, "{byte:02x}")?;
     }

@@ -77,6 +77,14 @@ InfTransDelay 1. Each other line is one of these (empty lines and those with # s
   stale, walks                    prints whether candidates are to be asked about; and how many
                                   walks events made, and this question
 
+Or the first line is `area ROUTER ADDRESS..`: a router and the addresses of its interfaces, from
+interface 1 on. Then each other line is one of these:
+  MOMENT lsa HEX                  an LSA comes in
+  MOMENT candidates               prints the routes that all LSAs offer the router, as a table; and
+                                  the distance and tag of each
+  lsa HEX, packet HEX             prints how these bytes are written once they are read, or
+                                  `refused` and the number of their refusal
+
 Prints `MOMENT sends I HEX` for each packet that goes out, and `MOMENT refused: ` and why for an
 event that is refused.
 
