@@ -1,16 +1,65 @@
-//! An area to test with: the LSAs that came in, and the router that calculates its routes.
-use crate::gathered::Gathered;
+//! An area to test with: the LSAs that came in, and the router that calculates its routes. The
+//! checksums are those of tools/area-rows.
 use candidates::candidates;
-use lsa::Lsa;
+use lsa::{Lsa, read};
 use lsdb::Lsdb;
 use routes::Root;
 use std::alloc::{AllocError, Global};
 use std::test::Fail;
-use words::{Address, Route, RouteKind, RouterId, Second, Sequence};
+use words::{Address, Route, RouterId, Second, Sequence};
+
+/// 1.1.1.1 with interfaces 1 and 2 of cost 5 to 2.2.2.2 and 3.3.3.3, each with a link of cost 5 to
+/// 4.4.4.4, which has the stub network 192.0.2.0/24 of metric 10.
+pub const SQUARE: &[&[u8]] = &[
+    b"\x00\x01\x02\x01\x01\x01\x01\x01\x01\x01\x01\x01\x80\x00\x00\x01\x82\x85\x00\x30\x00\x00\x00\
+        \x02\x02\x02\x02\x02\x0a\x00\x01\x01\x01\x00\x00\x05\x03\x03\x03\x03\x0a\x00\x02\x01\x01\
+        \x00\x00\x05",
+    b"\x00\x01\x02\x01\x02\x02\x02\x02\x02\x02\x02\x02\x80\x00\x00\x01\x8d\x70\x00\x30\x00\x00\x00\
+        \x02\x01\x01\x01\x01\x0a\x00\x01\x02\x01\x00\x00\x05\x04\x04\x04\x04\x0a\x00\x03\x01\x01\
+        \x00\x00\x05",
+    b"\x00\x01\x02\x01\x03\x03\x03\x03\x03\x03\x03\x03\x80\x00\x00\x01\x67\x8c\x00\x30\x00\x00\x00\
+        \x02\x01\x01\x01\x01\x0a\x00\x02\x02\x01\x00\x00\x05\x04\x04\x04\x04\x0a\x00\x04\x01\x01\
+        \x00\x00\x05",
+    b"\x00\x01\x02\x01\x04\x04\x04\x04\x04\x04\x04\x04\x80\x00\x00\x01\xe4\x28\x00\x3c\x00\x00\x00\
+        \x03\x02\x02\x02\x02\x0a\x00\x03\x02\x01\x00\x00\x05\x03\x03\x03\x03\x0a\x00\x04\x02\x01\
+        \x00\x00\x05\xc0\x00\x02\x00\xff\xff\xff\x00\x03\x00\x00\x0a",
+];
+
+/// 1.1.1.1 and 2.2.2.2, an AS boundary router, on a link of cost 10 with the network 10.0.1.0/24;
+/// the second has 10.0.2.0/24 too, at cost 5.
+pub const TWO: &[&[u8]] = &[
+    b"\x00\x01\x02\x01\x01\x01\x01\x01\x01\x01\x01\x01\x80\x00\x00\x01\x59\xae\x00\x30\x02\x00\x00\
+        \x02\x02\x02\x02\x02\x0a\x00\x01\x01\x01\x00\x00\x0a\x0a\x00\x01\x00\xff\xff\xff\x00\x03\
+        \x00\x00\x0a",
+    b"\x00\x01\x02\x01\x02\x02\x02\x02\x02\x02\x02\x02\x80\x00\x00\x01\xd8\x09\x00\x3c\x02\x00\x00\
+        \x03\x01\x01\x01\x01\x0a\x00\x01\x02\x01\x00\x00\x0a\x0a\x00\x01\x00\xff\xff\xff\x00\x03\
+        \x00\x00\x0a\x0a\x00\x02\x00\xff\xff\xff\x00\x03\x00\x00\x05",
+];
+
+/// The AS-external-LSAs of 203.0.113.0/24 with metric 20: of 2.2.2.2, of type 2 and of type 1, and
+/// of 9.9.9.9, of type 1.
+pub const OF_TYPE_2: &[u8] =
+    b"\x00\x01\x02\x05\xcb\x00\x71\x00\x02\x02\x02\x02\x80\x00\x00\x01\x36\x43\x00\x24\xff\xff\xff\
+        \x00\x80\x00\x00\x14\x00\x00\x00\x00\x00\x00\x00\x00";
+
+/// The second of them.
+pub const OF_TYPE_1: &[u8] =
+    b"\x00\x01\x02\x05\xcb\x00\x71\x00\x02\x02\x02\x02\x80\x00\x00\x01\xb2\x47\x00\x24\xff\xff\xff\
+        \x00\x00\x00\x00\x14\x00\x00\x00\x00\x00\x00\x00\x00";
+
+/// The third of them.
+pub const OF_ANOTHER: &[u8] =
+    b"\x00\x01\x02\x05\xcb\x00\x71\x00\x09\x09\x09\x09\x80\x00\x00\x01\xdf\xfd\x00\x24\xff\xff\xff\
+        \x00\x00\x00\x00\x14\x00\x00\x00\x00\x00\x00\x00\x00";
 
 /// When every LSA came in, and when the routes are asked for.
 pub fn moment() -> Second {
     Second::new(1000)
+}
+
+/// So many seconds after every LSA came in.
+pub fn later(seconds: u64) -> Second {
+    Second::new(moment().count().saturating_add(seconds))
 }
 
 /// A database without LSAs.
@@ -18,94 +67,41 @@ pub fn empty(alloc: Global) -> Lsdb {
     Lsdb::new(alloc, RouterId::new(0x0101_0101))
 }
 
+/// The LSA that the bytes are read as.
+pub fn loaded(alloc: Global, bytes: &[u8]) -> Result<Lsa, Fail> {
+    Ok(read(alloc, bytes)?)
+}
+
 /// These LSAs come in, each as a settled event.
-pub fn install_each(db: &mut Lsdb, lsas: &[Lsa]) -> Result<(), Fail> {
-    for lsa in lsas {
-        install(db, lsa)?;
+pub fn install_all(alloc: Global, db: &mut Lsdb, texts: &[&[u8]]) -> Result<(), Fail> {
+    for text in texts {
+        db.install_flooded(moment(), loaded(alloc, text)?)?;
+        db.settle();
     }
     Ok(())
 }
 
-fn install(db: &mut Lsdb, lsa: &Lsa) -> Result<(), AllocError> {
-    db.install_flooded(moment(), lsa.copy()?)?;
-    db.settle();
-    Ok(())
-}
-
-fn add_addresses(addresses: &[u32], own: &mut Gathered<Address>) {
-    for address in addresses {
-        own.push(Address::new(*address));
-    }
-}
-
-/// The router of this Router ID, whose interfaces have these addresses.
-pub fn root(alloc: Global, router: u32, addresses: &[u32]) -> Result<Root, AllocError> {
-    let mut own = Gathered::new(alloc);
-    add_addresses(addresses, &mut own);
+/// 1.1.1.1, whose interfaces have the addresses 10.0.1.1 and 10.0.2.1.
+pub fn root(alloc: Global) -> Result<Root, AllocError> {
+    let own = [Address::new(0x0a00_0101), Address::new(0x0a00_0201)];
     Ok(Root {
-        router: RouterId::new(router),
-        addresses: Sequence::from_vec(own.whole()?),
+        router: RouterId::new(0x0101_0101),
+        addresses: Sequence::from_vec(own.to_vec(alloc)?),
     })
 }
 
 /// The candidates of a database.
-fn routes_of(alloc: Global, db: &Lsdb, root: &Root) -> Result<Vec<Route>, Fail> {
+pub fn routes_in(alloc: Global, db: &Lsdb, root: &Root) -> Result<Vec<Route>, Fail> {
     if db.len() > 16384 || root.addresses.as_slice().len() > 63 {
         return Err(Fail::from("a database or a router that is too large"));
     }
     Ok(candidates(alloc, db, root, moment())?)
 }
 
-fn routes_in(alloc: Global, db: &mut Lsdb, lsas: &[Lsa], root: &Root) -> Result<Vec<Route>, Fail> {
-    install_each(db, lsas)?;
-    routes_of(alloc, db, root)
-}
-
 /// The candidates of the database of these LSAs.
-pub fn routes(alloc: Global, lsas: &[Lsa], root: &Root) -> Result<Vec<Route>, Fail> {
+pub fn routes_of(alloc: Global, area: &[&[u8]], others: &[&[u8]]) -> Result<Vec<Route>, Fail> {
     let mut db = empty(alloc);
-    routes_in(alloc, &mut db, lsas, root)
-}
-
-/// A route as a row of numbers, to compare with.
-#[derive(Clone, Copy, PartialEq, Eq)]
-pub struct Row {
-    pub address: u32,
-    pub length: u8,
-    pub kind: RouteKind,
-    pub cost: u32,
-    pub distance: u32,
-    pub hops: u64,
-    pub tag: u32,
-}
-
-fn row_of(route: &Route) -> Row {
-    Row {
-        address: route.prefix.address().bits(),
-        length: route.prefix.length(),
-        kind: route.kind,
-        cost: route.cost,
-        distance: route.distance,
-        hops: route.hops.bits(),
-        tag: route.tag,
-    }
-}
-
-fn add_rows(routes: &[Route], rows: &mut Gathered<Row>) {
-    for route in routes {
-        rows.push(row_of(route));
-    }
-}
-
-/// The routes as rows.
-pub fn rows(alloc: Global, routes: &[Route]) -> Result<Vec<Row>, Fail> {
-    let mut rows = Gathered::new(alloc);
-    add_rows(routes, &mut rows);
-    Ok(rows.whole()?)
-}
-
-/// The candidates of the database of these LSAs, as rows.
-pub fn rows_of_lsas(alloc: Global, lsas: &[Lsa], root: &Root) -> Result<Vec<Row>, Fail> {
-    let routes = routes(alloc, lsas, root)?;
-    rows(alloc, &routes)
+    install_all(alloc, &mut db, area)?;
+    install_all(alloc, &mut db, others)?;
+    routes_in(alloc, &db, &root(alloc)?)
 }

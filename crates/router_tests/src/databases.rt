@@ -1,13 +1,10 @@
 //! The database: its limits, its copies, and what is taken back.
-ghost use Rattle.std.specs.Prelude.{◌≡◌, ◌≢◌};
-ghost use Rattle.lsa.specs.Text.{reserved_sequence};
-
-use crate::outcomes::{holds_in_memory, none_is_wrong};
-use lsa::{Body, ExternalLsa, Header, Lsa};
+use crate::made::external;
 use lsdb::Lsdb;
 use std::alloc::{AllocError, Global};
+use std::process::Abort;
 use std::test::Fail;
-use words::{Address, ExternalType, Key, LinkStateId, RouterId, Second, Sequence, SequenceNumber};
+use words::{Key, LinkStateId, RouterId, Second};
 
 const OWN: u32 = 0x0101_0101;
 
@@ -19,34 +16,6 @@ fn key(router: u32, number: u32) -> Key {
         link_state_id: LinkStateId::new(number),
         advertising_router: RouterId::new(router),
     }
-}
-
-fn header(router: u32, number: u32) -> Header
-    ensures age { result.age ≡ 0 }
-    ensures sequence { result.sequence ≢ reserved_sequence }
-{
-    Header {
-        age: 0,
-        options: 2,
-        ls_type: 5,
-        link_state_id: LinkStateId::new(number),
-        advertising_router: RouterId::new(router),
-        sequence: SequenceNumber::INITIAL,
-        checksum: 0,
-        length: 0,
-    }
-}
-
-fn external(alloc: Global, router: u32, number: u32) -> Result<Lsa, AllocError> {
-    let body = Body::External(ExternalLsa {
-        mask: Address::new(0xffff_ff00),
-        kind: ExternalType::Type2,
-        metric: 20,
-        forwarding: Address::UNSPECIFIED,
-        tag: 0,
-        tos: Sequence::from_vec(Vec::new(alloc)),
-    });
-    Lsa::new(alloc, header(router, number), body)
 }
 
 // What is done with a database of 1.1.1.1.
@@ -79,36 +48,21 @@ enum Sight {
     Next(u32, u32, Option<(u32, u32)>),
     // when this router's external of the number 0 was sent
     Sent(u64),
-    // which of the externals of 2.2.2.2 have come of age at a moment
-    Aged(u64, &'static [u32]),
+    // of which routers and numbers the externals are that have come of age at a moment
+    Aged(u64, &'static [(u32, u32)]),
 }
 
 type Row = (&'static [Deed], &'static [Sight]);
-
-fn originate(
-    database: &mut Lsdb,
-    alloc: Global,
-    router: u32,
-    number: u32,
-) -> Result<(), AllocError> {
-    let lsa = external(alloc, router, number)?;
-    database.install_originated(Second::new(1), lsa)
-}
-
-fn flood(database: &mut Lsdb, alloc: Global, moment: u64, number: u32) -> Result<(), AllocError> {
-    let lsa = external(alloc, OTHER, number)?;
-    database.install_flooded(Second::new(moment), lsa)
-}
 
 fn originate_all(
     database: &mut Lsdb,
     alloc: Global,
     router: u32,
-    first: u32,
-    end: u32,
+    numbers: (u32, u32),
 ) -> Result<(), AllocError> {
-    for number in first..end {
-        originate(database, alloc, router, number)?;
+    for number in numbers.0..numbers.1 {
+        let lsa = external(alloc, router, number)?;
+        database.install_originated(Second::new(1), lsa)?;
     }
     Ok(())
 }
@@ -117,11 +71,11 @@ fn flood_all(
     database: &mut Lsdb,
     alloc: Global,
     moment: u64,
-    first: u32,
-    end: u32,
+    numbers: (u32, u32),
 ) -> Result<(), AllocError> {
-    for number in first..end {
-        flood(database, alloc, moment, number)?;
+    for number in numbers.0..numbers.1 {
+        let lsa = external(alloc, OTHER, number)?;
+        database.install_flooded(Second::new(moment), lsa)?;
     }
     Ok(())
 }
@@ -157,26 +111,14 @@ fn is_next(database: &Lsdb, from: &Key, found: Option<(u32, u32)>) -> bool {
     }
 }
 
-// Whether the keys are those of 2.2.2.2 and these numbers, in order.
-fn are_numbers(keys: &[Key], numbers: &[u32]) -> bool {
-    if keys.len() != numbers.len() {
-        return false;
-    }
-    let mut are = true;
-    for at in 0..keys.len() {
-        are &= keys[at] == key(OTHER, numbers[at]);
-    }
-    are
-}
-
 fn are_aged(
     database: &Lsdb,
     alloc: Global,
     moment: u64,
-    numbers: &[u32],
+    wanted: &[(u32, u32)],
 ) -> Result<bool, AllocError> {
     let aged = database.aged_keys(alloc, Second::new(moment))?;
-    Ok(are_numbers(&aged, numbers))
+    Ok(are_keys(&aged, wanted))
 }
 
 fn was_sent(database: &Lsdb, moment: u64) -> bool {
@@ -188,8 +130,10 @@ fn was_sent(database: &Lsdb, moment: u64) -> bool {
 
 fn does(database: &mut Lsdb, alloc: Global, deed: &Deed) -> Result<(), AllocError> {
     match *deed {
-        Deed::Originate(router, first, end) => originate_all(database, alloc, router, first, end),
-        Deed::Flood(moment, first, end) => flood_all(database, alloc, moment, first, end),
+        Deed::Originate(router, first, end) => {
+            originate_all(database, alloc, router, (first, end))
+        }
+        Deed::Flood(moment, first, end) => flood_all(database, alloc, moment, (first, end)),
         Deed::Remove(router, number) => database.remove(&key(router, number)),
         Deed::Send(moment) => database.mark_sent(Second::new(moment), &key(OWN, 0)),
         Deed::AgeOut(moment, number) => database.age_out(Second::new(moment), &key(OTHER, number)),
@@ -221,7 +165,7 @@ fn is_seen(database: &Lsdb, alloc: Global, sight: &Sight) -> Result<bool, AllocE
         Sight::Keys(wanted) => has_keys(database, alloc, wanted),
         Sight::Next(router, number, found) => Ok(is_next(database, &key(router, number), found)),
         Sight::Sent(moment) => Ok(was_sent(database, moment)),
-        Sight::Aged(moment, numbers) => are_aged(database, alloc, moment, numbers),
+        Sight::Aged(moment, wanted) => are_aged(database, alloc, moment, wanted),
     }
 }
 
@@ -247,19 +191,17 @@ fn comes_out(database: &mut Lsdb, alloc: Global, row: &Row) -> Result<bool, Allo
 }
 
 // The first of the rows that doesn't come out.
-fn first_wrong(database: &mut Lsdb, alloc: Global, rows: &[Row]) -> Result<Option<usize>, Fail> {
+fn first_wrong(
+    database: &mut Lsdb,
+    alloc: Global,
+    rows: &[Row],
+) -> Result<Option<usize>, AllocError> {
     for at in 0..rows.len() {
         if !comes_out(database, alloc, &rows[at])? {
             return Ok(Some(at));
         }
     }
     Ok(None)
-}
-
-// The same of an empty database.
-fn first_wrong_of_new(alloc: Global, rows: &[Row]) -> Result<Option<usize>, Fail> {
-    let mut database = Lsdb::new(alloc, RouterId::new(OWN));
-    first_wrong(&mut database, alloc, rows)
 }
 
 const OWN_EXTERNALS: &[Row] = &[
@@ -278,11 +220,6 @@ const OWN_EXTERNALS: &[Row] = &[
     ),
 ];
 
-#[test]
-fn own_externals_are_limited(rt: HostRuntime) -> Result<(), Fail> {
-    none_is_wrong(first_wrong_of_new(rt.alloc(), OWN_EXTERNALS))
-}
-
 const ONE_TOO_MANY: &[Row] = &[
     (
         &[Deed::Originate(OWN, 0, 4_096), Deed::Settle],
@@ -295,11 +232,6 @@ const ONE_TOO_MANY: &[Row] = &[
     (&[Deed::RollBack], &[Sight::Counts(4_096, 4_096, false)]),
 ];
 
-#[test]
-fn too_many_own_externals_are_taken_back(rt: HostRuntime) -> Result<(), Fail> {
-    none_is_wrong(first_wrong_of_new(rt.alloc(), ONE_TOO_MANY))
-}
-
 const LEAVES_TWICE: &[Row] = &[(
     &[
         Deed::Originate(OWN, 0, 9),
@@ -310,11 +242,6 @@ const LEAVES_TWICE: &[Row] = &[(
     ],
     &[Sight::Counts(8, 8, false)],
 )];
-
-#[test]
-fn an_own_external_leaves_once(rt: HostRuntime) -> Result<(), Fail> {
-    none_is_wrong(first_wrong_of_new(rt.alloc(), LEAVES_TWICE))
-}
 
 const UP_TO_THE_LIMIT: &[Row] = &[
     (
@@ -336,11 +263,6 @@ const UP_TO_THE_LIMIT: &[Row] = &[
     ),
 ];
 
-#[test]
-fn lsas_are_limited(rt: HostRuntime) -> Result<(), Fail> {
-    none_is_wrong(first_wrong_of_new(rt.alloc(), UP_TO_THE_LIMIT))
-}
-
 // Another router's 7, 3 and 9, and this router's 3; then its 7 leaves.
 const MIXED: &[Row] = &[(
     &[
@@ -357,11 +279,6 @@ const MIXED: &[Row] = &[(
         Sight::Next(OWN, 10, None),
     ],
 )];
-
-#[test]
-fn keys_come_in_order(rt: HostRuntime) -> Result<(), Fail> {
-    none_is_wrong(first_wrong_of_new(rt.alloc(), MIXED))
-}
 
 // Two externals, a third and the mark of the first, which can both be taken back.
 const UNSETTLED: &[Deed] = &[
@@ -392,16 +309,6 @@ fn is_copied(database: &mut Lsdb, alloc: Global) -> Result<bool, AllocError> {
     are_apart(database, &mut copy, alloc)
 }
 
-fn is_copied_whole(alloc: Global) -> Result<bool, AllocError> {
-    let mut database = Lsdb::new(alloc, RouterId::new(OWN));
-    is_copied(&mut database, alloc)
-}
-
-#[test]
-fn a_copy_has_nothing_to_take_back(rt: HostRuntime) -> Result<(), Fail> {
-    holds_in_memory(is_copied_whole(rt.alloc()))
-}
-
 // Three externals of another router, which are 0 seconds old at moment 1.
 const GROWN: &[Deed] = &[
     Deed::Originate(OTHER, 0, 3),
@@ -411,24 +318,42 @@ const GROWN: &[Deed] = &[
 
 const AGED_OUT: &[Row] = &[
     (GROWN, &[]),
-    (&[Deed::AgeOut(10, 1)], &[Sight::Aged(10, &[1])]),
+    (&[Deed::AgeOut(10, 1)], &[Sight::Aged(10, &[(OTHER, 1)])]),
     (&[Deed::RollBack], &[Sight::Aged(10, &[])]),
 ];
-
-#[test]
-fn what_is_aged_out_is_found(rt: HostRuntime) -> Result<(), Fail> {
-    none_is_wrong(first_wrong_of_new(rt.alloc(), AGED_OUT))
-}
 
 const OF_AGE: &[Row] = &[
     (GROWN, &[Sight::Aged(3_600, &[])]),
     (
         &[Deed::Flood(20, 0, 1), Deed::SettleAt(20)],
-        &[Sight::Aged(3_601, &[1, 2])],
+        &[Sight::Aged(3_601, &[(OTHER, 1), (OTHER, 2)])],
     ),
 ];
 
+const CASES: &[(&str, &[Row])] = &[
+    ("own externals are limited", OWN_EXTERNALS),
+    ("too many own externals are taken back", ONE_TOO_MANY),
+    ("an own external leaves once", LEAVES_TWICE),
+    ("LSAs are limited", UP_TO_THE_LIMIT),
+    ("keys come in order", MIXED),
+    ("what is aged out is found", AGED_OUT),
+    ("what has come of age is found", OF_AGE),
+];
+
 #[test]
-fn what_has_come_of_age_is_found(rt: HostRuntime) -> Result<(), Fail> {
-    none_is_wrong(first_wrong_of_new(rt.alloc(), OF_AGE))
+fn a_database_comes_out(rt: HostRuntime) -> Result<(), Fail> {
+    for case in CASES {
+        let (name, rows) = *case;
+        let mut database = Lsdb::new(rt.alloc(), RouterId::new(OWN));
+        let wrong = first_wrong(&mut database, rt.alloc(), rows)?;
+        assert!(rt; wrong == None, "{name}: {wrong:?}");
+    }
+    Ok(())
+}
+
+#[test]
+fn a_copy_has_nothing_to_take_back(rt: HostRuntime) -> Result<(), Fail> {
+    let mut database = Lsdb::new(rt.alloc(), RouterId::new(OWN));
+    assert!(rt; is_copied(&mut database, rt.alloc())?);
+    Ok(())
 }

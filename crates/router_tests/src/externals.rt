@@ -1,79 +1,61 @@
 //! What the AS-external-LSAs of a database tell of external destinations.
-use crate::area::{empty, moment};
-use crate::lines::{Line, install_lines};
-use crate::outcomes::no_case_is_wrong;
-use crate::worked::TWO;
+use crate::area::{OF_ANOTHER, OF_TYPE_1, OF_TYPE_2, TWO, empty, install_all, later};
 use candidates::{External, externals_at};
-use lsdb::Lsdb;
 use std::alloc::Global;
+use std::process::Abort;
 use std::test::Fail;
-use words::{ExternalType, Second};
+use words::ExternalType;
 
 // Who originated the LSA of 203.0.113.0/24, and the destination's type.
 type Told = (u32, ExternalType);
 
-#[derive(Clone, Copy)]
-struct Case {
-    name: &'static str,
-    // LSAs beside those of the two routers
-    others: &'static [Line],
-    // when it is looked at: so many seconds after they came in
-    seconds: u64,
-    told: &'static [Told],
-}
+// A name; LSAs beside those of the two routers; when it is looked at, so many seconds after they
+// came in; what is told.
+type Case = (&'static str, &'static [&'static [u8]], u64, &'static [Told]);
+
+// 198.51.100.0/24, and 9.9.9.9, an AS boundary router in another area.
+const SUMMARIES: &[&[u8]] = &[
+    b"\x00\x00\x02\x03\xc6\x33\x64\x00\x02\x02\x02\x02\x80\x00\x00\x01\x92\x5f\x00\x1c\xff\xff\xff\
+        \x00\x00\x00\x00\x05",
+    b"\x00\x01\x02\x04\x09\x09\x09\x09\x02\x02\x02\x02\x80\x00\x00\x01\xc7\x61\x00\x1c\x00\x00\x00\
+        \x00\x00\x00\x00\x07",
+];
 
 const CASES: &[Case] = &[
-    Case {
-        name: "other LSAs tell nothing",
-        others: &[Line::Network, Line::Summary(4, 0x0909_0909, 0, 7)],
-        seconds: 0,
-        told: &[],
-    },
-    Case {
-        name: "one of type 2",
-        others: &[Line::External(0x0202_0202, true)],
-        seconds: 0,
-        told: &[(0x0202_0202, ExternalType::Type2)],
-    },
-    Case {
-        name: "two, of which one router isn't known, in the order of their keys",
-        others: &[
-            Line::External(0x0909_0909, false),
-            Line::External(0x0202_0202, true),
-        ],
-        seconds: 0,
-        told: &[
+    ("other LSAs tell nothing", SUMMARIES, 0, &[]),
+    (
+        "one of type 2",
+        &[OF_TYPE_2],
+        0,
+        &[(0x0202_0202, ExternalType::Type2)],
+    ),
+    (
+        "two, of which one router isn't known, in the order of their keys",
+        &[OF_ANOTHER, OF_TYPE_2],
+        0,
+        &[
             (0x0202_0202, ExternalType::Type2),
             (0x0909_0909, ExternalType::Type1),
         ],
-    },
-    Case {
-        name: "a second before MaxAge",
-        others: &[Line::External(0x0202_0202, false)],
-        seconds: 3598,
-        told: &[(0x0202_0202, ExternalType::Type1)],
-    },
-    Case {
-        name: "at MaxAge",
-        others: &[Line::External(0x0202_0202, false)],
-        seconds: 3599,
-        told: &[],
-    },
+    ),
+    (
+        "a second before MaxAge",
+        &[OF_TYPE_1],
+        3598,
+        &[(0x0202_0202, ExternalType::Type1)],
+    ),
+    ("at MaxAge", &[OF_TYPE_1], 3599, &[]),
 ];
 
-fn says_what_all_say(external: &External) -> bool {
+fn is_told(external: &External, told: Told) -> bool {
+    let (originator, kind) = told;
     (external.prefix.address().bits() == 0xcb00_7100)
         & (external.prefix.length() == 24)
         & (external.metric == 20)
         & (external.forwarding.bits() == 0)
         & (external.tag == 0)
-}
-
-fn is_told(external: &External, told: Told) -> bool {
-    let (originator, kind) = told;
-    says_what_all_say(external)
-        && external.originator.number() == originator
-        && external.kind == kind
+        & (external.originator.number() == originator)
+        & (external.kind == kind)
 }
 
 fn are_told(externals: &[External], told: &[Told]) -> bool {
@@ -87,29 +69,20 @@ fn are_told(externals: &[External], told: &[Told]) -> bool {
     are
 }
 
-fn tells(alloc: Global, db: &mut Lsdb, case: &Case) -> Result<bool, Fail> {
-    install_lines(alloc, db, &TWO, case.others)?;
-    let now = Second::new(moment().count().saturating_add(case.seconds));
-    let externals = externals_at(alloc, db, now)?;
-    Ok(are_told(&externals, case.told))
-}
-
 // Whether the case comes out so.
 fn comes_out(alloc: Global, case: &Case) -> Result<bool, Fail> {
+    let (_name, others, seconds, told) = *case;
     let mut db = empty(alloc);
-    tells(alloc, &mut db, case)
-}
-
-fn first_wrong(alloc: Global, cases: &[Case]) -> Result<Option<&'static str>, Fail> {
-    for case in cases {
-        if !comes_out(alloc, case)? {
-            return Ok(Some(case.name));
-        }
-    }
-    Ok(None)
+    install_all(alloc, &mut db, TWO)?;
+    install_all(alloc, &mut db, others)?;
+    let externals = externals_at(alloc, &db, later(seconds))?;
+    Ok(are_told(&externals, told))
 }
 
 #[test]
 fn what_external_lsas_tell(rt: HostRuntime) -> Result<(), Fail> {
-    no_case_is_wrong(first_wrong(rt.alloc(), CASES))
+    for case in CASES {
+        assert!(rt; comes_out(rt.alloc(), case)?, "{}", case.0);
+    }
+    Ok(())
 }

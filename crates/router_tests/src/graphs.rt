@@ -2,36 +2,15 @@
 ghost use Rattle.std.specs.Prelude.{◌≤◌, length};
 ghost use Rattle.std.specs.FinMap as finite;
 
-use crate::area::{empty, moment, root};
-use crate::kept::later;
-use crate::lines::install_lines;
-use crate::outcomes::none_is_wrong;
-use crate::texts::{LinkText, Name, router};
-use crate::worked::{TWO, TWO_ADDRESSES};
+use crate::area::{TWO, empty, install_all, later, loaded, moment, root};
 use area_routes::follow_graph;
 use candidates::AreaGraph;
 use lsa::Lsa;
 use lsdb::Lsdb;
 use routes::{Root, Vertex};
 use std::alloc::Global;
+use std::process::Abort;
 use std::test::Fail;
-
-// The router-LSA of this router, with one link to the first one.
-fn router_lsa(alloc: Global, id: u32, kind: u8, metric: u16) -> Result<Lsa, Fail> {
-    let name = Name {
-        age: 1,
-        ls_type: 1,
-        id,
-        by: id,
-    };
-    let link = LinkText {
-        kind,
-        id: 0x0101_0101,
-        data: 0x0a00_0102,
-        metric,
-    };
-    router(alloc, name, 2, &[link])
-}
 
 // The graph of what the database holds, followed over this LSA, which comes in a second later.
 fn follow_one(
@@ -66,110 +45,81 @@ fn have_same_links(one: &[Vertex], other: &[Vertex]) -> bool {
     have
 }
 
-// Whether these are the links of the graph that is made of what the database holds.
-fn are_its_links(alloc: Global, db: &Lsdb, root: &Root, links: &[Vertex]) -> Result<bool, Fail> {
-    if db.len() > 16384 || root.addresses.as_slice().len() > 63 {
-        return Err(Fail::from("a database or a router that is too large"));
-    }
-    let made = AreaGraph::new(alloc, db, root, later(1))?;
-    Ok(have_same_links(&made.vertices, links))
-}
-
-fn has_its_links(
+// Whether these are the links of the graph that is made of what the database holds; None without
+// any.
+fn are_its_links(
     alloc: Global,
     db: &Lsdb,
     root: &Root,
     next: &Option<AreaGraph>,
 ) -> Result<Option<bool>, Fail> {
-    match next {
-        None => Ok(None),
-        Some(graph) => Ok(Some(are_its_links(alloc, db, root, &graph.vertices)?)),
+    let Some(graph) = next else {
+        return Ok(None);
+    };
+    if db.len() > 16384 || root.addresses.as_slice().len() > 63 {
+        return Err(Fail::from("a database or a router that is too large"));
     }
+    let made = AreaGraph::new(alloc, db, root, later(1))?;
+    Ok(Some(have_same_links(&made.vertices, &graph.vertices)))
 }
 
-// Whether the graph of the database followed this LSA to what it holds then; None where it is to be
-// made anew.
-fn followed(alloc: Global, db: &mut Lsdb, root: &Root, lsa: Lsa) -> Result<Option<bool>, Fail> {
+// Whether the graph of two routers followed this LSA to what the database holds then; None where it
+// is to be made anew.
+fn followed(alloc: Global, db: &mut Lsdb, root: &Root, text: &[u8]) -> Result<Option<bool>, Fail> {
+    install_all(alloc, db, TWO)?;
+    let lsa = loaded(alloc, text)?;
     if db.len() > 16384 || root.addresses.as_slice().len() > 63 {
         return Err(Fail::from("a database or a router that is too large"));
     }
     let next = follow_one(alloc, db, root, lsa)?;
-    has_its_links(alloc, db, root, &next)
+    are_its_links(alloc, db, root, &next)
 }
 
-// A router's LSA with one link of this kind and metric to the first router, and whether the graph
-// of two routers follows it.
-#[derive(Clone, Copy)]
-struct Change {
-    id: u32,
-    kind: u8,
-    metric: u16,
-    followed: Option<bool>,
-}
-
-const CHANGES: &[Change] = &[
-    // the other router's link costs something else, or doesn't count
-    Change {
-        id: 0x0202_0202,
-        kind: 1,
-        metric: 3,
-        followed: Some(true),
-    },
-    Change {
-        id: 0x0202_0202,
-        kind: 1,
-        metric: 0,
-        followed: Some(true),
-    },
-    // it has a stub link alone
-    Change {
-        id: 0x0202_0202,
-        kind: 3,
-        metric: 3,
-        followed: Some(true),
-    },
-    // it has a transit link
-    Change {
-        id: 0x0202_0202,
-        kind: 2,
-        metric: 3,
-        followed: None,
-    },
-    // a third router comes
-    Change {
-        id: 0x0303_0303,
-        kind: 1,
-        metric: 3,
-        followed: None,
-    },
+// A name; a router's LSA with one link to the first router; whether the graph of two routers follows
+// it.
+const CHANGES: &[(&str, &[u8], Option<bool>)] = &[
+    (
+        "the other router's link costs something else",
+        b"\x00\x01\x02\x01\x02\x02\x02\x02\x02\x02\x02\x02\x80\x00\x00\x01\x0a\x25\x00\x24\x02\x00\
+            \x00\x01\x01\x01\x01\x01\x0a\x00\x01\x02\x01\x00\x00\x03",
+        Some(true),
+    ),
+    (
+        "it doesn't count",
+        b"\x00\x01\x02\x01\x02\x02\x02\x02\x02\x02\x02\x02\x80\x00\x00\x01\xd3\x5e\x00\x24\x02\x00\
+            \x00\x01\x01\x01\x01\x01\x0a\x00\x01\x02\x01\x00\x00\x00",
+        Some(true),
+    ),
+    (
+        "the other router has a stub link alone",
+        b"\x00\x01\x02\x01\x02\x02\x02\x02\x02\x02\x02\x02\x80\x00\x00\x01\x28\x05\x00\x24\x02\x00\
+            \x00\x01\x01\x01\x01\x01\x0a\x00\x01\x02\x03\x00\x00\x03",
+        Some(true),
+    ),
+    (
+        "it has a transit link",
+        b"\x00\x01\x02\x01\x02\x02\x02\x02\x02\x02\x02\x02\x80\x00\x00\x01\x19\x15\x00\x24\x02\x00\
+            \x00\x01\x01\x01\x01\x01\x0a\x00\x01\x02\x02\x00\x00\x03",
+        None,
+    ),
+    (
+        "a third router comes",
+        b"\x00\x01\x02\x01\x03\x03\x03\x03\x03\x03\x03\x03\x80\x00\x00\x01\xbd\x69\x00\x24\x02\x00\
+            \x00\x01\x01\x01\x01\x01\x0a\x00\x01\x02\x01\x00\x00\x03",
+        None,
+    ),
 ];
-
-fn is_followed(alloc: Global, db: &mut Lsdb, root: &Root, change: &Change) -> Result<bool, Fail> {
-    let lsa = router_lsa(alloc, change.id, change.kind, change.metric)?;
-    Ok(followed(alloc, db, root, lsa)? == change.followed)
-}
-
-fn is_followed_by_two(alloc: Global, db: &mut Lsdb, change: &Change) -> Result<bool, Fail> {
-    install_lines(alloc, db, &TWO, &[])?;
-    let root = root(alloc, 0x0101_0101, &TWO_ADDRESSES)?;
-    is_followed(alloc, db, &root, change)
-}
-
-fn is_as_expected(alloc: Global, change: &Change) -> Result<bool, Fail> {
-    let mut db = empty(alloc);
-    is_followed_by_two(alloc, &mut db, change)
-}
-
-fn first_wrong(alloc: Global, changes: &[Change]) -> Result<Option<usize>, Fail> {
-    for at in 0..changes.len() {
-        if !is_as_expected(alloc, &changes[at])? {
-            return Ok(Some(at));
-        }
-    }
-    Ok(None)
-}
 
 #[test]
 fn a_graph_follows_router_lsas(rt: HostRuntime) -> Result<(), Fail> {
-    none_is_wrong(first_wrong(rt.alloc(), CHANGES))
+    let root = root(rt.alloc())?;
+    for change in CHANGES {
+        let (name, text, wanted) = *change;
+        let mut db = empty(rt.alloc());
+        assert!(rt;
+            followed(rt.alloc(), &mut db, &root, text)? == wanted,
+            "{name}"
+        );
+    }
+    Ok(())
 }

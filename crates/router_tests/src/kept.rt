@@ -2,26 +2,24 @@
 ghost use Rattle.std.specs.Prelude.{◌≤◌, length};
 ghost use Rattle.std.specs.FinMap as finite;
 
-use crate::area::{Row, empty, install_each, moment, root, rows, rows_of_lsas};
-use crate::lines::{announced, install_lines, lsas_of};
-use crate::outcomes::{holds, none_is_wrong};
+use crate::area::{TWO, empty, install_all, later, loaded, moment, root, routes_in};
+use crate::made::external;
 use crate::settled::have_ids;
-use crate::texts::{LinkText, Name, router};
-use crate::worked::{TWO, TWO_ADDRESSES};
 use candidates::{copy_of, walk};
 use kept_routes::{Routes, say_the_same};
-use lsa::{Body, Lsa};
+use lsa::Body;
 use lsdb::Lsdb;
 use routes::Root;
 use std::alloc::{AllocError, Global};
+use std::process::Abort;
 use std::test::Fail;
-use words::{Key, LinkStateId, Route, RouterId, Second};
+use words::{Key, LinkStateId, Route, RouterId};
 
 // What is done with the database of two routers, a second after it was settled.
 #[derive(Clone, Copy)]
 enum Step {
-    // the router-LSA of the other router comes in with this metric of its only link
-    Install(u16),
+    // this LSA of the other router comes in
+    Install(&'static [u8]),
     // each LSA comes in again
     Renew,
     // so many external destinations come in
@@ -41,10 +39,14 @@ enum Step {
     Said(u64, Option<usize>),
 }
 
-/// So many seconds after every LSA came in.
-pub fn later(seconds: u64) -> Second {
-    Second::new(moment().count().saturating_add(seconds))
-}
+// The router-LSA of the other router with its only link to 1.1.1.1, of metric 3 and of metric 4.
+const OF_METRIC_3: &[u8] =
+    b"\x00\x01\x02\x01\x02\x02\x02\x02\x02\x02\x02\x02\x80\x00\x00\x01\x0a\x25\x00\x24\x02\x00\x00\
+        \x01\x01\x01\x01\x01\x0a\x00\x01\x02\x01\x00\x00\x03";
+
+const OF_METRIC_4: &[u8] =
+    b"\x00\x01\x02\x01\x02\x02\x02\x02\x02\x02\x02\x02\x80\x00\x00\x01\x1c\x12\x00\x24\x02\x00\x00\
+        \x01\x01\x01\x01\x01\x0a\x00\x01\x02\x01\x00\x00\x04";
 
 // The router-LSA of the other router.
 fn other_key() -> Key {
@@ -55,53 +57,23 @@ fn other_key() -> Key {
     }
 }
 
-fn other_router(alloc: Global, metric: u16) -> Result<Lsa, Fail> {
-    let name = Name {
-        age: 1,
-        ls_type: 1,
-        id: 0x0202_0202,
-        by: 0x0202_0202,
-    };
-    let link = LinkText {
-        kind: 1,
-        id: 0x0101_0101,
-        data: 0x0a00_0102,
-        metric,
-    };
-    router(alloc, name, 2, &[link])
-}
-
 fn done(outcome: Result<(), AllocError>) -> Result<bool, Fail> {
     outcome?;
     Ok(true)
 }
 
-fn install(alloc: Global, db: &mut Lsdb, metric: u16) -> Result<bool, Fail> {
-    let lsa = other_router(alloc, metric)?;
-    done(db.install_flooded(later(1), lsa))
-}
-
-fn renew_each(db: &mut Lsdb, lsas: &[Lsa]) -> Result<bool, Fail> {
-    for lsa in lsas {
-        db.install_flooded(later(1), lsa.copy()?)?;
+fn install_each(alloc: Global, db: &mut Lsdb, texts: &[&[u8]]) -> Result<bool, Fail> {
+    for text in texts {
+        db.install_flooded(later(1), loaded(alloc, text)?)?;
     }
     Ok(true)
 }
 
-fn renew(alloc: Global, db: &mut Lsdb) -> Result<bool, Fail> {
-    let lsas = lsas_of(alloc, &TWO, &[])?;
-    renew_each(db, &lsas)
-}
-
-fn announce_one(alloc: Global, db: &mut Lsdb, number: u32) -> Result<bool, Fail> {
-    let network = 0xcb00_0000_u32.wrapping_add(number.wrapping_mul(256));
-    let lsa = announced(alloc, network, 0x0202_0202, true)?;
-    done(db.install_flooded(later(1), lsa))
-}
-
 fn announce(alloc: Global, db: &mut Lsdb, count: u32) -> Result<bool, Fail> {
     for number in 0..count {
-        announce_one(alloc, db, number)?;
+        let network = 0xcb00_0000_u32.wrapping_add(number.wrapping_mul(256));
+        let lsa = external(alloc, 0x0202_0202, network)?;
+        db.install_flooded(later(1), lsa)?;
     }
     Ok(true)
 }
@@ -117,10 +89,6 @@ fn same_later(alloc: Global, db: &Lsdb, seconds: u64) -> Result<(bool, bool), Fa
     let links = say_the_same(alloc, db, Some(2), before, now)?;
     let all = say_the_same(alloc, db, None, before, now)?;
     Ok((links, all))
-}
-
-fn are_same(alloc: Global, db: &Lsdb, seconds: u64, expected: (bool, bool)) -> Result<bool, Fail> {
-    Ok(same_later(alloc, db, seconds)? == expected)
 }
 
 fn have_changed(alloc: Global, db: &Lsdb, seconds: u64, ids: &[u32]) -> Result<bool, Fail> {
@@ -139,8 +107,8 @@ fn links_said(db: &Lsdb, seconds: u64) -> Option<usize> {
 // Does the step; false where LSAs say the same and were expected not to, or the other way round.
 fn took(alloc: Global, db: &mut Lsdb, step: Step) -> Result<bool, Fail> {
     match step {
-        Step::Install(metric) => install(alloc, db, metric),
-        Step::Renew => renew(alloc, db),
+        Step::Install(text) => install_each(alloc, db, &[text]),
+        Step::Renew => install_each(alloc, db, TWO),
         Step::Announce(count) => announce(alloc, db, count),
         Step::Send => done(db.mark_sent(later(1), &other_key())),
         Step::Flush => done(db.age_out(later(1), &other_key())),
@@ -149,20 +117,10 @@ fn took(alloc: Global, db: &mut Lsdb, step: Step) -> Result<bool, Fail> {
             db.roll_back();
             Ok(true)
         }
-        Step::Same(seconds, links, all) => are_same(alloc, db, seconds, (links, all)),
+        Step::Same(seconds, links, all) => Ok(same_later(alloc, db, seconds)? == (links, all)),
         Step::Changed(seconds, ids) => have_changed(alloc, db, seconds, ids),
         Step::Said(seconds, links) => Ok(links_said(db, seconds) == links),
     }
-}
-
-// The first step after which something else was expected.
-fn first_wrong(alloc: Global, db: &mut Lsdb, steps: &[Step]) -> Result<Option<usize>, Fail> {
-    for at in 0..steps.len() {
-        if !took(alloc, db, steps[at])? {
-            return Ok(Some(at));
-        }
-    }
-    Ok(None)
 }
 
 const STEPS: &[Step] = &[
@@ -187,7 +145,7 @@ const STEPS: &[Step] = &[
     Step::RollBack,
     Step::Same(1, true, true),
     // an LSA of type 1 is installed, and that is taken back; it is flushed; it is removed
-    Step::Install(3),
+    Step::Install(OF_METRIC_3),
     Step::Same(1, false, false),
     Step::RollBack,
     Step::Same(1, true, true),
@@ -210,8 +168,8 @@ const CHANGES: &[Step] = &[
     Step::Changed(3599, &[0x0101_0101, 0x0202_0202]),
     Step::RollBack,
     // of two edits the first tells what was said; and then what was said comes back
-    Step::Install(3),
-    Step::Install(4),
+    Step::Install(OF_METRIC_3),
+    Step::Install(OF_METRIC_4),
     Step::Changed(1, &[0x0202_0202]),
     Step::Said(1, Some(3)),
     Step::Renew,
@@ -233,29 +191,35 @@ const CHANGES: &[Step] = &[
     Step::Said(1, Some(3)),
 ];
 
-// The same of the settled database of two routers.
-fn first_wrong_after(alloc: Global, db: &mut Lsdb, steps: &[Step]) -> Result<Option<usize>, Fail> {
-    install_lines(alloc, db, &TWO, &[])?;
-    first_wrong(alloc, db, steps)
+// The first step after which something else was expected, of the settled database of two routers.
+fn first_wrong(alloc: Global, db: &mut Lsdb, steps: &[Step]) -> Result<Option<usize>, Fail> {
+    install_all(alloc, db, TWO)?;
+    for at in 0..steps.len() {
+        if !took(alloc, db, steps[at])? {
+            return Ok(Some(at));
+        }
+    }
+    Ok(None)
 }
 
-fn first_wrong_of_two(alloc: Global, steps: &[Step]) -> Result<Option<usize>, Fail> {
-    let mut db = empty(alloc);
-    first_wrong_after(alloc, &mut db, steps)
-}
+const CASES: &[(&str, &[Step])] = &[
+    ("what makes LSAs say something else", STEPS),
+    ("what LSAs said when the database was settled", CHANGES),
+];
 
 #[test]
-fn what_makes_lsas_say_something_else(rt: HostRuntime) -> Result<(), Fail> {
-    none_is_wrong(first_wrong_of_two(rt.alloc(), STEPS))
-}
-
-#[test]
-fn what_lsas_said_when_the_database_was_settled(rt: HostRuntime) -> Result<(), Fail> {
-    none_is_wrong(first_wrong_of_two(rt.alloc(), CHANGES))
+fn what_lsas_say_is_followed(rt: HostRuntime) -> Result<(), Fail> {
+    for case in CASES {
+        let (name, steps) = *case;
+        let mut db = empty(rt.alloc());
+        let wrong = first_wrong(rt.alloc(), &mut db, steps)?;
+        assert!(rt; wrong == None, "{name}: {wrong:?}");
+    }
+    Ok(())
 }
 
 // Whether the walk that is made at the moment, and once more, gives these candidates, and counts.
-fn serves_again(alloc: Global, db: &Lsdb, root: &Root, anew: &[Row]) -> Result<bool, Fail> {
+fn serves_again(alloc: Global, db: &Lsdb, root: &Root, anew: &[Route]) -> Result<bool, Fail> {
     if db.len() > 16384 || root.addresses.as_slice().len() > 63 {
         return Err(Fail::from("a database or a router that is too large"));
     }
@@ -269,7 +233,7 @@ fn serves(
     db: &Lsdb,
     root: &Root,
     kept: &mut Routes,
-    anew: &[Row],
+    anew: &[Route],
 ) -> Result<bool, Fail>
     requires interfaces { length root.now.addresses ≤ 63 }
     requires size { finite.len db.now.present ≤ 16384 }
@@ -278,34 +242,15 @@ fn serves(
     let reached = walk(alloc, db, root, now)?;
     kept.take_walk(copy_of(root)?, reached);
     let found = kept.candidates(alloc, db, now)?;
-    let are_those = are_rows(alloc, &found, anew)?;
-    Ok(are_those && kept.walks() == 2)
-}
-
-fn are_rows(alloc: Global, found: &[Route], anew: &[Row]) -> Result<bool, Fail> {
-    let found = rows(alloc, found)?;
-    Ok(found.as_slice() == anew)
-}
-
-fn serves_database(alloc: Global, db: &mut Lsdb, lsas: &[Lsa], root: &Root) -> Result<bool, Fail> {
-    install_each(db, lsas)?;
-    let anew = rows_of_lsas(alloc, lsas, root)?;
-    serves_again(alloc, db, root, &anew)
-}
-
-// Whether a second walk gives the candidates of these LSAs, and counts.
-fn second_walk_serves(alloc: Global, lsas: &[Lsa]) -> Result<bool, Fail> {
-    let root = root(alloc, 0x0101_0101, &TWO_ADDRESSES)?;
-    let mut db = empty(alloc);
-    serves_database(alloc, &mut db, lsas, &root)
-}
-
-fn second_walk_serves_two(alloc: Global) -> Result<bool, Fail> {
-    let lsas = lsas_of(alloc, &TWO, &[])?;
-    second_walk_serves(alloc, &lsas)
+    Ok(found.as_slice() == anew && kept.walks() == 2)
 }
 
 #[test]
 fn a_kept_walk_gives_the_candidates(rt: HostRuntime) -> Result<(), Fail> {
-    holds(second_walk_serves_two(rt.alloc()))
+    let root = root(rt.alloc())?;
+    let mut db = empty(rt.alloc());
+    install_all(rt.alloc(), &mut db, TWO)?;
+    let anew = routes_in(rt.alloc(), &db, &root)?;
+    assert!(rt; serves_again(rt.alloc(), &db, &root, &anew)?);
+    Ok(())
 }

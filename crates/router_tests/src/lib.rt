@@ -11,36 +11,24 @@ mod databases;
 #[cfg(test)]
 mod externals;
 #[cfg(test)]
-mod gathered;
-#[cfg(test)]
 mod graphs;
 #[cfg(test)]
 mod instances;
 #[cfg(test)]
 mod kept;
 #[cfg(test)]
-mod lines;
-#[cfg(test)]
 mod looping;
 #[cfg(test)]
-mod networks;
+mod made;
 #[cfg(test)]
 mod outcomes;
 #[cfg(test)]
-mod plain;
-#[cfg(test)]
 mod played;
-#[cfg(test)]
-mod random;
 #[cfg(test)]
 mod settled;
 #[cfg(test)]
 mod tables_of;
 #[cfg(test)]
-mod texts;
-#[cfg(test)]
 mod walks;
-#[cfg(test)]
-mod worked;
 #[cfg(test)]
 mod written;

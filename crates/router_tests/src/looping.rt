@@ -3,9 +3,9 @@ ghost use Rattle.std.specs.Prelude.{IfOk, length};
 ghost use Rattle.std.specs.List.{All};
 ghost use Rattle.forwarding_loops.specs.Loops.{IsAmong};
 
-use crate::outcomes::no_case_is_wrong;
 use forwarding_loops::{Hop, count_loops, loops};
 use std::alloc::{AllocError, Global};
+use std::process::Abort;
 use std::test::Fail;
 
 struct Case {
@@ -96,16 +96,10 @@ fn is_right(alloc: Global, case: &Case) -> Result<bool, AllocError> {
     is_case(alloc, &hops, case)
 }
 
-fn first_wrong(alloc: Global, cases: &[Case]) -> Result<Option<&'static str>, Fail> {
-    for case in cases {
-        if !is_right(alloc, case)? {
-            return Ok(Some(case.name));
-        }
-    }
-    Ok(None)
-}
-
 #[test]
 fn loops_are_found_and_counted(rt: HostRuntime) -> Result<(), Fail> {
-    no_case_is_wrong(first_wrong(rt.alloc(), CASES))
+    for case in CASES {
+        assert!(rt; is_right(rt.alloc(), case)?, "{}", case.name);
+    }
+    Ok(())
 }

@@ -1,9 +1,5 @@
 //! A neighbor by its calls: conversations as tables of what comes and what is seen of it. A refusal
 //! is taken back, and the event played again.
-ghost use Rattle.std.specs.Prelude.{◌≤◌, ◌≢◌};
-ghost use Rattle.lsa.specs.Text.{reserved_sequence};
-ghost use Rattle.words.specs.Constants.{max_age};
-
 mod descriptions;
 mod hellos;
 mod inactivity;
@@ -11,16 +7,16 @@ mod repetitions;
 mod requests;
 mod retransmissions;
 
-use crate::gathered::Gathered;
-use crate::outcomes::none_is_wrong;
+use crate::made::{external, header};
 use adjacency::{Draft, State};
-use lsa::{Body, ExternalLsa, Header, Lsa, RouterLsa, SummaryLsa};
+use lsa::{Body, Lsa, RouterLsa, SummaryLsa};
 use lsdb::Lsdb;
 use neighbor_places::Place;
 use packet::Description;
 use std::alloc::{AllocError, Global};
+use std::process::Abort;
 use std::test::Fail;
-use words::{Address, ExternalType, Key, LinkStateId, RouterId, Second, Sequence, SequenceNumber};
+use words::{Address, Key, RouterId, Second, Sequence};
 
 // A Description: its fields, with the headers of the neighbor's LSAs of one type and of the numbers
 // from `first` on below `end`.
@@ -74,10 +70,9 @@ enum Happening {
     // The neighbor's externals from the first number on below the second are installed and flooded:
     // they came from it, or from elsewhere.
     Externals(bool, u32, u32),
-    // A router-LSA, or a summary-LSA, of this number is installed and flooded; it came from
-    // elsewhere.
-    RouterLsa(u32),
-    Summary(u32),
+    // The same of router-LSAs, and of summary-LSAs, which came from elsewhere.
+    RouterLsas(u32, u32),
+    Summaries(u32, u32),
     // An Acknowledgment of the neighbor's external of this number.
     Acknowledgment(u32),
     // The neighbor itself floods its external of this number, which is to be acknowledged.
@@ -124,18 +119,22 @@ struct Observed {
 // At this moment, this happens, and this is to be seen.
 type Row = (u64, Happening, Seen);
 
-fn own() -> RouterId {
-    RouterId::new(0x0101_0101)
-}
+// A name; how many externals this router has; how many of the neighbor's it wants in an exchange
+// that comes first; what comes first; what comes behind that.
+type Conversation = (
+    &'static str,
+    u32,
+    Option<u32>,
+    &'static [Row],
+    &'static [Row],
+);
 
-fn peer() -> RouterId {
-    RouterId::new(0x0202_0202)
-}
+const OWN: u32 = 0x0101_0101;
+
+const PEER: u32 = 0x0202_0202;
 
 // A router that is the neighbor's master, as 1.1.1.1 is its slave.
-fn larger() -> RouterId {
-    RouterId::new(0x0303_0303)
-}
+const LARGER: u32 = 0x0303_0303;
 
 // ---- what is seen
 
@@ -225,15 +224,11 @@ fn observe(place: &Place, sent: &Draft) -> Observed {
     }
 }
 
-fn describes_alike(seen: &Observed, expected: &Observed) -> bool {
-    seen.descriptions == expected.descriptions
-        && seen.first == expected.first
-        && seen.second == expected.second
-}
-
 fn is_alike(seen: &Observed, expected: &Observed) -> bool {
     seen.state == expected.state
-        && describes_alike(seen, expected)
+        && seen.descriptions == expected.descriptions
+        && seen.first == expected.first
+        && seen.second == expected.second
         && seen.keys == expected.keys
         && seen.lsas == expected.lsas
 }
@@ -259,42 +254,13 @@ fn is_seen(place: &Place, sent: &Draft, seen: &Seen) -> bool {
 
 // ---- LSAs and Descriptions
 
-fn header(ls_type: u8, router: RouterId, number: u32) -> Header
-    ensures age { result.age ≤ max_age }
-    ensures sequence { result.sequence ≢ reserved_sequence }
-{
-    Header {
-        age: 1,
-        options: 2,
-        ls_type,
-        link_state_id: LinkStateId::new(number),
-        advertising_router: router,
-        sequence: SequenceNumber::INITIAL,
-        checksum: 0,
-        length: 36,
-    }
-}
-
-// An LSA of 36 bytes.
-fn external(alloc: Global, router: RouterId, number: u32) -> Result<Lsa, AllocError> {
-    let body = Body::External(ExternalLsa {
-        mask: Address::new(0xffff_ff00),
-        kind: ExternalType::Type2,
-        metric: 20,
-        forwarding: Address::UNSPECIFIED,
-        tag: 0,
-        tos: Sequence::from_vec(Vec::new(alloc)),
-    });
-    Lsa::new(alloc, header(5, router, number), body)
-}
-
 // A router-LSA of 24 bytes.
 fn router_lsa(alloc: Global, number: u32) -> Result<Lsa, AllocError> {
     let body = Body::Router(RouterLsa {
         flags: 0,
         links: Sequence::from_vec(Vec::new(alloc)),
     });
-    Lsa::new(alloc, header(1, peer(), number), body)
+    Lsa::new(alloc, header(1, PEER, number), body)
 }
 
 // A summary-LSA of 28 bytes.
@@ -304,7 +270,7 @@ fn summary(alloc: Global, number: u32) -> Result<Lsa, AllocError> {
         metric: 20,
         tos: Sequence::from_vec(Vec::new(alloc)),
     });
-    Lsa::new(alloc, header(3, peer(), number), body)
+    Lsa::new(alloc, header(3, PEER, number), body)
 }
 
 // The neighbor's LSA of this type and number.
@@ -312,24 +278,14 @@ fn made(alloc: Global, ls_type: u8, number: u32) -> Result<Lsa, AllocError> {
     match ls_type {
         1 => router_lsa(alloc, number),
         3 => summary(alloc, number),
-        _ => external(alloc, peer(), number),
+        _ => external(alloc, PEER, number),
     }
-}
-
-// The header of the neighbor's external of this number, with its checksum.
-fn header_made(alloc: Global, number: u32) -> Result<Header, AllocError> {
-    let lsa = external(alloc, peer(), number)?;
-    Ok(lsa.header())
-}
-
-fn originate(database: &mut Lsdb, alloc: Global, number: u32) -> Result<(), AllocError> {
-    let lsa = external(alloc, own(), number)?;
-    database.install_originated(Second::new(0), lsa)
 }
 
 fn originate_all(database: &mut Lsdb, alloc: Global, count: u32) -> Result<(), AllocError> {
     for number in 0..count {
-        originate(database, alloc, number)?;
+        let lsa = external(alloc, OWN, number)?;
+        database.install_originated(Second::new(0), lsa)?;
     }
     Ok(())
 }
@@ -344,14 +300,12 @@ fn fill(database: &mut Lsdb, alloc: Global, count: u32) -> Result<(), AllocError
     Ok(())
 }
 
-fn add_headers(coming: &Coming, headers: &mut Gathered<Header>) {
+fn told(alloc: Global, coming: &Coming) -> Result<Description, AllocError> {
+    let mut headers = Vec::new(alloc);
     for number in coming.first..coming.end {
-        headers.push(header(coming.ls_type, peer(), number));
+        headers.push(header(coming.ls_type, PEER, number))?;
     }
-}
-
-fn with_headers(coming: &Coming, headers: Vec<Header>) -> Description {
-    Description {
+    Ok(Description {
         mtu: coming.mtu,
         options: coming.options,
         init: coming.init,
@@ -359,13 +313,7 @@ fn with_headers(coming: &Coming, headers: Vec<Header>) -> Description {
         master: coming.master,
         sequence: coming.sequence,
         headers: Sequence::from_vec(headers),
-    }
-}
-
-fn told(alloc: Global, coming: &Coming) -> Result<Description, AllocError> {
-    let mut headers = Gathered::new(alloc);
-    add_headers(coming, &mut headers);
-    Ok(with_headers(coming, headers.whole()?))
+    })
 }
 
 // ---- what happens
@@ -384,17 +332,11 @@ impl Scene {
         Scene {
             alloc,
             place: Place::down(),
-            database: Lsdb::new(alloc, own()),
+            database: Lsdb::new(alloc, RouterId::new(OWN)),
         }
     }
 
-    fn installs(&mut self, moment: Second, ls_type: u8, number: u32) -> Result<Key, AllocError> {
-        let lsa = made(self.alloc, ls_type, number)?;
-        let key = lsa.header().key();
-        self.database.install_flooded(moment, lsa)?;
-        Ok(key)
-    }
-
+    // Floods the LSA of this key, which came from the neighbor or from elsewhere.
     fn floods_key(
         &mut self,
         moment: Second,
@@ -416,9 +358,10 @@ impl Scene {
         numbers: (u32, u32),
         draft: &mut Draft,
     ) -> Result<(), AllocError> {
-        let (first, end) = numbers;
-        for number in first..end {
-            let key = self.installs(moment, ls_type, number)?;
+        for number in numbers.0..numbers.1 {
+            let lsa = made(self.alloc, ls_type, number)?;
+            let key = lsa.header().key();
+            self.database.install_flooded(moment, lsa)?;
             self.floods_key(moment, from, &key, draft)?;
         }
         Ok(())
@@ -430,7 +373,7 @@ impl Scene {
         number: u32,
         draft: &mut Draft,
     ) -> Result<(), AllocError> {
-        let keys = [header(5, own(), number).key()];
+        let keys = [header(5, OWN, number).key()];
         self.place
             .answer(self.alloc, moment, 1, &self.database, &keys, draft)
     }
@@ -438,14 +381,14 @@ impl Scene {
     fn is_described(
         &mut self,
         moment: Second,
-        router: RouterId,
+        router: u32,
         coming: &Coming,
         draft: &mut Draft,
     ) -> Result<(), AllocError> {
         let description = told(self.alloc, coming)?;
         self.place.description(
             self.alloc,
-            router,
+            RouterId::new(router),
             moment,
             &self.database,
             &description,
@@ -454,12 +397,12 @@ impl Scene {
     }
 
     fn is_acknowledged(&mut self, moment: Second, number: u32) -> Result<(), AllocError> {
-        let header = header_made(self.alloc, number)?;
+        let header = external(self.alloc, PEER, number)?.header();
         self.place.ack(moment, &[header])
     }
 
     fn is_taken_off(&mut self, moment: Second, number: u32) -> Result<(), AllocError> {
-        let header = header_made(self.alloc, number)?;
+        let header = external(self.alloc, PEER, number)?.header();
         let waits = self.place.has_retransmission(&header.key());
         if waits && self.place.has_instance(moment, &header) {
             return self.place.take_off(&header);
@@ -482,15 +425,18 @@ impl Scene {
         draft: &mut Draft,
     ) -> Result<(), AllocError> {
         match *happening {
-            Happening::Hello(names) => self.place.hello(self.alloc, moment, peer(), names, draft),
-            Happening::ToSlave(coming) => self.is_described(moment, own(), &coming, draft),
-            Happening::ToMaster(coming) => self.is_described(moment, larger(), &coming, draft),
+            Happening::Hello(names) => {
+                let peer = RouterId::new(PEER);
+                self.place.hello(self.alloc, moment, peer, names, draft)
+            },
+            Happening::ToSlave(coming) => self.is_described(moment, OWN, &coming, draft),
+            Happening::ToMaster(coming) => self.is_described(moment, LARGER, &coming, draft),
             Happening::Request(number) => self.is_asked(moment, number, draft),
             Happening::Externals(from, first, end) => {
                 self.floods(moment, from, 5, (first, end), draft)
             }
-            Happening::RouterLsa(number) => self.floods(moment, false, 1, only(number), draft),
-            Happening::Summary(number) => self.floods(moment, false, 3, only(number), draft),
+            Happening::RouterLsas(first, end) => self.floods(moment, false, 1, (first, end), draft),
+            Happening::Summaries(first, end) => self.floods(moment, false, 3, (first, end), draft),
             Happening::Acknowledgment(number) => self.is_acknowledged(moment, number),
             Happening::ImpliedAcknowledgment(number) => self.is_taken_off(moment, number),
             Happening::NextRequest => self.place.request(self.alloc, moment, draft),
@@ -552,44 +498,23 @@ impl Scene {
         Ok(None)
     }
 
-    // The same of a conversation in parts: the place in its part.
-    fn first_wrong_of(&mut self, parts: &[&[Row]]) -> Result<Option<usize>, Fail> {
-        for rows in parts {
-            let wrong = self.first_wrong(rows)?;
-            if wrong.is_some() {
-                return Ok(wrong);
+    // The same of a conversation, once the router has its externals and the exchange is done.
+    fn first_wrong_of(&mut self, conversation: &Conversation) -> Result<Option<usize>, Fail> {
+        let (_name, count, wanted, first, rows) = *conversation;
+        fill(&mut self.database, self.alloc, count)?;
+        if let Some(wanted) = wanted {
+            if self.first_wrong(&exchange(wanted))?.is_some() {
+                return Err(Fail::new("the exchange comes out otherwise"));
             }
         }
-        Ok(None)
+        if self.first_wrong(first)?.is_some() {
+            return Err(Fail::new("what comes first comes out otherwise"));
+        }
+        self.first_wrong(rows)
     }
-
-    // The same once so many externals of this router, from 0 on, are there.
-    fn first_wrong_after(&mut self, count: u32, parts: &[&[Row]]) -> Result<Option<usize>, Fail> {
-        fill(&mut self.database, self.alloc, count)?;
-        self.first_wrong_of(parts)
-    }
-}
-
-fn only(number: u32) -> (u32, u32) {
-    (number, number.wrapping_add(1))
 }
 
 // ---- conversations
-
-// The first row of a conversation, from Down on, of which something else is seen.
-fn first_wrong(alloc: Global, count: u32, parts: &[&[Row]]) -> Result<Option<usize>, Fail> {
-    let mut scene = Scene::new(alloc);
-    scene.first_wrong_after(count, parts)
-}
-
-// A conversation in parts, from Down on, of a router with so many externals.
-fn in_parts(alloc: Global, count: u32, parts: &[&[Row]]) -> Result<(), Fail> {
-    none_is_wrong(first_wrong(alloc, count, parts))
-}
-
-fn converse(alloc: Global, count: u32, rows: &[Row]) -> Result<(), Fail> {
-    in_parts(alloc, count, &[rows])
-}
 
 // The attempt of the number 0.
 const BEGINS: Row = (
@@ -644,7 +569,23 @@ fn exchange(wanted: u32) -> [Row; 4] {
     ]
 }
 
-// What comes after the exchange, which is done at 2.
-fn goes_on(alloc: Global, wanted: u32, rows: &[Row]) -> Result<(), Fail> {
-    in_parts(alloc, 0, &[&exchange(wanted), rows])
+const CONVERSATIONS: &[&[Conversation]] = &[
+    hellos::CONVERSATIONS,
+    descriptions::CONVERSATIONS,
+    repetitions::CONVERSATIONS,
+    requests::CONVERSATIONS,
+    retransmissions::CONVERSATIONS,
+    inactivity::CONVERSATIONS,
+];
+
+#[test]
+fn conversations_come_out(rt: HostRuntime) -> Result<(), Fail> {
+    for part in CONVERSATIONS {
+        for conversation in *part {
+            let mut scene = Scene::new(rt.alloc());
+            let wrong = scene.first_wrong_of(conversation)?;
+            assert!(rt; wrong == None, "{}: {wrong:?}", conversation.0);
+        }
+    }
+    Ok(())
 }

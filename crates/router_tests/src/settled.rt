@@ -1,7 +1,7 @@
 //! Maps whose edits can be taken back: what a key held when the map was last settled.
-use crate::outcomes::none_is_wrong;
 use keyed_map::{ChangeTest, KeyedMap};
 use std::alloc::{AllocError, Global};
+use std::process::Abort;
 use std::test::Fail;
 use words::{Key, LinkStateId, RouterId};
 
@@ -68,25 +68,16 @@ fn is_among(keys: &[Key], number: u32) -> bool {
     is
 }
 
-fn are_all_among(keys: &[Key], ids: &[u32]) -> bool {
-    let mut are = true;
-    for id in ids {
-        are &= is_among(keys, *id);
-    }
-    are
-}
-
-fn have_no_others(keys: &[Key], ids: &[u32]) -> bool {
-    let mut are = true;
-    for key in keys {
-        are &= ids.contains(&key.link_state_id.number());
-    }
-    are
-}
-
 /// Whether these keys have these Link State IDs, each at least once, and no others.
 pub fn have_ids(keys: &[Key], ids: &[u32]) -> bool {
-    are_all_among(keys, ids) && have_no_others(keys, ids)
+    let mut have = true;
+    for id in ids {
+        have &= is_among(keys, *id);
+    }
+    for key in keys {
+        have &= ids.contains(&key.link_state_id.number());
+    }
+    have
 }
 
 fn done(outcome: Result<(), AllocError>) -> Result<bool, AllocError> {
@@ -129,20 +120,6 @@ fn took(alloc: Global, map: &mut KeyedMap<u32>, step: Step) -> Result<bool, Allo
         Step::Next(number, found) => Ok(is_next(map, number, found)),
         Step::Beyond(number, beyond) => Ok(map.is_beyond(&key(number)) == beyond),
     }
-}
-
-// The first step after which something else was expected.
-fn first_wrong(
-    alloc: Global,
-    map: &mut KeyedMap<u32>,
-    steps: &[Step],
-) -> Result<Option<usize>, Fail> {
-    for at in 0..steps.len() {
-        if !took(alloc, map, steps[at])? {
-            return Ok(Some(at));
-        }
-    }
-    Ok(None)
 }
 
 const STEPS: &[Step] = &[
@@ -202,12 +179,11 @@ const STEPS: &[Step] = &[
     Step::Next(0, None),
 ];
 
-fn first_wrong_of_new(alloc: Global, steps: &[Step]) -> Result<Option<usize>, Fail> {
-    let mut map = KeyedMap::new(alloc);
-    first_wrong(alloc, &mut map, steps)
-}
-
 #[test]
 fn what_a_key_held_when_the_map_was_settled(rt: HostRuntime) -> Result<(), Fail> {
-    none_is_wrong(first_wrong_of_new(rt.alloc(), STEPS))
+    let mut map = KeyedMap::new(rt.alloc());
+    for at in 0..STEPS.len() {
+        assert!(rt; took(rt.alloc(), &mut map, STEPS[at])?, "step {at}");
+    }
+    Ok(())
 }

@@ -1,7 +1,6 @@
 //! Values as bytes and as text: `words`, LSAs and packets (`lsa`, `packet`), and the texts of
 //! `console`.
 
-mod advertisements;
 mod answers;
 mod commands;
 mod configurations;
@@ -9,4 +8,3 @@ mod lsas;
 mod names;
 mod orders;
 mod packets;
-mod summaries;

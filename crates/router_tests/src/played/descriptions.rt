@@ -56,11 +56,6 @@ const TO_THE_SLAVE: &[Row] = &[
     ),
 ];
 
-#[test]
-fn the_slave_answers_each_description(rt: HostRuntime) -> Result<(), Fail> {
-    converse(rt.alloc(), 409, TO_THE_SLAVE)
-}
-
 const FIRST_TO_MASTER: Happening = Happening::ToMaster(Coming {
     more: true,
     end: 408,
@@ -104,11 +99,6 @@ const TO_THE_MASTER: &[Row] = &[
     ),
 ];
 
-#[test]
-fn the_master_goes_on_until_neither_has_more(rt: HostRuntime) -> Result<(), Fail> {
-    converse(rt.alloc(), 409, TO_THE_MASTER)
-}
-
 const OPENS_7: Happening = Happening::ToSlave(Coming {
     sequence: 7,
     ..OPENING
@@ -146,11 +136,6 @@ const WITH_A_ROUTER_LSA: &[Row] = &[
     ),
 ];
 
-#[test]
-fn what_is_described_is_requested_once(rt: HostRuntime) -> Result<(), Fail> {
-    converse(rt.alloc(), 1, WITH_A_ROUTER_LSA)
-}
-
 const LAST_OF_MASTER: Happening = Happening::ToSlave(Coming {
     sequence: 8,
     ..FROM_MASTER
@@ -178,11 +163,6 @@ const TO_BE_FULL_AS_MASTER: &[Row] = &[
     (2, LAST_OF_SLAVE, Seen::Rests(State::Full)),
 ];
 
-#[test]
-fn nothing_to_request_leaves_the_neighbor_full(rt: HostRuntime) -> Result<(), Fail> {
-    converse(rt.alloc(), 0, TO_BE_FULL_AS_SLAVE)
-}
-
 const IN_INIT: &[Row] = &[
     (5, Happening::Hello(false), Seen::Rests(State::Init)),
     (
@@ -192,11 +172,6 @@ const IN_INIT: &[Row] = &[
     ),
 ];
 
-#[test]
-fn in_init_a_description_acts_as_a_hello(rt: HostRuntime) -> Result<(), Fail> {
-    converse(rt.alloc(), 0, IN_INIT)
-}
-
 // The master's next has the number 8, the flag of a master alone, the same Options and known types.
 const NEXT: Coming = Coming {
     more: true,
@@ -205,46 +180,30 @@ const NEXT: Coming = Coming {
     ..FROM_MASTER
 };
 
-const UNEXPECTED: &[Coming] = &[
-    Coming {
-        more: true,
-        sequence: 8,
-        ..FROM_SLAVE
-    },
-    Coming {
-        sequence: 8,
-        ..OPENING
-    },
-    Coming {
-        more: true,
-        sequence: 9,
-        ..FROM_MASTER
-    },
-    Coming { options: 0, ..NEXT },
-    Coming { ls_type: 6, ..NEXT },
+// What comes after the opening of number 7 to the slave.
+const OPENED: &[Row] = &[
+    BEGINS,
+    (1, OPENS_7, Seen::Answers(State::Exchange, 7, 0, false)),
 ];
 
-// This comes after the opening of number 7 to the slave.
-fn starts_over(alloc: Global, unexpected: Coming) -> Result<(), Fail> {
-    let rows = [
-        BEGINS,
-        (1, OPENS_7, Seen::Answers(State::Exchange, 7, 0, false)),
-        (
-            2,
-            Happening::ToSlave(unexpected),
-            Seen::Answers(State::ExStart, 1, 0, true),
-        ),
-    ];
-    converse(alloc, 0, &rows)
-}
+const STARTS_OVER: Seen = Seen::Answers(State::ExStart, 1, 0, true);
 
-#[test]
-fn what_is_out_of_sequence_starts_over(rt: HostRuntime) -> Result<(), Fail> {
-    for coming in UNEXPECTED {
-        starts_over(rt.alloc(), *coming)?;
-    }
-    Ok(())
-}
+const OF_A_SLAVE: Coming = Coming {
+    more: true,
+    sequence: 8,
+    ..FROM_SLAVE
+};
+
+const OPENING_AGAIN: Coming = Coming {
+    sequence: 8,
+    ..OPENING
+};
+
+const AFTER_THE_NEXT: Coming = Coming {
+    more: true,
+    sequence: 9,
+    ..FROM_MASTER
+};
 
 const DOES_NOT_NEGOTIATE: &[Row] = &[
     BEGINS,
@@ -286,45 +245,140 @@ const DOES_NOT_NEGOTIATE: &[Row] = &[
     ),
 ];
 
-#[test]
-fn what_does_not_negotiate_is_discarded(rt: HostRuntime) -> Result<(), Fail> {
-    converse(rt.alloc(), 0, DOES_NOT_NEGOTIATE)
-}
+// A Hello is heard at 9, and then comes a Tick; then the last Description comes again.
+const HEARD: Row = (9, Happening::Hello(true), Seen::Rests(State::Full));
 
-// A Hello is heard at 9, and then comes a Tick.
-fn until(tick: u64) -> [Row; 2] {
-    [
-        (9, Happening::Hello(true), Seen::Rests(State::Full)),
-        (tick, Happening::Tick, Seen::Rests(State::Full)),
-    ]
-}
+const TICK_AT_41: Row = (41, Happening::Tick, Seen::Rests(State::Full));
 
-// The exchange is done at 2, and after a Tick at this moment the last Description comes again.
-fn repeated(alloc: Global, exchange: &[Row], tick: u64, again: &[Row]) -> Result<(), Fail> {
-    in_parts(alloc, 0, &[exchange, &until(tick), again])
-}
+const TICK_AT_42: Row = (42, Happening::Tick, Seen::Rests(State::Full));
 
-const ANSWERED: &[Row] = &[(43, LAST_OF_MASTER, Seen::Answers(State::Full, 8, 0, false))];
+const ANSWERED: &[Row] = &[
+    HEARD,
+    TICK_AT_41,
+    (43, LAST_OF_MASTER, Seen::Answers(State::Full, 8, 0, false)),
+];
 
-#[test]
-fn the_slave_answers_a_duplicate_before_router_dead_interval(rt: HostRuntime) -> Result<(), Fail> {
-    repeated(rt.alloc(), TO_BE_FULL_AS_SLAVE, 41, ANSWERED)
-}
+const BEGUN_AGAIN: &[Row] = &[
+    HEARD,
+    TICK_AT_42,
+    (
+        43,
+        LAST_OF_MASTER,
+        Seen::Answers(State::ExStart, 1, 0, true),
+    ),
+];
 
-const BEGUN_AGAIN: &[Row] = &[(
-    43,
-    LAST_OF_MASTER,
-    Seen::Answers(State::ExStart, 1, 0, true),
-)];
+const DISCARDED: &[Row] = &[
+    HEARD,
+    TICK_AT_42,
+    (43, LAST_OF_SLAVE, Seen::Rests(State::Full)),
+];
 
-#[test]
-fn a_duplicate_after_router_dead_interval_starts_over(rt: HostRuntime) -> Result<(), Fail> {
-    repeated(rt.alloc(), TO_BE_FULL_AS_SLAVE, 42, BEGUN_AGAIN)
-}
-
-const DISCARDED: &[Row] = &[(43, LAST_OF_SLAVE, Seen::Rests(State::Full))];
-
-#[test]
-fn the_master_discards_a_duplicate_after_router_dead_interval(rt: HostRuntime) -> Result<(), Fail> {
-    repeated(rt.alloc(), TO_BE_FULL_AS_MASTER, 42, DISCARDED)
-}
+pub const CONVERSATIONS: &[Conversation] = &[
+    (
+        "the slave answers each description",
+        409,
+        None,
+        &[],
+        TO_THE_SLAVE,
+    ),
+    (
+        "the master goes on until neither has more",
+        409,
+        None,
+        &[],
+        TO_THE_MASTER,
+    ),
+    (
+        "what is described is requested once",
+        1,
+        None,
+        &[],
+        WITH_A_ROUTER_LSA,
+    ),
+    (
+        "nothing to request leaves the neighbor full",
+        0,
+        None,
+        &[],
+        TO_BE_FULL_AS_SLAVE,
+    ),
+    (
+        "in init a description acts as a hello",
+        0,
+        None,
+        &[],
+        IN_INIT,
+    ),
+    (
+        "what is out of sequence starts over: of a slave",
+        0,
+        None,
+        OPENED,
+        &[(2, Happening::ToSlave(OF_A_SLAVE), STARTS_OVER)],
+    ),
+    (
+        "what is out of sequence starts over: with the flag I",
+        0,
+        None,
+        OPENED,
+        &[(2, Happening::ToSlave(OPENING_AGAIN), STARTS_OVER)],
+    ),
+    (
+        "what is out of sequence starts over: with the number after the next",
+        0,
+        None,
+        OPENED,
+        &[(2, Happening::ToSlave(AFTER_THE_NEXT), STARTS_OVER)],
+    ),
+    (
+        "what is out of sequence starts over: with other Options",
+        0,
+        None,
+        OPENED,
+        &[(
+            2,
+            Happening::ToSlave(Coming { options: 0, ..NEXT }),
+            STARTS_OVER,
+        )],
+    ),
+    (
+        "what is out of sequence starts over: with an unknown type",
+        0,
+        None,
+        OPENED,
+        &[(
+            2,
+            Happening::ToSlave(Coming { ls_type: 6, ..NEXT }),
+            STARTS_OVER,
+        )],
+    ),
+    (
+        "what does not negotiate is discarded",
+        0,
+        None,
+        &[],
+        DOES_NOT_NEGOTIATE,
+    ),
+    (
+        "the slave answers a duplicate before router dead interval",
+        0,
+        None,
+        TO_BE_FULL_AS_SLAVE,
+        ANSWERED,
+    ),
+    (
+        "a duplicate after router dead interval starts over",
+        0,
+        None,
+        TO_BE_FULL_AS_SLAVE,
+        BEGUN_AGAIN,
+    ),
+    (
+        "the master discards a duplicate after router dead interval",
+        0,
+        None,
+        TO_BE_FULL_AS_MASTER,
+        DISCARDED,
+    ),
+];

@@ -3,11 +3,6 @@ use super::*;
 
 const FIRST_ATTEMPT: &[Row] = &[(7, Happening::Hello(true), Seen::Begins(7))];
 
-#[test]
-fn an_attempt_begins_with_all_flags(rt: HostRuntime) -> Result<(), Fail> {
-    converse(rt.alloc(), 0, FIRST_ATTEMPT)
-}
-
 const BACK_AND_ON: &[Row] = &[
     (7, Happening::Hello(false), Seen::Rests(State::Init)),
     (8, Happening::Hello(false), Seen::Rests(State::Init)),
@@ -24,11 +19,6 @@ const BACK_AND_ON: &[Row] = &[
         Seen::Answers(State::ExStart, 10, 0, true),
     ),
 ];
-
-#[test]
-fn the_neighbor_goes_back_to_init_and_on_again(rt: HostRuntime) -> Result<(), Fail> {
-    converse(rt.alloc(), 0, BACK_AND_ON)
-}
 
 const LATE: u64 = 0x7_ffff_ffff;
 
@@ -59,7 +49,26 @@ const OVER_A_WRAP: &[Row] = &[
     ),
 ];
 
-#[test]
-fn attempts_are_numbered_over_a_wrap(rt: HostRuntime) -> Result<(), Fail> {
-    converse(rt.alloc(), 0, OVER_A_WRAP)
-}
+pub const CONVERSATIONS: &[Conversation] = &[
+    (
+        "an attempt begins with all flags",
+        0,
+        None,
+        &[],
+        FIRST_ATTEMPT,
+    ),
+    (
+        "the neighbor goes back to init and on again",
+        0,
+        None,
+        &[],
+        BACK_AND_ON,
+    ),
+    (
+        "attempts are numbered over a wrap",
+        0,
+        None,
+        &[],
+        OVER_A_WRAP,
+    ),
+];

@@ -11,20 +11,10 @@ const NOT_HEARD_IN_EXSTART: &[Row] = &[
     (40, Happening::Tick, Seen::Down),
 ];
 
-#[test]
-fn a_neighbor_that_is_not_heard_goes_down(rt: HostRuntime) -> Result<(), Fail> {
-    converse(rt.alloc(), 0, NOT_HEARD_IN_EXSTART)
-}
-
 const NOT_HEARD_IN_FULL: &[Row] = &[
     (39, Happening::Tick, Seen::Rests(State::Full)),
     (40, Happening::Tick, Seen::Down),
 ];
-
-#[test]
-fn a_full_neighbor_that_is_not_heard_goes_down(rt: HostRuntime) -> Result<(), Fail> {
-    goes_on(rt.alloc(), 0, NOT_HEARD_IN_FULL)
-}
 
 const THE_ONE_WANTED_COMES: &[Row] = &[
     (3, Happening::Tick, Seen::Rests(State::Loading)),
@@ -36,7 +26,26 @@ const THE_ONE_WANTED_COMES: &[Row] = &[
     (4, Happening::Tick, Seen::Rests(State::Full)),
 ];
 
-#[test]
-fn loading_ends_once_nothing_is_requested(rt: HostRuntime) -> Result<(), Fail> {
-    goes_on(rt.alloc(), 1, THE_ONE_WANTED_COMES)
-}
+pub const CONVERSATIONS: &[Conversation] = &[
+    (
+        "a neighbor that is not heard goes down",
+        0,
+        None,
+        &[],
+        NOT_HEARD_IN_EXSTART,
+    ),
+    (
+        "a full neighbor that is not heard goes down",
+        0,
+        Some(0),
+        &[],
+        NOT_HEARD_IN_FULL,
+    ),
+    (
+        "loading ends once nothing is requested",
+        0,
+        Some(1),
+        &[],
+        THE_ONE_WANTED_COMES,
+    ),
+];

@@ -11,11 +11,6 @@ const EXSTART: &[Row] = &[
     (10, Happening::Tick, EXSTART_AGAIN),
 ];
 
-#[test]
-fn an_attempt_is_sent_again(rt: HostRuntime) -> Result<(), Fail> {
-    converse(rt.alloc(), 0, EXSTART)
-}
-
 const MASTER_AGAIN: Seen = Seen::Answers(State::Exchange, 1, 0, false);
 
 const MASTER: &[Row] = &[
@@ -33,21 +28,11 @@ const MASTER: &[Row] = &[
     (10, Happening::Tick, Seen::Rests(State::Exchange)),
 ];
 
-#[test]
-fn the_master_sends_its_description_again(rt: HostRuntime) -> Result<(), Fail> {
-    converse(rt.alloc(), 0, MASTER)
-}
-
 const SLAVE: &[Row] = &[
     BEGINS,
     OPENS_100,
     (6, Happening::Tick, Seen::Rests(State::Exchange)),
 ];
-
-#[test]
-fn the_slave_sends_nothing_again(rt: HostRuntime) -> Result<(), Fail> {
-    converse(rt.alloc(), 0, SLAVE)
-}
 
 const LOADING: &[Row] = &[
     (8, Happening::Tick, Seen::Asks(0)),
@@ -57,18 +42,28 @@ const LOADING: &[Row] = &[
     (17, Happening::Tick, Seen::Asks(0)),
 ];
 
-#[test]
-fn a_request_is_sent_again(rt: HostRuntime) -> Result<(), Fail> {
-    goes_on(rt.alloc(), 3, LOADING)
-}
-
 const ONE_CAME: &[Row] = &[
     (3, Happening::NextRequest, Seen::Asks(3)),
     (4, Happening::Externals(true, 1, 2), Seen::Asks(0)),
     (8, Happening::Tick, Seen::Asks(2)),
 ];
 
-#[test]
-fn what_came_is_not_requested_again(rt: HostRuntime) -> Result<(), Fail> {
-    goes_on(rt.alloc(), 3, ONE_CAME)
-}
+pub const CONVERSATIONS: &[Conversation] = &[
+    ("an attempt is sent again", 0, None, &[], EXSTART),
+    (
+        "the master sends its description again",
+        0,
+        None,
+        &[],
+        MASTER,
+    ),
+    ("the slave sends nothing again", 0, None, &[], SLAVE),
+    ("a request is sent again", 0, Some(3), &[], LOADING),
+    (
+        "what came is not requested again",
+        0,
+        Some(3),
+        &[],
+        ONE_CAME,
+    ),
+];

@@ -13,11 +13,6 @@ const BEFORE_EXCHANGE: &[Row] = &[
     (4, Happening::Request(5), Seen::Rests(State::ExStart)),
 ];
 
-#[test]
-fn a_request_before_exchange_does_not_count(rt: HostRuntime) -> Result<(), Fail> {
-    converse(rt.alloc(), 0, BEFORE_EXCHANGE)
-}
-
 // Of the externals from 0 to 2 one is requested, and then another.
 const ASKED: &[Row] = &[
     BEGINS,
@@ -37,26 +32,34 @@ const ASKED: &[Row] = &[
     ),
 ];
 
-#[test]
-fn a_request_is_answered_or_starts_over(rt: HostRuntime) -> Result<(), Fail> {
-    converse(rt.alloc(), 3, ASKED)
-}
-
 // The first 680 come, and what is left is requested.
-fn requested(left: usize) -> [Row; 3] {
-    [
-        (3, Happening::NextRequest, Seen::Asks(680)),
-        (4, Happening::Externals(true, 0, 680), Seen::Asks(0)),
-        (5, Happening::NextRequest, Seen::Asks(left)),
-    ]
-}
+const REQUESTED_ALL: &[Row] = &[
+    (3, Happening::NextRequest, Seen::Asks(680)),
+    (4, Happening::Externals(true, 0, 680), Seen::Asks(0)),
+    (5, Happening::NextRequest, Seen::Asks(0)),
+];
 
-#[test]
-fn a_request_has_680_keys(rt: HostRuntime) -> Result<(), Fail> {
-    goes_on(rt.alloc(), 680, &requested(0))
-}
+const REQUESTED_ALL_BUT_ONE: &[Row] = &[
+    (3, Happening::NextRequest, Seen::Asks(680)),
+    (4, Happening::Externals(true, 0, 680), Seen::Asks(0)),
+    (5, Happening::NextRequest, Seen::Asks(1)),
+];
 
-#[test]
-fn one_key_more_is_left_for_the_next_request(rt: HostRuntime) -> Result<(), Fail> {
-    goes_on(rt.alloc(), 681, &requested(1))
-}
+pub const CONVERSATIONS: &[Conversation] = &[
+    (
+        "a request before exchange does not count",
+        0,
+        None,
+        &[],
+        BEFORE_EXCHANGE,
+    ),
+    ("a request is answered or starts over", 3, None, &[], ASKED),
+    ("a request has 680 keys", 0, Some(680), &[], REQUESTED_ALL),
+    (
+        "one key more is left for the next request",
+        0,
+        Some(681),
+        &[],
+        REQUESTED_ALL_BUT_ONE,
+    ),
+];

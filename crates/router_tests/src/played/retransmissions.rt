@@ -19,11 +19,6 @@ const UNTIL_ACKNOWLEDGED: &[Row] = &[
     (18, Happening::Tick, Seen::Sends(State::Full, 0)),
 ];
 
-#[test]
-fn an_lsa_is_sent_again_until_it_is_acknowledged(rt: HostRuntime) -> Result<(), Fail> {
-    goes_on(rt.alloc(), 0, UNTIL_ACKNOWLEDGED)
-}
-
 const IMPLIED: &[Row] = &[
     (
         3,
@@ -38,14 +33,9 @@ const IMPLIED: &[Row] = &[
     (8, Happening::Tick, Seen::Sends(State::Full, 0)),
 ];
 
-#[test]
-fn an_implied_acknowledgment_ends_it(rt: HostRuntime) -> Result<(), Fail> {
-    goes_on(rt.alloc(), 0, IMPLIED)
-}
-
 // LSAs of 28 and of 226 times 36 bytes: with the packet's header and the count 8,192 bytes.
 const THAT_FIT: &[Row] = &[
-    (3, Happening::Summary(0), Seen::Sends(State::Full, 1)),
+    (3, Happening::Summaries(0, 1), Seen::Sends(State::Full, 1)),
     (
         3,
         Happening::Externals(false, 0, 226),
@@ -54,17 +44,12 @@ const THAT_FIT: &[Row] = &[
     (8, Happening::Tick, Seen::Sends(State::Full, 227)),
 ];
 
-#[test]
-fn an_update_has_up_to_8192_bytes(rt: HostRuntime) -> Result<(), Fail> {
-    goes_on(rt.alloc(), 0, THAT_FIT)
-}
-
 // LSAs of twice 24, twice 28 and 224 times 36 bytes: 4 bytes more.
 const OF_4_BYTES_MORE: &[Row] = &[
-    (3, Happening::RouterLsa(0), Seen::Sends(State::Full, 1)),
-    (3, Happening::RouterLsa(1), Seen::Sends(State::Full, 1)),
-    (3, Happening::Summary(0), Seen::Sends(State::Full, 1)),
-    (3, Happening::Summary(1), Seen::Sends(State::Full, 1)),
+    (3, Happening::RouterLsas(0, 1), Seen::Sends(State::Full, 1)),
+    (3, Happening::RouterLsas(1, 2), Seen::Sends(State::Full, 1)),
+    (3, Happening::Summaries(0, 1), Seen::Sends(State::Full, 1)),
+    (3, Happening::Summaries(1, 2), Seen::Sends(State::Full, 1)),
     (
         3,
         Happening::Externals(false, 0, 224),
@@ -73,7 +58,27 @@ const OF_4_BYTES_MORE: &[Row] = &[
     (8, Happening::Tick, Seen::Sends(State::Full, 227)),
 ];
 
-#[test]
-fn what_has_no_room_in_an_update_waits(rt: HostRuntime) -> Result<(), Fail> {
-    goes_on(rt.alloc(), 0, OF_4_BYTES_MORE)
-}
+pub const CONVERSATIONS: &[Conversation] = &[
+    (
+        "an lsa is sent again until it is acknowledged",
+        0,
+        Some(0),
+        &[],
+        UNTIL_ACKNOWLEDGED,
+    ),
+    (
+        "an implied acknowledgment ends it",
+        0,
+        Some(0),
+        &[],
+        IMPLIED,
+    ),
+    ("an update has up to 8192 bytes", 0, Some(0), &[], THAT_FIT),
+    (
+        "what has no room in an update waits",
+        0,
+        Some(0),
+        &[],
+        OF_4_BYTES_MORE,
+    ),
+];

@@ -2,6 +2,7 @@
 use crate::outcomes::is_text;
 use adjacency::State;
 use console::{counters_text, neighbors_text, table_text, totals_text};
+use std::process::Abort;
 use std::test::Fail;
 use words::{Address, Hops, Prefix, Route, RouteKind, RouterId};
 
@@ -31,17 +32,6 @@ const TABLE: &str =
     "10.0.1.0/24 intra 10 via 0\n10.0.2.0/24 inter 15 via 1,2,63\n198.51.100.0/24 ext1 30 via 1\n\
         203.0.113.0/24 ext2 20 via 1\nend\n";
 
-#[test]
-fn a_table_has_a_line_for_each_route(rt: HostRuntime) -> Result<(), Fail> {
-    let routes = routes().ok_or("lengths of 24")?;
-    is_text(table_text(rt.alloc(), &routes), TABLE)
-}
-
-#[test]
-fn a_table_without_routes_has_its_end(rt: HostRuntime) -> Result<(), Fail> {
-    is_text(table_text(rt.alloc(), &[]), "end\n")
-}
-
 fn neighbors() -> [Option<(RouterId, State)>; 6] {
     let two = RouterId::new(0x0202_0202);
     [
@@ -58,23 +48,40 @@ const NEIGHBORS: &str =
     "neighbor 2 2.2.2.2 Init\nneighbor 3 2.2.2.2 ExStart\nneighbor 4 2.2.2.2 Exchange\n\
         neighbor 5 2.2.2.2 Loading\nneighbor 6 2.2.2.2 Full\nend\n";
 
-#[test]
-fn a_neighbor_that_is_down_has_no_line(rt: HostRuntime) -> Result<(), Fail> {
-    is_text(neighbors_text(rt.alloc(), &neighbors()), NEIGHBORS)
-}
-
 const SUMS: &[u64] = &[0, 18_446_744_073_709_551_615, 0, 7];
 
 const COUNTERS: &str = "counter 1 18446744073709551615\ncounter 3 7\nend\n";
 
-#[test]
-fn counters_of_zero_have_no_line(rt: HostRuntime) -> Result<(), Fail> {
-    is_text(counters_text(rt.alloc(), SUMS), COUNTERS)
-}
-
 const TOTALS: &str = "counter 1 18446744073709551615\ncounter 3 7\n";
 
 #[test]
-fn totals_have_no_end(rt: HostRuntime) -> Result<(), Fail> {
-    is_text(totals_text(rt.alloc(), SUMS), TOTALS)
+fn answers_are_written(rt: HostRuntime) -> Result<(), Fail> {
+    let routes = routes().ok_or("lengths of 24")?;
+    let alloc = rt.alloc();
+    let rows = [
+        (
+            "a table has a line for each route",
+            is_text(table_text(alloc, &routes), TABLE)?,
+        ),
+        (
+            "a table without routes has its end",
+            is_text(table_text(alloc, &[]), "end\n")?,
+        ),
+        (
+            "a neighbor that is Down has no line",
+            is_text(neighbors_text(alloc, &neighbors()), NEIGHBORS)?,
+        ),
+        (
+            "counters of zero have no line",
+            is_text(counters_text(alloc, SUMS), COUNTERS)?,
+        ),
+        (
+            "totals have no end",
+            is_text(totals_text(alloc, SUMS), TOTALS)?,
+        ),
+    ];
+    for row in &rows {
+        assert!(rt; row.1, "{}", row.0);
+    }
+    Ok(())
 }

@@ -1,8 +1,8 @@
 //! Lines of the console.
-use crate::outcomes::{holds_in_memory, none_is_wrong};
 use console::{Command, read_command};
 use isa::Hook;
 use std::alloc::{AllocError, Global};
+use std::process::Abort;
 use std::test::Fail;
 use words::{Address, External, ExternalType, Prefix};
 
@@ -52,53 +52,25 @@ fn attaches(alloc: Global, line: &str, path: &str) -> Result<bool, AllocError> {
     }
 }
 
-// The first line that isn't read so.
-fn first_wrong(alloc: Global, rows: &[(&str, Asked)]) -> Result<Option<usize>, Fail> {
-    for at in 0..rows.len() {
-        let (line, wanted) = rows[at];
-        if read(alloc, line)? != wanted {
-            return Ok(Some(at));
-        }
-    }
-    Ok(None)
-}
-
-fn is_one_word(alloc: Global) -> Result<bool, AllocError> {
-    let whole = attaches(alloc, "attach programs/veto.bin", "programs/veto.bin")?;
-    let part = attaches(alloc, "attach programs/veto.bin", "programs/veto")?;
-    Ok(whole && !part)
+// Whether the line is read so.
+fn is_read(alloc: Global, line: &str, wanted: &Asked) -> Result<bool, AllocError> {
+    Ok(read(alloc, line)? == *wanted)
 }
 
 #[test]
 fn the_path_of_an_attach_is_one_word(rt: HostRuntime) -> Result<(), Fail> {
-    holds_in_memory(is_one_word(rt.alloc()))
-}
-
-fn documentation() -> Option<Prefix> {
-    Prefix::new(Address::new(0xcb00_7100), 24)
+    let line = "attach programs/veto.bin";
+    assert!(rt;
+        attaches(rt.alloc(), line, "programs/veto.bin")?,
+        "the whole"
+    );
+    assert!(rt; !attaches(rt.alloc(), line, "programs/veto")?, "a part");
+    Ok(())
 }
 
 #[test]
 fn each_command_is_read(rt: HostRuntime) -> Result<(), Fail> {
-    let prefix = documentation().ok_or("203.0.113.0/24")?;
-    let rows = [
-        ("attach a", Asked::Attach),
-        ("detach count", Asked::Detach(Hook::Count)),
-        ("detach tag", Asked::Detach(Hook::Tag)),
-        ("detach price", Asked::Detach(Hook::Price)),
-        ("detach veto", Asked::Detach(Hook::Veto)),
-        ("withdraw 203.0.113.0/24", Asked::Withdraw(prefix)),
-        ("table", Asked::Table),
-        ("neighbors", Asked::Neighbors),
-        ("counters", Asked::Counters),
-        ("quit", Asked::Quit),
-    ];
-    none_is_wrong(first_wrong(rt.alloc(), &rows))
-}
-
-#[test]
-fn a_destination_is_read(rt: HostRuntime) -> Result<(), Fail> {
-    let prefix = documentation().ok_or("203.0.113.0/24")?;
+    let prefix = Prefix::new(Address::new(0xcb00_7100), 24).ok_or("203.0.113.0/24")?;
     let least = External {
         prefix,
         metric: 0,
@@ -112,10 +84,23 @@ fn a_destination_is_read(rt: HostRuntime) -> Result<(), Fail> {
         tag: 0,
     };
     let rows = [
+        ("attach a", Asked::Attach),
+        ("detach count", Asked::Detach(Hook::Count)),
+        ("detach tag", Asked::Detach(Hook::Tag)),
+        ("detach price", Asked::Detach(Hook::Price)),
+        ("detach veto", Asked::Detach(Hook::Veto)),
+        ("withdraw 203.0.113.0/24", Asked::Withdraw(prefix)),
+        ("table", Asked::Table),
+        ("neighbors", Asked::Neighbors),
+        ("counters", Asked::Counters),
+        ("quit", Asked::Quit),
         ("add 203.0.113.0/24 0 1 4294967295", Asked::Add(least)),
         ("add 203.0.113.0/24 16777214 2 0", Asked::Add(greatest)),
     ];
-    none_is_wrong(first_wrong(rt.alloc(), &rows))
+    for row in &rows {
+        assert!(rt; is_read(rt.alloc(), row.0, &row.1)?, "{}", row.0);
+    }
+    Ok(())
 }
 
 // Lines that ask for nothing.
@@ -150,17 +135,10 @@ const UNKNOWN: &[&str] = &[
     "withdraw 203.0.113.0/024",
 ];
 
-// The first line that asks for something.
-fn first_known(alloc: Global, lines: &[&str]) -> Result<Option<usize>, Fail> {
-    for at in 0..lines.len() {
-        if read(alloc, lines[at])? != Asked::Nothing {
-            return Ok(Some(at));
-        }
-    }
-    Ok(None)
-}
-
 #[test]
 fn what_is_no_command_is_unknown(rt: HostRuntime) -> Result<(), Fail> {
-    none_is_wrong(first_known(rt.alloc(), UNKNOWN))
+    for line in UNKNOWN {
+        assert!(rt; is_read(rt.alloc(), line, &Asked::Nothing)?, "{line}");
+    }
+    Ok(())
 }

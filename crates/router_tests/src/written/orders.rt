@@ -1,5 +1,5 @@
 //! The orders of keys, prefixes and kinds of routes, and the constants.
-use crate::outcomes::{each_is_so, is_so};
+use crate::outcomes::each_is_so;
 use std::cmp::Ordering;
 use std::test::Fail;
 use words::laws::{no_interface, sequence_numbers, unspecified};
@@ -29,21 +29,15 @@ fn keys_and_kinds_are_ordered(rt: HostRuntime) -> Result<(), Fail> {
     ])
 }
 
-fn are_ordered() -> bool {
-    let near = Prefix::under(Address::new(0x0a00_0000), 24);
-    let far = Prefix::under(Address::new(0x0a00_0100), 8 + 8);
-    let wide = Prefix::under(Address::new(0x0b00_0000), 8);
-    match (near, far, wide) {
-        (Some(near), Some(far), Some(wide)) => {
-            near.compare(&far) == Ordering::Greater && near.compare(&wide) == Ordering::Less
-        }
-        _ => false,
-    }
-}
-
 #[test]
 fn prefixes_are_ordered_by_address_first(rt: HostRuntime) -> Result<(), Fail> {
-    is_so(are_ordered())
+    let near = Prefix::under(Address::new(0x0a00_0000), 24).ok_or("a length of 24")?;
+    let far = Prefix::under(Address::new(0x0a00_0100), 16).ok_or("a length of 16")?;
+    let wide = Prefix::under(Address::new(0x0b00_0000), 8).ok_or("a length of 8")?;
+    each_is_so(&[
+        near.compare(&far) == Ordering::Greater,
+        near.compare(&wide) == Ordering::Less,
+    ])
 }
 
 #[test]
