@@ -89,17 +89,6 @@ fn called(alloc: Global, called: &Call, input: &Input) -> Option<Result<u64, Fau
     Some(call(hook, number, first, second, input, &shared, &mut seat))
 }
 
-// Each call comes to this where the table of routes has the rows above.
-fn come_to<R: AllocGlobal + Abort>(rt: &R, calls: &[(Call, Result<u64, Fault>)]) {
-    let rows = rows().expect(rt, "rows");
-    let input = input(&rows);
-    for row in calls {
-        let (called_so, want) = *row;
-        let found = called(rt.alloc(), &called_so, &input);
-        assert!(rt; found == Some(want), "{row:?}: {found:?}");
-    }
-}
-
 const SMALL: Content = Content::Number(0);
 
 const PAST: Content = Content::Number(256);
@@ -127,11 +116,6 @@ const REFUSED: &[(Call, Result<u64, Fault>)] = &[
     ((Hook::Veto, 4, SMALL, ADDRESS), Err(Fault::Kind)),
 ];
 
-#[test]
-fn calls_are_refused_in_order(rt: HostRuntime) {
-    come_to(&rt, REFUSED);
-}
-
 const LAST: Content = Content::Number(255);
 
 const MOST: Content = Content::Number(16_777_215);
@@ -152,9 +136,22 @@ const ANSWERED: &[(Call, Result<u64, Fault>)] = &[
     ((Hook::Veto, 4, TEN, TWO), Ok(4_294_967_296)),
 ];
 
+const CALLS: &[(&str, &[(Call, Result<u64, Fault>)])] = &[
+    ("calls are refused in order", REFUSED),
+    ("each helper answers at its hooks", ANSWERED),
+];
+
 #[test]
-fn each_helper_answers_at_its_hooks(rt: HostRuntime) {
-    come_to(&rt, ANSWERED);
+fn calls_come_to_their_answers(rt: HostRuntime) {
+    let rows = rows().expect(&rt, "rows");
+    let input = input(&rows);
+    for part in CALLS {
+        for row in part.1 {
+            let (called_so, want) = *row;
+            let found = called(rt.alloc(), &called_so, &input);
+            assert!(rt; found == Some(want), "{}: {row:?}: {found:?}", part.0);
+        }
+    }
 }
 
 // Counter 5 after two adds of 3, and cell 63 before and after it is set.

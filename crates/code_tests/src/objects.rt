@@ -107,18 +107,6 @@ fn reads_a_counting_program(rt: HostRuntime) {
     assert!(rt; has_counting_code(&object, &bytes) && has_counting_statement(&object));
 }
 
-fn at_context(offset: u32) -> Option<Kind> {
-    Some(Kind::Context(ContextOffset::new(offset)?))
-}
-
-fn at_stack(offset: u32) -> Option<Kind> {
-    Some(Kind::Stack(StackOffset::new(offset)?))
-}
-
-fn in_cells(low: u64, high: u64) -> Option<Kind> {
-    Some(Kind::MapValue(Map::Cells, StatedNumber::new(low, high, 0, 0)?))
-}
-
 // Stack bytes 3 to 9 and 511, two pointers and a place in the cells, with rank 7.
 fn packed_statement() -> Option<Statement> {
     let mut stack = StackBytes::new();
@@ -130,9 +118,9 @@ fn packed_statement() -> Option<Statement> {
         second: None,
     };
     let mut kinds = [Kind::Empty; 10];
-    kinds[1] = at_context(0)?;
-    kinds[2] = at_stack(512)?;
-    kinds[9] = in_cells(0, 504)?;
+    kinds[1] = Kind::Context(ContextOffset::new(0)?);
+    kinds[2] = Kind::Stack(StackOffset::new(512)?);
+    kinds[9] = Kind::MapValue(Map::Cells, StatedNumber::new(0, 504, 0, 0)?);
     Statement::new(0, rank, kinds, stack)
 }
 
@@ -163,16 +151,6 @@ fn what_is_packed_is_read_again(rt: HostRuntime) {
     assert!(rt; is_read_again(rt.alloc(), &object) == Some(true));
 }
 
-// A statement whose rank is of a register that is no number.
-fn is_refused_without_a_rank() -> bool {
-    let rank = Rank {
-        constant: 0,
-        first: RankTerm::new(3, 1),
-        second: None,
-    };
-    Statement::new(0, rank, [Kind::Empty; 10], StackBytes::new()).is_none()
-}
-
 // An object whose code is a slot and a half.
 fn half_a_slot_once(alloc: Global) -> Option<bool> {
     let code = Vec::from_slice(alloc, &[0; 12]).ok()?;
@@ -186,19 +164,23 @@ fn is_refused_with_half_a_slot(alloc: Global) -> bool {
     }
 }
 
-fn are_refused() -> [bool; 7] {
-    [
+#[test]
+fn holds_no_ill_formed_part(rt: HostRuntime) {
+    // of a register that is no number
+    let rank = Rank {
+        constant: 0,
+        first: RankTerm::new(3, 1),
+        second: None,
+    };
+    let are_refused = [
         StatedNumber::new(2, 1, 0, 0).is_none(),
         StatedNumber::new(0, 9, 4, 5).is_none(),
         ContextOffset::new(65).is_none(),
         StackOffset::new(513).is_none(),
         RankTerm::new(10, 1).is_none(),
         RankTerm::new(0, 0).is_none(),
-        is_refused_without_a_rank(),
-    ]
-}
-
-#[test]
-fn holds_no_ill_formed_part(rt: HostRuntime) {
-    assert!(rt; are_refused() == [true; 7] && is_refused_with_half_a_slot(rt.alloc()));
+        Statement::new(0, rank, [Kind::Empty; 10], StackBytes::new()).is_none(),
+        is_refused_with_half_a_slot(rt.alloc()),
+    ];
+    assert!(rt; are_refused == [true; 8], "{are_refused:?}");
 }

@@ -9,23 +9,15 @@ fn wide() -> Instruction {
     }
 }
 
-// Whether it is empty and how many slots it has, before a wide instruction is put in and then. What
-// is refused an allocation is done once more, since one may be refused in a run of the tests with a
-// refusal.
-fn before_and_with_one(builder: &mut CodeBuilder) -> ([bool; 3], [usize; 2]) {
-    let (is_empty, before) = (builder.is_empty(), builder.len());
-    let is_put = builder.push(wide()).is_ok() || builder.push(wide()).is_ok();
-    (
-        [is_empty, is_put, builder.is_empty()],
-        [before, builder.len()],
-    )
-}
+// What is refused an allocation is done once more, since one may be refused in a run of the tests
+// with a refusal.
 
 #[test]
 fn a_builder_has_the_slots_of_what_was_put_in(rt: HostRuntime) {
     let mut builder = CodeBuilder::new(rt.alloc());
-    let found = before_and_with_one(&mut builder);
-    assert!(rt; found == ([true, true, false], [0, 2]), "{found:?}");
+    assert!(rt; builder.is_empty() && builder.len() == 0);
+    let is_put = builder.push(wide()).is_ok() || builder.push(wide()).is_ok();
+    assert!(rt; is_put && !builder.is_empty() && builder.len() == 2);
 }
 
 // Puts in a wide instruction, and exits up to 4,095 slots in all. Whether each was put in.
@@ -38,16 +30,8 @@ fn fill(builder: &mut CodeBuilder) -> bool {
     is_full
 }
 
-// The answers to a wide instruction, an exit and another exit, each with the slots afterwards.
-fn put_at_the_end(builder: &mut CodeBuilder) -> [(Result<(), BuildError>, usize); 3] {
-    [
-        (builder.push(wide()), builder.len()),
-        (builder.push(Instruction::Exit), builder.len()),
-        (builder.push(Instruction::Exit), builder.len()),
-    ]
-}
-
-// Of 4,095 slots it has room for one.
+// The answers to a wide instruction, an exit and another exit, each with the slots afterwards: of
+// 4,095 slots it has room for one.
 const AT_THE_END: [(Result<(), BuildError>, usize); 3] = [
     (Err(BuildError::TooLong), 4095),
     (Ok(()), 4096),
@@ -58,7 +42,12 @@ const AT_THE_END: [(Result<(), BuildError>, usize); 3] = [
 fn a_builder_ends_at_4096_slots(rt: HostRuntime) {
     let mut builder = CodeBuilder::new(rt.alloc());
     let is_filled = fill(&mut builder) && builder.len() == 4095;
-    assert!(rt; is_filled && put_at_the_end(&mut builder) == AT_THE_END);
+    let found = [
+        (builder.push(wide()), builder.len()),
+        (builder.push(Instruction::Exit), builder.len()),
+        (builder.push(Instruction::Exit), builder.len()),
+    ];
+    assert!(rt; is_filled && found == AT_THE_END);
 }
 
 // The code of 4,096 slots.
@@ -116,34 +105,21 @@ const HOOKS: &[(u8, Option<Hook>)] = &[
     (5, None),
 ];
 
-fn hooks_are_numbered() -> bool {
-    for row in HOOKS {
-        let (number, hook) = *row;
-        if Hook::from_number(number) != hook {
-            return false;
-        }
-    }
-    true
-}
-
 const MAPS: &[(u8, Option<Map>)] = &[(0, Some(Map::Counters)), (1, Some(Map::Cells)), (2, None)];
-
-fn maps_are_numbered() -> bool {
-    for row in MAPS {
-        let (number, map) = *row;
-        if Map::from_number(number) != map {
-            return false;
-        }
-    }
-    true
-}
 
 #[test]
 fn names_have_their_numbers(rt: HostRuntime) {
     for number in 0..12u8 {
         assert!(rt; is_numbered(number), "{number}");
     }
-    assert!(rt; hooks_are_numbered() && maps_are_numbered());
+    for row in HOOKS {
+        let (number, hook) = *row;
+        assert!(rt; Hook::from_number(number) == hook, "hook {number}");
+    }
+    for row in MAPS {
+        let (number, map) = *row;
+        assert!(rt; Map::from_number(number) == map, "map {number}");
+    }
 }
 
 const NUMBERS: &[(DecodeFault, u8)] = &[
