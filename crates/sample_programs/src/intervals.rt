@@ -17,65 +17,54 @@ fn narrow(operation: Operation, left: Interval, right: Interval) -> (u64, u64) {
 
 type Range = (u64, u64);
 
-fn least() -> [Range; 4] {
-    let less_one = Interval::constant(u64::MAX);
-    let byte = Interval::constant(255);
-    let three = Interval::constant(3);
-    [
-        wide(Operation::Add, interval(1, 10), less_one),
-        wide(Operation::Add, interval(0, 10), less_one),
-        wide(Operation::And, Interval::top(), byte),
-        wide(Operation::ShiftLeft, interval(0, 255), three),
-    ]
-}
-
 #[test]
 fn least_precision(rt: HostRuntime) {
-    let found = least();
+    let less_one = Interval::constant(u64::MAX);
+    let found = [
+        wide(Operation::Add, interval(1, 10), less_one),
+        wide(Operation::Add, interval(0, 10), less_one),
+        wide(Operation::And, Interval::top(), Interval::constant(255)),
+        wide(
+            Operation::ShiftLeft,
+            interval(0, 255),
+            Interval::constant(3),
+        ),
+    ];
     assert!(rt;
         found == [(0, 9), (0, u64::MAX), (0, 255), (0, 2040)],
         "{found:?}"
     );
 }
 
-type Both = Option<(Interval, Interval)>;
-
-// 0 to 10 isn't 0, 0 to 5 is 9, and 0 to 100 is below 0.
-fn assumed() -> [Both; 3] {
+#[test]
+fn assumed_tests(rt: HostRuntime) {
     let zero = Interval::constant(0);
     let nine = Interval::constant(9);
-    [
+    let differ = Some((interval(1, 10), zero));
+    // 0 to 10 isn't 0, 0 to 5 is 9, and 0 to 100 is below 0.
+    let found = [
         Interval::assume(Test::NotEqual, Width::Bits64, interval(0, 10), zero),
         Interval::assume(Test::Equal, Width::Bits64, interval(0, 5), nine),
         Interval::assume(Test::SignedLess, Width::Bits64, interval(0, 100), zero),
-    ]
-}
-
-#[test]
-fn assumed_tests(rt: HostRuntime) {
-    let differ = Some((interval(1, 10), Interval::constant(0)));
-    assert!(rt; assumed() == [differ, None, None]);
+    ];
+    assert!(rt; found == [differ, None, None]);
 }
 
 fn unary(operation: UnaryOperation, value: Interval) -> Range {
     Interval::unary(operation, value).range()
 }
 
-fn of_other_calls() -> [Range; 4] {
+#[test]
+fn other_calls(rt: HostRuntime) {
     let negate = UnaryOperation::Negate(Width::Bits32);
     let extend = UnaryOperation::Extend(Extension::Byte(Width::Bits64));
     let swap = UnaryOperation::Reorder(ByteOrder::Big, SwapWidth::Bits16);
-    [
+    let found = [
         narrow(Operation::Add, Interval::constant(u64::MAX), interval(1, 1)),
         unary(negate, interval(1, 3)),
         unary(extend, Interval::constant(0x80)),
         unary(swap, Interval::constant(0x1234)),
-    ]
-}
-
-#[test]
-fn other_calls(rt: HostRuntime) {
-    let found = of_other_calls();
+    ];
     let wanted = [
         (0, 0),
         (4294967293, 4294967295),
@@ -85,20 +74,12 @@ fn other_calls(rt: HostRuntime) {
     assert!(rt; found == wanted, "{found:?}");
 }
 
-fn are_within() -> [bool; 2] {
-    [
-        interval(2, 3).within(interval(1, 3)),
-        interval(0, 3).within(interval(1, 3)),
-    ]
-}
-
-fn multiples() -> [u32; 2] {
-    [Interval::constant(0).multiple(), interval(1, 8).multiple()]
-}
-
 #[test]
 fn intervals_within_others_and_what_they_are_multiples_of(rt: HostRuntime) {
-    assert!(rt; are_within() == [true, false] && multiples() == [64, 0]);
+    assert!(rt; interval(2, 3).within(interval(1, 3)), "within");
+    assert!(rt; !interval(0, 3).within(interval(1, 3)), "not within");
+    let multiples = (Interval::constant(0).multiple(), interval(1, 8).multiple());
+    assert!(rt; multiples == (64, 0), "{multiples:?}");
 }
 
 /// What a test of 64 bits against the number leaves of the value.

@@ -27,20 +27,17 @@ fn eighth() -> KnownBits {
     wide(Operation::ShiftLeft, byte(), 3)
 }
 
-// A byte, eight times it, the low half of a byte turned and with more bits, and the byte back.
-fn of_bits() -> [KnownBits; 5] {
+#[test]
+fn bit_operations_know_their_bits(rt: HostRuntime) {
     let low = KnownBits::stated(0, u64::MAX, 0xff, 0x0f);
-    [
+    // A byte, eight times it, the low half of a byte turned and with more bits, and the byte back.
+    let found = [
         byte(),
         eighth(),
         wide(Operation::Xor, low, 0xff),
         wide(Operation::Or, low, 0xf00),
         wide(Operation::ShiftRight, eighth(), 3),
-    ]
-}
-
-#[test]
-fn bit_operations_know_their_bits(rt: HostRuntime) {
+    ];
     let wanted = [
         known(0xffff_ffff_ffff_ff00, 0),
         known(0xffff_ffff_ffff_f807, 0),
@@ -48,22 +45,19 @@ fn bit_operations_know_their_bits(rt: HostRuntime) {
         known(0xfff, 0xf0f),
         known(0xffff_ffff_ffff_ff00, 0),
     ];
-    assert!(rt; of_bits() == wanted && factor(eighth()) == 3);
-}
-
-fn of_sums() -> [KnownBits; 2] {
-    let low = known(0xf0ff, 0x000f);
-    let sixteen = KnownBits::constant(16);
-    [
-        wide(Operation::Add, low, 1),
-        applied(Operation::Subtract, Width::Bits32, low, sixteen),
-    ]
+    assert!(rt; found == wanted && factor(eighth()) == 3);
 }
 
 #[test]
 fn sums_and_differences_know_their_low_bits(rt: HostRuntime) {
+    let low = known(0xf0ff, 0x000f);
+    let sixteen = KnownBits::constant(16);
+    let found = [
+        wide(Operation::Add, low, 1),
+        applied(Operation::Subtract, Width::Bits32, low, sixteen),
+    ];
     let wanted = [known(0xff, 0x10), known(0xffff_ffff_0000_00ff, 0xff)];
-    assert!(rt; of_sums() == wanted);
+    assert!(rt; found == wanted);
 }
 
 // An operation on two numbers, and its result.
@@ -119,81 +113,63 @@ fn numbers_give_their_result(rt: HostRuntime) {
     }
 }
 
-fn swapped_and_negated() -> [KnownBits; 3] {
+#[test]
+fn swaps_and_negations_give_their_result(rt: HostRuntime) {
     let swap = UnaryOperation::Reorder(ByteOrder::Big, SwapWidth::Bits32);
     let half = known(0xffff_ffff, 1);
-    [
+    let found = [
         KnownBits::unary(swap, KnownBits::constant(0x1122_3344_5566_7788)),
         KnownBits::unary(UnaryOperation::Negate(Width::Bits32), half),
         KnownBits::unary(UnaryOperation::Negate(Width::Bits64), half),
-    ]
-}
-
-#[test]
-fn swaps_and_negations_give_their_result(rt: HostRuntime) {
+    ];
     let wanted = [
         KnownBits::constant(0x8877_6655),
         KnownBits::constant(0xffff_ffff),
         KnownBits::top(),
     ];
-    assert!(rt; swapped_and_negated() == wanted);
+    assert!(rt; found == wanted);
 }
-
-type Both = Option<(KnownBits, KnownBits)>;
 
 // 5 is 9; an odd number is one with an upper byte; a number's lower half is that of 2^32; 9 is less
 // than 5.
-fn assumed() -> [Both; 4] {
+#[test]
+fn equal_numbers_share_what_is_known(rt: HostRuntime) {
     let (five, nine) = (KnownBits::constant(5), KnownBits::constant(9));
     let (odd, upper) = (known(1, 1), known(0xff00, 0x1200));
     let (any, large) = (KnownBits::top(), KnownBits::constant(1 << 32));
-    [
+    let found = [
         KnownBits::assume(Test::Equal, Width::Bits64, five, nine),
         KnownBits::assume(Test::Equal, Width::Bits64, odd, upper),
         KnownBits::assume(Test::Equal, Width::Bits32, any, large),
         KnownBits::assume(Test::Less, Width::Bits64, nine, five),
-    ]
-}
-
-#[test]
-fn equal_numbers_share_what_is_known(rt: HostRuntime) {
+    ];
     let shared = known(0xff01, 0x1201);
-    let half = known(0xffff_ffff, 0);
-    let (five, nine) = (KnownBits::constant(5), KnownBits::constant(9));
     let wanted = [
         None,
         Some((shared, shared)),
-        Some((half, KnownBits::constant(1 << 32))),
+        Some((known(0xffff_ffff, 0), large)),
         Some((nine, five)),
     ];
-    assert!(rt; assumed() == wanted);
-}
-
-fn ranges() -> [(u64, u64); 2] {
-    [KnownBits::constant(7).range(), known(0xf0, 0x30).range()]
-}
-
-// 7 within odd numbers, and the other way round; even numbers within all.
-fn are_within() -> [bool; 3] {
-    let seven = KnownBits::constant(7);
-    [
-        seven.within(known(1, 1)),
-        known(1, 1).within(seven),
-        known(1, 0).within(KnownBits::top()),
-    ]
-}
-
-fn factors() -> [u32; 2] {
-    [
-        factor(KnownBits::constant(0)),
-        factor(KnownBits::constant(24)),
-    ]
+    assert!(rt; found == wanted);
 }
 
 #[test]
 fn what_is_known_has_a_range_and_a_place(rt: HostRuntime) {
-    let found = ranges();
-    let wanted = [(7, 7), (0x30, 0xffff_ffff_ffff_ff3f)];
-    assert!(rt; found == wanted, "{found:?}");
-    assert!(rt; are_within() == [true, false, true] && factors() == [64, 3]);
+    let seven = KnownBits::constant(7);
+    let found = (seven.range(), known(0xf0, 0x30).range());
+    assert!(rt;
+        found == ((7, 7), (0x30, 0xffff_ffff_ffff_ff3f)),
+        "{found:?}"
+    );
+    // 7 within odd numbers, and the other way round; even numbers within all.
+    let within = [
+        seven.within(known(1, 1)),
+        known(1, 1).within(seven),
+        known(1, 0).within(KnownBits::top()),
+    ];
+    let factors = [
+        factor(KnownBits::constant(0)),
+        factor(KnownBits::constant(24)),
+    ];
+    assert!(rt; within == [true, false, true] && factors == [64, 3]);
 }

@@ -78,24 +78,12 @@ fn play<R: Wait + Drop + Copy>(alloc: Global, rt: R, steps: &[Step<'_>]) -> Resu
     take(&mut trial, alloc, steps)
 }
 
-// All the steps go as they say.
-fn all_go<R: AllocGlobal + Abort + Wait>(rt: &R, steps: &[Step<'_>]) -> Result<(), Fail> {
-    let went = play(rt.alloc(), rt, steps)?;
-    assert!(rt; went == steps.len(), "up to step {went}");
-    Ok(())
-}
-
 const DEFAULTS: &[Step<'_>] = &[
     Step::Tag(Some((0x0506_0708, 0x0506_0708))),
     Step::Count(HELLO, Some(0)),
     Step::Price(Some(20)),
     Step::Veto(Some(0)),
 ];
-
-#[test]
-fn without_a_program_the_default_is_answered(rt: HostRuntime) -> Result<(), Fail> {
-    all_go(&rt, DEFAULTS)
-}
 
 const CONFIGURED: &[Step<'_>] = &[
     Step::Configured(Some((0x0506_0708, 20))),
@@ -114,11 +102,6 @@ const CONFIGURED: &[Step<'_>] = &[
     Step::LetIn(Some(2)),
 ];
 
-#[test]
-fn the_configured_is_answered_at_once_while_no_program_stands(rt: HostRuntime) -> Result<(), Fail> {
-    all_go(&rt, CONFIGURED)
-}
-
 const DETACHED: &[Step<'_>] = &[
     Step::Attach(SEVEN),
     Step::Price(Some(7)),
@@ -126,11 +109,6 @@ const DETACHED: &[Step<'_>] = &[
     Step::Learn,
     Step::Price(Some(20)),
 ];
-
-#[test]
-fn a_program_answers_until_it_is_detached(rt: HostRuntime) -> Result<(), Fail> {
-    all_go(&rt, DETACHED)
-}
 
 const REPLACED: &[Step<'_>] = &[
     Step::Attach(SEVEN),
@@ -144,22 +122,12 @@ const REPLACED: &[Step<'_>] = &[
     Step::Price(Some(9)),
 ];
 
-#[test]
-fn a_program_takes_the_place_of_another_at_its_hook_alone(rt: HostRuntime) -> Result<(), Fail> {
-    all_go(&rt, REPLACED)
-}
-
 const COSTS: &[Step<'_>] = &[
     Step::Attach("hook tag\nrank 0\nr1 = wide 3221225984\nr2 = 24\ncall 4\nexit\n"),
     Step::Tag(Some((20, 20))),
     Step::Attach("hook tag\nrank 0\nr1 = wide 3221225984\nr2 = 25\ncall 4\nexit\n"),
     Step::Tag(Some((4_294_967_296, 0))),
 ];
-
-#[test]
-fn a_program_finds_the_cost_of_a_row(rt: HostRuntime) -> Result<(), Fail> {
-    all_go(&rt, COSTS)
-}
 
 const BYTES: &[Step<'_>] = &[
     Step::Attach("hook count\nrank 0\nr1 = 1\ncall 3\nexit\n"),
@@ -170,19 +138,38 @@ const BYTES: &[Step<'_>] = &[
     Step::Count(HELLO, Some(256)),
 ];
 
-#[test]
-fn a_program_reads_a_byte_of_the_packet(rt: HostRuntime) -> Result<(), Fail> {
-    all_go(&rt, BYTES)
-}
-
 const COST_OF_THE_ROUTE: &[Step<'_>] = &[
     Step::Attach("hook veto\nrank 0\nr0 = *u32 r1 12\nexit\n"),
     Step::Veto(Some(20)),
 ];
 
+const CASES: &[(&str, &[Step<'_>])] = &[
+    ("without a program the default is answered", DEFAULTS),
+    (
+        "the configured is answered at once while no program stands",
+        CONFIGURED,
+    ),
+    ("a program answers until it is detached", DETACHED),
+    (
+        "a program takes the place of another at its hook alone",
+        REPLACED,
+    ),
+    ("a program finds the cost of a row", COSTS),
+    ("a program reads a byte of the packet", BYTES),
+    (
+        "a program of veto reads the cost of its route",
+        COST_OF_THE_ROUTE,
+    ),
+];
+
 #[test]
-fn a_program_of_veto_reads_the_cost_of_its_route(rt: HostRuntime) -> Result<(), Fail> {
-    all_go(&rt, COST_OF_THE_ROUTE)
+fn questions_are_answered(rt: HostRuntime) -> Result<(), Fail> {
+    for case in CASES {
+        let (name, steps) = *case;
+        let went = play(rt.alloc(), &rt, steps)?;
+        assert!(rt; went == steps.len(), "{name}: up to step {went}");
+    }
+    Ok(())
 }
 
 fn tag_holds<R: Wait + Drop>(trial: &mut Trial<R>, external: &External) -> bool {
