@@ -7,10 +7,10 @@ use std::alloc::Global;
 use std::sync::Wait;
 use std::test::Fail;
 
-fn play_at(network: &mut Network, events: &[Event], acts: &[Act]) -> Result<(), Fail> {
+fn play_at(network: &mut Network, events: &[Event], name: &str, acts: &[Act]) -> Result<(), Fail> {
     for (place, act) in acts.iter().enumerate() {
         if !network.does(events, *act) {
-            return Err(Fail::new(format_args!("act {place}")));
+            return Err(Fail::new(format_args!("{name}: act {place}")));
         }
     }
     Ok(())
@@ -20,12 +20,13 @@ fn play_at(network: &mut Network, events: &[Event], acts: &[Act]) -> Result<(), 
 fn play<R: Wait + Drop + Copy>(
     alloc: Global,
     rt: R,
+    name: &str,
     routers: usize,
     acts: &[Act],
 ) -> Result<(), Fail> {
     let events = announcements(alloc, rt, DESTINATIONS)?;
     let mut network = Network::new(alloc, routers).ok_or("no network")?;
-    let played = play_at(&mut network, &events, acts);
+    let played = play_at(&mut network, &events, name, acts);
     network.close();
     played
 }
@@ -197,62 +198,43 @@ const THE_LOOP_ENDS: &[Act] = &[
     Act::Holds(0, 4),
 ];
 
-#[test]
-fn two_routers_become_full(rt: HostRuntime) -> Result<(), Fail> {
-    play(rt.alloc(), &rt, 2, TWO)
-}
+// A name, how many routers, and what they do.
+const NETWORKS: &[(&str, usize, &[Act])] = &[
+    ("two routers become full", 2, TWO),
+    ("three routers become full", 3, THREE),
+    ("packets are lost", 3, LOSSES),
+    ("packets come twice", 3, REPETITIONS),
+    ("packets come in another order", 3, OTHER_ORDERS),
+    ("silent neighbors are lost and found again", 3, SILENCE),
+    ("a router begins anew", 3, RESTART),
+    ("a link goes down and up again", 3, LINK_DOWN),
+    (
+        "a flushed LSA comes back to stay",
+        3,
+        A_FLUSHED_LSA_COMES_BACK,
+    ),
+    (
+        "a flushed LSA comes back without any loss",
+        3,
+        BACK_IN_SIX_ACTS,
+    ),
+    (
+        "two announcers make a loop of a flushed LSA",
+        3,
+        A_LOOP_IN_SEVEN_ACTS,
+    ),
+];
 
 #[test]
-fn three_routers_become_full(rt: HostRuntime) -> Result<(), Fail> {
-    play(rt.alloc(), &rt, 3, THREE)
-}
-
-#[test]
-fn packets_are_lost(rt: HostRuntime) -> Result<(), Fail> {
-    play(rt.alloc(), &rt, 3, LOSSES)
-}
-
-#[test]
-fn packets_come_twice(rt: HostRuntime) -> Result<(), Fail> {
-    play(rt.alloc(), &rt, 3, REPETITIONS)
-}
-
-#[test]
-fn packets_come_in_another_order(rt: HostRuntime) -> Result<(), Fail> {
-    play(rt.alloc(), &rt, 3, OTHER_ORDERS)
-}
-
-#[test]
-fn silent_neighbors_are_lost_and_found_again(rt: HostRuntime) -> Result<(), Fail> {
-    play(rt.alloc(), &rt, 3, SILENCE)
-}
-
-#[test]
-fn a_router_begins_anew(rt: HostRuntime) -> Result<(), Fail> {
-    play(rt.alloc(), &rt, 3, RESTART)
-}
-
-#[test]
-fn a_link_goes_down_and_up_again(rt: HostRuntime) -> Result<(), Fail> {
-    play(rt.alloc(), &rt, 3, LINK_DOWN)
-}
-
-#[test]
-fn a_flushed_lsa_comes_back_to_stay(rt: HostRuntime) -> Result<(), Fail> {
-    play(rt.alloc(), &rt, 3, A_FLUSHED_LSA_COMES_BACK)
-}
-
-#[test]
-fn a_flushed_lsa_comes_back_without_any_loss(rt: HostRuntime) -> Result<(), Fail> {
-    play(rt.alloc(), &rt, 3, BACK_IN_SIX_ACTS)
-}
-
-#[test]
-fn two_announcers_make_a_loop_of_a_flushed_lsa(rt: HostRuntime) -> Result<(), Fail> {
-    play(rt.alloc(), &rt, 3, A_LOOP_IN_SEVEN_ACTS)
+fn networks_come_to_rest(rt: HostRuntime) -> Result<(), Fail> {
+    for network in NETWORKS {
+        let (name, routers, acts) = *network;
+        play(rt.alloc(), &rt, name, routers, acts)?;
+    }
+    Ok(())
 }
 
 #[test]
 fn the_loop_of_a_flushed_lsa_ends_within_the_hour(rt: HostRuntime) -> Result<(), Fail> {
-    play(rt.alloc(), &rt, 3, THE_LOOP_ENDS)
+    play(rt.alloc(), &rt, "the loop ends", 3, THE_LOOP_ENDS)
 }
