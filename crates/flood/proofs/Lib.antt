@@ -8,3 +8,4 @@ pub mod Starting
 pub mod Offering
 pub mod Answering
 pub mod Kept
+pub mod Owing

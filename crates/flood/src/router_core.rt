@@ -10,10 +10,12 @@ ghost use Rattle.flood_laws.specs.Keeping.{KeepsWhatIsKnown};
 ghost use Rattle.flood.specs.Early.{early_refusal};
 ghost use Rattle.flood.specs.Offers.{AreCandidatesNow, IsOffered, IsStaleNow, IsTableNow};
 ghost use Rattle.flood.specs.Occurrences.{occurrence_of};
+ghost use Rattle.flood.specs.Owed.{owed_at};
 
 use crate::clash::is_announced;
 use crate::event::Event;
 use crate::keeping::take_and_keep;
+use crate::owed::owed_on;
 use crate::profile::in_profile;
 use crate::start::begin;
 use crate::taking::refuses;
@@ -214,6 +216,22 @@ impl Core {
         let place = usize::from(number).checked_sub(1)?;
         let link = self.router.area().links().get(place)?;
         link.neighbor()
+    }
+
+    /// How many LSAs the neighbor at the interface of this number has still to acknowledge: the
+    /// entries of its Link state retransmission list (RFC 2328, section 10), which are all of the
+    /// database. 0 where it is Down or there is no such interface. It looks at each key of the
+    /// database, and wants no memory.
+    pub fn owes(&self, number: u16) -> usize
+        ensures { result ≡ owed_at self.now number }
+    {
+        let area = self.router.area();
+        let links = area.links();
+        let number = usize::from(number);
+        if number == 0 || number > links.len() {
+            return 0;
+        }
+        owed_on(&links[number - 1], area.database())
     }
 
     /// The candidates for the routing table at the moment of the last event (RFC 2328, section 16).

@@ -26,6 +26,8 @@ pub enum Happening {
 pub enum Shown {
     /// `neighbors`
     Neighbors,
+    /// `owed`: how many LSAs each neighbor that isn't Down has still to acknowledge.
+    Owed,
     /// `table`
     Table,
     /// `candidates`: how many there are, and whether a router that walks anew has the same.
@@ -108,6 +110,7 @@ fn with_two(name: &str, first: &str, second: &str) -> Option<Happening> {
 fn shown_by(name: &str) -> Option<Shown> {
     match name {
         "neighbors" => Some(Shown::Neighbors),
+        "owed" => Some(Shown::Owed),
         "table" => Some(Shown::Table),
         "candidates" => Some(Shown::Candidates),
         "offered" => Some(Shown::Offered),

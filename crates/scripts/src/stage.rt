@@ -5,7 +5,7 @@ use crate::line::{Happening, Line, Shown, interfaces_of, line_of};
 use crate::operator::Operator;
 use crate::telling::{
     push_announced, push_answer, push_candidates, push_lsa, push_neighbors, push_offered,
-    push_table,
+    push_owed, push_table,
 };
 use flood::{Config, Core, Event, Interface};
 use std::alloc::{AllocError, Global};
@@ -146,6 +146,7 @@ impl<R: Wait + Drop> Stage<R> {
     fn show(&mut self, shown: Shown) -> Result<(), AllocError> {
         match shown {
             Shown::Neighbors => push_neighbors(&mut self.text, self.alloc, &self.core),
+            Shown::Owed => push_owed(&mut self.text, &self.core),
             Shown::Table => push_table(&mut self.text, self.alloc, &self.core),
             Shown::Candidates => push_candidates(&mut self.text, &self.core),
             Shown::Offered => push_offered(&mut self.text, &self.core),
@@ -261,9 +262,9 @@ fn play_behind<R: Wait + Drop + Copy>(
 ///
 /// The first line is `interfaces N`, and each other one lets something happen at a router (`MOMENT
 /// tick`, `MOMENT packet I HEX`, `MOMENT announce P METRIC`, `MOMENT withdraw P`, `MOMENT down I`,
-/// `MOMENT install all`, `MOMENT install nothing`), or shows something (`neighbors`, `table`,
-/// `candidates`, `offered`, `stale`, `walks`, `lsas`, `lsa TYPE ID ROUTER`, `announced P`). What
-/// goes out is printed as `MOMENT sends I HEX`, a refusal as `MOMENT refused: ` and why.
+/// `MOMENT install all`, `MOMENT install nothing`), or shows something (`neighbors`, `owed`,
+/// `table`, `candidates`, `offered`, `stale`, `walks`, `lsas`, `lsa TYPE ID ROUTER`, `announced P`).
+/// What goes out is printed as `MOMENT sends I HEX`, a refusal as `MOMENT refused: ` and why.
 ///
 /// Or the first line is `area ROUTER ADDRESS..`: a router and the addresses of its interfaces. Then
 /// `MOMENT lsa HEX` lets an LSA come in, `MOMENT candidates` shows the routes that all LSAs offer

@@ -43,6 +43,17 @@ pub fn push_neighbors(text: &mut String, alloc: Global, core: &Core) -> Result<(
     text.push_str(&neighbors_text(alloc, &neighbors)?)
 }
 
+/// Adds `owed I N` for each neighbor that isn't Down: N LSAs stand on its retransmission list.
+pub fn push_owed(text: &mut String, core: &Core) -> Result<(), AllocError> {
+    for interface in 1..=core.interface_count() {
+        let number = (interface % 64) as u16;
+        if core.neighbor(number).is_some() {
+            writeln!(text, "owed {number} {}", core.owes(number))?;
+        }
+    }
+    Ok(())
+}
+
 /// Adds a line for each row of the table, and `end`.
 pub fn push_table(text: &mut String, alloc: Global, core: &Core) -> Result<(), AllocError> {
     text.push_str(&table_text(alloc, &core.rows()?)?)

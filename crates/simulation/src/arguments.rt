@@ -70,6 +70,7 @@ InfTransDelay 1. Each other line is one of these (empty lines and those with # s
   MOMENT install all              each candidate for a route is let in
   MOMENT install nothing          no candidate has an answer
   neighbors, table                prints them as a router's console does
+  owed                            prints how many LSAs each neighbor has still to acknowledge
   lsas                            prints how many LSAs the database has
   lsa TYPE ID ROUTER              prints the LSA's bytes, with its age at the last event
   announced A.B.C.D/L             prints whether the destination is announced
