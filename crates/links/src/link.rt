@@ -1,5 +1,6 @@
 //! What a worker receives and sends through, and its clock.
-ghost use Rattle.std.specs.Prelude.{◌≡◌, ℕ, ◌<◌, List, Option, IfOk, IfSome, OnOk, OnErr};
+ghost use Rattle.std.specs.Prelude.{◌≡◌, ℕ, ◌<◌, ◌≤◌, List, Option, IfOk, IfSome, OnOk};
+ghost use Rattle.std.specs.Prelude.{OnErr, length};
 
 use std::alloc::Global;
 use words::{Second, Sequence};
@@ -30,6 +31,7 @@ pub trait Link {
         buffer: &mut [u8; 8193],
     ) -> Result<Option<Sequence<u8>>, LinkFault>
         ensures heard { IfOk result (λ heard. hears self.old heard self.new) }
+        ensures cut { IfOk result (λ heard. IfSome heard (λ datagram. length datagram ≤ 8193)) }
         ensures fine { OnOk result (faults self.new ≡ faults self.old) }
         ensures fault { OnErr result (faults self.old < faults self.new) };
 

@@ -1,5 +1,5 @@
 //! A link and a clock that play lists, for tests.
-ghost use Rattle.std.specs.Prelude.{◌≡◌, ◌≢◌, ℕ, ◌+◌, ◌<◌, ◌≤◌};
+ghost use Rattle.std.specs.Prelude.{◌≡◌, ◌≢◌, ℕ, ◌+◌, ◌<◌, ◌≤◌, IfSome, length};
 ghost use Rattle.links.specs.declared.script.Played.TheVariants.{Fault};
 
 use crate::link::{Link, LinkFault, Seconds, datagram};
@@ -76,7 +76,9 @@ impl<'a> Script<'a> {
     }
 
     // A copy of the datagram at this place, cut to 8,193 bytes; None where there is no memory.
-    fn copied(&self, alloc: Global, at: usize) -> Option<Sequence<u8>> {
+    fn copied(&self, alloc: Global, at: usize) -> Option<Sequence<u8>>
+        ensures { IfSome result (λ datagram. length datagram ≤ 8193) }
+    {
         let Some(Answer::Datagram(bytes)) = self.answers.get(at) else {
             return None;
         };
