@@ -1,0 +1,7 @@
+mod Holding
+mod Asking
+mod Describing
+mod Parts
+mod Events
+mod Runs
+mod WorkedRequests

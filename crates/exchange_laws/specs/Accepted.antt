@@ -1,0 +1,77 @@
+-- What a router makes of the headers of a Description that it accepts (RFC 2328, section 10.6):
+-- each is requested, unless an instance that is as new is held.
+use Rattle.std.specs.Prelude.{◌≡◌, ℕ, Bool, true, false, not, ◌&&◌, nat_lt, List, ◌∷◌, ◌++◌, Some}
+use Rattle.std.specs.List.{AllByRecursion}
+use Rattle.words.specs.Constants.{largest_packet}
+use Rattle.words.specs.Numbers.{InterfaceNumber, Moment, RouterNumber}
+use Rattle.lsdb.specs.Headers.{Header, key_of}
+use Rattle.lsdb.specs.Instances.{instance_of}
+use Rattle.lsdb.specs.Keys.{same_key}
+use Rattle.packet.specs.declared.model.Body.TheVariants as body
+use Rattle.packet.specs.declared.model.Description.{Description}
+use Rattle.packet.specs.declared.model.Packet.{Packet}
+use Rattle.packet.specs.Text.{PacketText}
+use Rattle.adjacency.specs.Adjacencies.{two_way_received}
+use Rattle.adjacency.specs.Descriptions.{Verdict, knows_types, verdict}
+use Rattle.adjacency.specs.Neighbors.{Neighbor}
+use Rattle.received.specs.Links.{neighbor_at}
+use Rattle.events.specs.declared.model.Out.{Out}
+use Rattle.events.specs.Endings.{start_event}
+use Rattle.events.specs.Events.{Happens}
+use Rattle.events.specs.Hellos.{is_foreign}
+use Rattle.events.specs.Routers.{Occurrence, Router}
+use Rattle.flood_laws.specs.InOrder.{IsInOrder}
+use Rattle.agreement_laws.specs.Exchanged.{conversation_with}
+use Rattle.exchange_laws.specs.Requests.{IsRequestedOrHeld}
+
+-- ---- a Description that is accepted
+
+-- the next one in Exchange, or the one that ends the negotiation
+abbrev pub is_accepting : Verdict → Bool
+is_accepting Verdict.Discarded = false
+is_accepting Verdict.NegotiatedAsSlave = true
+is_accepting Verdict.NegotiatedAsMaster = true
+is_accepting Verdict.Repeated = false
+is_accepting Verdict.Accepted = true
+is_accepting Verdict.Mismatch = false
+
+-- A neighbor in Init goes on to ExStart first. The Description fits into a packet, and knows all
+-- types of its headers.
+abbrev pub accepts_description : RouterNumber → Moment → Neighbor → Description → Bool
+accepts_description own moment n d =
+    not (nat_lt largest_packet d.mtu) && knows_types d
+    && is_accepting (verdict own (two_way_received moment n).neighbor d)
+
+-- the event's packet is a Description of the neighbor at this interface, as it is once copies have
+-- come to MaxAge, and is accepted
+pub record AcceptsDescription (old : Router) (moment : Moment) (event : Occurrence)
+    (number : InterfaceNumber) (n : Neighbor) (d : Description) : Type 0 where
+  pub bytes : List ℕ
+  pub packet : Packet
+  pub is : event ≡ Occurrence.Packet number bytes
+  pub text : PacketText bytes packet
+  pub says : packet.body ≡ body.Description d
+  pub other : is_foreign old.id packet.router ≡ true
+  pub from : n.router ≡ packet.router
+  pub there : neighbor_at number (start_event moment old).router.area.links ≡ Some n
+  pub accepted : accepts_description old.id moment n d ≡ true
+
+-- ---- its headers
+
+-- a later header of its key would take the place of its request, even an older one
+pub record IsLastOfItsKey (headers : List Header) (h : Header) : Type 0 where
+  pub before : List Header
+  pub rest : List Header
+  pub is : headers ≡ before ++ h ∷ rest
+  pub others : AllByRecursion (λ (g : Header). same_key (key_of h) (key_of g) ≡ false) rest
+
+-- of routers in order, as they are in every run: so it is of each Description that is accepted
+abbrev pub WhatIsAcceptedIsRequested : Type 0
+WhatIsAcceptedIsRequested =
+    (old : Router) (moment : Moment) (event : Occurrence) (outs : List Out) (new : Router)
+    → Happens old moment event outs new → IsInOrder old
+    → (number : InterfaceNumber) (n : Neighbor) (d : Description)
+    → AcceptsDescription old moment event number n d
+    → (h : Header) → IsLastOfItsKey d.headers h
+    → IsRequestedOrHeld moment number (conversation_with (two_way_received moment n).neighbor)
+    (key_of h) (record { header = h; at = moment }) (instance_of h) new

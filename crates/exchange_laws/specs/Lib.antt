@@ -1,0 +1,4 @@
+pub mod Requests
+pub mod Accepted
+pub mod TakenIn
+pub mod WorkedRequests
