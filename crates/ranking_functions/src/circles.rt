@@ -1,6 +1,6 @@
 //! Loops among the sites, and how a number is carried round one.
 
-use crate::loops::{edges_within, is_marked, keep_common, loop_through};
+use crate::loops::{Circle, Ways, is_marked, is_straight};
 use crate::weights::Bounds;
 use inference::memory::{Memory, element_or};
 use inference::{Edge, Sites};
@@ -12,23 +12,18 @@ pub struct Graph<'a> {
     pub memory: &'a Memory,
     pub sites: &'a Sites,
     pub edges: &'a [Edge],
-    /// Which of the edges a loop may take: each one.
-    pub all: &'a [bool],
+    /// All of the edges, as a loop may take them.
+    pub ways: &'a Ways,
+    /// All of the edges, and all sites with the entry.
+    pub all: &'a Circle,
     /// A place for each site, and the last one for the entry.
     pub bounds: &'a [Bounds],
     /// The greatest constant that leaves the program within its budget.
     pub most: u64,
 }
 
-/// A loop, if there is one: its sites, and the edges between them.
-#[derive(Drop)]
-pub struct Circle {
-    pub members: Vec<bool>,
-    pub within: Vec<bool>,
-}
-
-/// How a number is carried round a loop: in which register at each site, and on which edges it
-/// doesn't fall. One that an edge of the loop loses neither falls nor rises.
+/// How a number is carried round a loop: in which register at each site, and on which of its edges
+/// it doesn't fall. One that an edge of the loop loses neither falls nor rises.
 #[derive(Drop)]
 pub struct Carried {
     pub registers: Vec<Option<u8>>,
@@ -51,19 +46,12 @@ fn fact_at(registers: &[Option<u8>], edge: &Edge) -> Option<Fact> {
     }
 }
 
-impl Circle {
-    /// Whether there is a loop, and the site is one of its own.
-    pub fn has(&self, node: usize) -> bool {
-        is_marked(&self.members, node)
-    }
-}
-
 impl Carried {
-    /// Notes how the number goes on at the edge from this site.
-    fn note(&mut self, index: usize, from: usize, fact: Option<Fact>) {
+    /// Notes how the number goes on at the edge in this place, from this site.
+    fn note(&mut self, place: usize, from: usize, fact: Option<Fact>) {
         match fact {
             Some(fact) => {
-                put(&mut self.stays, index, fact.down <= fact.up);
+                put(&mut self.stays, place, fact.down <= fact.up);
                 self.has_fall |= fact.up < fact.down;
                 self.has_rise |= fact.down < fact.up;
                 self.is_lost |= register_at(&self.registers, from) != Some(fact.origin);
@@ -87,46 +75,25 @@ impl<'a> Graph<'a> {
         }
     }
 
-    /// The sites of the loop through the site by these edges.
-    pub fn members(&self, kept: &[bool], head: usize) -> Vec<bool> {
-        loop_through(self.memory, self.edges, kept, self.nodes(), head)
+    /// The loop whose first site is this one, by all edges. It has no sites where there is none.
+    pub fn circle(&self, head: usize) -> Circle {
+        self.ways.circle(self.memory, self.edges, head)
     }
 
-    /// The loop through the site by these edges. It has no sites where there is none.
-    pub fn circle(&self, kept: &[bool], head: usize) -> Circle {
-        let members = self.members(kept, head);
-        Circle {
-            within: edges_within(self.memory, self.edges, kept, &members),
-            members,
-        }
+    /// These edges, as a loop may take them.
+    pub fn ways(&self, numbers: Vec<usize>) -> Ways {
+        Ways::new(self.memory, self.edges, numbers, self.nodes())
     }
 
-    /// Whether no loop of these edges, within this one, begins at the site.
-    fn is_straight_at(&self, circle: &Circle, kept: &[bool], head: usize) -> bool {
-        if self.sites.is_head(head) && circle.has(head) {
-            let members = self.members(kept, head);
-            !is_marked(&members, head)
-        } else {
-            true
-        }
-    }
-
-    /// Whether these edges of a loop have no loop among them.
-    pub fn is_straight(&self, circle: &Circle, kept: &[bool]) -> bool {
-        for head in 0..self.sites.len() {
-            if !self.is_straight_at(circle, kept, head) {
-                return false;
-            }
-        }
-        true
+    /// Whether these edges have no loop among them.
+    pub fn is_straight(&self, kept: &[usize]) -> bool {
+        is_straight(self.memory, self.edges, kept, self.nodes())
     }
 
     /// Marks the sites of the loop.
     fn mark(&self, circle: &Circle, done: &mut Vec<bool>) {
-        for node in 0..self.nodes() {
-            if circle.has(node) {
-                put(done, node, true)
-            }
+        for site in &circle.sites {
+            put(done, *site, true)
         }
     }
 
@@ -135,9 +102,9 @@ impl<'a> Graph<'a> {
         self.sites.is_head(head) && !is_marked(done, head)
     }
 
-    /// The loop through the site by these edges. Its sites are done then.
-    pub fn next_circle(&self, kept: &[bool], head: usize, done: &mut Vec<bool>) -> Circle {
-        let circle = self.circle(kept, head);
+    /// The loop whose first site is this one, by these edges. Its sites are done then.
+    pub fn next_circle(&self, ways: &Ways, head: usize, done: &mut Vec<bool>) -> Circle {
+        let circle = ways.circle(self.memory, self.edges, head);
         self.mark(&circle, done);
         circle
     }
@@ -156,12 +123,14 @@ impl<'a> Graph<'a> {
         }
     }
 
-    /// Follows the registers one edge back. Whether anything was new.
+    /// Follows the registers one edge back, those of the last edges first. Whether anything was
+    /// new.
     fn trace(&self, circle: &Circle, registers: &mut Vec<Option<u8>>) -> bool {
         let mut has_changed = false;
-        for index in 0..self.edges.len() {
-            if is_marked(&circle.within, index) {
-                has_changed |= self.trace_by(&self.edges[index], registers);
+        for passed in 0..circle.within.len() {
+            let place = circle.within.len() - 1 - passed;
+            if let Some(edge) = self.edges.get(circle.within[place]) {
+                has_changed |= self.trace_by(edge, registers);
             }
         }
         has_changed
@@ -176,7 +145,7 @@ impl<'a> Graph<'a> {
         registers: &mut Vec<Option<u8>>,
     ) {
         put(registers, head, Some(register));
-        for _ in 0..self.nodes() {
+        for _ in 0..circle.sites.len() {
             if !self.trace(circle, registers) {
                 break;
             }
@@ -185,11 +154,10 @@ impl<'a> Graph<'a> {
 
     /// Notes on which edges of the loop the number falls, and whether it rises on any.
     fn follow(&self, circle: &Circle, carried: &mut Carried) {
-        for index in 0..self.edges.len() {
-            if is_marked(&circle.within, index) {
-                let edge = &self.edges[index];
+        for place in 0..circle.within.len() {
+            if let Some(edge) = self.edges.get(circle.within[place]) {
                 let fact = fact_at(&carried.registers, edge);
-                carried.note(index, edge.from, fact)
+                carried.note(place, edge.from, fact)
             }
         }
         carried.has_fall &= !carried.is_lost;
@@ -200,7 +168,7 @@ impl<'a> Graph<'a> {
     pub fn carried(&self, circle: &Circle, head: usize, register: u8) -> Carried {
         let mut carried = Carried {
             registers: self.memory.filled(None, self.nodes()),
-            stays: self.memory.filled(true, self.edges.len()),
+            stays: self.memory.filled(true, circle.within.len()),
             has_fall: false,
             has_rise: false,
             is_lost: false,
@@ -211,9 +179,13 @@ impl<'a> Graph<'a> {
     }
 
     /// The edges of the loop on which the number doesn't fall.
-    pub fn rest(&self, circle: &Circle, carried: &Carried) -> Vec<bool> {
-        let mut rest = self.memory.copied(&circle.within);
-        keep_common(&mut rest, &carried.stays);
+    pub fn rest(&self, circle: &Circle, carried: &Carried) -> Vec<usize> {
+        let mut rest = Vec::new(self.memory.alloc);
+        for (place, number) in circle.within.iter().enumerate() {
+            if is_marked(&carried.stays, place) {
+                self.memory.push(&mut rest, *number)
+            }
+        }
         rest
     }
 }

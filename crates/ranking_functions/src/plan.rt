@@ -120,11 +120,11 @@ impl Plan {
         put(&mut self.places, node, place)
     }
 
-    /// Makes all constants what they begin with.
-    pub fn flatten(&mut self) {
-        for node in 0..self.places.len() {
-            let least = self.at(node).least;
-            self.set_constant(node, least)
+    /// Makes the constants at these places what they begin with.
+    pub fn flatten(&mut self, nodes: &[usize]) {
+        for node in nodes {
+            let least = self.at(*node).least;
+            self.set_constant(*node, least)
         }
     }
 }

@@ -1,6 +1,7 @@
 //! Ranks for all statements of a program.
 
 use crate::circles::Graph;
+use crate::loops::{Circle, Ways, numbers_below};
 use crate::plan::{Plan, Ranking, Unranked};
 use crate::trouble::unranked_loop;
 use crate::weights::{Ending, bounds_of, settle};
@@ -22,7 +23,14 @@ fn given_ranks(graph: &Graph<'_>, given: &[Statement]) -> Plan {
 
 /// Whether the plan's terms do for all of the program: then it has the constants that they need.
 fn is_settled(graph: &Graph<'_>, plan: &mut Plan) -> bool {
-    let ending = settle(plan, graph.bounds, graph.edges, graph.all, graph.most);
+    let ending = settle(
+        graph.memory,
+        plan,
+        graph.bounds,
+        graph.edges,
+        graph.all,
+        graph.most,
+    );
     matches!(ending, Ending::Settled)
 }
 
@@ -44,7 +52,7 @@ fn by_loops(graph: &Graph<'_>, hints: &[Statement], are_hints: bool, ranking: &m
     let is_ranked = is_settled(graph, &mut ranking.plan)
         || are_hints && by_given(graph, hints, &mut ranking.plan);
     if !is_ranked {
-        ranking.plan.flatten();
+        ranking.plan.flatten(&graph.all.sites);
         ranking.endless = unranked_loop(graph, failed);
         ranking.unranked = graph.unranked_loops(&mut ranking.plan, failed);
     }
@@ -72,11 +80,14 @@ fn ranked(
     most: u64,
 ) -> Ranking {
     let bounds = bounds_of(memory, &found.stated);
-    let all = memory.filled(true, found.edges.len());
+    let numbers = numbers_below(memory, found.edges.len());
+    let ways = Ways::new(memory, &found.edges, numbers, bounds.len());
+    let all = Circle::of_all(memory, found.edges.len(), bounds.len());
     let graph = Graph {
         memory,
         sites: &found.sites,
         edges: &found.edges,
+        ways: &ways,
         all: &all,
         bounds: &bounds,
         most,

@@ -1,6 +1,7 @@
 //! Why a loop has no rank.
 
-use crate::circles::{Circle, Graph};
+use crate::circles::Graph;
+use crate::loops::Circle;
 
 /// Why a loop has no rank.
 #[derive(Clone, Copy)]
@@ -50,7 +51,7 @@ fn trouble_at(graph: &Graph<'_>, circle: &Circle, head: usize) -> Trouble {
 
 /// What is wrong with the loop through the site, if there is one.
 fn endless_at(graph: &Graph<'_>, head: usize) -> Option<Endless> {
-    let circle = graph.circle(graph.all, head);
+    let circle = graph.circle(head);
     if circle.has(head) {
         Some(Endless {
             slot: graph.sites.slot(head),

@@ -1,25 +1,15 @@
 //! Which loops have no rank.
 
-use crate::circles::{Circle, Graph};
-use crate::loops::is_marked;
+use crate::circles::Graph;
+use crate::loops::{Circle, is_marked};
 use crate::plan::{Plan, Unranked};
 use kinds::put;
 
 impl<'a> Graph<'a> {
-    /// The edges between this site and those behind it.
-    fn edges_from(&self, head: usize) -> Vec<bool> {
-        let mut kept = self.memory.filled(false, self.edges.len());
-        for index in 0..self.edges.len() {
-            let edge = &self.edges[index];
-            put(&mut kept, index, head <= edge.from.min(edge.to))
-        }
-        kept
-    }
-
     /// Whether one of the loop's sites is marked.
     fn has_marked(&self, circle: &Circle, marks: &[bool]) -> bool {
-        for site in 0..self.nodes() {
-            if circle.has(site) && is_marked(marks, site) {
+        for site in &circle.sites {
+            if is_marked(marks, *site) {
                 return true;
             }
         }
@@ -29,8 +19,7 @@ impl<'a> Graph<'a> {
     /// Whether a loop begins at the site that has no rank on its own, though those within it have
     /// one.
     fn is_unranked(&self, plan: &mut Plan, unranked: &[bool], head: usize) -> bool {
-        let kept = self.edges_from(head);
-        let circle = self.circle(&kept, head);
+        let circle = self.circle(head);
         circle.has(head)
             && !self.has_marked(&circle, unranked)
             && !self.rank_circle(plan, &circle, head)
@@ -58,11 +47,22 @@ impl<'a> Graph<'a> {
         slots
     }
 
-    /// The sites of the loop through this one, all sites where there is none.
-    fn sites_together(&self, failed: Option<usize>) -> Vec<bool> {
+    /// The slots of the heads among these sites.
+    fn slots_among(&self, circle: &Circle) -> Vec<usize> {
+        let mut slots = Vec::new(self.memory.alloc);
+        for site in &circle.sites {
+            if self.sites.is_head(*site) {
+                self.memory.push(&mut slots, self.sites.slot(*site));
+            }
+        }
+        slots
+    }
+
+    /// The slots of the heads of the loop that begins at this site, of all where there is none.
+    fn slots_together(&self, failed: Option<usize>) -> Vec<usize> {
         match failed {
-            Some(head) => self.members(self.all, head),
-            None => self.memory.filled(true, self.nodes()),
+            Some(head) => self.slots_among(&self.circle(head)),
+            None => self.slots_among(self.all),
         }
     }
 
@@ -79,8 +79,7 @@ impl<'a> Graph<'a> {
         let unranked = self.unranked(plan);
         let slots = self.slots_of(&unranked);
         if slots.is_empty() {
-            let together = self.sites_together(failed);
-            Unranked::Together(self.slots_of(&together))
+            Unranked::Together(self.slots_together(failed))
         } else {
             Unranked::Alone(slots)
         }

@@ -1,7 +1,7 @@
 //! The constants that ranks need: at the start of each edge as much as its end has, and more by
 //! what the edge raises.
 
-use crate::loops::is_marked;
+use crate::loops::Circle;
 use crate::plan::Plan;
 use absdom::Domain;
 use inference::memory::{Memory, element_or};
@@ -62,7 +62,7 @@ impl Bounds {
     }
 }
 
-fn raise(coefficients: &mut [u64; 10], term: Option<RankTerm>) {
+fn add_term(coefficients: &mut [u64; 10], term: Option<RankTerm>) {
     if let Some(term) = term {
         let register = usize::from(term.register());
         if register < 10 {
@@ -75,8 +75,8 @@ fn raise(coefficients: &mut [u64; 10], term: Option<RankTerm>) {
 fn coefficients_at(plan: &Plan, node: usize) -> [u64; 10] {
     let mut coefficients = [0; 10];
     let place = plan.at(node);
-    raise(&mut coefficients, place.first);
-    raise(&mut coefficients, place.second);
+    add_term(&mut coefficients, place.first);
+    add_term(&mut coefficients, place.second);
     coefficients
 }
 
@@ -115,28 +115,60 @@ fn gap_of(lefts: [u64; 10], rights: [u64; 10], bounds: &Bounds) -> Gap {
     gap
 }
 
-/// What the constant at the edge's start has to be at least, where this line bounds the rank at its
-/// end without the constant there.
-fn demand_by(plan: &Plan, bounds: &[Bounds], edge: &Edge, line: &Line) -> Option<u128> {
+/// What the constant at the start of an edge has to be at least: that at its end, more by one
+/// number and less by another.
+#[derive(Clone, Copy)]
+struct Need {
+    from: usize,
+    to: usize,
+    more: u128,
+    less: u128,
+}
+
+/// What the edge needs, where this line bounds the rank at its end without the constant there.
+fn need_by(plan: &Plan, bounds: &[Bounds], edge: &Edge, line: &Line) -> Option<Need> {
     let from = element_or(bounds, edge.from, NO_BOUNDS);
     let gap = gap_of(line.coefficients, coefficients_at(plan, edge.from), &from);
     if !gap.is_bounded {
         return None;
     }
     let step = if edge.is_back { 1 } else { 0 };
-    let more = u128::from(plan.at(edge.to).now)
-        .saturating_add(line.constant)
+    let more = line
+        .constant
         .saturating_add(gap.needed)
         .saturating_add(step);
-    Some(more.saturating_sub(line.down.saturating_add(gap.saved)))
+    Some(Need {
+        from: edge.from,
+        to: edge.to,
+        more,
+        less: line.down.saturating_add(gap.saved),
+    })
 }
 
-/// What the constant at the edge's start has to be at least.
-fn demand(plan: &Plan, bounds: &[Bounds], edge: &Edge) -> Option<u128> {
+/// What the edge needs, if any constant does.
+fn need_of(plan: &Plan, bounds: &[Bounds], edge: &Edge) -> Option<Need> {
     match bound_of(plan.slope_at(edge.to), &edge.state) {
-        Some(line) => demand_by(plan, bounds, edge, &line),
+        Some(line) => need_by(plan, bounds, edge, &line),
         None => None,
     }
+}
+
+/// What these edges need, if any constants do.
+fn needs_of(
+    memory: &Memory,
+    plan: &Plan,
+    bounds: &[Bounds],
+    edges: &[Edge],
+    kept: &[usize],
+) -> Option<Vec<Need>> {
+    let mut needs = Vec::new(memory.alloc);
+    for number in kept {
+        if let Some(edge) = edges.get(*number) {
+            let need = need_of(plan, bounds, edge)?;
+            memory.push(&mut needs, need)
+        }
+    }
+    Some(needs)
 }
 
 /// How raising the constants ended.
@@ -158,59 +190,58 @@ enum Round {
     TooHigh,
 }
 
-/// Raises the constant at the edge's start to what the edge needs.
-fn raise_by(plan: &mut Plan, bounds: &[Bounds], edge: &Edge, most: u64) -> Round {
-    match demand(plan, bounds, edge) {
-        Some(needed) if needed <= u128::from(most) => {
-            let is_less = u128::from(plan.at(edge.from).now) < needed;
-            if is_less {
-                plan.set_constant(edge.from, needed as u64);
-                Round::Raised
-            } else {
-                Round::Still
-            }
-        }
-        _ => Round::TooHigh,
+/// Raises the constant at an edge's start to what the edge needs.
+fn raise_by(plan: &mut Plan, need: &Need, most: u64) -> Round {
+    let end = u128::from(plan.at(need.to).now);
+    let needed = end.saturating_add(need.more).saturating_sub(need.less);
+    if u128::from(most) < needed {
+        Round::TooHigh
+    } else if u128::from(plan.at(need.from).now) < needed {
+        plan.set_constant(need.from, needed as u64);
+        Round::Raised
+    } else {
+        Round::Still
     }
 }
 
-fn raise_once(
-    plan: &mut Plan,
-    bounds: &[Bounds],
-    edges: &[Edge],
-    kept: &[bool],
-    most: u64,
-) -> Round {
+/// Raises the constants at the starts of edges once.
+fn raise_once(plan: &mut Plan, needs: &[Need], most: u64) -> Round {
     let mut round = Round::Still;
     // What an edge raises is its start, so that the last ones come first.
-    for passed in 0..edges.len() {
-        let index = edges.len() - 1 - passed;
-        if is_marked(kept, index) {
-            match raise_by(plan, bounds, &edges[index], most) {
-                Round::Still => {}
-                Round::Raised => round = Round::Raised,
-                Round::TooHigh => return Round::TooHigh,
-            }
+    for passed in 0..needs.len() {
+        match raise_by(plan, &needs[needs.len() - 1 - passed], most) {
+            Round::Still => {}
+            Round::Raised => round = Round::Raised,
+            Round::TooHigh => return Round::TooHigh,
         }
     }
     round
 }
 
-/// Raises the constants from 0 until each of these edges has what it needs.
-pub fn settle(
-    plan: &mut Plan,
-    bounds: &[Bounds],
-    edges: &[Edge],
-    kept: &[bool],
-    most: u64,
-) -> Ending {
-    plan.flatten();
-    for _ in 0..bounds.len() + 1 {
-        match raise_once(plan, bounds, edges, kept, most) {
+/// Raises the constants until each edge has what it needs, in so many rounds at most.
+fn raise(plan: &mut Plan, needs: &[Need], rounds: usize, most: u64) -> Ending {
+    for _ in 0..rounds {
+        match raise_once(plan, needs, most) {
             Round::Still => return Ending::Settled,
             Round::TooHigh => return Ending::TooHigh,
             Round::Raised => {}
         }
     }
     Ending::Endless
+}
+
+/// Raises the constants from 0 until each edge of the loop has what it needs.
+pub fn settle(
+    memory: &Memory,
+    plan: &mut Plan,
+    bounds: &[Bounds],
+    edges: &[Edge],
+    circle: &Circle,
+    most: u64,
+) -> Ending {
+    plan.flatten(&circle.sites);
+    match needs_of(memory, plan, bounds, edges, &circle.within) {
+        Some(needs) => raise(plan, &needs, circle.sites.len().saturating_add(1), most),
+        None => Ending::TooHigh,
+    }
 }
