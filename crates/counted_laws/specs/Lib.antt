@@ -1,0 +1,2 @@
+pub mod CountedRuns
+pub mod Example
