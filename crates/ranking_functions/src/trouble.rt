@@ -2,6 +2,7 @@
 
 use crate::circles::Graph;
 use crate::loops::Circle;
+use crate::plan::Plan;
 
 /// Why a loop has no rank.
 #[derive(Clone, Copy)]
@@ -36,6 +37,35 @@ fn trouble_with(graph: &Graph<'_>, circle: &Circle, head: usize, register: u8) -
     }
 }
 
+/// Of loops with more sites it isn't sought how they would end without a budget: that takes as many
+/// rounds as there are sites.
+const MOST_SITES: usize = 32;
+
+/// The loop as it is if any number of turns is within the budget: the register that falls with each
+/// turn then, perhaps with a second one for loops within it.
+fn too_long(graph: &Graph<'_>, circle: &Circle, head: usize) -> Option<Trouble> {
+    if circle.sites.len() > MOST_SITES {
+        return None;
+    }
+    let without_budget = Graph {
+        memory: graph.memory,
+        sites: graph.sites,
+        edges: graph.edges,
+        ways: graph.ways,
+        all: graph.all,
+        bounds: graph.bounds,
+        most: u64::MAX,
+    };
+    let mut plan = Plan::new(graph.memory, graph.nodes());
+    match without_budget.best_register(&mut plan, circle, head) {
+        Some(register) => Some(Trouble::TooHigh {
+            register,
+            from: graph.high(head, register).unwrap_or(u64::MAX),
+        }),
+        None => None,
+    }
+}
+
 /// Why no register does: that one falls from too great a number tells more than that one rises.
 fn trouble_at(graph: &Graph<'_>, circle: &Circle, head: usize) -> Trouble {
     let mut told = Trouble::NoneFalls;
@@ -49,13 +79,21 @@ fn trouble_at(graph: &Graph<'_>, circle: &Circle, head: usize) -> Trouble {
     told
 }
 
+/// Why the loop has no rank.
+fn trouble_of(graph: &Graph<'_>, circle: &Circle, head: usize) -> Trouble {
+    match too_long(graph, circle, head) {
+        Some(trouble) => trouble,
+        None => trouble_at(graph, circle, head),
+    }
+}
+
 /// What is wrong with the loop through the site, if there is one.
 fn endless_at(graph: &Graph<'_>, head: usize) -> Option<Endless> {
     let circle = graph.circle(head);
     if circle.has(head) {
         Some(Endless {
             slot: graph.sites.slot(head),
-            trouble: trouble_at(graph, &circle, head),
+            trouble: trouble_of(graph, &circle, head),
             lacks_register: false,
         })
     } else {
