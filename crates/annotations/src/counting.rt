@@ -8,6 +8,7 @@ ghost use Rattle.annotations.specs.Verdict.{IsCountedOutcome};
 use crate::attempt::{Task, annotate, kinds_of};
 use crate::count_error::CountError;
 use crate::counted_code::counted;
+use crate::inside::stays_inside;
 use crate::shortfall::Shortfall;
 use crate::verdict::{Annotated, Found, Rejected};
 use inference::most_turns;
@@ -171,6 +172,7 @@ fn try_heads(
 }
 
 /// Finds statements and ranks for the code, in which the turns of loops without a rank are counted.
+/// None are of code that leads to where it has no instruction: counted code may have one there.
 fn annotate_loops(
     task: &Task<'_>,
     code: &Code,
@@ -182,9 +184,10 @@ fn annotate_loops(
     ensures { IsTurnsOutcome task.now.hook (fuel_of turns task.now.answer) task.now.bytes.now
         result }
 {
+    let is_inside = stays_inside(code);
     for _ in 0..MOST_ROUNDS {
         let outcome = try_heads(task, code, heads, turns, unranked);
-        if !adds_more(heads, &outcome, unranked) {
+        if !is_inside || !adds_more(heads, &outcome, unranked) {
             return outcome;
         }
     }
@@ -267,7 +270,8 @@ fn count_refused(task: &Task<'_>, unranked: &mut Unranked) -> Result<Option<Foun
     ensures { IsCountedOutcome task.now.hook task.now.answer task.now.bytes.now result }
 {
     match decode(task.alloc, task.bytes) {
-        Ok(code) => count_bounded(task, &code, unranked),
+        Ok(code) if stays_inside(&code) => count_bounded(task, &code, unranked),
+        Ok(_) => Ok(None),
         Err(error) => Err(Shortfall::Code(error)),
     }
 }

@@ -8,6 +8,7 @@ mod counted_code;
 mod counting;
 mod file;
 mod fuel;
+mod inside;
 mod registers;
 mod shortfall;
 mod trimming;
