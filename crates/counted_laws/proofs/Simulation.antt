@@ -66,12 +66,15 @@ module _ (setting : Setting) (heads : List ℕ) (s next : State) (label : Label)
     few = omega (arith, a.few, sum);
     same = after_one label a.labels rest a.same ∙ sym same;
   })
-  before turn most more e sum (inr (inl (word_is, t))) = inr (inl (word_is, record {
-    labels = label ∷ t.labels;
-    last = t.last;
-    leads = (next, step, most + 1, omega (arith, sum, e), t.leads);
-    same = after_one label t.labels rest t.same ∙ sym same;
-  }))
+  before turn most more e sum (inr (inl (word_is, t))) = inr (inl (
+    word_is,
+    record {
+      labels = label ∷ t.labels;
+      last = t.last;
+      leads = (next, step, most + 1, omega (arith, sum, e), t.leads);
+      same = after_one label t.labels rest t.same ∙ sym same;
+    },
+  ))
   before turn most more e sum (inr (inr l)) = inr (inr (record {
     labels = label ∷ l.labels;
     turns = turn + l.turns;
@@ -286,12 +289,15 @@ module _ (answer counter turns : ℕ) (heads : List ℕ) (code : List Slot) (who
         let turn = counted_turn answer counter turns (small_answer next.slot place found) heads code whole hook input next.slot place found (omega (arith, less, fits)) (omega (arith, within, fits, back))
         next refl (omega (arith, longer, greatest)) most rest last word (omega (arith, few)) leads exits in
         elim turn [
-          | inl over ↦ inr (inl (over.2, record {
-            labels = label ∷ [];
-            last = next;
-            leads = (next, mine, 0, omega (arith, a_turn next place back found, over.0), (refl, refl));
-            same = after_one label [] rest (sym over.1) ∙ sym (ap accesses is);
-          }))
+          | inl over ↦ inr (inl (
+            over.2,
+            record {
+              labels = label ∷ [];
+              last = next;
+              leads = (next, mine, 0, omega (arith, a_turn next place back found, over.0), (refl, refl));
+              same = after_one label [] rest (sym over.1) ∙ sym (ap accesses is);
+            },
+          ))
           | inr again ↦ goes_again place next label rest is back found mine longer again.0 again.1 again.2 again.3 again.4 exits
         ]
 

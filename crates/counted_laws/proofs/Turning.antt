@@ -122,9 +122,11 @@ module _ (answer counter turns : ℕ) (small : answer < 2 ^ 31) (heads : List �
         let low_is : answer % 2 ^ 64 ≡ answer = omega arith in
         let filling : h.filling ≡ Number answer = rw low_is at (filling_of _ h.filling h.gives) in
         let place : (at + 2) + 1 ≡ at + 3 = omega arith in
-        let some : 0 < length (slice_set next.registers counter (Number 0)) = omega (arith, length-set next.registers counter (Number 0)) in
-        (h.silent, ap (λ (s : State). s.slot) h.after ∙ place,
-        ap (λ (s : State). held s 0) h.after ∙ get_or-set_same (slice_set next.registers counter (Number 0)) 0 h.filling Nothing some ∙ filling)
+        let some : 0 < length (slice_set next.registers counter (Number 0)) = omega (arith, length-set next.registers counter (Number 0)) in (
+          h.silent,
+          ap (λ (s : State). s.slot) h.after ∙ place,
+          ap (λ (s : State). held s 0) h.after ∙ get_or-set_same (slice_set next.registers counter (Number 0)) 0 h.filling Nothing some ∙ filling,
+        )
 
     -- What is left of a run where a turn is counted: the answer, or the run from the head on.
     abbrev Over : ℕ → List Label → ℕ → Type 0

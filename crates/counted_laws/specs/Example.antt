@@ -1,6 +1,5 @@
 -- A loop without an end, and the code that counts two turns of it, slot for slot.
-use Rattle.std.specs.Prelude.{◌≡◌, ℕ, ℤ, pos, negsuc, List, [], ◌∷◌}
-use Rattle.isa.specs.declared.instruction.Instruction.{Instruction}
+use Rattle.std.specs.Prelude.{◌≡◌, pos, negsuc, List, [], ◌∷◌}
 use Rattle.isa.specs.declared.instruction.Instruction.TheVariants.{Branch, Exit, Jump}
 use Rattle.isa.specs.declared.instruction.Operation.TheVariants.{Add, Move}
 use Rattle.isa.specs.declared.instruction.Source.TheVariants.{Immediate}

@@ -1,4 +1,4 @@
-use Rattle.std.proofs.Common.{List, length, arith, subst, ap, sym, ◌∙◌, ◌≤◌}
+use Rattle.std.proofs.Common.{List, length, arith, subst, ap, ◌∙◌, ◌≤◌}
 use Rattle.isa.specs.declared.code.Slot.{Slot}
 use Rattle.machine.specs.State.{setting_of, start}
 use Rattle.machine.specs.Runs.{Leads}
