@@ -13,6 +13,8 @@ INSTANCE = struct.Struct(">iH")
 """Sequence number and checksum, from byte 12 on: of two instances the one with the larger pair is
 newer, unless they are equal."""
 ROUTER_LINK = struct.Struct(">4s4sBBH")
+LINKS = HEADER.size + 4
+"""Where the links of a router-LSA begin."""
 MAX_AGE = 3600
 MAX_AGE_DIFF = 900
 LS_INFINITY = 0xFFFFFF
@@ -96,6 +98,19 @@ def is_whole(data: bytes) -> bool:
     return sum(covered) % 255 == 0 and sum(accumulate(covered)) % 255 == 0
 
 
+def sealed(data: bytes) -> bytes:
+    """The LSA with the checksum that belongs to it: two bytes of 1 to 255 that make both sums 0
+    modulo 255."""
+    blank = data[:16] + b"\0\0" + data[18:]
+    covered = blank[2:]
+    after = len(covered) - 15
+    first, second = sum(covered), sum(accumulate(covered))
+    # (of the two bytes, the first counts once more than the second in the sum of partial sums)
+    one = (after * first - second) % 255 or 255
+    other = (-first - one) % 255 or 255
+    return blank[:16] + bytes([one, other]) + blank[18:]
+
+
 def is_newer(one: bytes, other: bytes, its_age: int, others_age: int) -> bool:
     """Whether one of two instances of an LSA, with their ages now, is newer than the other (RFC
     2328, 13.1)."""
@@ -170,6 +185,15 @@ def body_of(data: bytes) -> Body | None:
     except (IndexError, struct.error, ValueError):
         return None
     return None
+
+
+def links_of(lsa: bytes) -> Iterator[bytes]:
+    """The links of a router-LSA as bytes, each with its TOS metrics."""
+    at = LINKS
+    while at + ROUTER_LINK.size <= len(lsa):
+        after = at + ROUTER_LINK.size + 4 * lsa[at + 9]
+        yield lsa[at:after]
+        at = after
 
 
 def router_links(body: bytes) -> Iterator[RouterLink]:
