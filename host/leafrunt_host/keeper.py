@@ -16,6 +16,7 @@ from leafrunt_host.bfd import Sessions
 from leafrunt_host.clock import Clock
 from leafrunt_host.exchange import Side
 from leafrunt_host.forwarding import CannotKeep, Hop, KernelTable
+from leafrunt_host.holding import Holding
 from leafrunt_host.journal import where_it_failed
 from leafrunt_host.packets import HELLO, Packet, PacketType
 from leafrunt_host.router import Router, RouterGone
@@ -115,10 +116,12 @@ class Keeper:
         kernel: KernelTable | None,
         waker: Waker,
         give_up: Callable[[], None] = lambda: None,
+        holding: Holding | None = None,
     ) -> None:
+        """`holding` is told what the kernel has."""
         self._known, self._router = known, router
         self._give_up, self._short_since = give_up, ENDLESS
-        self._kernel, self._waker = kernel, waker
+        self._kernel, self._waker, self._holding = kernel, waker, holding
         self._work = WorkQueue()
         self._ending = threading.Event()
         self._thread = threading.Thread(target=self._keep, name="keeper", daemon=True)
@@ -136,7 +139,12 @@ class Keeper:
         return self._kernel
 
     def start(self) -> None:
+        self._tell_holding(self._kernel)
         self._thread.start()
+
+    def _tell_holding(self, kernel: KernelTable | None) -> None:
+        if self._holding:
+            self._holding.keeps(kernel is not None)
 
     def stop(self) -> None:
         """Ends it; one that waits for an answer is left behind."""
@@ -153,6 +161,7 @@ class Keeper:
 
         def change() -> KernelTable | None:
             before, self._kernel = self._kernel, kernel
+            self._tell_holding(kernel)
             self._known.kept, self._said = Kept(), None
             self._pace.woken(time.monotonic())
             return before
@@ -174,6 +183,7 @@ class Keeper:
             while not self._ending.is_set() and self._kept_on():
                 pass
         finally:
+            self._tell_holding(None)
             self._work.close()
 
     def _kept_on(self) -> bool:
@@ -237,6 +247,8 @@ class Keeper:
             self._follow_sessions(self._known.sessions)
         if self._kernel and now >= self._pace.due:
             self._keep_kernel(self._kernel)
+            if self._holding:
+                self._holding.looked(now)
 
     def _look_at_neighbors(self, now: float) -> bool:
         """Logs what changed of the neighbors, and says whether something did."""

@@ -12,6 +12,7 @@ from dataclasses import dataclass, field, replace
 from ipaddress import IPv4Address, IPv4Interface, IPv4Network
 from threading import Lock
 
+from leafrunt_host.arrivals import Arrivals
 from leafrunt_host.authentication import (
     Authentication,
     Key,
@@ -22,7 +23,9 @@ from leafrunt_host.authentication import (
 from leafrunt_host.exchange import WRAP, Exchange, Passed, Side
 from leafrunt_host.interfaces import KernelState
 from leafrunt_host.journal import where_it_failed
+from leafrunt_host.lsas import LsType
 from leafrunt_host.observing import Limiter, Observer, Report
+from leafrunt_host.own_lsas import OwnLsas
 from leafrunt_host.packet_filter import PacketFilter, arrived
 from leafrunt_host.packets import (
     IP_HEADER_LENGTH,
@@ -41,13 +44,14 @@ from leafrunt_host.packets import (
     read,
 )
 from leafrunt_host.tracing import Tracer
-from leafrunt_host.withheld import Database, Withheld
+from leafrunt_host.withheld import AGE, FLUSHED, Database, Withheld
 
 log = logging.getLogger("leafrunt.bridge")
 NOBODY = IPv4Address(0)
 MOST_NEIGHBORS = 16
 """Router IDs that the kernel's filter may name; an interface has one neighbor."""
 WITHHELD = "withheld LSAs"
+EARLY = "LSAs that came too early"
 FAILED = "dropped by a mistake in this program"
 Watch = Callable[[Side, Packet, float], None]
 """Is called with each packet of the neighbor that was taken, and each of `routerd`'s: the side that
@@ -107,6 +111,8 @@ class Link:
         neighbor_numbers: NeighborNumbers | None = None,
         watch: Watch | None = None,
         database: Database | None = None,
+        own_lsas: OwnLsas | None = None,
+        arrivals: Arrivals | None = None,
     ) -> None:
         self.interface = interface
         self.authentication = Authentication(
@@ -118,6 +124,8 @@ class Link:
         self._watch = watch
         self._database = Database() if database is None else database
         self._withheld = Withheld(self._database)
+        self._own_lsas = OwnLsas() if own_lsas is None else own_lsas
+        self._arrivals = Arrivals() if arrivals is None else arrivals
         self._limiter = Limiter()
         self._tracer = Tracer(interface.name)
         self._lock = Lock()
@@ -278,11 +286,13 @@ class Link:
 
     def _updated(self, packet: Packet, now: float) -> tuple[Packet, Sent]:
         """A neighbor's Update, without the LSAs that `routerd` can't have: those are acknowledged
-        here (RFC 2328, 13.5)."""
+        here (RFC 2328, 13.5); and without those that come too early, which aren't."""
         lsas = lsas_of(packet.body)
-        passed, headers = self._withheld.updated(lsas, now)
+        known, headers = self._withheld.updated(lsas, now)
+        passed = self._in_time(packet, known, now)
         if len(passed) < len(lsas):
             packet = replace(packet, body=len(passed).to_bytes(4, "big") + b"".join(passed))
+        if headers:
             self.counters[WITHHELD] += len(headers)
         sent = Sent()
         if passed:
@@ -293,6 +303,32 @@ class Link:
             sent.to_wire = [self._wire(part) for part in cut(said, self._limit)]
         self._tell_withheld(now)
         return packet, sent
+
+    def _in_time(self, packet: Packet, lsas: list[bytes], now: float) -> list[bytes]:
+        """Those that `routerd` is given now."""
+        if all(each[3] != LsType.ROUTER and each[AGE] != FLUSHED for each in lsas):
+            return lsas
+        own, number = self.observer.own, self.interface.number
+        router_id = own.router_id.packed if own else b""
+        found = [
+            each
+            for each in lsas
+            if not self._own_lsas.is_early(router_id, each, now)
+            and not self._arrivals.waits(number, packet, each, now)
+        ]
+        if len(found) < len(lsas):
+            self.counters[EARLY] += len(lsas) - len(found)
+        return found
+
+    def come_again(self, update: Packet, now: float) -> Sent:
+        """A neighbor's Update that has waited."""
+        with self._lock:
+            if not self._is_neighbor(update.router_id):
+                return Sent()
+            packet, sent = self._updated(update, now)
+            if self._watch and sent.to_router:
+                self._watch(Side.WIRE, packet, now)
+            return sent
 
     def _tell_withheld(self, now: float) -> None:
         news, self._withheld.news = self._withheld.news, []
@@ -369,7 +405,9 @@ class Link:
         """Takes note of what `routerd` has and asks for; whether it waits for what it can't have,
         or has room again for what was withheld, which is looked at with each Hello."""
         if packet.type == PacketType.LINK_STATE_UPDATE:
-            self._database.sent(lsas_of(packet.body), now)
+            lsas = lsas_of(packet.body)
+            self._database.sent(lsas, now)
+            self._own_lsas.sent(packet.router_id.packed, lsas, now)
         if packet.type == PacketType.LINK_STATE_REQUEST:
             is_stuck = self._withheld.is_stuck(packet.body, now)
             self._tell_withheld(now)

@@ -4,17 +4,21 @@ from __future__ import annotations
 import errno
 import logging
 import socket
+import time
 from collections.abc import Callable
 from contextlib import ExitStack, nullcontext
 from dataclasses import dataclass
 from functools import partial
 from pathlib import Path
 
+from leafrunt_host.arrivals import Arrivals
 from leafrunt_host.authentication import NeighborNumbers, SequenceNumbers
 from leafrunt_host.bridge import Bridge, CannotOpen
 from leafrunt_host.configuration import Configuration, InterfaceSettings
+from leafrunt_host.holding import Holding
 from leafrunt_host.isolation import World
 from leafrunt_host.link import Interface, Link, Watch
+from leafrunt_host.own_lsas import OwnLsas
 from leafrunt_host.rooms import Room
 from leafrunt_host.router import Router, RouterGone
 from leafrunt_host.sockets import LOOPBACK, udp_socket
@@ -111,10 +115,15 @@ class Starter:
     """Begins both, as often as it's asked to."""
 
     def __init__(
-        self, room: Room, numbers: SequenceNumbers, neighbor_numbers: NeighborNumbers, watch: Watch
+        self,
+        room: Room,
+        numbers: SequenceNumbers,
+        neighbor_numbers: NeighborNumbers,
+        watch: Watch,
+        holding: Holding | None = None,
     ) -> None:
-        """`watch` is called with each packet that passes."""
-        self._room, self._watch = room, watch
+        """`watch` is called with each packet that passes, and `holding` says which have to wait."""
+        self._room, self._watch, self._holding = room, watch, holding
         self._numbers, self._neighbor_numbers = numbers, neighbor_numbers
 
     def begin(self, configuration: Configuration, told: Callable[[str], None]) -> Parts:
@@ -163,11 +172,12 @@ class Starter:
     def _begun(
         self, world: World, configuration: Configuration, told: Callable[[str], None]
     ) -> Parts:
-        ports = ports_of(world, configuration)
-        database = Database(no_externals=NO_EXTERNALS)
+        ports, arrivals = ports_of(world, configuration), Arrivals()
+        shared = Database(no_externals=NO_EXTERNALS), OwnLsas(time.monotonic()), arrivals
 
         def link_of(interface: Interface) -> Link:
-            return Link(interface, self._numbers, self._neighbor_numbers, self._watch, database)
+            numbers = self._numbers, self._neighbor_numbers
+            return Link(interface, *numbers, self._watch, *shared)
 
         links: dict[int, Link] = {}
         sinks: dict[int, socket.socket] = {}
@@ -178,7 +188,7 @@ class Starter:
                     sinks[number] = undone.enter_context(world.do(partial(sink, own[1])))
                 else:
                     links[number] = link_of(interface_of(number, each, own))
-            bridge = Bridge(list(links.values()), world=world)
+            bridge = Bridge(list(links.values()), world=world, holding=self._holding, arrivals=arrivals)
             undone.callback(bridge.end)
             router = self._started(world, configuration, ports, told)
             bridge.sockets_listed = world.sockets_of(router.pid)
