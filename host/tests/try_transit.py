@@ -35,7 +35,7 @@ from tests.network import (
 )
 
 NAMES = {"left": "2.2.2.2", "other": "4.4.4.4", "right": "3.3.3.3", "lan": "5.5.5.5"}
-"""BIRDs around the router that is tried, 3.1.1.1: packets go by it from left to right, or by the
+"""Routers around the router that is tried, 3.1.1.1: packets go by it from left to right, or by the
 other way."""
 OWN = "3.1.1.1"
 """One neighbor has a lower Router ID, and one a higher one."""
@@ -83,10 +83,15 @@ class Transit:
     isn't set; and 5.5.5.5 at an interface of 3.1.1.1 that is passive."""
 
     def __init__(
-        self, given: Try, kind: str, is_only: bool = False, keys: tuple[Secret, ...] = ()
+        self,
+        given: Try,
+        kind: str,
+        is_only: bool = False,
+        keys: tuple[Secret, ...] = (),
+        around: type[Bird] | type[Frr] = Bird,
     ) -> None:
         self.network = network = Network()
-        self.kind = kind
+        self.kind, self._around = kind, around
         names = ["tried", "left", "right", "lan", *([] if is_only else ["other"]), "h1", "h2"]
         self.spaces = {each: network.namespace(each, each[0] != "h") for each in names}
         self._link("left", "right", "tried", "left", "10.0.1")
@@ -108,7 +113,7 @@ class Transit:
             network.link(near, End(self.spaces[host], "eth0", f"172.16.{number}.2/24"))
             run("ip", "-n", self.spaces[host], "route", "add", "default", "via", near.ip)
             sides[name].append(Side("hosts", is_passive=True))
-        self.birds = {name: self._bird(name, sides[name]) for name in sides}
+        self.others = {name: self._other(name, sides[name]) for name in sides}
         self.sides = [Side("left", keys), Side("right", keys), Side("lan", is_passive=True)]
         self.tried = self._tried(given)
 
@@ -118,11 +123,16 @@ class Transit:
         )
         self.network.link(*ends)
 
-    def _bird(self, name: str, sides: Iterable[Side]) -> Bird:
-        bird = Bird(self.network, self.spaces[name], NAMES[name], sides)
-        bird.folder = self.network.work / name
-        bird.folder.mkdir()
-        return bird
+    def _other(self, name: str, sides: Iterable[Side]) -> Bird | Frr:
+        other = self._around(self.network, self.spaces[name], NAMES[name], sides)
+        other.folder = self.network.work / name
+        other.folder.mkdir()
+        return other
+
+    @property
+    def birds(self) -> dict[str, Bird]:
+        """The others, where they are BIRDs."""
+        return {name: each for name, each in self.others.items() if isinstance(each, Bird)}
 
     def _tried(self, given: Try) -> Box | Bird | Frr:
         sides, space = self.sides, self.spaces["tried"]
@@ -133,9 +143,9 @@ class Transit:
         return Bird(self.network, space, OWN, sides)
 
     def start(self) -> None:
-        for each in self.birds.values():
+        for each in self.others.values():
             each.start()
-        if "other" in self.birds:
+        if "other" in self.others:
             within(COMES_UP, lambda: self.is_connected("other"))
         self.tried.start()
 
@@ -165,28 +175,30 @@ class Transit:
 
 
 def transit(given: Try) -> None:
-    """A router that others send by is ended and started again while there is another way: how many
-    packets are lost, counted every 5 ms, with a box, BIRD and FRR in its place."""
-    for kind in ("a box", "BIRD", "FRR"):
-        it = Transit(given, kind)
-        given.network = it.network
-        try:
-            ended_and_started(it, given)
-        finally:
-            it.network.close()
+    """A router that others send by is ended and started again while there is another way, between
+    BIRDs and between FRRs, which calculate their routes at once: how many packets are lost, counted
+    every 5 ms, with a box, BIRD and FRR in its place."""
+    for around in (Bird, Frr):
+        for kind in ("a box", "BIRD", "FRR"):
+            it = Transit(given, kind, around=around)
+            given.network = it.network
+            try:
+                ended_and_started(it, given, f"{kind} between two {around.__name__.upper()}s")
+            finally:
+                it.network.close()
 
 
-def ended_and_started(it: Transit, given: Try) -> None:
+def ended_and_started(it: Transit, given: Try, who: str) -> None:
     looks, is_box = given.looks, isinstance(it.tried, Box)
     it.start()
-    looks.timed(f"{it.kind}: the packets go by it", COMES_UP, it.is_by_tried)
+    looks.timed(f"{who}: the packets go by it", COMES_UP, it.is_by_tried)
     time.sleep(SETTLED)
 
     def told(what: str, lost: int, said: str) -> None:
         if is_box:
-            looks.look(f"a box: {what}: nothing is lost", not lost, said)
+            looks.look(f"{who}: {what}: nothing is lost", not lost, said)
         else:
-            print(f"     {it.kind}: {what}: {said}", flush=True)
+            print(f"     {who}: {what}: {said}", flush=True)
 
     told("ended in order", *it.lost_in(it.tried.stop, SETTLED))
 
