@@ -99,6 +99,21 @@ def poisoned(row: Row, looks: Looks, who: str) -> None:
     row.box.stop()
 
 
+def counted(row: Row) -> str:
+    """How many destinations of each kind there are, and where."""
+    found = {
+        "in the kernel": list(row.box.kernel_routes()),
+        "in routerd's table": row.box.ask("table"),
+        "in the box's database": [each.id for each in row.box.database()],
+        "in BIRD's": [each.id for each in row.middle.database()],
+    }
+    counts = {
+        place: tuple(sum(each.startswith(kind) for each in names) for kind in ("50.", "51."))
+        for place, names in found.items()
+    }
+    return "; ".join(f"{place} {old} and {new}" for place, (old, new) in counts.items())
+
+
 def full(given: Try) -> None:
     """20,000 external destinations, which are more LSAs than `routerd` holds: a box is Full, says
     what is wrong, and has all routes again once there are few enough."""
@@ -119,7 +134,8 @@ def full(given: Try) -> None:
             routes = row.box.kernel_routes()
             return all(each in routes for each in row.middle.externals) and len(routes) < most
 
-        looks.timed("10,000 are withdrawn: all routes, by itself", 90, has_all, 1)
+        if not looks.timed("10,000 are withdrawn: all routes, by itself", 90, has_all, 1):
+            print(f"     {counted(row)}")
         looks.look("nothing is wrong any more", not is_said(row.box, "the network has more"))
         looks.look("Full", is_full(row.box, "2.2.2.2"))
     finally:
