@@ -25,6 +25,7 @@ from leafrunt_host.interfaces import KernelState
 from leafrunt_host.journal import where_it_failed
 from leafrunt_host.lsas import LsType
 from leafrunt_host.observing import Limiter, Observer, Report
+from leafrunt_host.owed import Owed
 from leafrunt_host.own_lsas import OwnLsas
 from leafrunt_host.packet_filter import PacketFilter, arrived
 from leafrunt_host.packets import (
@@ -126,6 +127,7 @@ class Link:
         self._withheld = Withheld(self._database)
         self._own_lsas = OwnLsas() if own_lsas is None else own_lsas
         self._arrivals = Arrivals() if arrivals is None else arrivals
+        self.owed = Owed()
         self._limiter = Limiter()
         self._tracer = Tracer(interface.name)
         self._lock = Lock()
@@ -251,6 +253,8 @@ class Link:
             return Sent()
 
     def _taken(self, packet: Packet, source: IPv4Address, now: float) -> Sent:
+        if self._is_neighbor(packet.router_id):
+            self.owed.passed(Side.WIRE, packet, now)
         if packet.type == PacketType.DATABASE_DESCRIPTION:
             sent = self._described(packet, now)
         elif packet.type == PacketType.LINK_STATE_UPDATE and self._is_neighbor(packet.router_id):
@@ -298,6 +302,7 @@ class Link:
         if passed:
             sent.to_router = [part.encode() for part in cut(packet, ROUTER_MTU)]
         if headers and self.observer.own:
+            self.owed.acknowledged(headers, now)
             own, kind = self.observer.own, PacketType.LINK_STATE_ACKNOWLEDGMENT
             said = Packet(kind, own.router_id, own.area, b"".join(headers))
             sent.to_wire = [self._wire(part) for part in cut(said, self._limit)]
@@ -383,6 +388,7 @@ class Link:
                 return Sent()
 
     def _from_router(self, packet: Packet, now: float) -> Sent:
+        self.owed.passed(Side.ROUTER, packet, now)
         if packet.type == PacketType.DATABASE_DESCRIPTION:
             sent = self._describes(packet)
         elif self._is_to_begin_anew(packet, now):

@@ -17,6 +17,7 @@ from leafrunt_host.forwarding import host_warnings
 from leafrunt_host.kernel import Json
 from leafrunt_host.link import Link
 from leafrunt_host.observing import Adjacencies
+from leafrunt_host.owed import Debts
 from leafrunt_host.rtnetlink import MAIN
 from leafrunt_host.table_changes import MOST_KEPT, TableChange, change_document
 
@@ -132,7 +133,7 @@ def since(known: Known, neighbor: Neighbor) -> float | None:
     """The moment, in seconds since 1970, from which on a neighbor has been in its state; None where
     it has come to that just now."""
     began = known.adjacencies.since(neighbor.number, neighbor.router_id, neighbor.state)
-    return None if began is None else time.time() - (time.monotonic() - began)
+    return None if began is None else since_1970(began)
 
 
 def interface_status(known: Known, number: int, each: InterfaceSettings) -> Json:
@@ -165,6 +166,7 @@ def interface_status(known: Known, number: int, each: InterfaceSettings) -> Json
             "address": str(address) if address else None,
             "state": neighbor.state,
             "since": began,
+            "owed": link.owed.debts._asdict(),
         }
     said["remarks"] = [
         {
@@ -177,6 +179,24 @@ def interface_status(known: Known, number: int, each: InterfaceSettings) -> Json
     ]
     said["counters"] = dict(link.counters)
     return said
+
+
+def at_rest_since(known: Known) -> float | None:
+    """The moment, in seconds since 1970, from which on all neighbors have been Full and owed nothing,
+    nor were owed; None where one isn't, or does, or there is none."""
+    began = []
+    for neighbor in known.neighbors.values():
+        link, full = known.links.get(neighbor.number), since(known, neighbor)
+        if neighbor.state != "Full" or link is None or full is None or link.owed.is_waiting:
+            return None
+        waited = link.owed.waited
+        began.append(full if waited is None else max(full, since_1970(waited)))
+    return max(began, default=None)
+
+
+def since_1970(moment: float) -> float:
+    """A moment of the clock that nobody sets, in seconds since 1970."""
+    return time.time() - (time.monotonic() - moment)
 
 
 def table_status(known: Known) -> Json:
@@ -208,6 +228,7 @@ def status_of(known: Known, lsas: Mapping[str, int] | None = None) -> Json:
         },
         "table": table_status(known) if configuration.kernel else None,
         "lsas": dict(lsas or {}),
+        "at_rest_since": at_rest_since(known),
         "counter_names": dict(configuration.counters),
         "warnings": [*remarks_of(known, time.monotonic()), *warnings_of(configuration)],
         "interfaces": [
@@ -277,6 +298,8 @@ def interface_lines(each: Json) -> list[str]:
     began = f" since {moment_text(neighbor['since'])}" if neighbor["since"] else ""
     state = f"{neighbor['router_id']}{at} {neighbor['state']}{began}"
     session = bfd_lines(each["name"], each["bfd"])
+    if owed := str(Debts(**neighbor["owed"])):
+        session.append(f"  {each['name']}: {owed}")
     return [f"{head}: {state}", *session, *remark_lines(each["name"], each["remarks"])]
 
 
@@ -291,4 +314,7 @@ def status_lines(status: Json) -> list[str]:
     lines += [f"warning: {each}" for each in status["warnings"]]
     for each in status["interfaces"]:
         lines += interface_lines(each)
+    if status["at_rest_since"]:
+        began = moment_text(status["at_rest_since"])
+        lines.append(f"at rest since {began}: all neighbors are Full, and nobody owes an LSA")
     return lines

@@ -5,6 +5,7 @@ import os
 import struct
 import sys
 import tempfile
+import time
 import unittest
 from collections import Counter
 from dataclasses import dataclass, field, replace
@@ -17,10 +18,13 @@ from leafrunt_host.announcements import Announced
 from leafrunt_host.capture import MOST_WAITING, Capture
 from leafrunt_host.configuration import Configuration, InterfaceSettings
 from leafrunt_host.destinations import Announcement
+from leafrunt_host.exchange import Side
 from leafrunt_host.journal import Kept as KeptLog
 from leafrunt_host.journal import one_line
 from leafrunt_host.kernel_settings import KernelSettings
 from leafrunt_host.observing import Adjacencies, Report
+from leafrunt_host.owed import Owed
+from leafrunt_host.packets import lsas_of
 from leafrunt_host.router import Router, RouterGone
 from leafrunt_host.status import (
     Kept,
@@ -28,9 +32,11 @@ from leafrunt_host.status import (
     kernel_line,
     neighbors_of,
     originated,
+    since_1970,
     status_lines,
     status_of,
 )
+from tests.test_bridge import plain
 
 TWO = IPv4Address("2.2.2.2")
 THERE = IPv4Address("10.0.1.2")
@@ -42,6 +48,7 @@ class StandInLink:
 
     said: list[Report]
     counters: Counter[str] = field(default_factory=lambda: Counter({"in": 3}))
+    owed: Owed = field(default_factory=Owed)
 
     def reports(self, _now: float) -> list[Report]:
         return self.said
@@ -67,6 +74,34 @@ def known(*reports: Report, neighbors: tuple[str, ...] = (), kernel: bool = True
     return it
 
 
+class Rests(unittest.TestCase):
+    def test_at_rest(self) -> None:
+        """Since the last neighbor is Full, and nobody owes anything; else who owes what."""
+        it = known(neighbors=("neighbor 1 2.2.2.2 Full",))
+        began = it.adjacencies.since(1, TWO, "Full")
+        assert began is not None
+        status = status_of(it)
+        self.assertAlmostEqual(status["at_rest_since"], since_1970(began), delta=1)
+        self.assertIn(": all neighbors are Full, and nobody owes", status_lines(status)[-1])
+        now, update = time.monotonic(), plain("BIRD Update")
+        for side, said in ((Side.WIRE, "this router owes it"), (Side.ROUTER, "it owes")):
+            it.links[1].owed.passed(side, update, now)
+            count = len(lsas_of(update.body))
+            status = status_of(it)
+            self.assertIsNone(status["at_rest_since"])
+            self.assertIn(f"  eth1: {said} {count} acknowledgments", status_lines(status))
+            it.links[1].owed.clear()
+        it.links[1].owed.passed(Side.WIRE, update, now)
+        it.links[1].owed.acknowledged(lsas_of(update.body), now)
+        self.assertAlmostEqual(status_of(it)["at_rest_since"], time.time(), delta=5)
+
+    def test_not_at_rest(self) -> None:
+        for neighbors in ((), ("neighbor 1 2.2.2.2 Loading",)):
+            status = status_of(known(neighbors=neighbors))
+            self.assertIsNone(status["at_rest_since"])
+            self.assertNotIn("at rest", "".join(status_lines(status)))
+
+
 class Statuses(unittest.TestCase):
     def lines(self, it: Known) -> list[str]:
         """The lines, by way of JSON, without the first one and what this very host is warned of."""
@@ -83,7 +118,7 @@ class Statuses(unittest.TestCase):
             lines[2],
             r"^eth1: 10\.0\.1\.1/24, MTU 1500: 2\.2\.2\.2 \(10\.0\.1\.2\) Full since \d{4}-",
         )
-        self.assertEqual(lines[3:], ["lan0: 10.0.2.1/24, MTU 1500: passive"])
+        self.assertEqual(lines[3:-1], ["lan0: 10.0.2.1/24, MTU 1500: passive"])
 
     def test_a_state_that_is_new(self) -> None:
         """The moment of the state before isn't told of this one."""

@@ -7,7 +7,18 @@ import subprocess
 
 from leafrunt_host.kernel import Json
 from tests import schemas
-from tests.network import COMES_UP, HOST, LSA_TITLES, Box, Looks, Lsa, Try, prefixes, run
+from tests.network import (
+    COMES_UP,
+    HOST,
+    LSA_TITLES,
+    Box,
+    Looks,
+    Lsa,
+    Try,
+    is_said,
+    prefixes,
+    run,
+)
 from tests.pty_terminal import Terminal
 from tests.test_metrics import PROMETHEUS, Prometheus, Server
 from tests.try_wire import ROUTER_IDS, Pair
@@ -28,6 +39,7 @@ def watching(given: Try) -> None:
     it.start()
     looks.timed("Full", COMES_UP, it.is_up)
     looks.timed("all routes in the kernel", 30, lambda: len(box.kernel_routes()) > COUNT)
+    looks.timed("at rest: nobody owes anything", 20, lambda: is_said(box, "at rest since "))
     lists(it, box, looks)
     metrics(box, looks)
     terminal(it, box, looks)
