@@ -439,3 +439,25 @@ def links(given: Try) -> None:
     status = box.stop()
     looks.look("the end", status == 0 and has(), f"status {status}")
     frr.stop()
+
+
+def again(given: Try) -> None:
+    """A destination is withdrawn, and announced again while FRR keeps what was flushed."""
+    it, looks, prefix = Line(given), given.looks, "203.0.113.0/24"
+
+    def are_there() -> list[bool]:
+        names = (it.bird.namespace, it.frr.namespace)
+        return [prefix in output("ip", "-n", each, "-4", "route", "show", prefix) for each in names]
+
+    it.start()
+    looks.timed("a box between BIRD and FRR: Full", COMES_UP, it.is_up)
+    it.box.ask(f"add {prefix} 20 2 0")
+    looks.timed("a destination is announced: both have it", 20, lambda: all(are_there()))
+    time.sleep(6)
+    it.box.ask(f"withdraw {prefix}")
+    looks.timed("withdrawn: neither has it", 20, lambda: not any(are_there()))
+    time.sleep(6)
+    it.box.ask(f"add {prefix} 20 2 0")
+    looks.timed("announced again: both have it", 20, lambda: all(are_there()))
+    looks.look("and keep it", within(15, lambda: not all(are_there()), 0.5) is None)
+    it.stop()
