@@ -7,6 +7,7 @@ import time
 import unittest
 from dataclasses import replace
 from ipaddress import IPv4Address
+from pathlib import Path
 from unittest import mock
 
 from leafrunt_host import leaving
@@ -135,6 +136,11 @@ class Leaving(unittest.TestCase):
                 self.assertLess(self.turned(*neighbors, kernel=kernel, hurried=hurried), 0.3)
                 self.assertEqual(len(self.bridge.flooded), 1)
         self.assertLess(TIMES * leaving.BETWEEN, SECONDS_TO_TURN)
+
+    def test_systemd_ends_the_box_alone(self) -> None:
+        """Without that it sends SIGTERM to `routerd` too, and the box ends with status 3."""
+        unit = Path(__file__).resolve().parent.parent / "leafrunt@.service"
+        self.assertIn("KillMode=mixed", unit.read_text().splitlines())
 
     def test_an_update_of_the_link(self) -> None:
         one = link(KEY)
