@@ -1,5 +1,5 @@
-"""`try-guest`: what it puts into the guest, what it makes of the guest's lines, and what it can't run
-without."""
+"""`try-guest` and `try-systemd`: what they put into the guest, what is made of the guest's lines, and
+what they can't run without."""
 from __future__ import annotations
 
 import contextlib
@@ -13,10 +13,20 @@ import unittest
 from pathlib import Path
 from unittest import mock
 
-PROGRAM = Path(__file__).resolve().parent.parent / "try-guest"
-loader = importlib.machinery.SourceFileLoader("try_guest", str(PROGRAM))
-try_guest = importlib.util.module_from_spec(importlib.util.spec_from_loader(loader.name, loader))
-loader.exec_module(try_guest)
+HOST = Path(__file__).resolve().parent.parent
+PROGRAM, OTHER = HOST / "try-guest", HOST / "try-systemd"
+
+
+def loaded(program: Path):  # type: ignore[no-untyped-def]
+    """The program as a module."""
+    name = program.name.replace("-", "_")
+    loader = importlib.machinery.SourceFileLoader(name, str(program))
+    module = importlib.util.module_from_spec(importlib.util.spec_from_loader(name, loader))
+    loader.exec_module(module)
+    return module
+
+
+try_guest, try_systemd = loaded(PROGRAM), loaded(OTHER)
 
 
 class Guests(unittest.TestCase):
@@ -37,6 +47,30 @@ class Guests(unittest.TestCase):
         self.assertEqual((self.folder / "root/command").read_text(), "cd /x && 'a  b'")
         self.assertEqual((self.folder / "root/modules/vrf.ko").read_text(), "vrf")
         self.assertTrue((self.folder / "root/init").stat().st_mode & 0o100)
+
+    def test_the_first_root_for_systemd(self) -> None:
+        """Its last step is systemd, of which the command is a service."""
+        with mock.patch.object(try_guest, "BUSYBOX", str(self.folder / "busybox")):
+            try_guest.made_root(self.folder / "root", self.kernel, "echo 1", try_guest.SYSTEMD)
+        init = (self.folder / "root/init").read_text()
+        self.assertTrue(init.endswith("exec switch_root /upper/root /sbin/init\n"))
+        self.assertIn(try_guest.ENDED, (self.folder / "root/service").read_text())
+        self.assertTrue((self.folder / "root/bin/switch_root").is_symlink())
+
+    def test_a_tree_with_a_box(self) -> None:
+        """What docs/use/HOST.md has copied, again over what is there; started at boot."""
+        tree, routerd = self.folder / "tree", self.folder / "routerd"
+        routerd.write_text("routerd")
+        for each in ("usr/local/bin", "usr/local/lib", "etc/systemd/system"):
+            (tree / each).mkdir(parents=True)
+        for _ in range(2):
+            try_systemd.installed(tree, routerd)
+        self.assertEqual((tree / "usr/local/bin/routerd").stat().st_mode & 0o777, 0o755)
+        self.assertEqual((tree / "etc/leafrunt/keys.toml").stat().st_mode & 0o777, 0o600)
+        self.assertTrue((tree / try_systemd.PLACE / "tests/try_systemd.py").exists())
+        self.assertTrue((tree / "etc/systemd/system/leafrunt@.service").exists())
+        wanted = tree / "etc/systemd/system/multi-user.target.wants/leafrunt@north.service"
+        self.assertTrue(wanted.is_symlink())
 
     def test_files_that_are_not_there(self) -> None:
         (self.kernel / "vrf.ko").unlink()
@@ -67,12 +101,14 @@ class Guests(unittest.TestCase):
         self.assertEqual(self.said(f"{try_guest.BEGINS}\none", 2), (3, "one\n"))
 
     def test_wrong_words(self) -> None:
-        for words, status in (([], 2), (["--kernel", str(self.folder)], 2), (["--help"], 0)):
-            ran = subprocess.run(
-                [sys.executable, str(PROGRAM), *words], capture_output=True, timeout=60, check=False
-            )
-            self.assertEqual(ran.returncode, status)
-            self.assertNotIn(b"Traceback", ran.stderr)
+        kernel = ["--kernel", str(self.folder)]
+        for program in (PROGRAM, OTHER):
+            for words, status in (([], 2), (kernel, 2), (["--help"], 0)):
+                ran = subprocess.run(
+                    [sys.executable, str(program), *words], capture_output=True, timeout=60, check=False
+                )
+                self.assertEqual(ran.returncode, status)
+                self.assertNotIn(b"Traceback", ran.stderr)
 
 
 if __name__ == "__main__":
