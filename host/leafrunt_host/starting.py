@@ -121,9 +121,11 @@ class Starter:
         neighbor_numbers: NeighborNumbers,
         watch: Watch,
         holding: Holding | None = None,
+        news: Callable[[], None] = lambda: None,
     ) -> None:
-        """`watch` is called with each packet that passes, and `holding` says which have to wait."""
-        self._room, self._watch, self._holding = room, watch, holding
+        """`watch` is called with each packet that passes, `holding` says which have to wait, and
+        `news` is called where an interface goes down or comes up."""
+        self._room, self._watch, self._holding, self._news = room, watch, holding, news
         self._numbers, self._neighbor_numbers = numbers, neighbor_numbers
 
     def begin(self, configuration: Configuration, told: Callable[[str], None]) -> Parts:
@@ -188,7 +190,13 @@ class Starter:
                     sinks[number] = undone.enter_context(world.do(partial(sink, own[1])))
                 else:
                     links[number] = link_of(interface_of(number, each, own))
-            bridge = Bridge(list(links.values()), world=world, holding=self._holding, arrivals=arrivals)
+            bridge = Bridge(
+                list(links.values()),
+                world=world,
+                holding=self._holding,
+                arrivals=arrivals,
+                news=self._news,
+            )
             undone.callback(bridge.end)
             router = self._started(world, configuration, ports, told)
             bridge.sockets_listed = world.sockets_of(router.pid)
