@@ -346,6 +346,7 @@ def ring_replays(it: Ring, looks: Looks) -> None:
     looks.look("and the adjacency stays Full", is_full(box, "2.2.2.2"))
     box.stop(signal.SIGKILL)
     box.start()
+    within(COMES_UP, lambda: box.ask("neighbors"))
     looks.timed(
         "the same right after the box was killed and started again", 10, lambda: is_refused(first)
     )
