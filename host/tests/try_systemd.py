@@ -18,6 +18,11 @@ CAPABILITIES = sum(1 << each for each in (5, 6, 7, 12, 13, 21, 23))
 """CAP_KILL, CAP_SETGID, CAP_SETUID, CAP_NET_ADMIN, CAP_NET_RAW, CAP_SYS_ADMIN, CAP_SYS_NICE."""
 
 
+def systemctl(*words: str) -> None:
+    """`CannotTry` where it fails."""
+    run("systemctl", *words, UNIT, seconds=SLOW)
+
+
 def shown(name: str) -> str:
     """A property of the unit."""
     return output("systemctl", "show", UNIT, "-p", name, "--value").strip()
@@ -96,14 +101,14 @@ def reload(looks: Looks) -> None:
     since = output("leafrunt", "status", "--box", "north")
     text = CONFIGURATION.read_text()
     CONFIGURATION.write_text(f'{text}\n[[announce]]\nprefix = "{EXTERNAL}"\n')
-    run("systemctl", "reload", UNIT)
+    systemctl("reload")
     looks.timed("after a reload south has another destination", SLOW, lambda: south_has(EXTERNAL))
     line = next(each for each in since.splitlines() if "Full" in each)
     looks.look("the adjacency is the same", line in output("leafrunt", "status", "--box", "north"))
     CONFIGURATION.write_text(f"{text}\nnothing = 1\n")
     failed = False
     try:
-        run("systemctl", "reload", UNIT)
+        systemctl("reload")
     except CannotTry:
         failed = True
     looks.look("a wrong file is refused, and the box goes on", failed and is_full())
@@ -112,19 +117,19 @@ def reload(looks: Looks) -> None:
 
 def killed(looks: Looks) -> None:
     before = shown("MainPID")
-    run("systemctl", "kill", "-s", "KILL", "--kill-whom", "main", UNIT)
+    systemctl("kill", "-s", "KILL", "--kill-whom", "main")
     looks.timed("killed: its routes are removed", SLOW, lambda: not own_routes(), 0.05)
     looks.timed("it is started again", SLOW, is_running)
     looks.look("by another process", shown("MainPID") not in (before, "0"))
     looks.timed("Full again", SLOW, is_full)
     looks.timed("with its route", SLOW, lambda: "192.168.2.0/24" in own_routes())
-    run("systemctl", "restart", UNIT)
+    systemctl("restart")
     looks.timed("restarted: Full", SLOW, is_full)
 
 
 def stopped(looks: Looks) -> None:
     start = time.monotonic()
-    run("systemctl", "stop", UNIT)
+    systemctl("stop")
     looks.look("it stops in order", shown("Result") == "success", f"after {time.monotonic() - start:.1f} s")
     looks.look("its routes are gone", not own_routes(), own_routes())
     looks.timed("south has turned away", SLOW, lambda: not south_has("192.168.1.0/24"))
