@@ -60,6 +60,21 @@ module _ (n : Neighbor) where
       chosen (λ (s : Step). IsSame s.neighbor) (is_exchange_or_later m.state) (flooded_in_exchange moment from lsa m) (no_sends m)
       (λ part. chosen (λ (s : Step). IsSame s.neighbor) (not from && passes moment lsa (request_of m lsa)) got not_got (λ e. so) (λ e. so)) (λ before. h)
 
+  same_filled_in : (s : State) (m : Neighbor) → IsSame m → IsSame (loading_done_in s m)
+  same_filled_in Init m h = h
+  same_filled_in ExStart m h = h
+  same_filled_in Exchange m h = h
+  same_filled_in Loading m h = chosen IsSame (requests_nothing m) (record m { state = Full }) m (λ e. h) (λ e. h)
+  same_filled_in Full m h = h
+
+  pub same_filled : (m : Neighbor) → IsSame m → IsSame (loading_done m)
+  same_filled m h = same_filled_in m.state m h
+
+  pub same_asked : (moment : ℕ) (m : Neighbor) → IsSame m → IsSame (request_next moment m).neighbor
+  same_asked moment m h =
+      chosen (λ (s : Step). IsSame s.neighbor) (may_request m)
+      (record { neighbor = record m { outstanding = set.from_list (next_request m); requested_at = moment }; sends = Requests (next_request m) ∷ [] }) (no_sends m) (λ e. h) (λ e. h)
+
   -- ---- attempts and Hellos
 
   pub mismatched : (moment : ℕ) (m : Neighbor) → Standing m → Standing (mismatch_step moment m).neighbor
