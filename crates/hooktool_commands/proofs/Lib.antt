@@ -1,6 +1,5 @@
 pub mod Built
+pub mod Ended
 pub mod Explained
 pub mod Found
-pub mod InARow
-pub mod Same
 pub mod Tried

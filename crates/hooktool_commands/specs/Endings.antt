@@ -13,7 +13,10 @@ use Rattle.hooktool_commands.specs.Annotations.{IsAnnotated}
 use Rattle.hooktool_commands.specs.Builds.{IsBuilt}
 use Rattle.hooktool_commands.specs.Explanations.{IsExplained}
 use Rattle.hooktool_commands.specs.Statuses.{status_of, status_of_words}
-use Rattle.hooktool_commands.specs.Trials.{IsTried, PacketIs}
+use Rattle.hooktool_commands.specs.Tests.{IsTested}
+use Rattle.hooktool_commands.specs.Trials.{IsTried}
+use Rattle.hooktool_commands.specs.declared.testing.Tested.TheVariants.{Played}
+use Rattle.object_trials.specs.Plays.{PacketIs}
 use Rattle.hooktool_commands.specs.declared.fault.Fault.{Fault}
 use Rattle.hooktool_commands.specs.declared.report.Report.{Report}
 
@@ -27,6 +30,7 @@ IsMadeOf (requests.Build file folder hook fuel) report = (bytes : List ℕ)
 IsMadeOf (requests.Explain object) report = (bytes : List ℕ) × IsExplained bytes report
 IsMadeOf (requests.Try object question) report =
     (bytes packet : List ℕ) × PacketIs question.packet packet × IsTried bytes packet question report
+IsMadeOf (requests.Test file) report = IsTested (Played report)
 
 -- a program that is refused and a run that gave no answer have status 1
 abbrev pub status_of_refused : Bool → ℕ

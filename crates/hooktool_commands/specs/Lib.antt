@@ -3,6 +3,6 @@ pub mod Builds
 pub mod Orders
 pub mod Endings
 pub mod Explanations
-pub mod Runs
 pub mod Statuses
+pub mod Tests
 pub mod Trials

@@ -32,6 +32,7 @@ status_of (faults.Code number slot) = 1
 status_of (faults.Object number) = 1
 status_of (faults.OtherHook hook) = 1
 status_of (faults.Uncounted reason) = 1
+status_of faults.Test = 2
 status_of faults.Output = 3
 status_of faults.Memory = 4
 

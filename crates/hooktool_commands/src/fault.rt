@@ -45,6 +45,9 @@ pub enum Fault<'a> {
     /// Code in which turns can't be counted, and why.
     #[error("{reason}")]
     Uncounted { reason: &'static str },
+    /// A line of a test can't be read or played, which was told before.
+    #[error("the tests aren't played to their end")]
+    Test,
     /// The output can't be written.
     #[error("cannot write the output")]
     Output,
@@ -113,6 +116,7 @@ impl<'a> Fault<'a> {
     {
         match self {
             Fault::Read { .. } | Fault::Write { .. } | Fault::Output => OUTSIDE,
+            Fault::Test => USAGE,
             Fault::Code { .. }
             | Fault::Object { .. }
             | Fault::OtherHook { .. }

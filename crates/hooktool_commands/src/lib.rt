@@ -11,8 +11,8 @@ mod names;
 pub mod program;
 mod relocated;
 mod report;
+mod testing;
 mod traps;
-mod trials;
 mod trying;
 
 pub use fault::Fault;

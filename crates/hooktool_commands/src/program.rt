@@ -1,17 +1,20 @@
 //! The whole program, over readers and writers that are handed in.
 
-ghost use Rattle.std.specs.Prelude.{◌≡◌, ◌⊎◌, map, IfOk};
+ghost use Rattle.std.specs.Prelude.{◌≡◌, ◌⊎◌, map, IfOk, OnOk};
 ghost use Rattle.std.specs.IoError.{error_kind};
 ghost use Rattle.clap.specs.Values.{kind_of};
 ghost use Rattle.hooktool_commands.specs.Endings.{Ends, EndsWords, IsMadeOf, IsTold, Prints};
 ghost use Rattle.hooktool_commands.specs.Endings.{TellsWords};
 ghost use Rattle.hooktool_commands.specs.Statuses.{status_of_usage};
+ghost use Rattle.hooktool_commands.specs.Tests.{IsTested};
+ghost use Rattle.hooktool_commands.specs.declared.testing.Tested.TheVariants.{Played};
 
 use crate::annotating::annotate;
 use crate::building::{Order, build};
 use crate::explaining::explain;
 use crate::fault::{DONE, Fault, REFUSED, USAGE};
 use crate::report::Report;
+use crate::testing::{Tested, test};
 use crate::trying::try_question;
 use clap::Error;
 use clap::error::ErrorKind;
@@ -88,9 +91,33 @@ pub fn end_without_words<O: Write, E: Write>(
     tell_words(&error, output, errors)
 }
 
+// What is told of a test. Of a line that can't be played that is written, and then its fault.
+fn test_report<'a, R: Files + AllocGlobal, O: Write>(
+    rt: &R,
+    file: &'a str,
+    output: &mut O,
+) -> Result<Report, Fault<'a>>
+    ensures made { IfOk result (λ report. IsTested (Played report)) }
+    ensures same { OnOk result (O.contents output.new ≡ O.contents output.old) }
+{
+    match test(rt, file) {
+        Ok(Tested::Played(report)) => Ok(report),
+        Ok(Tested::Unread(text)) => match output.write_all(text.as_bytes()) {
+            Ok(()) => Err(Fault::Test),
+            Err(_) => Err(Fault::Output),
+        },
+        Err(fault) => Err(fault),
+    }
+}
+
 // What a request makes, or why it can't be carried out.
-fn made_of<'a, R: Files + AllocGlobal>(rt: &R, request: Request<'a>) -> Result<Report, Fault<'a>>
-    ensures { IfOk result (IsMadeOf request.entry) }
+fn made_of<'a, R: Files + AllocGlobal, O: Write>(
+    rt: &R,
+    request: Request<'a>,
+    output: &mut O,
+) -> Result<Report, Fault<'a>>
+    ensures made { IfOk result (IsMadeOf request.entry) }
+    ensures same { OnOk result (O.contents output.new ≡ O.contents output.old) }
 {
     match request {
         Request::Annotate {
@@ -107,6 +134,7 @@ fn made_of<'a, R: Files + AllocGlobal>(rt: &R, request: Request<'a>) -> Result<R
         } => build(rt, file, Order { folder, hook, fuel }),
         Request::Explain { object } => explain(rt, object),
         Request::Try { object, question } => try_question(rt, object, &question),
+        Request::Test { file } => test_report(rt, file, output),
     }
 }
 
@@ -125,7 +153,10 @@ pub fn program<R: Files + AllocGlobal, O: Write, E: Write>(
         (E.contents errors.old) (E.contents errors.new) result }
 {
     match hooktool_line::parse(rt.alloc(), words) {
-        Ok(request) => end(made_of(rt, request), output),
+        Ok(request) => {
+            let made = made_of(rt, request, output);
+            end(made, output)
+        }
         Err(error) => tell_words(&error, output, errors),
     }
 }

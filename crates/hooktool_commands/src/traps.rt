@@ -1,10 +1,10 @@
 //! Runs that gave no answer.
 
-use crate::trials::Ending;
 use explanations::{Text, line_at};
 use interp::Trap;
 use isa::Code;
 use machine::{Content, Pointer};
+use object_trials::Ending;
 
 // The traps in the order of their numbers, which begin with 1: the faults' names are those of
 // docs/reference/MACHINE.md.

@@ -2,18 +2,19 @@
 
 ghost use Rattle.std.specs.Prelude.{◌≡◌, List, ℕ, IfOk, is_err};
 ghost use Rattle.std.specs.List.{list_any};
-ghost use Rattle.hooktool_commands.specs.Trials.{IsTried, PacketIs};
+ghost use Rattle.hooktool_commands.specs.Trials.{IsTried};
+ghost use Rattle.object_trials.specs.Plays.{PacketIs};
 
 use crate::answers::push_answer;
 use crate::fault::Fault;
 use crate::files;
 use crate::report::Report;
 use crate::traps::push_trap;
-use crate::trials::{Ending, Trial, TrialError, try_object};
 use explanations::{Text, instruction_lines};
 use hooktool_line::{Packet, Question};
 use isa::{Code, Hook, decode};
 use object::Object;
+use object_trials::{Ending, Trial, TrialError, try_object};
 use std::alloc::{AllocError, Global};
 use std::rt::Files;
 use verifier::BUDGET;
@@ -144,14 +145,7 @@ fn told_of<'a>(
 ) -> Result<Report, Fault<'a>>
     ensures { IfOk result (IsTried bytes.now packet.now question.now) }
 {
-    match try_object(
-        alloc,
-        bytes,
-        &question.asked,
-        packet,
-        &question.rows,
-        question.times,
-    ) {
+    match try_object(alloc, bytes, packet, question) {
         Ok(trial) => report_of(alloc, program, &trial),
         Err(error) => Err(Fault::from(error)),
     }

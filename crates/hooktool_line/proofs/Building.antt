@@ -8,7 +8,8 @@ use Rattle.clap.specs.Simple.{App, app_of, new_app, with_rule, with_subcommand}
 use Rattle.clap.specs.Walk.{rule_of}
 use Rattle.clap.specs.declared.builder.arg.Arg.{Arg}
 use Rattle.clap.specs.declared.builder.command.Command.{Command}
-use Rattle.hooktool_line.specs.Building.{Each, ExtendsBy, IsCommand, IsLeaf, IsLocal, rule_for, shape_for, with_forms, with_words}
+use Rattle.hooktool_line.specs.Words.{Each}
+use Rattle.hooktool_line.specs.Building.{ExtendsBy, IsCommand, IsLeaf, IsLocal, rule_for, shape_for, with_forms, with_words}
 use Rattle.hooktool_line.specs.declared.arguments.Form.{Form}
 use Rattle.hooktool_line.specs.declared.arguments.Word.{Word}
 

@@ -1,7 +1,10 @@
 pub mod Building
+pub mod Listed
 pub mod Made
 pub mod OrElse
 pub mod PacketWords
 pub mod Questioned
 pub mod Read
 pub mod RowWords
+pub mod SettingWords
+pub mod StepWords

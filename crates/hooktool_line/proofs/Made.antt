@@ -48,6 +48,18 @@ annotate≢try e = let bad : ◌≡◌ {A = ℕ} 116 97 = ap (λ (t : List ℕ).
 explain≢try : codes "try" ≡ codes "explain" → ⊥
 explain≢try e = let bad : ◌≡◌ {A = ℕ} 116 101 = ap (λ (t : List ℕ). slice_index t 0) e in absurd (omega arith)
 
+annotate≢test : codes "test" ≡ codes "annotate" → ⊥
+annotate≢test e = let bad : ◌≡◌ {A = ℕ} 116 97 = ap (λ (t : List ℕ). slice_index t 0) e in absurd (omega arith)
+
+build≢test : codes "test" ≡ codes "build" → ⊥
+build≢test e = let bad : ◌≡◌ {A = ℕ} 116 98 = ap (λ (t : List ℕ). slice_index t 0) e in absurd (omega arith)
+
+explain≢test : codes "test" ≡ codes "explain" → ⊥
+explain≢test e = let bad : ◌≡◌ {A = ℕ} 116 101 = ap (λ (t : List ℕ). slice_index t 0) e in absurd (omega arith)
+
+try≢test : codes "test" ≡ codes "try" → ⊥
+try≢test e = let bad : ◌≡◌ {A = ℕ} 101 114 = ap (λ (t : List ℕ). slice_index t 1) e in absurd (omega arith)
+
 pub no_annotate : (rows : List Row)
     → ((hook : Hook) (code object : Text) (fuel : FuelAsked) → HasWord rows (codes "HOOK") (hook_name hook) → HasWord rows (codes "CODE") code
     → HasWord rows (codes "OBJECT") object → HasFuel rows fuel → ⊥)
@@ -56,6 +68,7 @@ no_annotate rows none (requests.Annotate hook code object fuel) named has = none
 no_annotate rows none (requests.Build file folder hook fuel) named has = absurd (annotate≢build named)
 no_annotate rows none (requests.Explain object) named has = absurd (annotate≢explain named)
 no_annotate rows none (requests.Try object question) named has = absurd (annotate≢try named)
+no_annotate rows none (requests.Test file) named has = absurd (annotate≢test named)
 
 pub no_build : (rows : List Row)
     → ((file folder : Text) (hook : Option Hook) (fuel : FuelAsked) → HasWord rows (codes "FILE") file → HasWord rows (codes "FOLDER") folder
@@ -65,12 +78,14 @@ no_build rows none (requests.Annotate hook code object fuel) named has = absurd 
 no_build rows none (requests.Build file folder hook fuel) named has = none file.now folder.now hook fuel has.0 has.1 has.2 has.3
 no_build rows none (requests.Explain object) named has = absurd (build≢explain named)
 no_build rows none (requests.Try object question) named has = absurd (build≢try named)
+no_build rows none (requests.Test file) named has = absurd (build≢test named)
 
 pub no_explain : (rows : List Row) → ((object : Text) → HasWord rows (codes "OBJECT") object → ⊥) → MadeBy (codes "explain") rows None
 no_explain rows none (requests.Annotate hook code object fuel) named has = absurd (annotate≢explain (sym named))
 no_explain rows none (requests.Build file folder hook fuel) named has = absurd (build≢explain (sym named))
 no_explain rows none (requests.Explain object) named has = none object.now has
 no_explain rows none (requests.Try object question) named has = absurd (explain≢try named)
+no_explain rows none (requests.Test file) named has = absurd (explain≢test named)
 
 pub no_try : (rows : List Row) → ((object : Text) (question : Question) → HasWord rows (codes "OBJECT") object → HasQuestion rows question → ⊥)
     → MadeBy (codes "try") rows None
@@ -78,6 +93,14 @@ no_try rows none (requests.Annotate hook code object fuel) named has = absurd (a
 no_try rows none (requests.Build file folder hook fuel) named has = absurd (build≢try (sym named))
 no_try rows none (requests.Explain object) named has = absurd (explain≢try (sym named))
 no_try rows none (requests.Try object question) named has = none object.now question has.0 has.1
+no_try rows none (requests.Test file) named has = absurd (try≢test named)
+
+pub no_test : (rows : List Row) → ((file : Text) → HasWord rows (codes "FILE") file → ⊥) → MadeBy (codes "test") rows None
+no_test rows none (requests.Annotate hook code object fuel) named has = absurd (annotate≢test (sym named))
+no_test rows none (requests.Build file folder hook fuel) named has = absurd (build≢test (sym named))
+no_test rows none (requests.Explain object) named has = absurd (explain≢test (sym named))
+no_test rows none (requests.Try object question) named has = absurd (try≢test (sym named))
+no_test rows none (requests.Test file) named has = none file.now has
 
 -- without a question there is no request
 pub no_question : (rows : List Row) (lack : NotRead) → ReadsOrLacks (HasQuestion rows) (Err lack) → IsMade (codes "try") rows (Err lack)
@@ -85,11 +108,13 @@ no_question rows not_read.Meaningless none = no_try rows (λ object question a h
 no_question rows not_read.OutOfMemory none = tt
 
 -- a command of another name makes nothing
-pub no_other : (rows : List Row) (name : Text) → name ≢ codes "annotate" → name ≢ codes "build" → name ≢ codes "explain" → name ≢ codes "try" → MadeBy name rows None
-no_other rows name annotate build explain try (requests.Annotate hook code object fuel) named has = annotate (sym named)
-no_other rows name annotate build explain try (requests.Build file folder hook fuel) named has = build (sym named)
-no_other rows name annotate build explain try (requests.Explain object) named has = explain (sym named)
-no_other rows name annotate build explain try (requests.Try object question) named has = try (sym named)
+pub no_other : (rows : List Row) (name : Text) → name ≢ codes "annotate" → name ≢ codes "build" → name ≢ codes "explain" → name ≢ codes "try" → name ≢ codes "test"
+    → MadeBy name rows None
+no_other rows name annotate build explain try test (requests.Annotate hook code object fuel) named has = annotate (sym named)
+no_other rows name annotate build explain try test (requests.Build file folder hook fuel) named has = build (sym named)
+no_other rows name annotate build explain try test (requests.Explain object) named has = explain (sym named)
+no_other rows name annotate build explain try test (requests.Try object question) named has = try (sym named)
+no_other rows name annotate build explain try test (requests.Test file) named has = test (sym named)
 
 -- what the command makes that was named
 pub named_makes : (name : Text) (rows : List Row) (request : Request) → MadeBy name rows (Some request) → Makes (Some (name, rows)) request

@@ -8,6 +8,7 @@ use Rattle.clap.specs.declared.builder.arg.Arg.{Arg}
 use Rattle.clap.specs.declared.builder.command.Command.{Command}
 use Rattle.clap.specs.declared.builder.command.Command.TheViews.{out-Command}
 use Rattle.hooktool_line.specs.CommandLine.{option, repeated_option, required_word}
+use Rattle.hooktool_line.specs.Words.{Each}
 use Rattle.hooktool_line.specs.declared.arguments.Form.{Form}
 use Rattle.hooktool_line.specs.declared.arguments.Given.{Given}
 use Rattle.hooktool_line.specs.declared.arguments.Given.TheVariants as given
@@ -52,12 +53,6 @@ shape_for form = (app_for form).top
 pub record IsLeaf (form : Form) (c : Command) : Type 0 where
   pub app : app_of c ≡ app_for form
   pub local : IsLocal c
-
--- One list is made of another, each thing of that at its place.
-abbrev pub Each : {A : Type 0} {B : Type 0} → (A → B → Type 0) → List A → List B → Type 0
-Each {A} {B} Is [] [] = Unit {0}
-Each {A} {B} Is (x ∷ xs) (y ∷ ys) = Is x y × Each Is xs ys
-Each {A} {B} Is _ _ = ⊥
 
 abbrev pub IsCommand : Bor Form → Command → Type 0
 IsCommand form c = IsLeaf form.now c

@@ -43,16 +43,25 @@ route_options =
     option (codes "prefix") ∷ option (codes "metric") ∷ option (codes "tag") ∷ option (codes "type")
     ∷ option (codes "cost") ∷ option (codes "distance") ∷ option (codes "kind") ∷ []
 
--- when and on what a program is run, and how many times
+-- when and on what a program is run, on which counters and cells, and how many times
 abbrev pub other_options : List Rule
 other_options =
-    option (codes "moment") ∷ option (codes "interface") ∷ option (codes "packet")
-    ∷ repeated_option (codes "row") ∷ option (codes "times") ∷ []
+    option (codes "moment") ∷ option (codes "interface") ∷ option (codes "next-hops")
+    ∷ option (codes "packet") ∷ repeated_option (codes "row") ∷ repeated_option (codes "counter")
+    ∷ repeated_option (codes "cell") ∷ option (codes "times") ∷ []
 
 -- try OBJECT, and the question
 abbrev pub try : Shape
 try =
     command (codes "try") (required_word (codes "OBJECT") ∷ route_options ++ other_options)
+
+-- test FILE
+abbrev pub test : Shape
+test = command (codes "test") (required_word (codes "FILE") ∷ [])
+
+-- A line of a test: ask, and the question.
+abbrev pub ask : App
+ask = record { top = command (codes "ask") (route_options ++ other_options); subs = [] }
 
 -- One of these commands has to be named, and without any word the answer is help.
 abbrev pub line : App
@@ -60,5 +69,5 @@ line = record {
   top =
       record (new_shape (codes "hooktool"))
       { is_leaf = false; subcommand_required = true; arg_required_else_help = true };
-  subs = annotate ∷ build ∷ explain ∷ try ∷ [];
+  subs = annotate ∷ build ∷ explain ∷ try ∷ test ∷ [];
 }

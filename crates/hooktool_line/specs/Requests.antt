@@ -25,6 +25,7 @@ command_of (requests.Annotate hook code object fuel) = codes "annotate"
 command_of (requests.Build file folder hook fuel) = codes "build"
 command_of (requests.Explain object) = codes "explain"
 command_of (requests.Try object question) = codes "try"
+command_of (requests.Test file) = codes "test"
 
 -- the word under this name
 abbrev pub HasWord : List Row → Text → Text → Type 0
@@ -70,6 +71,7 @@ HasWordsOf rows (requests.Build file folder hook fuel) =
 HasWordsOf rows (requests.Explain object) = HasWord rows (codes "OBJECT") object.now
 HasWordsOf rows (requests.Try object question) =
     HasWord rows (codes "OBJECT") object.now × HasQuestion rows question
+HasWordsOf rows (requests.Test file) = HasWord rows (codes "FILE") file.now
 
 -- what the command of this name makes of its words, if it makes a request of them
 abbrev pub MadeBy : Text → List Row → Option Request → Type 0

@@ -15,6 +15,7 @@ use Rattle.hooktool_line.specs.declared.requests.Packet.{Packet}
 use Rattle.hooktool_line.specs.declared.values.NotRead.{NotRead}
 use Rattle.hooktool_line.specs.declared.values.NotRead.TheVariants as not_read
 use Rattle.hooktool_line.specs.declared.requests.Packet.TheVariants as packets
+use Rattle.hooktool_line.specs.declared.settings.Setting.{Setting}
 
 -- What is read has this meaning; where nothing is, nothing has it.
 abbrev pub Reads : {A : Type 0} → (A → Type 0) → Option A → Type 0
@@ -59,10 +60,23 @@ abbrev pub IsRow : Text → TableRow → Type 0
 IsRow word row = (word ≡ prefix_text row.prefix ++ 61 ∷ decimal row.cost) × IsNetwork row.prefix
     × (row.cost < 2 ^ 32)
 
+-- One list is made of another, each thing of that at its place.
+abbrev pub Each : {A : Type 0} {B : Type 0} → (A → B → Type 0) → List A → List B → Type 0
+Each {A} {B} Is [] [] = Unit {0}
+Each {A} {B} Is (x ∷ xs) (y ∷ ys) = Is x y × Each Is xs ys
+Each {A} {B} Is _ _ = ⊥
+
 abbrev pub AreRows : List Text → List TableRow → Type 0
-AreRows [] [] = Unit {0}
-AreRows (word ∷ words) (row ∷ rows) = IsRow word row × AreRows words rows
-AreRows _ _ = ⊥
+AreRows = Each IsRow
+
+-- the number of a counter or cell, an equals sign (61) and a number
+abbrev pub IsSetting : (places most : ℕ) → Text → Setting → Type 0
+IsSetting places most word setting =
+    (word ≡ decimal setting.index ++ 61 ∷ decimal setting.number) × (setting.index < places)
+    × (setting.number ≤ most)
+
+abbrev pub AreSettings : (places most : ℕ) → List Text → List Setting → Type 0
+AreSettings places most = Each (IsSetting places most)
 
 -- no packet
 abbrev pub IsNoPacket : Packet → Type 0

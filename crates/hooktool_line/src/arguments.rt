@@ -3,8 +3,9 @@
 ghost use Rattle.std.specs.Prelude.{◌≡◌, ◌⊎◌, IfOk};
 ghost use Rattle.clap.specs.Simple.{app_of};
 ghost use Rattle.clap.specs.Values.{kind_of};
-ghost use Rattle.hooktool_line.specs.Building.{Each, ExtendsBy, IsArgument, IsCommand, IsLeaf};
+ghost use Rattle.hooktool_line.specs.Building.{ExtendsBy, IsArgument, IsCommand, IsLeaf, app_for};
 ghost use Rattle.hooktool_line.specs.Building.{with_forms, without_commands};
+ghost use Rattle.hooktool_line.specs.Words.{Each};
 ghost use Rattle.hooktool_line.specs.CommandLine as line;
 
 use clap::error::ErrorKind;
@@ -115,6 +116,37 @@ Statuses:
   3  a file can't be read, or the output can't be written
   4  memory was refused";
 
+const TEST_ABOUT: &str =
+    "Asks programs the questions of a file, in a row, and compares the answers with those that it \
+        expects";
+
+const TEST_MORE: &str = "\
+Example: hooktool test damping.test
+
+where damping.test has lines like these:
+  # a comment
+  program damping.o
+  ask --prefix 10.1.0.0/16 --moment 1000 --counter 17=3
+  installed
+  counter 17 4
+
+program OBJECT names the object that is asked from there on. ask takes the options of try, and a
+line below it is what try prints of the last run: metric N, withheld, tag N, installed, not
+installed, answer N, counter K N, cell J N. packets CAPTURE interface I asks of each OSPF packet
+of a pcap file, at its second. Counters and cells go on from one question to the next.
+
+Prints the Test Anything Protocol, version 14: a test point for each line that asks and for each
+expected answer, and what was found where one isn't ok.
+
+Statuses:
+  0  each point is ok
+  1  one isn't
+  2  the words are wrong, or a line of FILE, which is named
+  3  FILE can't be read, or the output can't be written
+  4  memory was refused
+
+docs/use/HOOKTOOL.md has each line.";
+
 const HOOK: &str = "The hook that the code is for: count, tag, price or veto";
 
 const CODE: &str = "Bare code, or an object that lacks statements";
@@ -129,7 +161,15 @@ const FUEL_ANSWER: &str =
 const INTERFACE: &str =
     "The interface that the packet came on, or by which the route leaves, 0 to 63";
 
+const NEXT_HOPS: &str =
+    "How many next hops the route has, 1 to 64: by the interface and those after it";
+
 const ROW: &str = "A row of the routing table; may be given again";
+
+const COUNTER: &str =
+    "Adds N, up to 16777215, to counter K, 0 to 255, before the runs; may be given again";
+
+const CELL: &str = "Stores N in cell J, 0 to 63, before the runs; may be given again";
 
 const TIMES: &str = "How many runs in a row, on the same counters and cells, 1 to 1000";
 
@@ -140,6 +180,7 @@ Examples:
   hooktool build programs.elf objects          the same of what clang wrote, for each function
   hooktool explain price.o                     prints what the verifier knows at each slot
   hooktool try price.o --metric 50             prints metric 20, used 12 of 42
+  hooktool test price.test                     prints 1..2, ok 1 - line 2: ask --metric 50, ..
 
 Statuses: 0 done, 1 refused or stuck, 2 usage, 3 file or stream, 4 memory.
 
@@ -247,85 +288,158 @@ const EXPLAIN_WORDS: [Word; 1] = [Word {
     help: "The object file",
 }];
 
-const TRY_WORDS: [Word; 13] = [
+const PREFIX_WORD: Word = Word {
+    given: Given::Once,
+    name: "prefix",
+    value: "A.B.C.D/L",
+    help: "The destination",
+};
+
+const METRIC_WORD: Word = Word {
+    given: Given::Once,
+    name: "metric",
+    value: "N",
+    help: "The configured metric",
+};
+
+const TAG_WORD: Word = Word {
+    given: Given::Once,
+    name: "tag",
+    value: "N",
+    help: "The configured tag, or the route's",
+};
+
+const TYPE_WORD: Word = Word {
+    given: Given::Once,
+    name: "type",
+    value: "1|2",
+    help: TYPE,
+};
+
+const COST_WORD: Word = Word {
+    given: Given::Once,
+    name: "cost",
+    value: "N",
+    help: "The route's cost",
+};
+
+const DISTANCE_WORD: Word = Word {
+    given: Given::Once,
+    name: "distance",
+    value: "N",
+    help: "The distance of a type 2 route",
+};
+
+const KIND_WORD: Word = Word {
+    given: Given::Once,
+    name: "kind",
+    value: "KIND",
+    help: "The route's kind: intra, inter, ext1 or ext2",
+};
+
+const MOMENT_WORD: Word = Word {
+    given: Given::Once,
+    name: "moment",
+    value: "N",
+    help: "The moment in seconds",
+};
+
+const INTERFACE_WORD: Word = Word {
+    given: Given::Once,
+    name: "interface",
+    value: "N",
+    help: INTERFACE,
+};
+
+const NEXT_HOPS_WORD: Word = Word {
+    given: Given::Once,
+    name: "next-hops",
+    value: "N",
+    help: NEXT_HOPS,
+};
+
+const PACKET_WORD: Word = Word {
+    given: Given::Once,
+    name: "packet",
+    value: "HEX|@FILE",
+    help: "The packet",
+};
+
+const ROW_WORD: Word = Word {
+    given: Given::Repeated,
+    name: "row",
+    value: "A.B.C.D/L=COST",
+    help: ROW,
+};
+
+const COUNTER_WORD: Word = Word {
+    given: Given::Repeated,
+    name: "counter",
+    value: "K=N",
+    help: COUNTER,
+};
+
+const CELL_WORD: Word = Word {
+    given: Given::Repeated,
+    name: "cell",
+    value: "J=N",
+    help: CELL,
+};
+
+const TIMES_WORD: Word = Word {
+    given: Given::Once,
+    name: "times",
+    value: "N",
+    help: TIMES,
+};
+
+const TRY_WORDS: [Word; 16] = [
     Word {
         given: Given::Required,
         name: "OBJECT",
         value: "OBJECT",
         help: "The object file",
     },
-    Word {
-        given: Given::Once,
-        name: "prefix",
-        value: "A.B.C.D/L",
-        help: "The destination",
-    },
-    Word {
-        given: Given::Once,
-        name: "metric",
-        value: "N",
-        help: "The configured metric",
-    },
-    Word {
-        given: Given::Once,
-        name: "tag",
-        value: "N",
-        help: "The configured tag, or the route's",
-    },
-    Word {
-        given: Given::Once,
-        name: "type",
-        value: "1|2",
-        help: TYPE,
-    },
-    Word {
-        given: Given::Once,
-        name: "cost",
-        value: "N",
-        help: "The route's cost",
-    },
-    Word {
-        given: Given::Once,
-        name: "distance",
-        value: "N",
-        help: "The distance of a type 2 route",
-    },
-    Word {
-        given: Given::Once,
-        name: "kind",
-        value: "KIND",
-        help: "The route's kind: intra, inter, ext1 or ext2",
-    },
-    Word {
-        given: Given::Once,
-        name: "moment",
-        value: "N",
-        help: "The moment in seconds",
-    },
-    Word {
-        given: Given::Once,
-        name: "interface",
-        value: "N",
-        help: INTERFACE,
-    },
-    Word {
-        given: Given::Once,
-        name: "packet",
-        value: "HEX|@FILE",
-        help: "The packet",
-    },
-    Word {
-        given: Given::Repeated,
-        name: "row",
-        value: "A.B.C.D/L=COST",
-        help: ROW,
-    },
-    Word {
-        given: Given::Once,
-        name: "times",
-        value: "N",
-        help: TIMES,
-    },
+    PREFIX_WORD,
+    METRIC_WORD,
+    TAG_WORD,
+    TYPE_WORD,
+    COST_WORD,
+    DISTANCE_WORD,
+    KIND_WORD,
+    MOMENT_WORD,
+    INTERFACE_WORD,
+    NEXT_HOPS_WORD,
+    PACKET_WORD,
+    ROW_WORD,
+    COUNTER_WORD,
+    CELL_WORD,
+    TIMES_WORD,
+];
+
+const TEST_WORDS: [Word; 1] = [Word {
+    given: Given::Required,
+    name: "FILE",
+    value: "FILE",
+    help: "The file of questions and expected answers",
+}];
+
+const ASK_WORDS: [Word; 15] = [
+    PREFIX_WORD,
+    METRIC_WORD,
+    TAG_WORD,
+    TYPE_WORD,
+    COST_WORD,
+    DISTANCE_WORD,
+    KIND_WORD,
+    MOMENT_WORD,
+    INTERFACE_WORD,
+    NEXT_HOPS_WORD,
+    PACKET_WORD,
+    ROW_WORD,
+    COUNTER_WORD,
+    CELL_WORD,
+    TIMES_WORD,
 ];
 
 const ANNOTATE: Form = Form {
@@ -354,6 +468,20 @@ const TRY: Form = Form {
     about: TRY_ABOUT,
     more: TRY_MORE,
     words: &TRY_WORDS,
+};
+
+const TEST: Form = Form {
+    name: "test",
+    about: TEST_ABOUT,
+    more: TEST_MORE,
+    words: &TEST_WORDS,
+};
+
+const ASK: Form = Form {
+    name: "ask",
+    about: "Asks a question in a test",
+    more: "",
+    words: &ASK_WORDS,
 };
 
 // A word, as an argument of a command.
@@ -434,8 +562,15 @@ fn line_of<'a>(alloc: Global, forms: &[&Form]) -> Result<Command<'a>, AllocError
 pub(crate) fn whole<'a>(alloc: Global) -> Result<Command<'a>, AllocError>
     ensures { IfOk result (λ c. app_of c ≡ line.line) }
 {
-    let forms = [&ANNOTATE, &BUILD, &EXPLAIN, &TRY];
+    let forms = [&ANNOTATE, &BUILD, &EXPLAIN, &TRY, &TEST];
     line_of(alloc, &forms)
+}
+
+/// The line of a test that asks a question.
+pub(crate) fn asking<'a>(alloc: Global) -> Result<Command<'a>, AllocError>
+    ensures { IfOk result (λ c. app_of c ≡ line.ask) }
+{
+    command_of(alloc, &ASK)
 }
 
 /// An error about the words of a command line.

@@ -1,7 +1,9 @@
-//! The command line of `hooktool`: the words that it takes, and what they ask for.
+//! The command line of `hooktool`: the words that it takes, and what they ask for; and the lines of
+//! tests, whose questions are asked in the same words.
 #![tactic(auto)]
 
 mod arguments;
+mod arrivals;
 mod asked;
 mod numbers;
 mod packets;
@@ -9,8 +11,13 @@ mod places;
 mod reading;
 mod requests;
 mod rows;
+mod settings;
+mod steps;
 mod values;
 
+pub use arrivals::packet_question;
 pub use asked::{Asked, context_of};
 pub use reading::{parse, unread};
 pub use requests::{FuelAsked, Packet, Question, Request};
+pub use settings::Setting;
+pub use steps::{Answer, Line, LineError, Step, WrongLine, read_lines, words_of_lines};

@@ -1,5 +1,6 @@
 //! The numbers of a question.
 
+ghost use Rattle.std.specs.Prelude.{◌+◌, ◌≤◌, IfSome};
 ghost use Rattle.clap.specs.Matches.{found_of};
 ghost use Rattle.clap.specs.Walk.{rows_of};
 ghost use Rattle.hooktool_line.specs.Questions.{HasNumbers};
@@ -8,7 +9,8 @@ ghost use Rattle.hooktool_line.specs.Words.{Reads};
 use crate::values::number_of;
 use clap::ArgMatches;
 
-/// The numbers of a question: moments below 2^62, interfaces below 64.
+/// The numbers of a question: moments below 2^62, interfaces below 64, of which there are so many
+/// next hops from the given one on.
 #[derive(Clone, Copy)]
 pub(crate) struct Numbers {
     pub metric: u32,
@@ -17,6 +19,7 @@ pub(crate) struct Numbers {
     pub distance: u32,
     pub moment: u64,
     pub interface: u8,
+    pub next_hops: u8,
 }
 
 const MOST: u64 = 4_294_967_295;
@@ -25,7 +28,8 @@ const LATEST: u64 = 4_611_686_018_427_387_903;
 
 /// The numbers that the options give.
 pub(crate) fn numbers_of(matches: &ArgMatches<'_>) -> Option<Numbers>
-    ensures { Reads (HasNumbers (rows_of (found_of matches.now))) result }
+    ensures read { Reads (HasNumbers (rows_of (found_of matches.now))) result }
+    ensures room { IfSome result (λ numbers. numbers.interface + numbers.next_hops ≤ 64) }
 {
     let Some(metric) = number_of(matches, "metric", 0, 0, MOST) else {
         return None;
@@ -45,6 +49,12 @@ pub(crate) fn numbers_of(matches: &ArgMatches<'_>) -> Option<Numbers>
     let Some(interface) = number_of(matches, "interface", 0, 0, 63) else {
         return None;
     };
+    let Some(next_hops) = number_of(matches, "next-hops", 1, 1, 64) else {
+        return None;
+    };
+    if interface + next_hops > 64 {
+        return None;
+    }
     Some(Numbers {
         metric: metric as u32,
         tag: tag as u32,
@@ -52,5 +62,29 @@ pub(crate) fn numbers_of(matches: &ArgMatches<'_>) -> Option<Numbers>
         distance: distance as u32,
         moment,
         interface: interface as u8,
+        next_hops: next_hops as u8,
     })
+}
+
+/// Which of the numbers has no meaning, where one has none.
+pub(crate) fn wrong_number(matches: &ArgMatches<'_>) -> &'static str {
+    let Some(_) = number_of(matches, "metric", 0, 0, MOST) else {
+        return "--metric is no number up to 4294967295";
+    };
+    let Some(_) = number_of(matches, "tag", 0, 0, MOST) else {
+        return "--tag is no number up to 4294967295";
+    };
+    let Some(_) = number_of(matches, "cost", 0, 0, MOST) else {
+        return "--cost is no number up to 4294967295";
+    };
+    let Some(_) = number_of(matches, "distance", 0, 0, MOST) else {
+        return "--distance is no number up to 4294967295";
+    };
+    let Some(_) = number_of(matches, "moment", 0, 0, LATEST) else {
+        return "--moment is no number below 2^62";
+    };
+    let Some(_) = number_of(matches, "interface", 0, 0, 63) else {
+        return "--interface is no number up to 63";
+    };
+    "--next-hops is no number from 1 to 64, or with --interface above 64"
 }

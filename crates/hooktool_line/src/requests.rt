@@ -1,12 +1,13 @@
 //! What a command and its words ask for.
 
-ghost use Rattle.std.specs.Prelude.{◌≡◌, ◌<◌, ◌⊎◌, codes, IfOk, IfErr, Some};
+ghost use Rattle.std.specs.Prelude.{◌≡◌, ◌+◌, ◌≤◌, ◌⊎◌, codes, IfOk, IfErr, Some};
 ghost use Rattle.clap.specs.Matches.{found_of};
 ghost use Rattle.clap.specs.Simple.{subcommand_rows_of};
 ghost use Rattle.clap.specs.Values.{kind_of};
 ghost use Rattle.clap.specs.Walk.{rows_of};
 ghost use Rattle.clap.specs.declared.error.kind.ErrorKind.TheVariants as kinds;
-ghost use Rattle.hooktool_line.specs.Questions.{HasAsked, HasQuestion, asked_of};
+ghost use Rattle.hooktool_line.specs.Lists.{HasLists};
+ghost use Rattle.hooktool_line.specs.Questions.{HasAsked, HasQuestion, asked_of, hops_from};
 ghost use Rattle.hooktool_line.specs.Requests.{HasAnswer, HasFuel, HasHook, HasTurns, IsAnswer};
 ghost use Rattle.hooktool_line.specs.Requests.{IsHook, IsMade, IsTurns, IsWrong};
 ghost use Rattle.hooktool_line.specs.Requests.{IsWrongWord, MadeBy, Makes};
@@ -14,10 +15,11 @@ ghost use Rattle.hooktool_line.specs.Words.{Reads, ReadsOrLacks};
 
 use crate::arguments::{no_command, wrong_value};
 use crate::asked::Asked;
-use crate::numbers::{Numbers, numbers_of};
+use crate::numbers::{Numbers, numbers_of, wrong_number};
 use crate::packets::packet_in;
 use crate::places::{Places, places_of};
 use crate::rows::rows_in;
+use crate::settings::{Setting, settings_in};
 use crate::values::{NotRead, kind_in, number_of, prefix_in, type_in, word_of};
 use address_texts::read_within;
 use clap::{ArgMatches, Error};
@@ -32,13 +34,24 @@ pub enum Packet<'a> {
     File(&'a str),
 }
 
-/// What a program is to be run on, and how many times in a row, 1 to 1,000.
+/// What a program is to be run on, what is added to counters and stored in cells before, and how
+/// many times in a row it runs, 1 to 1,000.
 #[derive(Drop)]
 pub struct Question<'a> {
     pub asked: Asked,
     pub packet: Packet<'a>,
     pub rows: Vec<TableRow>,
+    pub counters: Vec<Setting>,
+    pub cells: Vec<Setting>,
     pub times: u32,
+}
+
+/// The lists of a question: rows of the routing table, and settings of counters and cells.
+#[derive(Drop)]
+struct Lists {
+    pub rows: Vec<TableRow>,
+    pub counters: Vec<Setting>,
+    pub cells: Vec<Setting>,
 }
 
 /// How many turns loops without a rank may take, 1 to 999,999, and what is answered once they are
@@ -76,11 +89,27 @@ pub enum Request<'a> {
         object: &'a str,
         question: Question<'a>,
     },
+    /// Ask the questions of a file, and compare the answers with those that it expects.
+    Test {
+        file: &'a str,
+    },
+}
+
+/// The set of so many interfaces from the first one on.
+fn hops_from(first: u8, count: u8) -> Hops
+    requires { first + count ≤ 64 }
+    ensures { result ≡ hops_from first count }
+{
+    let mut hops = Hops::NONE;
+    for k in 0..count {
+        hops = hops.join(Hops::only(first + k));
+    }
+    hops
 }
 
 /// What a place and numbers ask.
 fn asked_of(places: Places, numbers: Numbers) -> Asked
-    requires { numbers.interface < 64 }
+    requires { numbers.interface + numbers.next_hops ≤ 64 }
     ensures { result ≡ asked_of places numbers }
 {
     Asked {
@@ -91,7 +120,7 @@ fn asked_of(places: Places, numbers: Numbers) -> Asked
         kind: places.kind,
         cost: numbers.cost,
         distance: numbers.distance,
-        hops: Hops::only(numbers.interface),
+        hops: hops_from(numbers.interface, numbers.next_hops),
         interface: u16::from(numbers.interface),
         moment: Second::new(numbers.moment),
     }
@@ -114,21 +143,53 @@ fn asked_in(matches: &ArgMatches<'_>) -> Option<(Asked, u32)>
     }
 }
 
+/// The lists that the options give.
+fn lists_in(alloc: Global, matches: &ArgMatches<'_>) -> Result<Lists, NotRead>
+    ensures { ReadsOrLacks (HasLists (rows_of (found_of matches.now))) result }
+{
+    match rows_in(alloc, matches.get_strs("row")) {
+        Ok(rows) => match settings_in(alloc, matches.get_strs("counter"), 256, 16_777_215) {
+            Ok(counters) => match settings_in(alloc, matches.get_strs("cell"), 64, u64::MAX) {
+                Ok(cells) => Ok(Lists {
+                    rows,
+                    counters,
+                    cells,
+                }),
+                Err(lack) => Err(lack),
+            },
+            Err(lack) => Err(lack),
+        },
+        Err(lack) => Err(lack),
+    }
+}
+
 /// The question that the options ask.
-fn question_of<'a>(alloc: Global, matches: &ArgMatches<'a>) -> Result<Question<'a>, NotRead>
+pub(crate) fn question_of<'a>(
+    alloc: Global,
+    matches: &ArgMatches<'a>,
+) -> Result<Question<'a>, NotRead>
     ensures { ReadsOrLacks (HasQuestion (rows_of (found_of matches.now))) result }
 {
     let Some((asked, times)) = asked_in(matches) else {
         return Err(NotRead::Meaningless);
     };
     match packet_in(alloc, word_of(matches, "packet")) {
-        Ok(packet) => match rows_in(alloc, matches.get_strs("row")) {
-            Ok(rows) => Ok(Question {
-                asked,
-                packet,
-                rows,
-                times,
-            }),
+        Ok(packet) => match lists_in(alloc, matches) {
+            Ok(lists) => {
+                let Lists {
+                    rows,
+                    counters,
+                    cells,
+                } = lists;
+                Ok(Question {
+                    asked,
+                    packet,
+                    rows,
+                    counters,
+                    cells,
+                    times,
+                })
+            }
             Err(lack) => Err(lack),
         },
         Err(lack) => Err(lack),
@@ -279,6 +340,15 @@ fn try_request<'a>(alloc: Global, matches: &ArgMatches<'a>) -> Result<Request<'a
     }
 }
 
+fn test_request<'a>(matches: &ArgMatches<'a>) -> Result<Request<'a>, NotRead>
+    ensures { IsMade (codes "test") (rows_of (found_of matches.now)) result }
+{
+    match word_of(matches, "FILE") {
+        Some(file) => Ok(Request::Test { file }),
+        None => Err(NotRead::Meaningless),
+    }
+}
+
 // What a command makes of its words. It makes nothing where there is no such command.
 fn made_by<'a>(alloc: Global, name: &str, matches: &ArgMatches<'a>) -> Result<Request<'a>, NotRead>
     ensures { IsMade name.now (rows_of (found_of matches.now)) result }
@@ -288,12 +358,13 @@ fn made_by<'a>(alloc: Global, name: &str, matches: &ArgMatches<'a>) -> Result<Re
         "build" => build_request(matches),
         "explain" => explain_request(matches),
         "try" => try_request(alloc, matches),
+        "test" => test_request(matches),
         _ => Err(NotRead::Meaningless),
     }
 }
 
-// Which word of `try` has no meaning, where it is one but the packet and the rows.
-fn wrong_option(matches: &ArgMatches<'_>) -> &'static str {
+// Which word of `try` has no meaning, where it is one but the packet and the lists.
+pub(crate) fn wrong_option(matches: &ArgMatches<'_>) -> &'static str {
     let Some(_) = prefix_in(matches) else {
         return "--prefix is no network A.B.C.D/L whose other bits are 0";
     };
@@ -304,13 +375,14 @@ fn wrong_option(matches: &ArgMatches<'_>) -> &'static str {
         return "--kind is none of intra, inter, ext1 and ext2";
     };
     let Some(_) = numbers_of(matches) else {
-        return "--metric, --tag, --cost and --distance are numbers up to 4294967295, --interface \
-            up to 63, --moment below 2^62";
+        return wrong_number(matches);
     };
     let Some(_) = number_of(matches, "times", 1, 1, 1000) else {
         return "--times is no number from 1 to 1000";
     };
-    "--packet is neither hex digits, two a byte, nor @FILE, or --row isn't A.B.C.D/L=COST"
+    "--packet is neither hex digits, two a byte, nor @FILE, or --row isn't A.B.C.D/L=COST, \
+        --counter isn't K=N with K up to 255 and N up to 16777215, or --cell isn't J=N with J up \
+        to 63"
 }
 
 // Which of the options about fuel has no meaning, where one has none, else the other word.

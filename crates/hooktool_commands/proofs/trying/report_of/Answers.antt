@@ -2,7 +2,7 @@ use Rattle.std.proofs.Common.{◌∙◌, ap}
 use Rattle.std.specs.List.{list_any}
 use Rattle.std.specs.Prelude.{is_err}
 use Rattle.hooktool_commands.proofs.trying.report_of.Goals as goal
-use Rattle.hooktool_commands.specs.declared.trials.runs.Ending.{Ending}
+use Rattle.object_trials.specs.declared.runs.Ending.{Ending}
 
 pub returns-in-Ok : goal.returns-in-Ok
 returns-in-Ok c = c.is_any_stuck.ensures ∙ ap (list_any (λ (ending : Ending). is_err ending.outcome)) c.deref.ensures.value

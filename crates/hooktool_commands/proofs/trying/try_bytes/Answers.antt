@@ -1,7 +1,7 @@
 use Rattle.std.proofs.Common.{subst, sym}
 use Rattle.hooktool_commands.proofs.Tried.{of_packet}
 use Rattle.hooktool_commands.proofs.trying.try_bytes.Goals as goal
-use Rattle.hooktool_commands.specs.Trials.{PacketIs}
+use Rattle.object_trials.specs.Plays.{PacketIs}
 use Rattle.hooktool_line.specs.declared.requests.Packet.{Packet}
 
 pub returns-in-Bytes : goal.returns-in-Bytes

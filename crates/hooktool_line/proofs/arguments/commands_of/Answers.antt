@@ -2,7 +2,8 @@ use Rattle.std.proofs.Common.{List, arith, sym, subst, take, ◌+◌}
 use Rattle.clap.specs.declared.builder.command.Command.{Command}
 use Rattle.hooktool_line.proofs.Building.{each_all, each_more}
 use Rattle.hooktool_line.proofs.arguments.commands_of.Goals as goal
-use Rattle.hooktool_line.specs.Building.{Each, IsCommand}
+use Rattle.hooktool_line.specs.Building.{IsCommand}
+use Rattle.hooktool_line.specs.Words.{Each}
 
 pub loop-form-preserved : goal.loop-form-preserved
 loop-form-preserved c =

@@ -1,0 +1,118 @@
+//! Frames of a link, and the OSPF packets in them.
+ghost use Rattle.std.specs.Prelude.{◌≡◌, ◌↔◌, ◌≤◌, length, IsTrue, MatchOption};
+ghost use Rattle.captures.specs.Frames.{CarriesIp, HasNumber, HasOspf, Holds, IsOspf};
+ghost use Rattle.captures.specs.Frames.{IsPacketOf, header_length, header_of};
+ghost use Rattle.captures.specs.declared.frame.Link.{Link};
+
+use crate::number::{Order, half};
+
+/// What a frame begins with.
+#[derive(Clone, Copy, Debug, PartialEq, Eq)]
+pub enum Link {
+    /// The IP packet itself.
+    Raw,
+    Ethernet,
+    /// What Linux writes of packets of all interfaces.
+    LinuxCooked,
+    /// The same of newer programs.
+    LinuxCooked2,
+}
+
+/// What is in a frame.
+#[derive(Clone, Copy)]
+pub enum Content<'a> {
+    /// No OSPF packet, or a fragment of one.
+    Other,
+    /// An OSPF packet of which the capture has only the beginning.
+    Cut,
+    /// An OSPF packet, from its version on.
+    Packet(&'a [u8]),
+}
+
+/// The link of this number.
+pub(crate) fn link_of(number: u32) -> Option<Link>
+    ensures { MatchOption result ((link : Link) → HasNumber link number → ⊥)
+        (λ link. HasNumber link number) }
+{
+    match number {
+        1 => Some(Link::Ethernet),
+        101 | 228 => Some(Link::Raw),
+        113 => Some(Link::LinuxCooked),
+        276 => Some(Link::LinuxCooked2),
+        _ => None,
+    }
+}
+
+/// How many bytes stand in front of what a frame carries.
+fn header_length(link: Link) -> usize
+    ensures { result ≡ header_length link }
+{
+    match link {
+        Link::Raw => 0,
+        Link::Ethernet => 14,
+        Link::LinuxCooked => 16,
+        Link::LinuxCooked2 => 20,
+    }
+}
+
+/// Tells whether the frame carries an IP packet.
+fn carries_ip(link: Link, frame: &[u8]) -> bool
+    ensures { IsTrue result ↔ CarriesIp link frame.now }
+{
+    match link {
+        Link::Raw => true,
+        Link::Ethernet => frame.len() >= 14 && half(Order::Big, frame, 12) == 0x0800,
+        Link::LinuxCooked => frame.len() >= 16 && half(Order::Big, frame, 14) == 0x0800,
+        Link::LinuxCooked2 => frame.len() >= 20 && half(Order::Big, frame, 0) == 0x0800,
+    }
+}
+
+/// How many bytes the header of an IP packet has.
+fn header_of(datagram: &[u8]) -> usize
+    requires { 1 ≤ length datagram.now }
+    ensures { result ≡ header_of datagram.now }
+{
+    4 * usize::from(datagram[0] % 16)
+}
+
+/// Tells whether the bytes begin with a whole IP packet of OSPF's protocol.
+fn is_ospf(datagram: &[u8]) -> bool
+    ensures { IsTrue result ↔ IsOspf datagram.now }
+{
+    datagram.len() >= 20
+        && datagram[0] / 16 == 4
+        && header_of(datagram) >= 20
+        && header_of(datagram) <= usize::from(half(Order::Big, datagram, 2))
+        && half(Order::Big, datagram, 6) % 16_384 == 0
+        && datagram[9] == 89
+}
+
+/// What an IP packet of OSPF's protocol has in it.
+fn packet_of(datagram: &[u8]) -> Content<'_>
+    requires { IsOspf datagram.now }
+    ensures { IsPacketOf datagram.now result }
+{
+    let total = usize::from(half(Order::Big, datagram, 2));
+    if total > datagram.len() {
+        return Content::Cut;
+    }
+    Content::Packet(&datagram[header_of(datagram)..total])
+}
+
+/// What is in a frame of this link.
+pub fn content_of(link: Link, frame: &[u8]) -> Content<'_>
+    ensures { Holds link frame.now result }
+{
+    if !carries_ip(link, frame) {
+        return Content::Other;
+    }
+    let start = header_length(link);
+    if start > frame.len() {
+        return Content::Other;
+    }
+    let datagram = &frame[start..];
+    if !is_ospf(datagram) {
+        return Content::Other;
+    }
+    packet_of(datagram)
+}

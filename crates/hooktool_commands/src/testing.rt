@@ -1,0 +1,145 @@
+//! `test`: the questions of a file, and the answers that are expected.
+
+ghost use Rattle.std.specs.Prelude.{◌≡◌, IfOk, not};
+ghost use Rattle.std.specs.List.{list_any};
+ghost use Rattle.hooktool_commands.specs.Tests.{IsTested};
+
+use crate::fault::Fault;
+use crate::files;
+use crate::report::Report;
+use hooktool_line::{Line, LineError, WrongLine, read_lines, words_of_lines};
+use object_trials::{PlayError, Point, Stopped, play, protocol};
+use std::alloc::{AllocError, Global};
+use std::rt::Files;
+
+/// What a test came to: its points were played, or a line can't be, and this is told.
+#[derive(Drop)]
+pub(crate) enum Tested {
+    Played(Report),
+    Unread(String),
+}
+
+/// Why a line says nothing that is done in a test, behind its place.
+fn wrong_text(
+    alloc: Global,
+    path: &str,
+    number: u64,
+    error: &LineError,
+) -> Result<String, AllocError> {
+    match error {
+        LineError::Options(error) => format!(in alloc; "{path}, line {number}: {error}"),
+        LineError::Words(why) => format!(in alloc; "{path}, line {number}: {why}\n"),
+        LineError::Memory => Err(AllocError),
+    }
+}
+
+/// What is told of a line that is wrong.
+fn wrong<'a>(alloc: Global, path: &str, wrong: &WrongLine) -> Result<Tested, Fault<'a>>
+    ensures { IfOk result IsTested }
+{
+    match wrong_text(alloc, path, wrong.number, &wrong.error) {
+        Ok(text) => Ok(Tested::Unread(text)),
+        Err(_) => Err(Fault::Memory),
+    }
+}
+
+/// Why a line can't be played, behind its place.
+fn stopped_text(alloc: Global, path: &str, stopped: Stopped) -> Result<String, AllocError> {
+    let number = stopped.number;
+    let error = stopped.error;
+    match error {
+        PlayError::Memory => Err(AllocError),
+        _ => format!(in alloc; "{path}, line {number}: {error}\n"),
+    }
+}
+
+/// What is told of a line that can't be played.
+fn unplayed<'a>(alloc: Global, path: &str, stopped: Stopped) -> Result<Tested, Fault<'a>>
+    ensures { IfOk result IsTested }
+{
+    match stopped_text(alloc, path, stopped) {
+        Ok(text) => Ok(Tested::Unread(text)),
+        Err(_) => Err(Fault::Memory),
+    }
+}
+
+/// Tells whether one of the points isn't ok.
+fn is_any_wrong(points: &[Point<'_>]) -> bool
+    ensures { result ≡ list_any (λ point. not point.verdict.is_ok) points.now }
+{
+    points.iter().any(|point| !point.verdict.is_ok)
+}
+
+/// What is told of the points.
+fn report_of<'a>(alloc: Global, points: &[Point<'_>]) -> Result<Report, Fault<'a>>
+    ensures { IfOk result (λ report. report.is_refused
+        ≡ list_any (λ point. not point.verdict.is_ok) points.now) }
+{
+    match protocol(alloc, points) {
+        Ok(text) => Ok(Report {
+            text,
+            is_refused: is_any_wrong(points),
+        }),
+        Err(error) => Err(Fault::from(error)),
+    }
+}
+
+/// Plays these lines, and says what is to be told.
+fn played<'a, R: Files + AllocGlobal>(
+    rt: &R,
+    path: &'a str,
+    lines: &[Line<'_>],
+) -> Result<Tested, Fault<'a>>
+    ensures { IfOk result IsTested }
+{
+    match play(rt, lines) {
+        Ok(points) => match report_of(rt.alloc(), &points) {
+            Ok(report) => Ok(Tested::Played(report)),
+            Err(fault) => Err(fault),
+        },
+        Err(stopped) => unplayed(rt.alloc(), path, stopped),
+    }
+}
+
+/// Plays the lines of these words.
+fn test_words<'a, R: Files + AllocGlobal>(
+    rt: &R,
+    path: &'a str,
+    words: &[Vec<&str>],
+) -> Result<Tested, Fault<'a>>
+    ensures { IfOk result IsTested }
+{
+    match read_lines(rt.alloc(), words) {
+        Ok(lines) => played(rt, path, &lines),
+        Err(line) => wrong(rt.alloc(), path, &line),
+    }
+}
+
+/// Plays the lines of a text.
+fn test_text<'a, R: Files + AllocGlobal>(
+    rt: &R,
+    path: &'a str,
+    text: &str,
+) -> Result<Tested, Fault<'a>>
+    ensures { IfOk result IsTested }
+{
+    let words = words_of_lines(rt.alloc(), text)?;
+    let tested = test_words(rt, path, &words)?;
+    Ok(tested)
+}
+
+/// Plays the test in the file at `path`: the text of its points, or of the first line that can't be
+/// read or played.
+///
+/// A fault where the file can't be read, isn't UTF-8, or memory is refused.
+pub(crate) fn test<'a, R: Files + AllocGlobal>(rt: &R, path: &'a str) -> Result<Tested, Fault<'a>>
+    ensures { IfOk result IsTested }
+{
+    match files::read(rt, path) {
+        Ok(bytes) => match str::from_utf8(&bytes) {
+            Ok(text) => test_text(rt, path, text),
+            Err(_) => Err(Fault::Read { path }),
+        },
+        Err(fault) => Err(fault),
+    }
+}

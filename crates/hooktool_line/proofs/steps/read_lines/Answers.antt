@@ -1,0 +1,18 @@
+use Rattle.std.proofs.Common.{◌∙◌, ◌+◌, List, ap, arith, subst}
+use Rattle.std.specs.Borrow.{Bor}
+use Rattle.std.specs.Global.{Vec}
+use Rattle.clap.specs.Walk.{Text}
+use Rattle.hooktool_line.proofs.StepWords.{lines_all, lines_more}
+use Rattle.hooktool_line.proofs.steps.read_lines.Goals as goal
+use Rattle.hooktool_line.specs.Steps.{AddsLine, views}
+
+pub loop-index-preserved : goal.loop-index-preserved
+loop-index-preserved c =
+    let index = c.loop-index.index in
+    let words = c.index-lines-index.result in
+    let same = ap views c.as_slice.ensures.value ∙ ap (λ (line : Vec (Bor Text)). views line.items) c.index-lines-index.is in
+    lines_more c.args.lines.now index words c.loop-index.read.items c.push_line.new.read.items (omega (arith, c.loop-index-test.true)) c.loop-index.invariant
+    (subst (λ (them : List Text). AddsLine (index + 1) them c.loop-index.read.items c.push_line.new.read.items) same c.in-Ok.ensures)
+
+pub returns : goal.returns
+returns c = lines_all c.args.lines.now c.loop-index.index c.loop-index.read.items (omega (arith, c.loop-index-test.false, c.loop-index.auto)) c.loop-index.invariant

@@ -1,0 +1,336 @@
+//! The lines of a test.
+
+ghost use Rattle.std.specs.Prelude.{◌≡◌, [], ◌∷◌, codes, IfOk, IfSome, IsTrue, OnOk};
+ghost use Rattle.clap.specs.Faults.{fault_of};
+ghost use Rattle.clap.specs.Matches.{found_of};
+ghost use Rattle.clap.specs.Simple.{matches_of};
+ghost use Rattle.clap.specs.Walk.{rows_of};
+ghost use Rattle.hooktool_line.specs.CommandLine.{ask};
+ghost use Rattle.hooktool_line.specs.Questions.{HasQuestion};
+ghost use Rattle.hooktool_line.specs.Steps.{AddsLine, AreLines, BeginsWith, IsTakenAs, Says};
+ghost use Rattle.hooktool_line.specs.Steps.{SaysAnswer, is_blank, is_mark, views, words_of};
+
+use crate::arguments::asking;
+use crate::requests::{Question, question_of, wrong_option};
+use crate::values::NotRead;
+use address_texts::read_within;
+use clap::{ArgMatches, Error};
+use std::alloc::{AllocError, Global};
+
+/// An answer as a hook means it.
+#[derive(Clone, Copy, Debug, PartialEq, Eq)]
+pub enum Answer {
+    /// `answer N`: the number, at any hook.
+    Number(u64),
+    /// `metric N`
+    Metric(u32),
+    Withheld,
+    /// `tag N`
+    Tag(u32),
+    Installed,
+    NotInstalled,
+}
+
+/// What a line of a test says.
+#[derive(Drop)]
+pub enum Step<'a> {
+    /// `program OBJECT`: from here on its program is asked.
+    Program(&'a str),
+    /// `ask`, and the options of `try`.
+    Ask(Question<'a>),
+    /// `packets CAPTURE interface I`: each OSPF packet of the capture comes in there.
+    Packets { path: &'a str, interface: u16 },
+    /// The last run is to have answered this.
+    Answers(Answer),
+    /// `counter K N`: this is to be in the counter.
+    Counter { index: u8, number: u64 },
+    /// `cell J N`: this is to be in the cell.
+    Cell { index: u8, number: u64 },
+}
+
+/// A line of a test, by its number, from 1 on, and its words.
+#[derive(Drop)]
+pub struct Line<'a> {
+    pub number: u64,
+    pub words: &'a [&'a str],
+    pub step: Step<'a>,
+}
+
+/// Why a line says nothing that is done in a test.
+#[derive(Drop)]
+pub enum LineError {
+    /// The options of `ask` aren't its own.
+    Options(Error),
+    /// What is wrong, and what is allowed.
+    Words(&'static str),
+    Memory,
+}
+
+const KNOWN: &str = "a line is empty, a comment behind #, program OBJECT, ask OPTIONS, packets \
+    CAPTURE interface I (up to 63), or what is expected: metric N (below 16777215), withheld, tag \
+    N, installed, not installed, answer N, counter K N (K up to 255), cell J N (J up to 63)";
+
+/// What a name and a number say that is answered.
+fn answer_of(name: &str, number: &str) -> Option<Answer>
+    ensures { IfSome result (SaysAnswer (name.now ∷ number.now ∷ [])) }
+{
+    match name {
+        "metric" => match read_within(number, 0, 16_777_214) {
+            Some(number) => Some(Answer::Metric(number as u32)),
+            None => None,
+        },
+        "tag" => match read_within(number, 0, 4_294_967_295) {
+            Some(number) => Some(Answer::Tag(number as u32)),
+            None => None,
+        },
+        "answer" => match read_within(number, 0, u64::MAX) {
+            Some(number) => Some(Answer::Number(number)),
+            None => None,
+        },
+        _ => None,
+    }
+}
+
+/// What a single word says.
+fn of_one<'a>(name: &'a str) -> Option<Step<'a>>
+    ensures { IfSome result (Says (name.entry.now ∷ [])) }
+{
+    match name {
+        "withheld" => Some(Step::Answers(Answer::Withheld)),
+        "installed" => Some(Step::Answers(Answer::Installed)),
+        _ => None,
+    }
+}
+
+/// What two words say.
+fn of_two<'a>(name: &'a str, word: &'a str) -> Option<Step<'a>>
+    ensures { IfSome result (Says (name.entry.now ∷ word.entry.now ∷ [])) }
+{
+    match name {
+        "program" => Some(Step::Program(word)),
+        "not" => match word {
+            "installed" => Some(Step::Answers(Answer::NotInstalled)),
+            _ => None,
+        },
+        _ => match answer_of(name, word) {
+            Some(answer) => Some(Step::Answers(answer)),
+            None => None,
+        },
+    }
+}
+
+/// What a name and two numbers say.
+fn of_three<'a>(name: &'a str, index: &'a str, number: &'a str) -> Option<Step<'a>>
+    ensures { IfSome result (Says (name.entry.now ∷ index.entry.now ∷ number.entry.now ∷ [])) }
+{
+    let Some(number) = read_within(number, 0, u64::MAX) else {
+        return None;
+    };
+    match name {
+        "counter" => match read_within(index, 0, 255) {
+            Some(index) => Some(Step::Counter {
+                index: index as u8,
+                number,
+            }),
+            None => None,
+        },
+        "cell" => match read_within(index, 0, 63) {
+            Some(index) => Some(Step::Cell {
+                index: index as u8,
+                number,
+            }),
+            None => None,
+        },
+        _ => None,
+    }
+}
+
+/// What four words say.
+fn of_four<'a>(name: &'a str, path: &'a str, second: &'a str, number: &'a str) -> Option<Step<'a>>
+    ensures { IfSome result (Says (name.entry.now ∷ path.entry.now ∷ second.entry.now
+        ∷ number.entry.now ∷ [])) }
+{
+    match name {
+        "packets" => match second {
+            "interface" => match read_within(number, 0, 63) {
+                Some(number) => Some(Step::Packets {
+                    path,
+                    interface: number as u16,
+                }),
+                None => None,
+            },
+            _ => None,
+        },
+        _ => None,
+    }
+}
+
+/// What the words of a line say that isn't `ask`.
+fn told_by<'a>(words: &[&'a str]) -> Option<Step<'a>>
+    ensures { IfSome result (Says (views words.entry.now)) }
+{
+    match *words {
+        [name] => of_one(name),
+        [name, word] => of_two(name, word),
+        [name, first, second] => of_three(name, first, second),
+        [name, first, second, third] => of_four(name, first, second, third),
+        _ => None,
+    }
+}
+
+/// The words as the line `ask` takes them.
+fn options_of<'a>(alloc: Global, words: &'a [&'a str]) -> Result<ArgMatches<'a>, LineError>
+    ensures { IfOk result (IsTakenAs ask (views words.entry.now)) }
+{
+    match asking(alloc) {
+        Ok(command) => match command.try_get_matches_from(words) {
+            Ok(matches) => Ok(matches),
+            Err(error) => Err(LineError::Options(error)),
+        },
+        Err(_) => Err(LineError::Memory),
+    }
+}
+
+/// The question that the options ask.
+fn question_in<'a>(alloc: Global, matches: &ArgMatches<'a>) -> Result<Question<'a>, LineError>
+    ensures { IfOk result (HasQuestion (rows_of (found_of matches.now))) }
+{
+    match question_of(alloc, matches) {
+        Ok(question) => Ok(question),
+        Err(NotRead::Meaningless) => Err(LineError::Words(wrong_option(matches))),
+        Err(NotRead::OutOfMemory) => Err(LineError::Memory),
+    }
+}
+
+/// The question of a line that begins with `ask`.
+fn asked_by<'a>(alloc: Global, words: &'a [&'a str]) -> Result<Question<'a>, LineError>
+    ensures { IfOk result (λ question. (fault_of ask (views words.entry.now) ≡ [])
+        × HasQuestion (matches_of ask (views words.entry.now)) question) }
+{
+    match options_of(alloc, words) {
+        Ok(matches) => question_in(alloc, &matches),
+        Err(error) => Err(error),
+    }
+}
+
+/// Tells whether the word is this text.
+fn is_text(word: &str, text: &str) -> bool
+    ensures { IsTrue result → word.now ≡ text.now }
+{
+    word == text
+}
+
+/// Tells whether the line asks.
+fn is_ask(words: &[&str]) -> bool
+    ensures { IsTrue result → BeginsWith (codes "ask") (views words.now) }
+{
+    match *words {
+        [] => false,
+        [first, ..] => is_text(first, "ask"),
+    }
+}
+
+/// The step that the words of a line say.
+fn step_of<'a>(alloc: Global, words: &'a [&'a str]) -> Result<Step<'a>, LineError>
+    ensures { IfOk result (Says (views words.entry.now)) }
+{
+    if is_ask(words) {
+        return match asked_by(alloc, words) {
+            Ok(question) => Ok(Step::Ask(question)),
+            Err(error) => Err(error),
+        };
+    }
+    match told_by(words) {
+        Some(step) => Ok(step),
+        None => Err(LineError::Words(KNOWN)),
+    }
+}
+
+/// Tells whether the words are none, or a comment.
+fn is_blank(words: &[&str]) -> bool
+    ensures { result ≡ is_blank (views words.now) }
+{
+    match *words {
+        [] => true,
+        [first, ..] => is_mark(first),
+    }
+}
+
+/// Tells whether the word begins with `#`.
+fn is_mark(word: &str) -> bool
+    ensures { result ≡ is_mark word.now }
+{
+    match word.as_bytes() {
+        [] => false,
+        [first, ..] => *first == b'#',
+    }
+}
+
+/// The first line that is wrong, by its number, and why.
+#[derive(Drop)]
+pub struct WrongLine {
+    pub number: u64,
+    pub error: LineError,
+}
+
+/// The words of each line of a text: what stands between spaces.
+pub fn words_of_lines<'a>(alloc: Global, text: &'a str) -> Result<Vec<Vec<&'a str>>, AllocError> {
+    let mut lines = Vec::new(alloc);
+    for line in text.split('\n') {
+        let words = line
+            .split(' ')
+            .filter(|word| !word.is_empty())
+            .collect(alloc)?;
+        lines.push(words)?;
+    }
+    Ok(lines)
+}
+
+/// Adds the line of this number that the words say, if they aren't blank.
+fn push_line<'a>(
+    alloc: Global,
+    read: &mut Vec<Line<'a>>,
+    number: u64,
+    words: &'a [&'a str],
+) -> Result<(), WrongLine>
+    ensures { OnOk result (AddsLine number (views words.entry.now) read.old.items read.new.items) }
+{
+    if is_blank(words) {
+        return Ok(());
+    }
+    let step = match step_of(alloc, words) {
+        Ok(step) => step,
+        Err(error) => return Err(WrongLine { number, error }),
+    };
+    let line = Line {
+        number,
+        words,
+        step,
+    };
+    match read.push(line) {
+        Ok(()) => Ok(()),
+        Err(_) => Err(WrongLine {
+            number,
+            error: LineError::Memory,
+        }),
+    }
+}
+
+/// The lines that aren't blank, of these words of each line. Or the first one that says nothing
+/// that is done in a test.
+pub fn read_lines<'w, 't>(
+    alloc: Global,
+    lines: &'w [Vec<&'t str>],
+) -> Result<Vec<Line<'w>>, WrongLine>
+    ensures { IfOk result (λ read. AreLines 1 (words_of lines.entry.now) read.items) }
+{
+    let mut read = Vec::new(alloc);
+    for (index, words) in lines.iter().enumerate() {
+        let number = index as u64 + 1;
+        match push_line(alloc, &mut read, number, words.as_slice()) {
+            Ok(()) => (),
+            Err(wrong) => return Err(wrong),
+        }
+    }
+    Ok(read)
+}

@@ -1,0 +1,3 @@
+pub mod Chained
+pub mod InARow
+pub mod Same

@@ -1,0 +1,5 @@
+pub mod Answers
+pub mod Chains
+pub mod Plays
+pub mod Runs
+pub mod Settings

@@ -1,0 +1,83 @@
+//! Answers, and what is expected of them.
+ghost use Rattle.std.specs.Prelude.{◌≡◌};
+ghost use Rattle.std.specs.List.{list_any};
+ghost use Rattle.std.specs.Prelude.{is_err};
+ghost use Rattle.object_trials.specs.Answers.{is_met, last_of, meets};
+
+use crate::runs::Ending;
+use crate::stage::Last;
+use hooktool_line::Answer;
+use isa::Hook;
+
+// LSInfinity (RFC 2328, appendix B), from which on a destination is withheld.
+const LS_INFINITY: u64 = 16_777_215;
+
+/// Tells whether the number that a program answered at its hook is what was expected.
+fn is_met(expected: Answer, hook: Hook, answer: u64) -> bool
+    ensures { result ≡ is_met expected hook answer }
+{
+    match expected {
+        Answer::Number(number) => answer == number,
+        Answer::Metric(metric) => match hook {
+            Hook::Price => answer == u64::from(metric),
+            _ => false,
+        },
+        Answer::Withheld => match hook {
+            Hook::Price => answer >= LS_INFINITY,
+            _ => false,
+        },
+        Answer::Tag(tag) => match hook {
+            Hook::Tag => answer % 0x1_0000_0000 == u64::from(tag),
+            _ => false,
+        },
+        Answer::Installed => match hook {
+            Hook::Veto => answer == 0,
+            _ => false,
+        },
+        Answer::NotInstalled => match hook {
+            Hook::Veto => answer != 0,
+            _ => false,
+        },
+    }
+}
+
+/// Tells whether the last run answered what was expected.
+pub(crate) fn meets(expected: Answer, last: Last) -> bool
+    ensures { result ≡ meets expected last }
+{
+    match last {
+        Last::Answered { hook, answer } => is_met(expected, hook, answer),
+        _ => false,
+    }
+}
+
+/// How a run ended.
+fn last_of(hook: Hook, ending: &Ending) -> Last
+    ensures { result ≡ last_of hook ending.now }
+{
+    match ending.outcome {
+        Ok(run) => Last::Answered {
+            hook,
+            answer: run.answer,
+        },
+        Err(trap) => Last::Stuck {
+            trap: trap.number(),
+            slot: ending.slot,
+        },
+    }
+}
+
+/// Tells whether one of these runs gave no answer.
+pub(crate) fn is_any_stuck(endings: &[Ending]) -> bool
+    ensures { result ≡ list_any (λ ending. is_err ending.outcome) endings.now }
+{
+    endings.iter().any(|ending| ending.outcome.is_err())
+}
+
+/// How the last of these runs ended.
+pub(crate) fn last_among(hook: Hook, endings: &[Ending]) -> Last {
+    match endings.last() {
+        Some(ending) => last_of(hook, ending),
+        None => Last::Nothing,
+    }
+}

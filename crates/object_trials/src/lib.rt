@@ -1,0 +1,23 @@
+//! Runs of an object's program on questions, in a row on the same counters and cells, and tests:
+//! questions with the answers that are expected.
+#![tactic(auto)]
+
+mod answers;
+mod asking;
+mod error;
+mod left;
+mod playing;
+mod runs;
+mod settings;
+mod stage;
+mod stopped;
+mod tap;
+mod trial;
+
+pub use error::TrialError;
+pub use playing::play;
+pub use runs::Ending;
+pub use stage::{Found, Last, Point, Verdict};
+pub use stopped::{PlayError, Stopped};
+pub use tap::protocol;
+pub use trial::{Trial, try_object};

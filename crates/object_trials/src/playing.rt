@@ -1,0 +1,296 @@
+//! The lines of a test, played in a row.
+ghost use Rattle.std.specs.Prelude.{◌≡◌, ◌%◌, ◌++◌, OnOk};
+ghost use Rattle.maps.specs.Access.{last_stored};
+ghost use Rattle.maps.specs.Words.{IsOf, seat_after};
+ghost use Rattle.maps.specs.declared.access.Access.TheVariants.{Cell};
+ghost use Rattle.object_trials.specs.Plays.{compared, judged, points_of};
+
+use crate::answers::{is_any_stuck, last_among, meets};
+use crate::asking::{ask, hook_of};
+use crate::error::TrialError;
+use crate::stage::{Found, Last, Point, Stage, Verdict};
+use crate::stopped::{PlayError, Stopped};
+use captures::{Capture, CaptureError, Content, Link, Record, content_of};
+use hooktool_line::{Answer, Line, Packet, Question, Step, packet_question};
+use maps::{Seat, Shared};
+use std::alloc::{AllocError, Global};
+use std::rt::Files;
+use whole_files::ReadFault;
+use words::Second;
+
+impl From<TrialError> for PlayError {
+    fn from(error: TrialError) -> PlayError {
+        match error {
+            TrialError::Memory => PlayError::Memory,
+            error => PlayError::Object(error),
+        }
+    }
+}
+
+impl From<ReadFault> for PlayError {
+    fn from(fault: ReadFault) -> PlayError {
+        match fault {
+            ReadFault::Unreadable => PlayError::Unreadable,
+            ReadFault::Memory => PlayError::Memory,
+        }
+    }
+}
+
+/// Asks the stage's program, and keeps how its last run ended.
+fn ask_once(
+    alloc: Global,
+    stage: &mut Stage,
+    packet: &[u8],
+    question: &Question<'_>,
+    shared: &Shared,
+    seat: &mut Seat,
+) -> Result<Verdict, PlayError>
+    requires { IsOf shared.now seat.old }
+    ensures { IsOf shared.now seat.new }
+{
+    if stage.bytes.is_empty() {
+        return Err(PlayError::NoProgram);
+    }
+    let hook = hook_of(alloc, &stage.bytes)?;
+    let endings = ask(alloc, &stage.bytes, packet, question, shared, seat)?;
+    let last = last_among(hook, &endings);
+    stage.last = last;
+    Ok(Verdict {
+        is_ok: !is_any_stuck(&endings),
+        found: Found::Run(last),
+    })
+}
+
+/// Asks the question of a line, of its packet or of that in the file that it names.
+fn ask_question<R: Files + AllocGlobal>(
+    rt: &R,
+    stage: &mut Stage,
+    question: &Question<'_>,
+    shared: &Shared,
+    seat: &mut Seat,
+) -> Result<Verdict, PlayError>
+    requires { IsOf shared.now seat.old }
+    ensures { IsOf shared.now seat.new }
+{
+    match &question.packet {
+        Packet::Bytes(packet) => ask_once(rt.alloc(), stage, packet, question, shared, seat),
+        Packet::File(path) => {
+            let packet = whole_files::read(rt, path)?;
+            ask_once(rt.alloc(), stage, &packet, question, shared, seat)
+        }
+    }
+}
+
+/// Asks of the OSPF packet in a frame, if it has one, as one that comes in at the interface at its
+/// second.
+fn ask_frame(
+    alloc: Global,
+    stage: &mut Stage,
+    link: Link,
+    record: Record<'_>,
+    interface: u16,
+    shared: &Shared,
+    seat: &mut Seat,
+) -> Result<Option<Verdict>, PlayError>
+    requires { IsOf shared.now seat.old }
+    ensures { IsOf shared.now seat.new }
+{
+    match content_of(link, record.frame) {
+        Content::Other => Ok(None),
+        Content::Cut => Err(PlayError::CutPacket),
+        Content::Packet(packet) => {
+            let moment = Second::new(u64::from(record.seconds));
+            let question = packet_question(alloc, interface, moment);
+            let verdict = ask_once(alloc, stage, packet, &question, shared, seat)?;
+            Ok(Some(verdict))
+        }
+    }
+}
+
+/// Asks of each OSPF packet of a capture.
+fn ask_packets(
+    alloc: Global,
+    stage: &mut Stage,
+    capture: &Capture<'_>,
+    interface: u16,
+    shared: &Shared,
+    seat: &mut Seat,
+) -> Result<Verdict, PlayError>
+    requires { IsOf shared.now seat.old }
+    ensures { IsOf shared.now seat.new }
+{
+    let mut asked: u64 = 0;
+    for record in &capture.records {
+        let link = capture.link;
+        if let Some(verdict) = ask_frame(alloc, stage, link, *record, interface, shared, seat)? {
+            if !verdict.is_ok {
+                return Ok(verdict);
+            }
+            asked = asked.saturating_add(1);
+        }
+    }
+    Ok(Verdict {
+        is_ok: true,
+        found: Found::Packets(asked),
+    })
+}
+
+/// The same of the capture in a file.
+fn ask_capture<R: Files + AllocGlobal>(
+    rt: &R,
+    stage: &mut Stage,
+    path: &str,
+    interface: u16,
+    shared: &Shared,
+    seat: &mut Seat,
+) -> Result<Verdict, PlayError>
+    requires { IsOf shared.now seat.old }
+    ensures { IsOf shared.now seat.new }
+{
+    let bytes = whole_files::read(rt, path)?;
+    match captures::read(rt.alloc(), &bytes) {
+        Ok(capture) => ask_packets(rt.alloc(), stage, &capture, interface, shared, seat),
+        Err(CaptureError::Memory) => Err(PlayError::Memory),
+        Err(error) => Err(PlayError::Capture(error)),
+    }
+}
+
+/// From here on the program of the object file at this path is asked.
+fn take_program<R: Files + AllocGlobal>(
+    rt: &R,
+    stage: &mut Stage,
+    path: &str,
+) -> Result<(), PlayError> {
+    let bytes = whole_files::read(rt, path)?;
+    let _ = hook_of(rt.alloc(), &bytes)?;
+    stage.bytes = bytes;
+    stage.last = Last::Nothing;
+    Ok(())
+}
+
+/// Compares a number with the one that is expected.
+fn compare(found: u64, expected: u64) -> Verdict
+    ensures { result ≡ compared found expected }
+{
+    Verdict {
+        is_ok: found == expected,
+        found: Found::Number(found),
+    }
+}
+
+/// The number in a cell of the seat.
+fn cell_at(shared: &Shared, seat: &mut Seat, index: u8) -> u64
+    requires { IsOf shared.now seat.old }
+    ensures table { IsOf shared.now seat.new }
+    ensures noted { seat.new ≡ seat_after seat.old (Cell (index % 64) result) }
+    ensures value { result ≡ last_stored (index % 64) seat.old.accesses }
+{
+    shared.cell(seat, usize::from(index % 64))
+}
+
+/// Compares the last run's end with the answer that is expected.
+fn compare_answer(last: Last, expected: Answer) -> Verdict
+    ensures { result ≡ judged last expected }
+{
+    Verdict {
+        is_ok: meets(expected, last),
+        found: Found::Run(last),
+    }
+}
+
+/// Plays a step: whether it is ok, where it asks or expects something.
+fn play_step<R: Files + AllocGlobal>(
+    rt: &R,
+    stage: &mut Stage,
+    step: &Step<'_>,
+    shared: &Shared,
+    seat: &mut Seat,
+) -> Result<Option<Verdict>, PlayError>
+    requires { IsOf shared.now seat.old }
+    ensures { IsOf shared.now seat.new }
+{
+    let verdict = match step {
+        Step::Program(path) => {
+            take_program(rt, stage, path)?;
+            return Ok(None);
+        }
+        Step::Ask(question) => ask_question(rt, stage, question, shared, seat)?,
+        Step::Packets { path, interface } => {
+            ask_capture(rt, stage, path, *interface, shared, seat)?
+        }
+        Step::Answers(expected) => compare_answer(stage.last, *expected),
+        Step::Counter { index, number } => {
+            compare(shared.read(seat, usize::from(*index)), *number)
+        }
+        Step::Cell { index, number } => compare(cell_at(shared, seat, *index), *number),
+    };
+    Ok(Some(verdict))
+}
+
+/// Adds the point of a line, if it has a verdict.
+fn push_point<'a>(
+    points: &mut Vec<Point<'a>>,
+    line: &Line<'a>,
+    verdict: Option<Verdict>,
+) -> Result<(), AllocError>
+    ensures { OnOk result (points.new.items ≡ points.old.items ++ points_of line.now verdict) }
+{
+    if let Some(verdict) = verdict {
+        points.push(Point {
+            number: line.number,
+            words: line.words,
+            verdict,
+        })?;
+    }
+    Ok(())
+}
+
+/// What is found at the lines, on these counters and cells.
+fn play_lines<'a, R: Files + AllocGlobal>(
+    rt: &R,
+    lines: &[Line<'a>],
+    stage: &mut Stage,
+    shared: &Shared,
+    seat: &mut Seat,
+) -> Result<Vec<Point<'a>>, Stopped>
+    requires { IsOf shared.now seat.old }
+{
+    let mut points = Vec::new(rt.alloc());
+    for line in lines {
+        let number = line.number;
+        let verdict = match play_step(rt, stage, &line.step, shared, seat) {
+            Ok(verdict) => verdict,
+            Err(error) => return Err(Stopped { number, error }),
+        };
+        match push_point(&mut points, line, verdict) {
+            Ok(()) => (),
+            Err(_) => {
+                return Err(Stopped {
+                    number,
+                    error: PlayError::Memory,
+                });
+            }
+        }
+    }
+    Ok(points)
+}
+
+/// Plays the lines of a test in their order, on a new table whose counters and cells are 0: what is
+/// found at each that asks or expects something. Or the first one that can't be played, and why.
+pub fn play<'a, R: Files + AllocGlobal>(
+    rt: &R,
+    lines: &[Line<'a>],
+) -> Result<Vec<Point<'a>>, Stopped> {
+    let Ok((shared, mut seats)) = Shared::new(rt.alloc(), 1) else {
+        return Err(Stopped {
+            number: 0,
+            error: PlayError::Memory,
+        });
+    };
+    let mut seat = seats.remove(0);
+    let mut stage = Stage {
+        bytes: Vec::new(rt.alloc()),
+        last: Last::Nothing,
+    };
+    play_lines(rt, lines, &mut stage, &shared, &mut seat)
+}

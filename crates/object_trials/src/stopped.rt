@@ -1,0 +1,34 @@
+//! Why a test isn't played to its end.
+use crate::error::TrialError;
+use captures::CaptureError;
+use thiserror::Error;
+
+/// Why a test isn't played to its end. The text is what is told behind the line's number.
+#[derive(Clone, Copy, Debug, Error)]
+pub enum PlayError {
+    /// A question comes before any `program` that could be asked.
+    #[error("no line before it names a program OBJECT")]
+    NoProgram,
+    /// A file can't be read.
+    #[error("cannot read the file that it names")]
+    Unreadable,
+    /// The file of a program isn't one.
+    #[error("its file is no object (hooktool annotate and build make them)")]
+    Object(TrialError),
+    /// The file of packets isn't one.
+    #[error("the capture: {0}")]
+    Capture(CaptureError),
+    /// A packet of the capture isn't whole.
+    #[error("a packet of the capture isn't whole (tcpdump -s 0)")]
+    CutPacket,
+    /// An allocation was refused.
+    #[error("out of memory")]
+    Memory,
+}
+
+/// The line that can't be played, by its number, and why.
+#[derive(Clone, Copy)]
+pub struct Stopped {
+    pub number: u64,
+    pub error: PlayError,
+}
