@@ -124,8 +124,47 @@ fn place(
     }
 }
 
+/// The name of the section that has what the relocation names, or none.
+fn target_section<'a>(file: &ObjectFile<'a>, relocation: &LinkedRelocation) -> &'a [u8] {
+    let index = relocation.relocation.symbol as usize;
+    if let Some(symbol) = file.symbol(relocation.table, index) {
+        let section = usize::from(symbol.section);
+        if section < file.section_count() {
+            return file.section_name(section);
+        }
+    }
+    b""
+}
+
+/// What an author can do about data of this section.
+fn data_advice(section: &[u8]) -> &'static str {
+    match section {
+        [
+            b'.',
+            b'r',
+            b'o',
+            b'd',
+            b'a',
+            b't',
+            b'a',
+            b'.',
+            b's',
+            b't',
+            b'r',
+            ..
+        ] => ", a text: a program has no data of its own, and nobody to tell it to\n",
+        [b'.', b'r', b'o', b'd', b'a', b't', b'a', ..] =>
+            ", a table: a program has no data of its own, write it as a switch or as tests (a \
+                macro, as in examples/c/tag_table.c), or keep it in cells\n",
+        [b'.', b'd', b'a', b't', b'a', ..] | [b'.', b'b', b's', b's', ..] =>
+            ", a variable: a program has no data of its own, keep it in a counter or, at count, in \
+                a cell\n",
+        _ => ": a program has no data of its own, keep it in counters or cells\n",
+    }
+}
+
 /// Adds what the place does, and what an author can do.
-fn push_use(text: &mut Text, kind: u32, target: &str) {
+fn push_use(text: &mut Text, kind: u32, target: &str, section: &[u8]) {
     if kind == CALL {
         text.push("it calls ");
         text.push(target);
@@ -133,9 +172,7 @@ fn push_use(text: &mut Text, kind: u32, target: &str) {
     } else {
         text.push("it uses ");
         text.push(target);
-        text.push(
-            ": a program has no data of its own, write tables as code or keep them in cells\n",
-        );
+        text.push(data_advice(section));
     }
 }
 
@@ -155,7 +192,8 @@ pub(crate) fn relocation_report(
         let offset = relocation.relocation.offset;
         let mut line = place(alloc, file, section.name, functions, offset);
         let target = shown(target_name(file, section.contents, relocation));
-        push_use(&mut line, relocation.relocation.kind, target);
+        let data = target_section(file, relocation);
+        push_use(&mut line, relocation.relocation.kind, target, data);
         text.take(&mut line);
     }
     if relocations.len() > MOST_TOLD {
