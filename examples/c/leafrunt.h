@@ -97,7 +97,22 @@ static inline const u64 *counters(void)
 #define DOWN(i, n) for (u64 i = (n); KEEP(i); i--)
 
 /* i from 0 up to n - 1. It takes two registers, one for the turns that are left. */
-#define EACH(i, n)						\
-	for (u64 i, i##_end = (n), i##_left = i##_end;		\
-	     KEEP(i##_left) && (i = i##_end - i##_left, 1);	\
+#define EACH(i, n)								\
+	for (u64 i __attribute__((unused)), i##_end = (n), i##_left = i##_end;	\
+	     KEEP(i##_left) && (i = i##_end - i##_left, 1);			\
 	     i##_left--)
+
+/* ---- numbers in counters */
+
+/* A number below 2^24 that all workers share, in a counter that nothing else adds to: counters only grow, so what
+ * is kept is the number that the counter has in its low 24 bits. Of two workers that keep one at once, either may win,
+ * or a third number comes of both. */
+static inline u64 kept(u64 counter)
+{
+	return counter_read(KEEP(counter) & 255) & 0xffffff;
+}
+
+static inline void keep(u64 counter, u64 number)
+{
+	counter_add(KEEP(counter) & 255, (number - kept(counter)) & 0xffffff);
+}
