@@ -362,7 +362,7 @@ class Link:
             return Sent()
         self._neighbor_like = packet
         if description.has(Flags.I):
-            self._withheld.begun()
+            self._withheld.begun(now)
         headers = self._withheld.described(description.headers, now)
         self._tell_withheld(now)
         return self._exchanged(

@@ -195,7 +195,9 @@ class Withheld:
         """Those that `routerd`'s last Request asks for, and since when."""
         self._given: dict[Key, tuple[int, bytes]] = {}
         """How often each of those was given to it, and which instance."""
-        self._begun = self._last_asked = float("-inf")
+        self._begun = self._described = self._last_asked = float("-inf")
+        """When an exchange was begun anew, when the neighbor's last Description came, and when
+        `routerd` asked for an LSA."""
         self.news: list[str] = []
         """What the log has to be told."""
 
@@ -233,6 +235,7 @@ class Withheld:
 
     def described(self, headers: Iterable[bytes], now: float) -> tuple[bytes, ...]:
         """The headers of a Description without those of LSAs that `routerd` can't have."""
+        self._described = now
         return tuple(each for each in headers if self._is_described(each, now))
 
     def _is_described(self, header: bytes, now: float) -> bool:
@@ -267,8 +270,9 @@ class Withheld:
 
     # -- from `routerd`
 
-    def begun(self) -> None:
+    def begun(self, now: float) -> None:
         """An exchange begins: what the last one promised, and didn't bring, isn't there."""
+        self._described = now
         self._database.forget(self._promised)
         self._promised.clear()
         self._asked.clear()
@@ -288,8 +292,12 @@ class Withheld:
         return max(waits, default=0.0) >= STUCK_AFTER and self._may_begin(now)
 
     def has_room_again(self, now: float) -> bool:
-        """Whether LSAs that were withheld have room now, so that the exchange has to begin anew."""
-        return bool(self._above) and self._database.has_room_again and self._may_begin(now)
+        """Whether LSAs that were withheld have room now, so that the exchange has to begin anew. One
+        that is under way comes to its end first: on a busy machine thousands of headers take longer
+        than what is between two that are begun."""
+        if not self._above or now - self._described < SECONDS_BETWEEN:
+            return False
+        return self._database.has_room_again and self._may_begin(now)
 
     def _may_begin(self, now: float) -> bool:
         if now - self._begun < SECONDS_BETWEEN:

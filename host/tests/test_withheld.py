@@ -269,6 +269,17 @@ class Limits(unittest.TestCase):
         self.assertEqual(len(self.withheld.described(headers, 50)), 5)
         self.assertEqual((list(self.withheld.remarks(99)), self.withheld.has_room_again(99)), ([], False))
 
+    def test_an_exchange_comes_to_its_end(self) -> None:
+        """However long it takes: what is withheld may be described by its last packet."""
+        most = ROOM_AGAIN + 10
+        self.withheld.updated([external(number) for number in range(most + 5)], 0)
+        self.withheld.updated([external(number, MAX_AGE) for number in range(most - 10)], 20)
+        self.withheld.begun(30)
+        for now in range(30, 60):
+            self.assertFalse(self.withheld.has_room_again(now))
+            self.withheld.described([external(most - 1 - now % 10)[:20]], now)
+        self.assertTrue(self.withheld.has_room_again(59 + SECONDS_BETWEEN))
+
     def test_those_withheld_are_flushed(self) -> None:
         most = ROOM_AGAIN + 10
         self.withheld.updated([external(number) for number in range(most + 5)], 0)
@@ -280,7 +291,7 @@ class Limits(unittest.TestCase):
         self.withheld.described([external(number)[:20] for number in range(100)], 0)
         self.withheld.updated([external(number) for number in range(10)], 1)
         self.assertEqual(len(self.database), 100)
-        self.withheld.begun()
+        self.withheld.begun(2)
         self.assertEqual(len(self.database), 10)
 
     def test_what_ran_out(self) -> None:
