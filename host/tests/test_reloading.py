@@ -262,7 +262,8 @@ class Running(Boxes):
         before = held()
         for at in range(100):
             self.write(ANNOUNCE.format("10.1.0.0/16", at))
-            self.assertEqual(self.leafrunt("reload")[0], 0)
+            # (one is refused while a signal's is under way)
+            self.assertTrue(within(30, lambda: self.leafrunt("reload")[0] == 0))
             if at % 10 == 0:
                 for _ in range(20):
                     box.send_signal(signal.SIGHUP)
