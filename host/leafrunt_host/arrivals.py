@@ -1,6 +1,7 @@
-"""A router-LSA that comes within MinLSArrival of its last instance. `routerd` discards it (RFC 2328, 13,
-step 5a), and it would come again after the neighbor's RxmtInterval, when others have gone by it for
-seconds. So it waits here, for a second at most; of several instances the newest one.
+"""A router-LSA that comes within MinLSArrival of its last instance. `routerd` discards it (RFC
+2328, 13, step 5a), and it would come again after the neighbor's RxmtInterval, when others have
+gone by it for seconds. So it waits here, for a second at most; of several instances the newest
+one.
 """
 from __future__ import annotations
 

@@ -53,8 +53,8 @@ class _Said:
 
 
 class Holding:
-    """What is held. `looked` and `keeps` are called by the thread that keeps the kernel's table, all
-    else by the bridge's, which waits at `fileno`."""
+    """What is held. `looked` and `keeps` are called by the thread that keeps the kernel's table,
+    all else by the bridge's, which waits at `fileno`."""
 
     def __init__(
         self, wake: Callable[[], None], clock: Callable[[], float] = time.monotonic

@@ -1,12 +1,12 @@
 """How a box leaves the network without a loss: the neighbors turn away while the kernel forwards.
 
-A last instance of the router-LSA has no link to another router (RFC 2328, 12.4.1). So no router of
-the area has a way through this one, whatever its neighbors still say of their links, and none has to
-wait for MinLSInterval to say so. The kernel's routes stay until all have calculated their routes
-anew; then the neighbors are told by Hellos, and the routes go.
+A last instance of the router-LSA has no link to another router (RFC 2328, 12.4.1). So no router
+of the area has a way through this one, whatever its neighbors still say of their links, and none
+has to wait for MinLSInterval to say so. The kernel's routes stay until all have calculated their
+routes anew; then the neighbors are told by Hellos, and the routes go.
 
-It isn't flushed (14.1): a router may keep the flushed instance for a minute, as FRR does, and answers
-with it what a box originates that is started again meanwhile.
+It isn't flushed (14.1): a router may keep the flushed instance for a minute, as FRR does, and
+answers with it what a box originates that is started again meanwhile.
 """
 from __future__ import annotations
 

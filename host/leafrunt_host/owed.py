@@ -1,7 +1,7 @@
-"""What two neighbors owe each other, counted by what passes between them (RFC 2328): LSAs that one has
-sent and the other hasn't acknowledged (13.5, 13.7), and LSAs that one has asked for and the other
-hasn't sent (10.9). Once nobody owes anything they are at rest: each has what the other one has, but for
-what docs/use/OPERATING.md, "Neighbors that differ", says.
+"""What two neighbors owe each other, counted by what passes between them (RFC 2328): LSAs that
+one has sent and the other hasn't acknowledged (13.5, 13.7), and LSAs that one has asked for and
+the other hasn't sent (10.9). Once nobody owes anything they are at rest: each has what the other
+one has, but for what docs/use/OPERATING.md, "Neighbors that differ", says.
 """
 from __future__ import annotations
 

@@ -182,8 +182,8 @@ def interface_status(known: Known, number: int, each: InterfaceSettings) -> Json
 
 
 def at_rest_since(known: Known) -> float | None:
-    """The moment, in seconds since 1970, from which on all neighbors have been Full and owed nothing,
-    nor were owed; None where one isn't, or does, or there is none."""
+    """The moment, in seconds since 1970, from which on all neighbors have been Full, owed nothing
+    and were owed nothing; None where one isn't, or does, or there is none."""
     began = []
     for neighbor in known.neighbors.values():
         link, full = known.links.get(neighbor.number), since(known, neighbor)

@@ -292,9 +292,9 @@ class Withheld:
         return max(waits, default=0.0) >= STUCK_AFTER and self._may_begin(now)
 
     def has_room_again(self, now: float) -> bool:
-        """Whether LSAs that were withheld have room now, so that the exchange has to begin anew. One
-        that is under way comes to its end first: on a busy machine thousands of headers take longer
-        than what is between two that are begun."""
+        """Whether LSAs that were withheld have room now, so that the exchange has to begin anew.
+        One that is under way comes to its end first: on a busy machine thousands of headers take
+        longer than what is between two that are begun."""
         if not self._above or now - self._described < SECONDS_BETWEEN:
             return False
         return self._database.has_room_again and self._may_begin(now)

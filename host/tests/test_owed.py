@@ -64,7 +64,8 @@ class Debt(unittest.TestCase):
                 answered = self.after(side.other, updates(LATER))
                 self.assertEqual(answered[0 if side is Side.WIRE else 2], 1)
                 self.assertEqual(sum(answered), 1)
-                self.assertEqual(self.after(side, updates(EXTERNAL), acknowledgment(LATER))[0], owes[0] // 2)
+                left = self.after(side, updates(EXTERNAL), acknowledgment(LATER))
+                self.assertEqual(left[0], owes[0] // 2)
 
     def test_requests(self) -> None:
         """What was asked for isn't to be acknowledged."""
@@ -102,7 +103,11 @@ class Debt(unittest.TestCase):
         for debts, wanted in (
             (Debts(1, 0, 0, 0), "it owes 1 acknowledgment"),
             (Debts(0, 2, 0, 1), "it owes 2 requested LSAs, this router owes it 1 requested LSA"),
-            (Debts(3, 1, 2, 0), "it owes 3 acknowledgments and 1 requested LSA, this router owes it 2 acknowledgments"),
+            (
+                Debts(3, 1, 2, 0),
+                "it owes 3 acknowledgments and 1 requested LSA, "
+                "this router owes it 2 acknowledgments",
+            ),
             (NOTHING, ""),
         ):
             self.assertEqual(str(debts), wanted)

@@ -90,7 +90,8 @@ def start(looks: Looks) -> None:
     (router,) = output("pidof", "routerd").split()[:1] or [""]
     its = fields(router) if router else {}
     users = {each for each in its.get("Uid", "0").split()}
-    looks.look("routerd has none, and is no root", int(its.get("CapEff", "1"), 16) == 0 and "0" not in users)
+    is_poor = int(its.get("CapEff", "1"), 16) == 0 and "0" not in users
+    looks.look("routerd has none, and is no root", is_poor)
     journal = output("journalctl", "-u", UNIT, "-p", "info", "-o", "cat")
     looks.look("the journal has its lines", "-> Full" in journal)
     warned = output("journalctl", "-u", UNIT, "-p", "warning", "-o", "cat")
@@ -130,7 +131,8 @@ def killed(looks: Looks) -> None:
 def stopped(looks: Looks) -> None:
     start = time.monotonic()
     systemctl("stop")
-    looks.look("it stops in order", shown("Result") == "success", f"after {time.monotonic() - start:.1f} s")
+    said = f"after {time.monotonic() - start:.1f} s"
+    looks.look("it stops in order", shown("Result") == "success", said)
     looks.look("its routes are gone", not own_routes(), own_routes())
     looks.timed("south has turned away", SLOW, lambda: not south_has("192.168.1.0/24"))
     left = [each for each in output("ps", "ax").splitlines() if "north.toml" in each]
