@@ -1,12 +1,10 @@
 -- A journal with one more event.
 use Rattle.std.proofs.Common.{◌≡◌, ℕ, ◌+◌, List, [], ◌∷◌, ◌++◌, map, sym, subst, refl, ap, ◌∙◌}
-use Rattle.words.specs.Numbers.{Moment}
 use Rattle.std.proofs.lemmas.List.{length-append, map-append}
 use Rattle.std.proofs.lemmas.List.Sums.{fold-append}
 use Rattle.events.specs.declared.model.Out.{Out}
 use Rattle.events.specs.Events.{Happens, Run, Step}
-use Rattle.events.specs.Laws.{EventsAreDetermined}
-use Rattle.events.specs.Routers.{Occurrence, Router}
+use Rattle.events.specs.Routers.{Router}
 use Rattle.flood.specs.Occurrences.{occurrence_of}
 use Rattle.book.specs.declared.entry.Entry.{Entry}
 use Rattle.book.specs.Bytes.{bytes_of, with_event}
@@ -44,44 +42,3 @@ leads_on origin taken before after e outs (steps, run, many) now =
 -- the bytes of a journal with one more event
 pub bytes_with : (journal : List Entry) (e : Entry) → bytes_of (journal ++ e ∷ []) ≡ with_event (bytes_of journal) e.event
 bytes_with journal e = fold-append (λ bytes (x : Entry). with_event bytes x.event) 0 journal (e ∷ [])
-
--- an event alone
-pub replays_one : (start after : Router) (e : Entry) (outs : List Out)
-    → Happens start e.moment (occurrence_of e.event) outs after → Replays start (e ∷ []) after
-replays_one start after e outs happens = replays_on start [] start after e outs ([], refl, refl) happens
-
-rest_of : (steps : List Step) (start after now : Router) (e : Entry) (rest : List Entry) (outs : List Out)
-    → EventsAreDetermined → map step_occurrence steps ≡ map entry_occurrence (e ∷ rest) → Run start steps now
-    → Happens start e.moment (occurrence_of e.event) outs after → Replays after rest now
-rest_of [] start after now e rest outs determined same run happens = cc
-rest_of (s ∷ steps) start after now e rest outs determined same (middle, earlier, more) happens =
-    let first : step_occurrence s ≡ entry_occurrence e = cc in
-    let others : map step_occurrence steps ≡ map entry_occurrence rest = cc in
-    let P : Moment × Occurrence → Type 0 = λ o. Happens start o.0 o.1 s.outs middle in
-    let then : Happens start e.moment (occurrence_of e.event) s.outs middle = subst P first earlier in
-    let one : after ≡ middle =
-    (determined start e.moment (occurrence_of e.event) outs s.outs after middle happens then).1 in
-    (steps, others, subst (λ (r : Router). Run r steps now) (sym one) more)
-
--- what the first event leaves leads on by the others, since an event has one outcome
-pub replays_rest : (start after now : Router) (e : Entry) (rest : List Entry) (outs : List Out)
-    → EventsAreDetermined → Replays start (e ∷ rest) now
-    → Happens start e.moment (occurrence_of e.event) outs after → Replays after rest now
-replays_rest start after now e rest outs determined (steps, same, run) happens =
-    rest_of steps start after now e rest outs determined same run happens
-
-run_append : (steps more : List Step) (old middle new : Router)
-    → Run old steps middle → Run middle more new → Run old (steps ++ more) new
-run_append [] more old middle new same run = subst (λ (r : Router). Run r more new) same run
-run_append (s ∷ steps) more old middle new earlier run =
-    (earlier.0, earlier.1, run_append steps more earlier.0 middle new earlier.2 run)
-
--- one journal behind the other
-pub replays_append : (start middle now : Router) (first second : List Entry)
-    → Replays start first middle → Replays middle second now → Replays start (first ++ second) now
-replays_append start middle now first second (steps, same, run) (more, others, last) = (
-  steps ++ more,
-  map-append step_occurrence steps more ∙ ap (λ l. l ++ map step_occurrence more) same
-      ∙ ap (λ l. map entry_occurrence first ++ l) others ∙ sym (map-append entry_occurrence first second),
-  run_append steps more start middle now run last,
-)

@@ -21,7 +21,3 @@ with_event bytes e = min (bytes + held_by e + 256) 18446744073709551615
 -- the bytes that a journal's events take
 abbrev pub bytes_of : List Entry → ℕ
 bytes_of journal = fold (λ bytes (e : Entry). with_event bytes e.event) 0 journal
-
--- the bytes that the journal of a router with so many LSAs may take: 256 KiB, and 512 for each
-abbrev pub allowed_for : (lsas : ℕ) → ℕ
-allowed_for lsas = min (min (lsas * 512) 18446744073709551615 + 262144) 18446744073709551615

@@ -1,13 +1,12 @@
 -- A journal, and what it says of a router.
 use Rattle.std.specs.Prelude.{◌≡◌, ◌⊎◌, ℕ, ◌<◌, ◌≤◌, List, [], ◌∷◌, ◌++◌, length, map}
-use Rattle.std.specs.FinMap as finite
 use Rattle.words.specs.Numbers.{Moment}
 use Rattle.events.specs.Events.{Run, Step}
 use Rattle.events.specs.Routers.{Occurrence, Router}
 use Rattle.flood.specs.declared.event.Event.{Event}
 use Rattle.flood.specs.Occurrences.{occurrence_of}
 use Rattle.book.specs.declared.entry.Entry.{Entry}
-use Rattle.book.specs.Bytes.{allowed_for, bytes_of}
+use Rattle.book.specs.Bytes.{bytes_of}
 
 abbrev pub entry : Moment → Event → Entry
 entry moment event = record { moment = moment; event = event }
@@ -47,35 +46,20 @@ started_book core = record { start = core; journal = []; current = core; taken =
 abbrev pub marked_book : BookView → BookView
 marked_book b = record b { start = b.current; journal = [] }
 
--- The book starts later: events that stood first in the journal have left it, and a run over just
--- these leads from where it started to where it starts.
-abbrev pub IsBroughtForward : (old new : BookView) → Type 0
-IsBroughtForward old new =
-    (gone : List Entry) × (old.journal ≡ gone ++ new.journal) × Replays old.start gone new.start
-    × (new.current ≡ old.current) × (new.taken ≡ old.taken)
-
--- the journal is full, or takes more than it may beside the LSAs that the router holds
+-- the journal is full: it holds 65,536 events, or events of more than 64 MiB
 abbrev pub IsDue : BookView → Type 0
-IsDue b =
-    (length b.journal ≡ 65536)
-    ⊎ (allowed_for (finite.len b.current.area.database) < bytes_of b.journal)
+IsDue b = (length b.journal ≡ 65536) ⊎ (67108864 < bytes_of b.journal)
 
--- it is the same book; or one that starts later, which only a book does whose journal is too much
-abbrev pub IsSameOrLightened : (old new : BookView) → Type 0
-IsSameOrLightened old new = (new ≡ old) ⊎ (IsDue old × IsBroughtForward old new)
+-- it is the same book; or the one that was marked, which only a book is whose journal is full
+abbrev pub IsSameOrMarked : (old new : BookView) → Type 0
+IsSameOrMarked old new = (new ≡ old) ⊎ (IsDue old × (new ≡ marked_book old))
 
--- the entry stands last in the journal, which goes on; or, where that was too much, in one that
--- starts later
+-- the entry stands last in the journal, which goes on; or, where the journal was full, alone in one
+-- that was emptied by a mark before
 abbrev pub IsNoted : (old : BookView) → Entry → (new : BookView) → Type 0
 IsNoted old e new =
-    (before : BookView) × IsSameOrLightened old before
-    × (new.start ≡ before.start) × (new.journal ≡ before.journal ++ e ∷ [])
-
--- the entry stands last in the journal of a book that may start later, for want of memory too
-abbrev pub IsNotedAtLast : (old : BookView) → Entry → (new : BookView) → Type 0
-IsNotedAtLast old e new =
-    (before : BookView) × IsBroughtForward old before
-    × (new.start ≡ before.start) × (new.journal ≡ before.journal ++ e ∷ [])
+    ((new.start ≡ old.start) × (new.journal ≡ old.journal ++ e ∷ []))
+    ⊎ (IsDue old × (new.start ≡ old.current) × (new.journal ≡ e ∷ []))
 
 -- what holds of the fields of every book that began with this router, beside the total of its ledger
 pub record IsKept (origin : Router) (start : Router) (journal : List Entry) (now : Router)

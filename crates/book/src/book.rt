@@ -1,22 +1,19 @@
 //! The book itself: an event is taken, and the book starts anew.
 ghost use Rattle.std.specs.Prelude.{◌≡◌, ℕ, ◌+◌, ◌^◌, ◌<◌, ◌≤◌, [], ◌∷◌, ◌++◌, ◌↔◌, length, IfOk};
-ghost use Rattle.std.specs.Prelude.{IfErr, IsTrue, None, OnOk, OnErr, true};
-ghost use Rattle.std.specs.FinMap as finite;
+ghost use Rattle.std.specs.Prelude.{IsTrue, None, OnOk, OnErr};
 ghost use Rattle.events.specs.Events.{Happens};
 ghost use Rattle.flood.specs.Occurrences.{occurrence_of};
 ghost use Rattle.flood.specs.Early.{early_refusal};
 ghost use Rattle.flood.specs.Offers.{IsStaleNow};
-ghost use Rattle.book.specs.Bytes.{allowed_for, bytes_of};
-ghost use Rattle.book.specs.Refusals.{Answers, AnswersAnew, without_event};
-ghost use Rattle.book.specs.Replay.{IsBroughtForward, IsNoted, IsNotedAtLast, IsSameOrLightened};
-ghost use Rattle.book.specs.Replay.{Leads, Replays, entry, marked_book, started_book};
+ghost use Rattle.book.specs.Refusals.{Answers, AnswersAnew};
+ghost use Rattle.book.specs.Replay.{IsNoted, IsSameOrMarked, Leads, Replays, entry};
+ghost use Rattle.book.specs.Replay.{marked_book, started_book};
 
 use crate::entry::Entry;
-use crate::error::{BookError, Refused};
+use crate::error::BookError;
 use crate::origin::Origin;
-use crate::weight::{allowance, weight_of, with_event};
-use events::laws::events_are_determined;
-use flood::{Core, CoreError, Event, Out};
+use crate::weight::with_event;
+use flood::{Core, Event, Out};
 use std::alloc::{AllocError, Global};
 use std::marker::Model;
 use std::mem::replace;
@@ -30,11 +27,8 @@ pub const JOURNAL: usize = 65_536;
 /// The most events that a book takes in all, 2^63.
 pub const TAKEN: u64 = 1 << 63;
 
-// How many of the oldest events a start takes at once.
-const AT_ONCE: u32 = 64;
-
-// To copy a router takes as long for so many LSAs, or longer, as to take a small event once more.
-const LSAS_FOR_AN_EVENT: usize = 16;
+/// How many bytes the journal's events may hold before [`Book::apply_anew`] starts it anew, 64 MiB.
+pub const NOTED: u64 = 64 << 20;
 
 /// A router with its past: the router at the start, the events since, and the router as it is now.
 ///
@@ -126,6 +120,7 @@ impl<L: Origin> Book<L> {
     /// in all; what the router refuses, in its own order; `Core(Memory)` only where neither the
     /// journal nor the clock nor the interface is refused, and an allocation was. A refusal leaves
     /// the book and the share as they were.
+    #[tactic(auto, using(flood::proofs::Early::may_run_out, flood::proofs::Early::early_answers))]
     pub fn apply(
         &mut self,
         mine: &mut Share<L>,
@@ -146,55 +141,20 @@ impl<L: Origin> Book<L> {
         ensures err { OnErr result
             ((self.new ≡ self.old) × (mine.new.amount ≡ mine.old.amount)) }
     {
-        match self.attempt(mine, moment, event) {
-            Ok(outs) => Ok(outs),
-            Err(refused) => Err(refused.error),
-        }
-    }
-
-    // As `apply`; a refusal gives the event back.
-    #[tactic(auto, using(flood::proofs::Early::may_run_out, flood::proofs::Early::early_answers))]
-    fn attempt(
-        &mut self,
-        mine: &mut Share<L>,
-        moment: Second,
-        event: Event,
-    ) -> Result<Vec<Out>, Refused>
-        requires { 0 < mine.old.parts }
-        ensures ok { IfOk result (λ outs. Happens
-            self.old.current moment (occurrence_of event) outs.items self.new.current) }
-        ensures book { OnOk result (self.new ≡ record self.old {
-          journal = self.old.journal ++ entry moment event ∷ [];
-          current = self.new.current;
-          taken = self.old.taken + 1;
-        }) }
-        ensures share { OnOk result (mine.new.amount ≡ mine.old.amount + 1) }
-        ensures parts { mine.new.parts ≡ mine.old.parts }
-        ensures refused { Answers self.old moment event (without_event result) }
-        ensures back { IfErr result (λ refused. refused.event ≡ event) }
-        ensures err { OnErr result
-            ((self.new ≡ self.old) × (mine.new.amount ≡ mine.old.amount)) }
-    {
         if self.journal.len() == JOURNAL || self.taken == TAKEN {
-            return Err(Refused::new(BookError::Journal, event));
+            return Err(BookError::Journal);
         }
         if let Some(error) = self.current.refuses(moment, &event) {
-            return Err(Refused::new(BookError::Core(error), event));
+            return Err(BookError::Core(error));
         }
         // What needs memory comes before the step, after which nothing may fail.
-        if self.journal.reserve(1).is_err() {
-            return Err(Refused::new(BookError::Core(CoreError::Memory), event));
-        }
-        match self.current.step(moment, &event) {
-            Ok(outs) => {
-                self.noted = with_event(self.noted, &event);
-                self.journal.push_reserved(Entry { moment, event });
-                self.total.add(mine, 1);
-                self.taken += 1;
-                Ok(outs)
-            }
-            Err(error) => Err(Refused::new(BookError::Core(error), event)),
-        }
+        self.journal.reserve(1)?;
+        let outs = self.current.step(moment, &event)?;
+        self.noted = with_event(self.noted, &event);
+        self.journal.push_reserved(Entry { moment, event });
+        self.total.add(mine, 1);
+        self.taken += 1;
+        Ok(outs)
     }
 
     /// The book starts from the router as it is now, with an empty journal. It has taken no more
@@ -212,54 +172,10 @@ impl<L: Origin> Book<L> {
         Ok(())
     }
 
-    /// Gives memory back: the book starts later, and the events before that leave the journal. What
-    /// it starts from is a copy of the router as it is now, as [`mark`](Book::mark) makes it; or
-    /// the start takes the oldest events itself, 64 at most, where they are few beside what the
-    /// router holds, or there is no memory for a copy. Where memory is refused for that too, fewer
-    /// leave, or none.
-    pub fn lighten(&mut self)
-        ensures { IsBroughtForward self.old self.new }
-    {
-        let lsas = self.current.database().len();
-        if self.journal.len() > lsas / LSAS_FOR_AN_EVENT && self.mark().is_ok() {
-            return;
-        }
-        self.bring_forward();
-    }
-
-    // The start takes the oldest events, 64 at most, until memory is refused.
-    fn bring_forward(&mut self)
-        ensures { IsBroughtForward self.old self.new }
-    {
-        for _event in 0..AT_ONCE {
-            if !self.take_oldest() {
-                break;
-            }
-        }
-    }
-
-    // The start takes the oldest event, which leaves the journal; tells whether it did. It did not
-    // where there is none, or memory was refused.
-    fn take_oldest(&mut self) -> bool
-        ensures { IsBroughtForward self.old self.new }
-    {
-        events_are_determined();
-        let Some(oldest) = self.journal.first() else {
-            return false;
-        };
-        let Ok(_outs) = self.start.step(oldest.moment, &oldest.event) else {
-            return false;
-        };
-        let _oldest = self.journal.remove(0);
-        self.noted = weight_of(&self.journal);
-        true
-    }
-
-    // Marks a book whose journal holds 65,536 events, and lightens one whose events weigh more than
-    // they may beside what the router holds. Only the first is refused where it gets no memory.
+    // Marks a book whose journal holds 65,536 events, or events of more than 64 MiB. Only the first
+    // is refused where it gets no memory.
     fn make_room(&mut self) -> Result<(), AllocError>
-        ensures book { IsSameOrLightened self.old self.new }
-        ensures forward { IsBroughtForward self.old self.new }
+        ensures book { IsSameOrMarked self.old self.new }
         ensures room { OnOk result (length self.new.journal < 65536) }
         ensures err { OnErr result
             ((self.new ≡ self.old) × (length self.old.journal ≡ 65536)) }
@@ -267,34 +183,25 @@ impl<L: Origin> Book<L> {
         if self.journal.len() == JOURNAL {
             return self.mark();
         }
-        if self.is_heavy() {
-            self.lighten();
+        if self.noted > NOTED {
+            let _marked = self.mark();
         }
         Ok(())
     }
 
-    // Whether the journal's events weigh more than they may beside what the router holds.
-    fn is_heavy(&self) -> bool
-        ensures { result ≡ true →
-            allowed_for (finite.len self.now.current.area.database) < bytes_of self.now.journal }
-    {
-        self.noted > allowance(self.current.database().len())
-    }
-
     /// Takes an event as [`apply`](Book::apply) does, in a book that is marked first where its
-    /// journal is full, and lightened where its events weigh more than 256 KiB and half a KiB for
-    /// each LSA of the router. So `Journal` is answered only where 2^63 events were taken. A
-    /// refusal gives the event back.
+    /// journal is full, or where its events hold more than 64 MiB. So `Journal` is answered only
+    /// where 2^63 events were taken.
     ///
     /// A mark stands, whether the event is taken or not. None is made where the event is refused
-    /// for its moment or its interface, which needs no memory. One that is due for the journal's
-    /// weight alone refuses nothing where it gets no memory: the journal grows on.
+    /// for its moment or its interface, which needs no memory. A mark that is due for the journal's
+    /// bytes alone refuses nothing where it gets no memory: the journal grows on.
     pub fn apply_anew(
         &mut self,
         mine: &mut Share<L>,
         moment: Second,
         event: Event,
-    ) -> Result<Vec<Out>, Refused>
+    ) -> Result<Vec<Out>, BookError>
         requires { 0 < mine.old.parts }
         ensures ok { IfOk result (λ outs. Happens
             self.old.current moment (occurrence_of event) outs.items self.new.current) }
@@ -302,81 +209,21 @@ impl<L: Origin> Book<L> {
         ensures taken { OnOk result (self.new.taken ≡ self.old.taken + 1) }
         ensures share { OnOk result (mine.new.amount ≡ mine.old.amount + 1) }
         ensures parts { mine.new.parts ≡ mine.old.parts }
-        ensures refused { AnswersAnew self.old moment event (without_event result) }
-        ensures back { IfErr result (λ refused. refused.event ≡ event) }
+        ensures refused { AnswersAnew self.old moment event result }
         ensures early { (early_refusal self.old.current moment (occurrence_of event) ≡ None → ⊥)
             → self.new ≡ self.old }
         ensures err { OnErr result
-            (IsSameOrLightened self.old self.new × (mine.new.amount ≡ mine.old.amount)) }
+            (IsSameOrMarked self.old self.new × (mine.new.amount ≡ mine.old.amount)) }
     {
         if self.taken == TAKEN {
-            return Err(Refused::new(BookError::Journal, event));
+            return Err(BookError::Journal);
         }
         // These two come before any want of memory, of the mark's too.
         if let Some(error) = self.now().refuses(moment, &event) {
-            return Err(Refused::new(BookError::Core(error), event));
+            return Err(BookError::Core(error));
         }
-        if self.make_room().is_err() {
-            return Err(Refused::new(BookError::Core(CoreError::Memory), event));
-        }
-        self.attempt(mine, moment, event)
-    }
-
-    /// Takes an event as [`apply_anew`](Book::apply_anew) does. Where it is refused for want of
-    /// memory, the book gives memory back ([`lighten`](Book::lighten)), and the event is tried once
-    /// more.
-    pub fn apply_or_retry(
-        &mut self,
-        mine: &mut Share<L>,
-        moment: Second,
-        event: Event,
-    ) -> Result<Vec<Out>, BookError>
-        requires { 0 < mine.old.parts }
-        ensures ok { IfOk result (λ outs. Happens
-            self.old.current moment (occurrence_of event) outs.items self.new.current) }
-        ensures noted { OnOk result
-            (IsNotedAtLast self.old (entry moment event) self.new) }
-        ensures taken { OnOk result (self.new.taken ≡ self.old.taken + 1) }
-        ensures share { OnOk result (mine.new.amount ≡ mine.old.amount + 1) }
-        ensures parts { mine.new.parts ≡ mine.old.parts }
-        ensures refused { AnswersAnew self.old moment event result }
-        ensures err { OnErr result
-            (IsBroughtForward self.old self.new × (mine.new.amount ≡ mine.old.amount)) }
-    {
-        let refused = match self.apply_anew(mine, moment, event) {
-            Ok(outs) => return Ok(outs),
-            Err(refused) => refused,
-        };
-        if refused.error.number() != CoreError::Memory.number() {
-            return Err(refused.error);
-        }
-        self.lighten();
-        self.apply_at_last(mine, moment, refused.event)
-    }
-
-    // As `apply_anew`, but that a refused event is lost.
-    fn apply_at_last(
-        &mut self,
-        mine: &mut Share<L>,
-        moment: Second,
-        event: Event,
-    ) -> Result<Vec<Out>, BookError>
-        requires { 0 < mine.old.parts }
-        ensures ok { IfOk result (λ outs. Happens
-            self.old.current moment (occurrence_of event) outs.items self.new.current) }
-        ensures noted { OnOk result
-            (IsNotedAtLast self.old (entry moment event) self.new) }
-        ensures taken { OnOk result (self.new.taken ≡ self.old.taken + 1) }
-        ensures share { OnOk result (mine.new.amount ≡ mine.old.amount + 1) }
-        ensures parts { mine.new.parts ≡ mine.old.parts }
-        ensures refused { AnswersAnew self.old moment event result }
-        ensures err { OnErr result
-            (IsBroughtForward self.old self.new × (mine.new.amount ≡ mine.old.amount)) }
-    {
-        match self.apply_anew(mine, moment, event) {
-            Ok(outs) => Ok(outs),
-            Err(refused) => Err(refused.error),
-        }
+        self.make_room()?;
+        self.apply(mine, moment, event)
     }
 
     /// Whoever brings every part of the ledger, as one share, learns that the book has taken just

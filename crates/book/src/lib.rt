@@ -12,9 +12,9 @@ mod error;
 mod origin;
 mod weight;
 
-pub use book::{Book, JOURNAL, TAKEN};
+pub use book::{Book, JOURNAL, NOTED, TAKEN};
 pub use entry::Entry;
-pub use error::{BookError, Refused};
+pub use error::BookError;
 pub use origin::Origin;
 // What a book keeps, takes and answers, and what makes the router that it begins with.
 pub use flood::{Config, ConfigError, Core, CoreError, Event, Interface, Offered, Out, State};

@@ -1,8 +1,7 @@
 //! How many bytes an event takes in a journal.
 ghost use Rattle.std.specs.Prelude.{◌≡◌, min};
-ghost use Rattle.book.specs.Bytes.{allowed_for, bytes_of, held_by, with_event};
+ghost use Rattle.book.specs.Bytes.{held_by, with_event};
 
-use crate::entry::Entry;
 use flood::Event;
 
 /// The bytes that an entry takes beside what its event holds elsewhere, or more.
@@ -10,30 +9,6 @@ const ENTRY: u64 = 256;
 
 /// The bytes that one answer of an Install takes, or more.
 const ANSWER: u64 = 64;
-
-/// The bytes that a journal may take beside those for each LSA of its router, 256 KiB.
-const LEAST: u64 = 256 << 10;
-
-/// The bytes that a journal may take for each LSA of its router: about what the router takes for it.
-const FOR_AN_LSA: u64 = 512;
-
-/// The bytes that the journal of a router with so many LSAs may take.
-pub fn allowance(lsas: usize) -> u64
-    ensures { result ≡ allowed_for lsas }
-{
-    (lsas as u64)
-        .saturating_mul(FOR_AN_LSA)
-        .saturating_add(LEAST)
-}
-
-/// The bytes that these events take.
-pub fn weight_of(journal: &[Entry]) -> u64
-    ensures { result ≡ bytes_of journal.now }
-{
-    journal
-        .iter()
-        .fold(0, |bytes, entry| with_event(bytes, &entry.event))
-}
 
 // What an event holds outside of itself: the bytes of a packet, 64 for each answer of an Install.
 fn held_by(event: &Event) -> u64

@@ -110,8 +110,8 @@ fn taken_at(event: &Event, moment: Second, last: Second) -> Second
     }
 }
 
-/// A book takes an event by [`Book::apply_or_retry`], an installation at the moment of its last
-/// event where this is later. What is sent is what the event makes of its own router, which is then the
+/// A book takes an event by [`Book::apply_anew`], an installation at the moment of its last event
+/// where this is later. What is sent is what the event makes of its own router, which is then the
 /// one that the event leaves; and all that it says is of a router to which the events that it took
 /// lead from the one that it began with.
 impl<L: Origin> Taker<L> for Book<L> {
@@ -150,7 +150,7 @@ impl<L: Origin> Taker<L> for Book<L> {
             → clock_end ≤ max moment self.old.current.moment }
     {
         let at = taken_at(&event, moment, self.now().moment());
-        self.apply_or_retry(mine, at, event)
+        self.apply_anew(mine, at, event)
     }
 
     fn stale(&mut self) -> Result<bool, AllocError> {

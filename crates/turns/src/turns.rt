@@ -28,8 +28,7 @@ use words::Second;
 /// turn's: it may have passed while the programs were asked. All else happens at the turn's moment.
 ///
 /// Refused: `Away` where `tag`, `price` or `veto` got no reading; else as the book refuses it
-/// ([`Book::apply_or_retry`](book::Book::apply_or_retry)): its journal first, then the router's
-/// order.
+/// ([`Book::apply_anew`](book::Book::apply_anew)): its journal first, then the router's order.
 /// `Memory` may come before any of them, while the programs are asked. A refused turn gave the book
 /// nothing; the steps that the programs made on the shared words stand, and so does a mark. The
 /// refresh is refused too where the programs were changed since the turn began

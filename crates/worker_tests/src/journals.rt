@@ -71,7 +71,7 @@ fn called<L: Origin>(book: &mut Book<L>, share: &mut Share<L>, call: Call, event
     };
     match call {
         Call::Apply => number_of(book.apply(share, now, event)),
-        Call::ApplyAnew => number_of(book.apply_or_retry(share, now, event)),
+        Call::ApplyAnew => number_of(book.apply_anew(share, now, event)),
         Call::Mark if book.mark().is_ok() => 0,
         Call::Mark => MEMORY,
         Call::Candidates => candidates_of(book).unwrap_or(MEMORY),
@@ -226,19 +226,19 @@ fn installation(alloc: Global, answer: VetoAnswer, count: usize) -> Result<Event
     Ok(Event::Install(Sequence::from_vec(answers)))
 }
 
-// An Install of 1,030 answers counts as some 64 KiB, so that four of them are more than the 256 KiB
-// that a router with a few LSAs may note.
+// An Install of 262,144 answers counts as 16 MiB, so that four of them, with what each entry takes,
+// are more than 64 MiB.
 #[test]
-fn a_heavy_journal_starts_anew(rt: HostRuntime) -> Result<(), Fail> {
+fn a_journal_of_64_mebibytes_starts_anew(rt: HostRuntime) -> Result<(), Fail> {
     let alloc = rt.alloc();
     let route = route().ok_or("a prefix")?;
     let answer = match vetoed(&rt, alloc, &route) {
         Some(answer) => answer,
         None => vetoed(&rt, alloc, &route).ok_or("no reading")?,
     };
-    let event = match installation(alloc, answer, 1_030) {
+    let event = match installation(alloc, answer, 262_144) {
         Ok(event) => event,
-        Err(_) => installation(alloc, answer, 1_030)?,
+        Err(_) => installation(alloc, answer, 262_144)?,
     };
     let rows = [
         calls(4, Call::ApplyAnew, 0, 4, 4),
