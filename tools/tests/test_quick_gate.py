@@ -1,0 +1,76 @@
+"""tools/quick-gate: what is kept of a crate is taken for files that say the same, and for no others."""
+import importlib.machinery
+import importlib.util
+import os
+import pathlib
+import shutil
+import tempfile
+import unittest
+
+TOP = pathlib.Path(__file__).resolve().parent.parent.parent
+
+
+def quick_gate():
+    """Returns the tool as a module."""
+    loader = importlib.machinery.SourceFileLoader("quick_gate", str(TOP / "tools/quick-gate"))
+    module = importlib.util.module_from_spec(importlib.util.spec_from_loader("quick_gate", loader))
+    loader.exec_module(module)
+    return module
+
+
+class TestKey(unittest.TestCase):
+    def setUp(self) -> None:
+        if not shutil.which("rt"):
+            self.skipTest("no kit on the PATH")
+        room = tempfile.TemporaryDirectory()
+        self.addCleanup(room.cleanup)
+        self.room = pathlib.Path(room.name)
+        for name, code in (("low", "pub fn one() -> u32 {\n    1\n}\n"), ("high", "pub fn two() {}\n")):
+            (self.room / f"crates/{name}/src").mkdir(parents=True)
+            (self.room / f"crates/{name}/specs").mkdir()
+            (self.room / f"crates/{name}/src/lib.rt").write_text(f"//! A crate.\n#![tactic(auto)]\n\n{code}")
+        (self.room / "crates/low/specs/Lib.antt").write_text("-- What is said.\nuse Rattle.std.specs.Prelude.{ℕ}\n")
+        (self.room / "crates.txt").write_text("low:\nhigh: low\n")
+        (self.room / "HANDLES").write_text("Handles allowed: none.\n")
+        self.addCleanup(os.chdir, os.getcwd())
+        os.chdir(self.room)
+
+    def keys(self) -> dict[str, str]:
+        tool = quick_gate()
+        kit = tool.loaded(os.path.dirname(os.path.dirname(os.path.realpath(shutil.which("rt")))))
+        kept = tool.Kept(kit, self.room / "store")
+        return {it.name: kept.key(it) for it in kept.crates()}
+
+    def changed(self, file: str, old: str, new: str) -> set[str]:
+        """Returns the crates whose keys change with a text of a file."""
+        path = self.room / file
+        before, text = self.keys(), path.read_text()
+        self.assertIn(old, text)
+        path.write_text(text.replace(old, new))
+        after = self.keys()
+        path.write_text(text)
+        return {it for it in before if before[it] != after[it]}
+
+    def test_comments_say_nothing(self) -> None:
+        self.assertEqual(self.changed("crates/low/src/lib.rt", "//! A crate.", "//! A low\n//! crate."), set())
+        self.assertEqual(self.changed("crates/low/src/lib.rt", "    1", "    1 // the first"), set())
+        self.assertEqual(self.changed("crates/low/specs/Lib.antt", "-- What is said.\n", ""), set())
+
+    def test_code_says_something(self) -> None:
+        both = {"low", "high"}
+        self.assertEqual(self.changed("crates/low/src/lib.rt", "    1", "    2"), both)
+        self.assertEqual(self.changed("crates/low/src/lib.rt", "#![tactic(auto)]", "//#![tactic(auto)]"), both)
+        self.assertEqual(self.changed("crates/low/specs/Lib.antt", ".{ℕ}", ".{Some}"), both)
+        self.assertEqual(self.changed("crates/high/src/lib.rt", "two", "three"), {"high"})
+
+    def test_layout_of_proofs_says_something(self) -> None:
+        self.assertEqual(self.changed("crates/low/specs/Lib.antt", "use Rattle", "  use Rattle"), {"low", "high"})
+
+    def test_text_says_something(self) -> None:
+        file = self.room / "crates/high/src/lib.rt"
+        file.write_text(file.read_text() + 'const TEXT: &str = "// one";\n')
+        self.assertEqual(self.changed("crates/high/src/lib.rt", '"// one"', '"// two"'), {"high"})
+
+
+if __name__ == "__main__":
+    unittest.main()
