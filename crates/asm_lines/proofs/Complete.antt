@@ -1,4 +1,4 @@
--- What a line's words spell is what reading finds.
+-- Reading finds what a line's words spell.
 use Rattle.std.proofs.Common.{◌≡◌, ℕ, ◌≤◌, List, [], ◌∷◌, ◌++◌, Bool, true, false, Option, Some, None, refl, sym, ap, ◌∙◌, arith}
 use Rattle.std.specs.Prelude.{is_some, codes}
 use Rattle.std.specs.Str.{bytes_eq}
@@ -239,7 +239,7 @@ map_with_line : (a b c d e f g h : Word) (r : ℕ) (m : Numeral) (range : Range)
     → eight a b c d e f g h ≡ Some (plain (lines.With r (contents.Map m range)))
 map_with_line a b c d e f g h r m range p q i j k = rw (p, i, q, j, k) refl
 
--- What the words of a line spell is what reading finds.
+-- Reading finds what the words of a line spell.
 pub complete : (words : List Word) (line : Line) (name : Word) → Spells words line name → line_of words ≡ Some (line, name)
 unfolding line_of
 complete words lines.Empty name s = reads_plain words [] lines.Empty name (no_words words s.fits) refl (s.unnamed refl)

@@ -11,7 +11,7 @@ pub if_some : {A : Type 0} (P Q : A → Type 0) (r : Option A) → ((x : A) → 
 if_some P Q None f h = h
 if_some P Q (Some x) f h = f x h
 
--- so many words of a slice, from this index on
+-- `k` words of a slice, from this index on
 abbrev pub words_at : List (Bor Word) → Bor Word → ℕ → ℕ → List Word
 words_at ws d i zero = []
 words_at ws d i (suc k) = (get_or ws i d).now ∷ words_at ws d (suc i) k
@@ -20,7 +20,7 @@ words_behind : (w d : Bor Word) (ws : List (Bor Word)) (i k : ℕ) → words_at 
 words_behind w d ws i zero = refl
 words_behind w d ws i (suc k) = ap (λ rest. (get_or ws i d).now ∷ rest) (words_behind w d ws (suc i) k)
 
--- what a slice of so many words is seen as
+-- what a slice of `k` words is seen as
 pub seen : (ws : List (Bor Word)) (d : Bor Word) (k : ℕ) → length ws ≡ k → views ws ≡ words_at ws d 0 k
 seen [] d zero e = refl
 seen [] d (suc k) e = absurd (omega arith)

@@ -157,7 +157,7 @@ added r old new p w h = on_ok r (λ e. record { bytes = e ∙ ap (λ more. old +
 pub started : {T E : Type 0} (r : Result T E) (old new : List ℕ) (p : Part) → IsWritten p → OnOk r (new ≡ old ++ part_word p) → OnOk r (Starts old new (p ∷ []))
 started r old new p w h = on_ok r (λ e. record { bytes = e ∙ ap (λ more. old ++ more) (sym (append-nil (part_word p))); written = (w, tt) }) h
 
--- where an append says what stands afterwards by its result
+-- an append whose contract gives the new bytes by its result
 pub where_ok : {T E : Type 0} (r : Result T E) (old new other : List ℕ) → other ≡ (if is_ok r then new else old) → OnOk r (other ≡ new)
 where_ok (Ok x) old new other e = e
 where_ok (Err x) old new other e = tt

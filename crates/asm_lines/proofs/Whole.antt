@@ -1,4 +1,4 @@
--- Lines behind a text of whole lines.
+-- Lines appended to a text of whole lines.
 use Rattle.std.proofs.Common.{◌≡◌, ℕ, List, [], ◌∷◌, ◌++◌, length, Bool, true, false, not, eqb, refl, sym, ap, ◌∙◌, subst, arith, Some, Option, append_assoc}
 use Rattle.std.specs.Prelude.{map, filter}
 use Rattle.std.specs.List.{list_all, slice_split, onto_first, All, AllPass}
@@ -94,7 +94,7 @@ spaced_kept (p ∷ ps) f = append_kept (part_word p) (each_after_a_space ps) (al
 no_feeds : (w : Word) → list_all is_kept w ≡ true → no is_feed w
 no_feeds w e k d h = not_false _ (AllPass-from_list_all is_kept w e k d h)
 
--- ---- behind whole lines
+-- ---- after whole lines
 
 cut_step : (zs tail all : List (List ℕ)) (front : List (List ℕ)) → (zs ≡ [] → ⊥) → ((before : List (List ℕ)) → zs ≡ before ++ [] ∷ [] → all ≡ before ++ tail)
     → [] ∷ zs ≡ front ++ [] ∷ [] → [] ∷ all ≡ front ++ tail
@@ -138,7 +138,7 @@ line_again line name f ranges named = record {
   unnamed = named.1;
 }
 
--- The text with the line behind it has its lines and then this one.
+-- The text with the line appended has its lines and then this one.
 pub text_again : (old new : List ℕ) (line : Line) (name : Word) (items : List (Line × Word)) → AreWritten (form_of line name) → IsLine line → IsNamed line name
     → new ≡ old ++ line_text line name → AreLines old items → AreLines new (items ++ (line, name) ∷ [])
 text_again old new line name items f ranges named e are = record {

@@ -24,7 +24,7 @@ use Rattle.asm_words.specs.Words.{reorder_word, register_word, extension_word, e
 -- ---- a part of a form
 
 pub data Part : Type 0 where
-  -- this very word
+  -- exactly this word
   Exactly : Word → Part
   -- a word that spells this number
   Number : Numeral → Part
@@ -49,7 +49,7 @@ Fits [] (part ∷ parts) = ⊥
 Fits (word ∷ words) [] = ⊥
 Fits (word ∷ words) (part ∷ parts) = Matches part word × Fits words parts
 
--- ---- what stands at several places
+-- ---- what several forms have
 
 abbrev pub the_register : Width → ℕ → Part
 the_register width register = Exactly (register_word (width, register))
@@ -85,7 +85,7 @@ the_content (contents.Context offset) = Exactly (codes "context") ∷ Number off
 the_content (contents.Stack offset) = Exactly (codes "stack") ∷ Number offset ∷ []
 the_content (contents.Map map offset) = Exactly (codes "map") ∷ Number map ∷ the_range offset
 
--- ---- the table: a line with the label's name that it gives or uses
+-- ---- the table: a line with the name of the label that it defines or uses
 
 abbrev pub form_of : Line → Word → List Part
 form_of lines.Empty name = []
@@ -123,7 +123,7 @@ form_of (lines.With register content) name = Exactly (codes "with") ∷ the_regi
     ∷ the_content content
 form_of (lines.Bytes start end) name = Exactly (codes "bytes") ∷ Number start ∷ Number end ∷ []
 
--- Whether the line gives or uses a label. Where it does not, the name beside it is empty.
+-- Whether the line defines or uses a label. If not, the name beside it is empty.
 abbrev pub is_label : Target → Bool
 is_label targets.Label = true
 is_label (targets.Number n) = false
@@ -148,7 +148,7 @@ is_data (lines.LoadNumber target n) = true
 is_data (lines.LoadMap target map offset) = true
 is_data other = false
 
--- what ranges over the registers that there are
+-- registers are among r0 to r10
 abbrev pub IsOperand : Operand → Type 0
 IsOperand (operands.Register register) = (register ≤ 10)
 IsOperand (operands.Number n) = Unit {0}
@@ -172,7 +172,7 @@ IsLine (lines.State slot constant terms) = AreTerms terms
 IsLine (lines.With register content) = (register ≤ 10)
 IsLine other = Unit {0}
 
--- The words spell the line, with the label's name that it gives or uses.
+-- The words spell the line, with the name of the label that it defines or uses.
 pub record Spells (words : List Word) (line : Line) (name : Word) : Type 0 where
   pub fits : Fits words (form_of line name)
   pub ranges : IsLine line

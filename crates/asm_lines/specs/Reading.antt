@@ -1,4 +1,4 @@
--- Reading a line: what words spell, looked for by their number and their first word.
+-- Reading a line: what words spell, found by how many they are and by the first of them.
 use Rattle.std.specs.Prelude.{ℕ, Bool, List, [], ◌∷◌, Option, Some, None, if◌then◌else◌, codes}
 use Rattle.std.specs.Prelude.{◌==◌}
 use Rattle.std.specs.Str.{bytes_eq}
@@ -85,7 +85,7 @@ two a b = if at (codes "hook") a then (hook_of b >>= λ hook. Some (plain (lines
     else (if at (codes "gotol") a then (target_at b >>= λ t. Some (lines.LongJump t.0, t.1))
     else None))))
 
--- what is assigned beside registers and numbers
+-- the other right sides of an assignment: a negation, or a reordering of bytes
 abbrev pub negation_or_reordering : Width → ℕ → Word → Option Line
 negation_or_reordering width target c = if at (codes "neg") c then Some (lines.Negate width target)
     else (if_wide width c >>= λ word. reorder_of word >>= λ order.

@@ -30,7 +30,7 @@ Readings (line ∷ lines) [] = ⊥
 Readings (line ∷ lines) (reading ∷ readings) = Reads (words_in line) reading
     × Readings lines readings
 
--- new is old with what the words spell at its end
+-- `new` is `old` with what the words spell at its end
 abbrev pub AddsReading : List Word → List (Option (Line × Word)) → List (Option (Line × Word))
     → Type 0
 AddsReading words old new = (reading : Option (Line × Word)) × Reads words reading

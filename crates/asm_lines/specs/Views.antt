@@ -31,6 +31,6 @@ items (line ∷ lines) (name ∷ names) = item line name.now ∷ items lines nam
 abbrev pub SpellsItem : List Word → Item → Type 0
 SpellsItem words item = Spells words item.line item.name.now
 
--- the words spell the line, which has to do with no label
+-- the words spell the line, which names no label
 abbrev pub SpellsPlain : List Word → Line → Type 0
 SpellsPlain words line = Spells words line []

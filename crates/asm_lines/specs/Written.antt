@@ -1,4 +1,4 @@
--- What a line is written as: a word for each part of its form, between single spaces.
+-- How a line is written: a word for each part of its form, separated by single spaces.
 use Rattle.std.specs.Prelude.{◌≡◌, ℕ, ◌+◌, List, [], ◌∷◌, ◌++◌, map, Option, Some, Bool, true}
 use Rattle.std.specs.Prelude.{false, codes}
 use Rattle.std.specs.Fmt.{decimal}
@@ -43,7 +43,7 @@ between_spaces (part ∷ parts) = part_word part ++ each_after_a_space parts
 abbrev pub line_text : Line → Word → List ℕ
 line_text line name = between_spaces (form_of line name) ++ 10 ∷ []
 
--- Where the line gives or uses a label, this is a label's name; else it is empty.
+-- If the line defines or uses a label, this is a label's name; else it is empty.
 abbrev pub IsNamed : Line → Word → Type 0
 IsNamed line name = (names_label line ≡ true → is_name name ≡ true)
     × (names_label line ≡ false → name ≡ [])
@@ -57,12 +57,12 @@ abbrev pub AreWritten : List Part → Type 0
 AreWritten [] = Unit {0}
 AreWritten (part ∷ parts) = IsWritten part × AreWritten parts
 
--- New is old and these parts behind it, each with a space before it.
+-- `new` is `old` followed by these parts, each after a space.
 pub record Adds (old new : List ℕ) (parts : List Part) : Type 0 where
   pub bytes : new ≡ old ++ each_after_a_space parts
   pub written : AreWritten parts
 
--- New is old and these parts behind it, with spaces between them.
+-- `new` is `old` followed by these parts, separated by spaces.
 pub record Starts (old new : List ℕ) (parts : List Part) : Type 0 where
   pub bytes : new ≡ old ++ between_spaces parts
   pub written : AreWritten parts

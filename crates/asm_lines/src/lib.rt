@@ -1,4 +1,4 @@
-//! One line of assembly text: what it may say, and how it is spelled.
+//! One line of assembly text: what it can say, and how it is spelled.
 #![tactic(auto)]
 
 mod line;

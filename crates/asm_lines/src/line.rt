@@ -10,7 +10,7 @@ pub enum Operand {
     Number(Numeral),
 }
 
-/// Where a jump goes, or a statement stands: a number, or the label that the line names.
+/// Where a jump goes, or which slot a statement is for: a number, or the label that the line names.
 #[derive(Clone, Copy, PartialEq, Eq, Debug)]
 pub enum Target {
     Number(Numeral),
@@ -32,7 +32,7 @@ pub enum Terms {
     Two(Term, Term),
 }
 
-/// Some numbers: those from `low` to `high` whose bits under `mask` are `value`.
+/// A set of numbers: those from `low` to `high` whose bits under `mask` are `value`.
 #[derive(Clone, Copy, PartialEq, Eq, Debug)]
 pub struct Range {
     pub low: Numeral,
@@ -50,14 +50,14 @@ pub enum Content {
     Map { map: Numeral, offset: Range },
 }
 
-/// What a line says. Its numbers are those that it writes, whatever their fields can hold; the name
-/// of a label stands beside it.
+/// What a line says. Its numbers are as written, whether or not a field can hold them; the name of
+/// a label is kept beside it.
 #[derive(Clone, Copy, PartialEq, Eq, Debug)]
 pub enum Line {
     Empty,
     Hook(Hook),
     Rank(Numeral),
-    /// The line gives the next slot the name that stands beside it.
+    /// The line gives the next slot the name that is kept beside it.
     Label,
     Arithmetic {
         width: Width,
@@ -129,7 +129,7 @@ pub enum Line {
 impl Operand {
     ghost use Rattle.asm_lines.specs.Forms.{IsOperand};
 
-    /// Says that a register is one of r0 to r10. It does nothing when the program runs.
+    /// Lemma: a register is one of r0 to r10. Does nothing at run time.
     fn check_ranges(&self)
         ensures { IsOperand self.now }
     {
@@ -145,7 +145,7 @@ impl Operand {
 impl Terms {
     ghost use Rattle.asm_lines.specs.Forms.{AreTerms};
 
-    /// Says that the registers are among r0 to r10. It does nothing when the program runs.
+    /// Lemma: the registers are among r0 to r10. Does nothing at run time.
     fn check_ranges(&self)
         ensures { AreTerms self.now }
     {
@@ -165,8 +165,8 @@ impl Terms {
 impl Line {
     ghost use Rattle.asm_lines.specs.Forms.{IsLine};
 
-    /// Says that each register of the line is one of r0 to r10, as its type keeps it. It does
-    /// nothing when the program runs.
+    /// Lemma: each register of the line is one of r0 to r10, as its type guarantees. Does nothing
+    /// at run time.
     pub fn check_ranges(&self)
         ensures { IsLine self.now }
     {
@@ -206,8 +206,8 @@ impl Line {
     }
 }
 
-/// A line of a text: what it says, and the name of the label that it gives or uses, empty where it
-/// does neither.
+/// A line of a text: what it says, and the name of the label that it defines or uses, empty if
+/// there is none.
 #[derive(Clone, Copy, Debug)]
 pub(crate) struct Item<'a> {
     pub line: Line,
@@ -219,7 +219,7 @@ impl Item<'_> {
     ghost use Rattle.asm_lines.specs.Views.{item_view};
     ghost use Rattle.asm_lines.specs.Reading.{plain};
 
-    /// A line that neither gives nor uses a label.
+    /// A line that neither defines nor uses a label.
     pub(crate) fn plain(line: Line) -> Item<'static>
         ensures { item_view result ≡ plain line }
     {

@@ -149,7 +149,7 @@ fn two<'a>(a: &str, b: &'a str) -> Option<Item<'a>>
     }
 }
 
-/// What `=` assigns beside registers and numbers.
+/// The other right sides of `=`: a negation, or a reordering of bytes.
 fn computed(width: Width, target: Register, c: &str) -> Option<Line>
     requires { target ≤ 10 }
     ensures value { result ≡ negation_or_reordering width target c.now }
@@ -218,8 +218,7 @@ fn three<'a>(a: &str, b: &str, c: &'a str) -> Option<Item<'a>>
     Some(Item::plain(line))
 }
 
-/// An assignment whose right side is two words: a wide number, or a register whose sign is
-/// extended.
+/// An assignment whose right side is two words: a wide number, or a register that is sign-extended.
 fn widened(width: Width, target: Register, c: &str, d: &str) -> Option<Line>
     requires { target ≤ 10 }
     ensures value { result ≡ widening_line (width, target) c.now d.now }
@@ -268,7 +267,7 @@ fn state_of<'a>(a: &str, b: &'a str, c: &str, d: &str, terms: Terms) -> Option<I
     })
 }
 
-/// A register that is a pointer with one offset.
+/// A statement that a register is a pointer with this one offset.
 fn offset_of(a: &str, b: &str, c: &str, d: &str) -> Option<Line>
     ensures value { result ≡ offset_of a.now b.now c.now d.now }
     ensures found { IfSome result (SpellsPlain (a.now ∷ b.now ∷ c.now ∷ d.now ∷ [])) }
@@ -435,7 +434,7 @@ fn term_of(a: &str, b: &str, c: &str) -> Option<Term>
     })
 }
 
-/// A register that is one of some numbers.
+/// A statement that a register holds one of some numbers.
 fn numbers_of(b: &str, c: &str, d: &str, e: &str, f: &str, g: &str) -> Option<Line>
     ensures value { result ≡ numbers_of b.now c.now d.now e.now f.now g.now }
     ensures found { IfSome result (SpellsPlain (codes "with" ∷ b.now ∷ c.now ∷ d.now ∷ e.now ∷ f.now
@@ -465,7 +464,7 @@ fn seven<'a>(a: &str, b: &'a str, c: &str, d: &str, e: &str, f: &str, g: &str) -
     state_of(a, b, c, d, Terms::One(term))
 }
 
-/// A register that is a pointer into a map.
+/// A statement that a register is a pointer into a map.
 fn map_value_of(b: &str, c: &str, d: &str, e: &str, f: &str, g: &str, h: &str) -> Option<Line>
     ensures value { result ≡ map_value_of b.now c.now d.now e.now f.now g.now h.now }
     ensures found { IfSome result (SpellsPlain (codes "with" ∷ b.now ∷ c.now ∷ d.now ∷ e.now ∷ f.now
@@ -566,7 +565,7 @@ fn line_of<'a>(words: &[&'a str]) -> Option<Item<'a>>
     }
 }
 
-/// The words of a line, which stand between spaces.
+/// The words of a line, which are separated by spaces.
 fn words_of<'a>(alloc: Global, line: &'a str) -> Result<Vec<&'a str>, AllocError>
     ensures { IfOk result (λ words. views words.items ≡ words_in line.now) }
 {
@@ -579,8 +578,8 @@ fn words_of<'a>(alloc: Global, line: &'a str) -> Result<Vec<&'a str>, AllocError
     Ok(words)
 }
 
-/// Adds what a line spells: None where it spells nothing, and the name of the label that it gives
-/// or uses.
+/// Appends what a line spells, `None` if nothing, and the name of the label that it defines or
+/// uses.
 fn read_line<'a>(
     alloc: Global,
     line: &'a str,
@@ -606,11 +605,11 @@ fn read_line<'a>(
     Ok(())
 }
 
-/// Adds what each line of a text spells, in their order: None where it spells nothing, and beside
-/// it the name of the label that it gives or uses, empty where it does neither.
+/// Appends what each line of a text spells, in order: `None` if nothing, and in `names` the name of
+/// the label that the line defines or uses, empty if there is none.
 ///
-/// The lines stand between line feeds, so the last one is what follows the last of these, mostly an
-/// empty line. After an error the two vectors are to be given up.
+/// Lines are separated by line feeds, so the last one is what follows the last line feed, usually
+/// an empty line. After an error the caller discards both vectors.
 pub fn read_lines<'a>(
     alloc: Global,
     text: &'a str,

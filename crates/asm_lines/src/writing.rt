@@ -57,7 +57,7 @@ fn next_register(text: &mut String, width: Width, register: Register) -> Result<
     next(text, register_word(width, register))
 }
 
-/// A number that isn't below 0: its digits.
+/// A number of at least 0: its digits.
 fn next_natural(text: &mut String, n: u64) -> Result<(), AllocError>
     ensures { OnOk result (Adds (string_bytes text.old) (string_bytes text.new)
         (Number (Numeral.Natural n) ∷ [])) }
@@ -65,7 +65,7 @@ fn next_natural(text: &mut String, n: u64) -> Result<(), AllocError>
     write!(text, " {n}")
 }
 
-/// A distance that isn't below 0: a `+` and its digits.
+/// A distance of at least 0: a `+` and its digits.
 fn next_forward(text: &mut String, n: u64) -> Result<(), AllocError>
     ensures { OnOk result (Adds (string_bytes text.old) (string_bytes text.new)
         (Distance (Numeral.Natural n) ∷ [])) }
@@ -73,7 +73,7 @@ fn next_forward(text: &mut String, n: u64) -> Result<(), AllocError>
     write!(text, " +{n}")
 }
 
-/// A number or a distance below 0, -1 less this: a `-` and digits.
+/// A number or a distance below 0, -1 minus this: a `-` and digits.
 fn next_negative(text: &mut String, n: u32) -> Result<(), AllocError>
     ensures number { OnOk result (Adds (string_bytes text.old) (string_bytes text.new)
         (Number (Numeral.Negative n) ∷ [])) }
@@ -84,7 +84,7 @@ fn next_negative(text: &mut String, n: u32) -> Result<(), AllocError>
     write!(text, " -{n}")
 }
 
-/// A number: digits, with a `-` before them where it is below 0.
+/// A number: digits, after a `-` if it is below 0.
 fn next_number(text: &mut String, number: Numeral) -> Result<(), AllocError>
     ensures { OnOk result (Adds (string_bytes text.old) (string_bytes text.new) (Number number
         ∷ [])) }
@@ -173,7 +173,7 @@ fn next_range(text: &mut String, range: Range) -> Result<(), AllocError>
     next_number(text, range.value)
 }
 
-/// A register that is a pointer into a map, after the word for it.
+/// A pointer into a map, after the word for it.
 fn next_map_value(text: &mut String, map: Numeral, offset: Range) -> Result<(), AllocError>
     ensures { OnOk result (Adds (string_bytes text.old) (string_bytes text.new) (Number map
         ∷ the_range offset)) }
@@ -206,7 +206,7 @@ fn next_content(text: &mut String, content: Content) -> Result<(), AllocError>
     }
 }
 
-/// The width of the registers of a move that widens.
+/// The width of the registers of a sign-extending move.
 fn extension_width(extension: Extension) -> Width
     ensures { result ≡ extension_width extension }
 {
@@ -216,7 +216,7 @@ fn extension_width(extension: Extension) -> Width
     }
 }
 
-/// An assignment to a register, as far as the `=`.
+/// The start of an assignment to a register, up to the `=`.
 fn assigned(text: &mut String, width: Width, target: Register) -> Result<(), AllocError>
     ensures { OnOk result (Starts (string_bytes text.old) (string_bytes text.new)
         (the_register width target ∷ Exactly (codes "=") ∷ [])) }
@@ -225,7 +225,7 @@ fn assigned(text: &mut String, width: Width, target: Register) -> Result<(), All
     next(text, "=")
 }
 
-/// A line whose words are a keyword and a number.
+/// A line that consists of a keyword and a number.
 fn keyword_number(text: &mut String, keyword: &str, number: Numeral) -> Result<(), AllocError>
     requires { is_word keyword.now ≡ true }
     ensures { OnOk result (Starts (string_bytes text.old) (string_bytes text.new)
@@ -304,7 +304,7 @@ fn write_reorder(
     next(text, reorder_word(order, width))
 }
 
-/// A jump without a condition, by its keyword.
+/// An unconditional jump, by its keyword.
 fn write_jump(
     text: &mut String,
     keyword: &str,
@@ -485,7 +485,7 @@ fn write_data(text: &mut String, line: Line) -> Result<(), AllocError>
     }
 }
 
-/// The words of a line, with this name where it gives or uses a label.
+/// The words of a line, with this name if it defines or uses a label.
 fn write_words(text: &mut String, line: Line, name: &str) -> Result<(), AllocError>
     requires { IsNamed line name.now }
     ensures { OnOk result (Starts (string_bytes text.old) (string_bytes text.new)
@@ -521,11 +521,11 @@ fn write_words(text: &mut String, line: Line, name: &str) -> Result<(), AllocErr
     }
 }
 
-/// Writes a line at the text's end, with this name where it gives or uses a label (else the name is
-/// to be empty), and a line feed behind it.
+/// Appends a line and a line feed to the text. `name` is that of the label that the line defines or
+/// uses; it is empty if there is none.
 ///
-/// What `read_lines` finds in a text of whole lines it finds there afterwards too, and then this
-/// line. After an error the text is to be given up.
+/// `read_lines` finds in the new text what it found in the old one, if that has whole lines, and
+/// then this line. After an error the caller discards the text.
 pub fn write_line(text: &mut String, line: Line, name: &str) -> Result<(), AllocError>
     requires { IsNamed line name.now }
     ensures written { OnOk result (string_bytes text.new ≡ string_bytes text.old

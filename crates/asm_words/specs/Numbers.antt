@@ -29,7 +29,7 @@ negated_some None = None
 abbrev pub negative_of : List ℕ → Option Numeral
 negative_of word = negated_some (natural_of word)
 
--- A number is decimal digits, with a minus (45) before them where it is below 0.
+-- A number is decimal digits, after a minus (45) if it is below 0.
 abbrev pub number_of : List ℕ → Option Numeral
 number_of [] = None
 number_of (c ∷ cs) = if c == 45 then negative_of cs else natural_of (c ∷ cs)

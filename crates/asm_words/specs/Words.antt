@@ -1,4 +1,4 @@
--- Words, and those that name one thing of several.
+-- Words, and the fixed tables of them.
 use Rattle.std.specs.Prelude.{ℕ, Bool, false, not, ◌&&◌, List, [], ◌∷◌, Option, Some, None}
 use Rattle.std.specs.Prelude.{if◌then◌else◌, codes, ◌==◌, ◌+◌}
 use Rattle.std.specs.List.{list_all}
@@ -40,7 +40,7 @@ abbrev pub first_match : {A : Type 0} → List (List ℕ × A) → List ℕ → 
 first_match [] word = None
 first_match (x ∷ xs) word = if bytes_eq word x.0 then Some x.1 else first_match xs word
 
--- what an assignment does: `=` moves
+-- what an assignment does; `=` is a move
 abbrev pub operation_word : Operation → List ℕ
 operation_word operations.Add = codes "+="
 operation_word operations.Subtract = codes "-="
@@ -67,7 +67,7 @@ operation_of =
     ∷ (codes "s%=", operations.SignedModulo) ∷ (codes "^=", operations.Xor)
     ∷ (codes "=", operations.Move) ∷ (codes "s>>=", operations.ArithmeticShiftRight) ∷ [])
 
--- what a conditional jump asks
+-- what a conditional jump tests
 abbrev pub test_word : Test → List ℕ
 test_word tests.Equal = codes "=="
 test_word tests.Greater = codes ">"
@@ -172,7 +172,7 @@ register_table = (codes "r0", (Bits64, 0)) ∷ (codes "r1", (Bits64, 1)) ∷ (co
 abbrev pub register_of : List ℕ → Option (Width × ℕ)
 register_of = first_match register_table
 
--- a move that widens a signed number
+-- a sign-extending move
 abbrev pub extension_word : Extension → List ℕ
 extension_word (extensions.Byte width) = codes "s8"
 extension_word (extensions.Half width) = codes "s16"

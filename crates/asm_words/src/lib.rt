@@ -1,5 +1,5 @@
-//! The words of assembly text: numbers, the names of labels, and the words that name one thing of
-//! several, each both ways.
+//! The words of assembly text, read and written: numbers, the names of labels, and words from fixed
+//! tables (operators, hooks, sizes, registers).
 #![tactic(auto)]
 
 mod name;

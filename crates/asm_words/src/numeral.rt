@@ -8,9 +8,9 @@ ghost use Rattle.asm_words.specs.Numbers.{distance_of};
 pub enum Numeral {
     /// From 0 to 2^64 - 1.
     Natural(u64),
-    /// Below 0: -1 less this, down to -2^32.
+    /// Below 0: -1 minus this, down to -2^32.
     Negative(u32),
-    /// A number that is further from 0: no field holds it.
+    /// A number further from 0, which no field holds.
     Huge,
 }
 
@@ -54,7 +54,7 @@ fn read_negative(word: &str) -> Option<Numeral>
     }
 }
 
-/// The number that the word spells: decimal digits, a `-` before them where it is below 0.
+/// The number that the word spells: decimal digits, after a `-` if it is below 0.
 pub fn read_number(word: &str) -> Option<Numeral>
     ensures { result ≡ number_of word.now }
 {

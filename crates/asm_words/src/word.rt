@@ -1,4 +1,4 @@
-//! The words that name one thing of several, both ways.
+//! The words from fixed tables, read and written.
 ghost use Rattle.std.specs.Prelude.{◌≡◌, ◌≤◌, true, IfSome};
 ghost use Rattle.asm_words.specs.Words.{is_word, operation_word, operation_of, test_word, test_of};
 ghost use Rattle.asm_words.specs.Words.{hook_word, hook_of, load_word, load_of, store_word};
@@ -9,7 +9,7 @@ use isa::{
     ByteOrder, Extension, Hook, LoadSize, Operation, Register, StoreSize, SwapWidth, Test, Width,
 };
 
-/// The operator of an assignment: `=` moves.
+/// The operator of an assignment; `=` is a move.
 pub fn operation_word(operation: Operation) -> &'static str
     ensures value { result.now ≡ operation_word operation }
     ensures word { is_word result.now ≡ true }
@@ -285,7 +285,7 @@ pub fn register_of(word: &str) -> Option<(Width, Register)>
     }
 }
 
-/// The word of a move that widens a signed number.
+/// The keyword of a sign-extending move.
 pub fn extension_word(extension: Extension) -> &'static str
     ensures value { result.now ≡ extension_word extension }
     ensures word { is_word result.now ≡ true }
@@ -297,7 +297,7 @@ pub fn extension_word(extension: Extension) -> &'static str
     }
 }
 
-/// The move that the word names, between registers of this width.
+/// The sign-extending move that the word names, between registers of this width.
 pub fn extension_of(width: Width, word: &str) -> Option<Extension>
     ensures value { result ≡ extension_of width word.now }
     ensures found { IfSome result (λ found. (word.now ≡ extension_word found)

@@ -60,7 +60,7 @@ wide_first f Exit held wide = absurd cc
 wide_first f (Load z t b o) held wide = absurd cc
 wide_first f (Store z b o s) held wide = absurd cc
 
--- A first slot that is right by itself is that of a wide instruction.
+-- A first slot that is valid on its own is that of a wide instruction.
 pub wide_begins : (f : Fields) (bytes : List ℕ) → AreSmall f → bytes_of_fields f ≡ take 8 bytes → f.opcode ≡ 24 → f.target ≤ 10 → f.offset ≡ 0 → (f.source ≡ 0) ⊎ (f.source ≡ 6)
     → (i : Instruction) × IsTrue (is_wide i) × Begins i bytes
 wide_begins f bytes small read opcode target offset (inl none) =
@@ -74,7 +74,7 @@ wide_begins f bytes small read opcode target offset (inr six) =
     let same : made 24 f.target 6 0 (cast_unsigned w32 (cast_signed w32 f.immediate)) ≡ made f.opcode f.target f.source f.offset f.immediate = cc in
     (LoadMap f.target (cast_signed w32 f.immediate) (pos 0), refl, ((target, omega (arith, ints, small.immediate), omega (arith, ints)), ap bytes_of_fields same ∙ read))
 
--- the opcode of the shape that was found stands in the bytes
+-- the bytes have the opcode of the shape that was found
 pub listed_at : (f : Fields) (bytes : List ℕ) (shape : Shape) → bytes_of_fields f ≡ take 8 bytes → (opcode_of shape ≡ f.opcode) × IsUnsigned shape → IsListed (slice_index bytes 0)
 listed_at f bytes shape read (opcode, unsigned) =
     let l = listed shape unsigned in (l.0, l.1 ∙ opcode ∙ sym (front_opcode f bytes read))

@@ -95,7 +95,8 @@ code_of bytes slots h some most whole =
       whole = record { instructions = h.instructions; each = h.each; slots_are = h.slots_are };
     }
 
--- Whatever instructions the bytes spell, those after the slots that were read are spelled by what is left.
+-- Whatever instructions the bytes spell, those after the slots that were read are spelled by what
+-- is left.
 abbrev pub Leaves : List ℕ → List ℕ → List Slot → Type 0
 Leaves bytes rest slots = (is : List Instruction) → AllByRecursion IsInstruction is → bytes ≡ flat_map bytes_of is
     → (ks : List Instruction) × AllByRecursion IsInstruction ks × (rest ≡ flat_map bytes_of ks) × (flat_map slots_of is ≡ slots ++ flat_map slots_of ks)
@@ -103,7 +104,7 @@ Leaves bytes rest slots = (is : List Instruction) → AllByRecursion IsInstructi
 pub leaves_all : (bytes : List ℕ) → Leaves bytes bytes []
 leaves_all bytes is each e = (is, each, e, refl)
 
--- where some bytes are left, an instruction is
+-- if bytes are left, they begin with an instruction
 pub leaves_one : (bytes rest : List ℕ) (slots : List Slot) → Leaves bytes rest slots → 1 ≤ length rest → (is : List Instruction) → AllByRecursion IsInstruction is → bytes ≡ flat_map bytes_of is
     → (k : Instruction) × IsInstruction k × (bytes_of k ≡ take (length (bytes_of k)) rest)
     × ((ks : List Instruction) × AllByRecursion IsInstruction ks × (drop (length (bytes_of k)) rest ≡ flat_map bytes_of ks) × (flat_map slots_of is ≡ (slots ++ slots_of k) ++ flat_map slots_of ks))
@@ -127,7 +128,7 @@ leaves_more bytes rest slots slots' i m leaves some only grown step is each e =
     let P : Instruction → Type 0 = λ j. (ks : List Instruction) × AllByRecursion IsInstruction ks × (drop (length (bytes_of j)) rest ≡ flat_map bytes_of ks) × (flat_map slots_of is ≡ (slots ++ slots_of j) ++ flat_map slots_of ks) in
     rw (m_is, grown) (subst P (sym same) more)
 
--- Where nothing is left, the slots are those of the instructions.
+-- If nothing is left, the slots are those of the instructions.
 pub leaves_none : (bytes rest : List ℕ) (slots : List Slot) → Leaves bytes rest slots → length rest ≡ 0 → (is : List Instruction) → AllByRecursion IsInstruction is → bytes ≡ flat_map bytes_of is
     → slots ≡ flat_map slots_of is
 leaves_none bytes rest slots leaves none is each e = go (leaves is each e)
@@ -139,7 +140,7 @@ leaves_none bytes rest slots leaves none is each e = go (leaves is each e)
 pub spells_long : (bytes : List ℕ) (code : List Slot) → Spells bytes code → length bytes ≡ 8 * length code
 spells_long bytes code h = rw (h.spelled.bytes_are, h.spelled.slots_are) (length-spelled h.spelled.instructions)
 
--- so many slots were read of the front
+-- `count` slots were read from the front
 pub record HasRead (bytes rest : List ℕ) (count : ℕ) : Type 0 where
   pub slots : List Slot
   pub counted : length slots ≡ count

@@ -1,4 +1,4 @@
--- Each instruction is told by the bytes that spell it: an instruction is made again of its fields.
+-- The bytes that spell an instruction determine it: it is recovered from its fields.
 use Rattle.std.proofs.Common.{◌≡◌, ℕ, ◌+◌, ◌*◌, ◌/◌, ◌%◌, ◌^◌, ◌<◌, ℤ, Bool, true, false, List, refl, ap, ◌∙◌, arith}
 use Rattle.std.specs.Prelude.{FitsSigned, ◌==◌, if◌then◌else◌, slice_index}
 use Rattle.std.specs.Int.{w16, w32, cast_signed, cast_unsigned}
@@ -129,7 +129,7 @@ word z f = to_z-of_z w32 z f
 number_half : (n : ℕ) → n < 2 ^ 32 → n % 256 + 256 * (n / 256 % 256) + 65536 * (n / 65536 % 256) + 16777216 * (n / 16777216 % 256) ≡ n
 number_half n fits = omega arith
 
--- An instruction is made again of its fields.
+-- An instruction is recovered from its fields.
 pub recovered : (i : Instruction) → IsInstruction i → instruction_from (fields_of i) (number_of_half (second_half i)) ≡ i
 recovered (Arithmetic Bits32 operations.Add t (sources.Immediate n)) h = ap (λ m. Arithmetic Bits32 operations.Add t (sources.Immediate m)) (word n h.1)
 recovered (Arithmetic Bits32 operations.Add t (sources.Register r)) h = refl
@@ -273,7 +273,7 @@ recovered (LoadMap t m o) h =
     let second = number_half (cast_unsigned w32 o) (omega (arith, ints)) in
     ap (λ k. LoadMap t (cast_signed w32 (cast_unsigned w32 m)) (cast_signed w32 k)) second ∙ ap (λ k. LoadMap t k (cast_signed w32 (cast_unsigned w32 o))) (word m h.1) ∙ ap (λ k. LoadMap t m k) (word o h.2)
 
--- whether an instruction is wide is told by its first slot
+-- the first slot determines whether an instruction is wide
 pub same_wide : (f : Fields) (m n : ℕ) → is_wide (instruction_from f m) ≡ is_wide (instruction_from f n)
 same_wide f m n = elim (f.opcode % 8 == 0) as (λ b. is_wide (if b then wide_from f m else short_from f) ≡ is_wide (if b then wide_from f n else short_from f)) [ true ↦ both (f.source == 0) | false ↦ refl ]
   where

@@ -17,7 +17,7 @@ use Rattle.isa.proofs.Faults.{has_registers}
 use Rattle.isa.proofs.Fronts.{length-bytes_of, spells_long}
 use Rattle.isa.proofs.Unique.{small, wide_alike, same_front}
 
--- what follows the instructions at the front is instructions
+-- what follows the instructions at the front is instructions again
 follow : (is js : List Instruction) (rest : List ℕ) → AllByRecursion IsInstruction is → AllByRecursion IsInstruction js → flat_map bytes_of is ++ rest ≡ flat_map bytes_of js
     → (ks : List Instruction) × AllByRecursion IsInstruction ks × (rest ≡ flat_map bytes_of ks)
 follow [] js rest a b e = (js, b, e)

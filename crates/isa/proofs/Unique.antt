@@ -16,7 +16,7 @@ use Rattle.isa.proofs.SlotBytes.{bytes_at, bytes_at-all}
 pub small : (i : Instruction) → IsInstruction i → AreSmall (fields_of i)
 small i is = let r = ranged i is in record { target = omega (arith, r.target); source = omega (arith, r.source); offset = r.offset; immediate = r.immediate }
 
--- instructions of the same first slot are both wide or both short
+-- instructions with the same first slot are both wide or both short
 pub wide_alike : (i j : Instruction) → IsInstruction i → IsInstruction j → fields_of i ≡ fields_of j → is_wide i ≡ is_wide j
 wide_alike i j is js e =
     ap is_wide (sym (recovered i is))
@@ -28,7 +28,7 @@ length_alike : (i j : Instruction) → is_wide i ≡ is_wide j → length (bytes
 length_alike i j e =
     length-bytes_of i ∙ ap (λ b. 8 * length (Start i ∷ (if b then SecondHalf ∷ [] else []))) e ∙ sym (length-bytes_of j)
 
--- where two instructions are spelled at the front of the same bytes, they are one
+-- if two instructions are spelled at the front of the same bytes, they are the same
 pub same_front : (i j : Instruction) (xs ys : List ℕ) → IsInstruction i → IsInstruction j → bytes_of i ++ xs ≡ bytes_of j ++ ys → (i ≡ j) × (xs ≡ ys)
 same_front i j xs ys is js e =
     let first : bytes_of_fields (fields_of i) ≡ bytes_of_fields (fields_of j) = ap (λ zs. take 8 zs) e in

@@ -42,13 +42,13 @@ Fails bytes faults.Opcode = (i : Instruction) → (fields_of i).opcode ≢ slice
 Fails bytes faults.Register =
     IsListed (slice_index bytes 0)
     × ((10 < slice_index bytes 1 % 16) ⊎ (10 < slice_index bytes 1 / 16))
--- opcode and registers are right, and another field isn't: of the first slot, or of the second, if
+-- opcode and registers are valid, and another field isn't: of the first slot, or of the second, if
 -- there is one
 Fails bytes faults.Reserved =
     IsListed (slice_index bytes 0) × HasRegisters bytes
     × (((i : Instruction) → Begins i bytes → ⊥)
     ⊎ ((16 ≤ length bytes) × ((i : Instruction) → BeginsWhole i bytes → ⊥)))
--- the first slot of a wide instruction is right, and there is no second one
+-- the first slot of a wide instruction is valid, and there is no second one
 Fails bytes faults.HalfWide = (length bytes < 16)
     × ((i : Instruction) × IsTrue (is_wide i) × Begins i bytes)
 Fails bytes other = ⊥
@@ -70,7 +70,7 @@ pub record FailsAt (bytes : List ℕ) (slot : ℕ) (fault : DecodeFault) : Type 
   pub some : 1 ≤ length rest
   pub fails : Fails rest fault
 
--- Why bytes aren't code, and at which slot. Want of memory is told only of bytes that spell code.
+-- Why bytes aren't code, and at which slot. `Memory` is reported only for bytes that spell code.
 abbrev pub Refuses : List ℕ → ℕ → DecodeFault → Type 0
 Refuses bytes slot faults.Length = (slot ≡ 0) × ((length bytes ≡ 0) ⊎ (length bytes % 8 ≢ 0))
 Refuses bytes slot faults.TooLong = (slot ≡ 0) × (length bytes % 8 ≡ 0) × (4096 < length bytes / 8)

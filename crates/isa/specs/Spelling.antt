@@ -58,7 +58,7 @@ operation_code operations.Xor = 10
 operation_code operations.Move = 11
 operation_code operations.ArithmeticShiftRight = 12
 
--- The signed division and modulo are told from the unsigned ones by their offset.
+-- The offset distinguishes the signed division and modulo from the unsigned ones.
 abbrev pub operation_offset : Operation → ℕ
 operation_offset operations.SignedDivide = 1
 operation_offset operations.SignedModulo = 1

@@ -1,4 +1,4 @@
-//! Code made instruction by instruction, as an assembler does.
+//! Code built instruction by instruction, as an assembler does.
 ghost use Rattle.std.specs.Prelude.{◌≡◌, ◌+◌, ◌≤◌, ◌<◌, ◌++◌, ◌↔◌, [], length, IsSome, IfSome};
 ghost use Rattle.std.specs.Prelude.{IsTrue, OnOk, OnErr, Err};
 ghost use Rattle.isa.specs.Code.{slots_of};
@@ -39,7 +39,7 @@ impl Model for CodeBuilder {
 }
 
 impl CodeBuilder {
-    /// No instruction.
+    /// The builder with no instruction.
     pub fn new(alloc: Global) -> CodeBuilder
         ensures { result ≡ [] }
     {
@@ -48,7 +48,7 @@ impl CodeBuilder {
         }
     }
 
-    /// How many slots the instructions take so far. The next one begins at the slot of this number.
+    /// The number of slots that the instructions take so far, which is where the next one begins.
     pub fn len(&self) -> usize
         ensures value { result ≡ length self.now }
         ensures within { result ≤ 4096 }
@@ -63,9 +63,9 @@ impl CodeBuilder {
         self.slots.is_empty()
     }
 
-    /// Adds an instruction, in one slot or two. After an error the builder is as before.
+    /// Adds an instruction, in one slot or two. After an error the builder is unchanged.
     ///
-    /// `TooLong` comes exactly where there would be more than 4096 slots.
+    /// Errors with `TooLong` if and only if there would be more than 4096 slots.
     pub fn push(&mut self, instruction: Instruction) -> Result<(), BuildError>
         ensures ok { OnOk result (self.new ≡ self.old ++ slots_of instruction) }
         ensures too_long { (result ≡ Err BuildError.TooLong)
@@ -84,7 +84,7 @@ impl CodeBuilder {
         }
     }
 
-    /// The code of these instructions. None where there is no instruction.
+    /// The code of these instructions; `None` if there are none.
     pub fn finish(self) -> Option<Code>
         ensures code { IfSome result (λ code. code ≡ self) }
         ensures some { IsSome result ↔ (1 ≤ length self) }

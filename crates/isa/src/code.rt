@@ -4,10 +4,10 @@ use std::marker::Model;
 /// The greatest number of slots that code may have.
 pub const MOST_SLOTS: usize = 4096;
 
-/// A place of eight bytes in the code.
+/// Eight bytes of the code.
 #[derive(Clone, Copy, PartialEq, Eq, Debug)]
 pub enum Slot {
-    /// An instruction begins here.
+    /// The first, or only, slot of an instruction.
     Start(Instruction),
     /// The second half of the wide instruction that begins in the slot before.
     SecondHalf,
@@ -43,7 +43,7 @@ impl Code {
         Code { slots }
     }
 
-    /// How many slots it has, 1 to 4096.
+    /// The number of slots, 1 to 4096.
     pub fn len(&self) -> usize
         ensures value { result ≡ length self.now }
         ensures some { 1 ≤ result }
@@ -60,7 +60,7 @@ impl Code {
         &self.slots
     }
 
-    /// Its slots, given away.
+    /// Consumes the code and returns its slots.
     pub fn into_slots(self) -> Vec<Slot>
         ensures value { result.items ≡ self }
         ensures code { IsCode self }
@@ -69,7 +69,7 @@ impl Code {
         slots
     }
 
-    /// What stands at a slot, if the code has it.
+    /// What is at a slot; `None` past the end.
     pub fn at(&self, slot: u64) -> Option<Slot>
         ensures value { result ≡ slice_get self.now slot }
         ensures within { IfSome result (λ _. slot < 4096) }

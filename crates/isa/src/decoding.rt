@@ -27,13 +27,13 @@ pub enum DecodeFault {
     /// There are no bytes, or not whole slots of them.
     #[error("the code is not of whole slots")]
     Length,
-    /// The opcode isn't listed.
+    /// No instruction has this opcode.
     #[error("the opcode is unknown")]
     Opcode,
     /// A register's number is above 10.
     #[error("a register is above 10")]
     Register,
-    /// A field that isn't used isn't zero, or one holds what isn't listed.
+    /// An unused field isn't zero, or a field holds a value that isn't listed.
     #[error("a field holds what is not listed")]
     Reserved,
     /// The code ends inside a wide instruction.
@@ -67,8 +67,8 @@ impl DecodeFault {
     }
 }
 
-/// The first fault, and the slot that it is in. A fault of a wide instruction's second slot is in
-/// its first one; `Length`, `TooLong` and `Memory` are in slot 0.
+/// The first fault and its slot. A fault in a wide instruction's second slot counts for its first
+/// one; `Length`, `TooLong` and `Memory` are reported at slot 0.
 #[derive(Clone, Copy, PartialEq, Eq, Debug, Error)]
 #[error("slot {slot}: {kind}")]
 pub struct DecodeError {
@@ -76,7 +76,7 @@ pub struct DecodeError {
     pub kind: DecodeFault,
 }
 
-/// Whether a first slot with the opcode of a wide instruction is right by itself.
+/// Whether the first slot of a wide instruction is valid on its own.
 fn begins_wide(fields: Fields) -> bool
     ensures { IsTrue result ↔ ((fields.offset ≡ 0) × ((fields.source ≡ 0) ⊎ (fields.source ≡ 6))) }
 {
@@ -152,12 +152,12 @@ fn first_instruction(bytes: &[u8]) -> Result<Instruction, DecodeFault>
 
 /// The code that the bytes spell.
 pub fn decode(alloc: Global, bytes: &[u8]) -> Result<Code, DecodeError>
-    // What is read is spelled so.
+    // Whatever is read, the bytes spell it.
     ensures found { IfOk result (λ code. Spells bytes.now code) }
-    // What is spelled so is read, unless memory runs out.
+    // Whatever the bytes spell is read, unless an allocation is refused.
     ensures only { (code : List Slot) → Spells bytes.now code
         → MatchResult result (λ found. found ≡ code) (λ e. e.kind ≡ DecodeFault.Memory) }
-    // Which fault it is, and where; memory ran out only where the bytes spell code.
+    // Which fault it is, and where; `Memory` only if the bytes spell code.
     ensures why { IfErr result (λ e. Refuses bytes.now e.slot e.kind) }
 {
     if bytes.is_empty() || bytes.len() % 8 != 0 {
@@ -175,8 +175,8 @@ pub fn decode(alloc: Global, bytes: &[u8]) -> Result<Code, DecodeError>
     Ok(Code::new(slots_of(alloc, bytes)?))
 }
 
-/// What is told of the bytes where memory ran out: the first fault, and want of memory only where
-/// there is none.
+/// The error after a refused allocation: the first fault of the bytes, or `Memory` if they have
+/// none.
 fn want_of_memory(bytes: &[u8]) -> DecodeError
     requires { AreSlots bytes.now }
     ensures only { (is : List Instruction) → AllByRecursion IsInstruction is

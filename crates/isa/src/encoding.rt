@@ -57,7 +57,8 @@ fn operation_code(operation: Operation) -> u8
     }
 }
 
-/// The signed division and modulo are told from the unsigned ones by their offset.
+/// The offset distinguishes the signed division and modulo from the unsigned ones (RFC 9669,
+/// section 4.1).
 fn operation_offset(operation: Operation) -> u16
     ensures { result ≡ operation_offset operation }
 {
@@ -349,7 +350,8 @@ fn push_instruction(bytes: &mut Vec<u8>, instruction: &Instruction) -> Result<()
     Ok(())
 }
 
-/// The bytes that spell the code (RFC 9669, section 3). The only error is that memory ran out.
+/// The bytes that spell the code (RFC 9669, section 3). Errors with `AllocError` if an allocation
+/// is refused.
 pub fn encode(alloc: Global, code: &Code) -> Result<Vec<u8>, AllocError>
     ensures { IfOk result (λ bytes. Spells bytes.items code.now) }
 {

@@ -2,7 +2,7 @@ ghost use Rattle.std.specs.Prelude.{◌≡◌, IfSome, Some};
 ghost use Rattle.isa.specs.declared.hook.Hook.{Hook};
 ghost use Rattle.isa.specs.Hooks.{hook_number, hook_name};
 
-/// Where in the router a program is asked.
+/// The point in the router at which a program is called.
 #[derive(Clone, Copy, PartialEq, Eq, Debug)]
 pub enum Hook {
     /// For each datagram, before it is read.

@@ -26,7 +26,7 @@ pub enum Operation {
     ArithmeticShiftRight,
 }
 
-/// What a conditional jump asks of its two operands.
+/// The comparison that a conditional jump makes.
 #[derive(Clone, Copy, PartialEq, Eq, Debug)]
 pub enum Test {
     Equal,
@@ -49,7 +49,7 @@ pub enum Source {
     Register(Register),
 }
 
-/// A move that widens a signed number, from its size to that of the destination.
+/// A sign-extending move (MOVSX), from its size to that of the destination.
 #[derive(Clone, Copy, PartialEq, Eq, Debug)]
 pub enum Extension {
     Byte(Width),
@@ -57,7 +57,7 @@ pub enum Extension {
     Word,
 }
 
-/// What an END instruction makes of the low bytes of a register.
+/// What an END instruction does with the low bytes of a register.
 #[derive(Clone, Copy, PartialEq, Eq, Debug)]
 pub enum ByteOrder {
     Little,
@@ -94,7 +94,7 @@ pub enum StoreSize {
     Bits64,
 }
 
-/// One instruction. A jump's distance counts slots from the slot after it.
+/// One instruction. A jump's distance counts slots from the slot after the jump.
 #[derive(Clone, Copy, PartialEq, Eq, Debug)]
 pub enum Instruction {
     Arithmetic {
@@ -171,8 +171,7 @@ impl Instruction {
         )
     }
 
-    /// Says that every part is in its range, as the parts' types keep it. It does nothing when the
-    /// program runs.
+    /// Lemma: every part is in the range that its type guarantees. Does nothing at run time.
     pub fn check_ranges(&self)
         ensures { IsInstruction self.now }
     {
@@ -212,7 +211,7 @@ impl Instruction {
         }
     }
 
-    /// Says so of an instruction that loads or stores, and of any other nothing.
+    /// Lemma: the same for a load or a store; nothing is said of other instructions.
     fn check_access_ranges(&self)
         ensures { IsAccess self.now }
     {
@@ -256,8 +255,8 @@ impl Instruction {
 impl Source {
     ghost use Rattle.isa.specs.Code.{IsSource};
 
-    /// Says that the number or the register is in its range, as its type keeps it. It does nothing
-    /// when the program runs.
+    /// Lemma: the number or the register is in the range that its type guarantees. Does nothing at
+    /// run time.
     pub fn check_ranges(&self)
         ensures { IsSource self.now }
     {

@@ -17,24 +17,24 @@ pub fn code_has_one_spelling()
     ensures { (a b : List ℕ) (code : List Slot) → Spells a code → Spells b code → a ≡ b }
 {}
 
-/// Bytes that are refused for another reason than memory spell no code.
+/// Bytes that are refused for a reason other than memory spell no code.
 pub fn refused_bytes_spell_no_code()
     ensures { (bytes : List ℕ) (slot : ℕ) (fault : DecodeFault) (code : List Slot)
         → Refuses bytes slot fault → fault ≢ DecodeFault.Memory → Spells bytes code → ⊥ }
 {}
 
-/// In the slot after the first of a wide instruction stands its second half (RFC 9669, section
+/// The slot after the first one of a wide instruction holds its second half (RFC 9669, section
 /// 5.4).
 pub fn a_wide_instruction_has_its_second_half()
     ensures { WideHasSecondHalf }
 {}
 
-/// Behind an instruction the code ends, or another instruction begins.
+/// After an instruction the code ends, or another instruction begins.
 pub fn an_instruction_is_followed()
     ensures { InstructionIsFollowed }
 {}
 
-/// Two instructions that end at one slot begin at one slot.
+/// Two instructions that end at the same slot begin at the same slot.
 pub fn one_instruction_ends_at_a_slot()
     ensures { OneEndsAtASlot }
 {}

@@ -5,7 +5,7 @@ ghost use Rattle.isa.specs.Maps.{map_number};
 /// One of the two maps that programs share with the router.
 #[derive(Clone, Copy, PartialEq, Eq, Debug)]
 pub enum Map {
-    /// 256 counters of 64 bits, summed over all seats. Programs only read them here.
+    /// 256 counters of 64 bits, summed over all seats. Programs only read them through this map.
     Counters,
     /// 64 cells of 64 bits that belong to the seat alone.
     Cells,

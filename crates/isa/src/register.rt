@@ -19,7 +19,7 @@ impl Model for Register {
 }
 
 impl Register {
-    /// The register with this number. None above 10.
+    /// The register with this number; `None` above 10.
     pub fn new(number: u8) -> Option<Register>
         ensures within { IsSome result ↔ (number ≤ 10) }
         ensures value { IfSome result (λ register. register ≡ number) }

@@ -1,4 +1,4 @@
--- Statements one behind the other in the bytes.
+-- Statements one after the other in the bytes.
 use Rattle.std.proofs.Common.{◌≡◌, ℕ, ◌+◌, ◌*◌, ◌^◌, ◌≤◌, ◌<◌, List, [], ◌∷◌, ◌++◌, length, take, drop, refl, sym, ap, subst, ◌∙◌, arith, length-append, append_assoc, inl, inr}
 use Rattle.std.specs.Prelude.{◌⊎◌}
 use Rattle.std.specs.List.{flat_map}
@@ -14,7 +14,7 @@ use Rattle.object.specs.Refusals.{AreSpelled, Fails, FailsBehind, IsNoStatement,
 use Rattle.object.proofs.Orders.{next_slot-more, ordered_more}
 use Rattle.object.proofs.Parts.{length-statement, same_statement, slot_in_front}
 
--- the first ones of the bytes are these statements
+-- the bytes begin with these statements
 pub record SoFar (bytes : List ℕ) (slots : ℕ) (ss : List StatementParts) (least index : ℕ) : Type 0 where
   pub are : AreStatements 0 slots ss
   pub text : flat_map statement_text ss ≡ take (484 * index) bytes
@@ -73,7 +73,7 @@ one_fails bytes slots count ss least index errors.Hook h lt f = absurd f
 one_fails bytes slots count ss least index errors.Trailing h lt f = absurd f
 one_fails bytes slots count ss least index errors.Memory h lt f = absurd f
 
--- ---- statements are told by their bytes
+-- ---- the bytes determine the statements
 
 pub length-statements : (least slots : ℕ) (ss : List StatementParts) → AreStatements least slots ss → length (flat_map statement_text ss) ≡ 484 * length ss
 length-statements least slots [] h = refl
@@ -102,7 +102,7 @@ same_statements least slots (s ∷ ss) (t ∷ ts) h g e =
     let rest : ss ≡ ts = same_statements (s.slot + 1) slots ss ts h.3 (subst P (sym same.0) g.3) same.1 in
     ap (λ u. u ∷ ss) same.0 ∙ ap (λ us. t ∷ us) rest
 
--- Where one fails behind some, the bytes spell no more than those.
+-- If one fails after some, the bytes spell no more than those.
 not_first : (least slots : ℕ) (s : StatementParts) (ss : List StatementParts) (rest : List ℕ) (error : ReadError) → AreStatements least slots (s ∷ ss) → flat_map statement_text (s ∷ ss) ≡ rest → Fails least slots rest error → ⊥
 not_first least slots s ss rest error h e fails = at error fails
   where

@@ -1,4 +1,4 @@
--- Bytes put together again from the numbers that were read of them.
+-- Bytes put together again from the numbers that were read from them.
 use Rattle.std.proofs.Common.{◌≡◌, ℕ, ◌+◌, ◌≤◌, ◌<◌, List, ◌∷◌, ◌++◌, length, take, drop, get_or, refl, sym, ap, ◌∙◌, arith, length-drop}
 use Rattle.std.specs.Int.{w16, w32, w64, to_le_bytes}
 use Rattle.std.proofs.lemmas.List.{take_all, take-append-drop, drop-drop, drop_more}
@@ -17,7 +17,7 @@ cut n m k bytes front rest f r e =
 last : (n m : ℕ) (bytes front : List ℕ) → front ≡ take n (drop m bytes) → length bytes ≤ m + n → front ≡ drop m bytes
 last n m bytes front f le = f ∙ take_all n (drop m bytes) (omega (arith, length-drop m bytes))
 
--- one byte more in front
+-- one more byte in front
 one : (m k : ℕ) (bytes rest : List ℕ) → rest ≡ drop k bytes → k ≡ m + 1 → m < length bytes → get_or bytes m 0 ∷ rest ≡ drop m bytes
 one m k bytes rest r e lt = ap (λ t. get_or bytes m 0 ∷ t) (r ∙ ap (λ j. drop j bytes) e) ∙ sym (drop_more bytes m 0 lt)
 

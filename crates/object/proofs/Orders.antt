@@ -10,7 +10,7 @@ use Rattle.object.specs.Objects.{AreStatements, IsObject, ObjectParts, next_slot
 at_item : (xs : List StatementParts) (i : ℕ) (x : StatementParts) → i < length xs → x ≡ get_or xs i x → drop i xs ≡ x ∷ drop (i + 1) xs
 at_item xs i x lt is = drop_more xs i x lt ∙ ap (λ y. y ∷ drop (i + 1) xs) (sym is)
 
--- All statements are in order just where those that are left are, from a slot on.
+-- All statements are in order if and only if those that are left are, from slot `least` on.
 pub record Leaves (least slots : ℕ) (rest all : List StatementParts) : Type 0 where
   pub back : AreStatements least slots rest → AreStatements 0 slots all
   pub on : AreStatements 0 slots all → AreStatements least slots rest
@@ -43,7 +43,7 @@ leaves_none least slots i all h past =
     let P : List StatementParts → Type 0 = λ t. AreStatements least slots t in
     h.back (subst P (sym (drop_all i all past)) tt)
 
--- Statements have slots of their own, so there are no more of them than slots.
+-- Statements have distinct slots, so there are no more of them than slots.
 pub count_within : (least slots : ℕ) (ss : List StatementParts) → AreStatements least slots ss → least ≤ slots → least + length ss ≤ slots
 count_within least slots [] h le = omega arith
 count_within least slots (s ∷ ss) h le =
@@ -54,7 +54,7 @@ count_within least slots (s ∷ ss) h le =
 pub few_statements : (o : ObjectParts) → IsObject o → length o.statements ≤ 4096
 few_statements o h = let most = h.most in let few = count_within 0 (slots_of o) o.statements h.statements (omega arith) in omega arith
 
--- one more behind
+-- one more at the end
 pub ordered_more : (least slots : ℕ) (ss : List StatementParts) (s : StatementParts) → AreStatements least slots ss → IsStatement s → next_slot least ss ≤ s.slot → s.slot < slots → AreStatements least slots (ss ++ s ∷ [])
 ordered_more least slots [] s h is le lt = (is, le, lt, tt)
 ordered_more least slots (t ∷ ts) s h is le lt = (h.0, h.1, h.2, ordered_more (t.slot + 1) slots ts s h.3 is le lt)

@@ -80,7 +80,7 @@ bits_packed (n ∷ ns) (a ∷ b ∷ c ∷ d ∷ e ∷ f ∷ g ∷ i ∷ rest) sm
     ap (λ m. m ∷ packed_bits rest) head ∙ ap (λ t. n ∷ t) (bits_packed ns rest small' (omega arith) tail)
 bits_packed (n ∷ ns) other small l h = absurd (omega arith)
 
--- ---- the bytes tell the truth values
+-- ---- the bytes determine the truth values
 
 bit-less : (a : Bool) → bit a < 2
 bit-less true = omega arith

@@ -1,4 +1,4 @@
--- Texts of one length, one behind the other.
+-- Texts of one length, one after the other.
 use Rattle.std.proofs.Common.{◌≡◌, ℕ, zero, suc, ◌+◌, ◌*◌, ◌≤◌, ◌<◌, List, [], ◌∷◌, ◌++◌, length, take, drop, get_or, refl, sym, ap, ◌∙◌, arith, length-append}
 use Rattle.std.specs.List.{flat_map}
 use Rattle.std.proofs.Math.Seq.{take-append_seam, drop-append_seam}
@@ -41,7 +41,7 @@ kind_at (k ∷ ks) (suc i) lt =
     ∙ ap (λ t. take 40 (drop (40 * i) t)) (drop-append_seam (kind_text k) (flat_map kind_text ks))
     ∙ kind_at ks i (omega arith)
 
--- Where each text stands at its place, all of them are the bytes.
+-- If each text stands at its place, together they are the bytes.
 pub kinds_join : (ks : List Kind) (bytes : List ℕ) → length bytes ≡ 40 * length ks
     → ((i : ℕ) → i < length ks → kind_text (get_or ks i Empty) ≡ take 40 (drop (40 * i) bytes)) → flat_map kind_text ks ≡ bytes
 kinds_join [] [] l h = refl
@@ -70,7 +70,7 @@ kind_found (Some k) f bytes e h = ap register_bytes h.0 ∙ e
 pub read_none : (read : List Kind) (bytes : List ℕ) → length read ≡ 10 → AreRead read bytes 0
 read_none read bytes l = record { count = l; texts = λ k lt. absurd (omega (arith, lt)); same = λ ks all count e k lt. absurd (omega (arith, lt)) }
 
--- one kind more is read, whatever kind is spelled there
+-- one more kind is read, whatever kind is spelled there
 pub read_more : (read : List Kind) (bytes part : List ℕ) (i : ℕ) (one : Kind) → AreRead read bytes i → i < 10 → part ≡ take 40 (drop (40 * i) bytes) → kind_text one ≡ part
     → ((k : Kind) → IsKind k → kind_text k ≡ part → one ≡ k) → AreRead (set read i one) bytes (i + 1)
 read_more read bytes part i one h lt part_is found only =

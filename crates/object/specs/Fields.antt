@@ -1,4 +1,4 @@
--- What the numbers in an object file range over. Those of one byte tell themselves.
+-- The ranges of the numbers in an object file. Those of one byte need none but the byte's.
 use Rattle.std.specs.Prelude.{◌<◌, ◌^◌}
 use Rattle.object.specs.declared.fields.RegisterFields.{RegisterFields}
 use Rattle.object.specs.declared.fields.RankFields.{RankFields}

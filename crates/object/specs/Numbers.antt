@@ -1,14 +1,14 @@
 -- A number of which a range and some bits are stated, and a register times a number.
 use Rattle.std.specs.Prelude.{◌≡◌, ℕ, ◌≤◌, ◌<◌, ◌^◌, bit_and}
 
--- From `low` to `high`, and the bits that `mask` has are those of `value`.
+-- From `low` to `high`, and the bits under `mask` are those of `value`.
 pub record Numbers : Type 0 where
   pub low : ℕ
   pub high : ℕ
   pub mask : ℕ
   pub value : ℕ
 
--- The range isn't turned round, and no bit is known that the mask hasn't.
+-- The range is ordered, and `value` has no bit outside `mask`.
 pub record IsNumbers (n : Numbers) : Type 0 where
   pub high : n.high < 2 ^ 64
   pub mask : n.mask < 2 ^ 64

@@ -10,17 +10,17 @@ pub record ObjectParts : Type 0 where
   pub code : List ℕ
   pub statements : List StatementParts
 
--- how many slots the code has
+-- the number of slots of the code
 abbrev pub slots_of : ObjectParts → ℕ
 slots_of o = length o.code / 8
 
--- Statements in the order of their slots, each slot once, from one slot on and below another.
+-- Statements in the order of their slots, each slot once, from `least` on and below `slots`.
 abbrev pub AreStatements : ℕ → ℕ → List StatementParts → Type 0
 AreStatements least slots [] = Unit {0}
 AreStatements least slots (s ∷ ss) = IsStatement s × (least ≤ s.slot) × (s.slot < slots)
     × AreStatements (s.slot + 1) slots ss
 
--- the first slot that a statement behind these may have, where the first may have `least`
+-- the least slot that a statement after these may have, if the first may have `least`
 abbrev pub next_slot : ℕ → List StatementParts → ℕ
 next_slot least [] = least
 next_slot least (s ∷ ss) = next_slot (s.slot + 1) ss

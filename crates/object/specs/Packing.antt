@@ -5,7 +5,7 @@ abbrev pub bit : Bool → ℕ
 bit true = 1
 bit false = 0
 
--- eight to a byte
+-- eight truth values to a byte
 abbrev pub packed_bits : List Bool → List ℕ
 packed_bits (a ∷ b ∷ c ∷ d ∷ e ∷ f ∷ g ∷ h ∷ rest) =
     (bit a + 2 * bit b + 4 * bit c + 8 * bit d + 16 * bit e + 32 * bit f + 64 * bit g + 128 * bit h)

@@ -1,4 +1,4 @@
--- Why bytes are no object file: the first refusal in the order of the tests.
+-- Why bytes are not an object file: the first test that fails.
 use Rattle.std.specs.Prelude.{◌≡◌, ◌≢◌, ℕ, ◌+◌, ◌*◌, ◌≤◌, ◌<◌, ◌⊎◌, List, ◌++◌, length, take, drop}
 use Rattle.std.specs.Prelude.{slice_index}
 use Rattle.std.specs.List.{flat_map}
@@ -59,7 +59,7 @@ pub record HasSize (bytes : List ℕ) : Type 0 where
   pub begins : HasSlots bytes
   pub size : length bytes ≡ announced_size bytes
 
--- what the fields behind the first four bytes say
+-- what the fields after the first four bytes say
 pub record AreFieldsOf (bytes : List ℕ) (f : HeaderFields) : Type 0 where
   pub begins : HasSlots bytes
   pub bytes_are : header_bytes f ≡ take 12 (drop 4 bytes)
@@ -70,7 +70,7 @@ pub record AreFieldsOf (bytes : List ℕ) (f : HeaderFields) : Type 0 where
 
 -- ---- the first statement that fails
 
--- The slot in front of these bytes isn't above those before, or not in the code.
+-- The slot at the front of these bytes is below `least`, or not in the code.
 abbrev pub IsOutOfOrder : ℕ → ℕ → List ℕ → Type 0
 IsOutOfOrder least slots bytes = (from_le_bytes w32 (take 4 bytes) < least)
     ⊎ (slots ≤ from_le_bytes w32 (take 4 bytes))
@@ -79,13 +79,13 @@ IsOutOfOrder least slots bytes = (from_le_bytes w32 (take 4 bytes) < least)
 abbrev pub IsNoStatement : List ℕ → Type 0
 IsNoStatement bytes = (s : StatementParts) → IsStatement s → statement_text s ≡ take 484 bytes → ⊥
 
--- why no statement can stand in front of these bytes
+-- why the bytes do not begin with a statement
 abbrev pub Fails : ℕ → ℕ → List ℕ → ReadError → Type 0
 Fails least slots bytes errors.Order = IsOutOfOrder least slots bytes
 Fails least slots bytes errors.Field = (IsOutOfOrder least slots bytes → ⊥) × IsNoStatement bytes
 Fails least slots bytes other = ⊥
 
--- Some statements are spelled by the bytes, and behind them one of so many fails.
+-- The bytes spell some statements, and the next of the `count` fails.
 pub record FailsBehind (bytes : List ℕ) (slots count : ℕ) (error : ReadError) : Type 0 where
   pub statements : List StatementParts
   pub rest : List ℕ
@@ -94,15 +94,15 @@ pub record FailsBehind (bytes : List ℕ) (slots count : ℕ) (error : ReadError
   pub few : length statements < count
   pub fails : Fails (next_slot 0 statements) slots rest error
 
--- The bytes spell so many statements.
+-- The bytes spell `count` statements.
 pub record AreSpelled (bytes : List ℕ) (slots count : ℕ)
     (statements : List StatementParts) : Type 0 where
   pub are : AreStatements 0 slots statements
   pub text : flat_map statement_text statements ≡ bytes
   pub count_is : length statements ≡ count
 
--- Why statements aren't read of so many bytes: one fails, or memory ran out where all of them are
--- spelled.
+-- Why `count` statements aren't read from the bytes: one fails, or memory ran out although all of
+-- them are spelled.
 abbrev pub StatementsFail : List ℕ → ℕ → ℕ → ReadError → Type 0
 StatementsFail bytes slots count errors.Memory = (statements : List StatementParts)
     × AreSpelled bytes slots count statements
@@ -113,7 +113,7 @@ pub record FailsAt (bytes : List ℕ) (error : ReadError) : Type 0 where
   pub behind : FailsBehind (drop (16 + 8 * slots_in bytes) bytes) (slots_in bytes)
       (count_in bytes) error
 
--- Why no object is read of the bytes. Want of memory is told only of bytes that spell an object.
+-- Why no object is read from the bytes. `Memory` is reported only for bytes that spell an object.
 abbrev pub Refuses : List ℕ → ReadError → Type 0
 Refuses bytes errors.Short = (length bytes < 16)
     ⊎ (HasSlots bytes × (length bytes < announced_size bytes))

@@ -15,6 +15,6 @@ no_bytes = replicate 512 false
 abbrev pub has_byte : List Bool → ℕ → Bool
 has_byte bytes byte = slice_index_or bytes byte false
 
--- the set with the bytes from `start` up to `end` in it
+-- the set with the bytes from `start` up to but excluding `end` added
 abbrev pub with_range : ℕ → ℕ → List Bool → List Bool
 with_range start end bytes = take start bytes ++ replicate (end - start) true ++ drop end bytes

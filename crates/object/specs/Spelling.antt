@@ -1,5 +1,4 @@
--- The bytes of an object file. Each object has one spelling; numbers stand with their lowest byte
--- first.
+-- The bytes of an object file. Each object has one spelling; numbers have their lowest byte first.
 use Rattle.std.specs.Prelude.{◌≡◌, ℕ, List, [], ◌∷◌, ◌++◌, length, Option, Some, None}
 use Rattle.std.specs.List.{flat_map}
 use Rattle.std.specs.Int.{w16, w32, w64, to_le_bytes}
@@ -62,7 +61,7 @@ rank_bytes f = to_le_bytes w32 f.slot ++ to_le_bytes w32 f.constant ++ f.first_r
     ∷ f.second_register ∷ to_le_bytes w16 f.unused
     ++ to_le_bytes w32 f.first_coefficient ++ to_le_bytes w32 f.second_coefficient
 
--- Where there is no term, its register and its coefficient are zero.
+-- Without a term, its register and its coefficient are zero.
 abbrev pub term_register : Option Term → ℕ
 term_register None = 0
 term_register (Some term) = term.register
@@ -94,7 +93,7 @@ statement_text s = rank_bytes (fields_of_rank s.slot s.rank) ++ packed_bits s.st
 abbrev pub magic : List ℕ
 magic = 0x42 ∷ 0x50 ∷ 0x46 ∷ 0x48 ∷ []
 
--- what stands behind the first four bytes
+-- what stands after the first four bytes
 abbrev pub header_bytes : HeaderFields → List ℕ
 header_bytes f = f.version ∷ f.hook ∷ to_le_bytes w16 f.statements ++ to_le_bytes w32 f.entry_rank
     ++ to_le_bytes w32 f.slots

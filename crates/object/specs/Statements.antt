@@ -39,8 +39,8 @@ pub record IsRankOver (registers : List Kind) (rank : Rank) : Type 0 where
   pub first : IsTermOver registers rank.first
   pub second : IsTermOver registers rank.second
 
--- what a statement is made of: its slot, the rank there, what r0 to r9 hold, and the stack bytes
--- that hold bytes
+-- the parts of a statement: its slot, the rank there, what r0 to r9 hold, and the stack bytes that
+-- are initialized
 pub record StatementParts : Type 0 where
   pub slot : ℕ
   pub rank : Rank

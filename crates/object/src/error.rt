@@ -1,4 +1,4 @@
-//! Why bytes are no object file.
+//! Why bytes are not an object file.
 ghost use Rattle.std.specs.Prelude.{◌≡◌};
 ghost use Rattle.object.specs.declared.error.ReadError.TheVariants.{Memory};
 ghost use Rattle.object.specs.Refusals.{error_number};
@@ -6,9 +6,9 @@ ghost use Rattle.object.specs.Refusals.{error_number};
 use std::alloc::{AllocError, AllocFailed};
 use thiserror::Error;
 
-/// Why bytes are no object file: the first that holds, in the order of the tests. These are:
-/// `Short` for the header, `Magic`, `Version`, `Hook`, `Field` for the number of slots, `Short` for
-/// the rest, `Trailing`, and then for each statement in turn `Order` and `Field`.
+/// Why bytes are not an object file: the first test that fails. In order: `Short` for the header,
+/// `Magic`, `Version`, `Hook`, `Field` for the number of slots, `Short` for the rest, `Trailing`,
+/// and then `Order` and `Field` for each statement in turn.
 #[derive(Clone, Copy, Debug, PartialEq, Eq, Error)]
 pub enum ReadError {
     /// Fewer than 16 bytes, or fewer than the header announces.
@@ -23,10 +23,10 @@ pub enum ReadError {
     /// No hook has this number.
     #[error("the hook is unknown")]
     Hook,
-    /// A statement's slot isn't above the one before, or not in the code.
+    /// A statement's slot isn't above that of the one before, or isn't in the code.
     #[error("a statement's slot is out of order")]
     Order,
-    /// The number of slots is 0 or above 4096, or a statement has a field that isn't lawful.
+    /// The number of slots is 0 or above 4096, or a statement has an invalid field.
     #[error("a field is not lawful")]
     Field,
     /// More bytes than the header announces.

@@ -1,10 +1,10 @@
-//! The parts of an object file as the numbers that stand in them, lawful or not.
+//! The parts of an object file as the numbers that stand in them, valid or not.
 ghost use Rattle.std.specs.Prelude.{◌≡◌, ◌+◌, ◌≤◌, ◌++◌, length, drop, take, OnOk};
 ghost use Rattle.std.specs.Int.{w16, w32, w64, to_le_bytes};
 
 use std::alloc::AllocError;
 
-/// The number in the two bytes at a place, the lowest first.
+/// The number in the two bytes at a place, the lowest byte first.
 fn u16_at(bytes: &[u8], at: usize) -> u16
     requires { at + 2 ≤ length bytes.now }
     ensures { to_le_bytes w16 result ≡ take 2 (drop at bytes.now) }
@@ -162,7 +162,7 @@ impl RankFields {
     }
 }
 
-/// The numbers behind the first four bytes of a header.
+/// The numbers after the first four bytes of a header.
 #[derive(Clone, Copy, Debug)]
 pub struct HeaderFields {
     pub version: u8,

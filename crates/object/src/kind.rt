@@ -3,10 +3,10 @@ use crate::number::StatedNumber;
 use crate::offset::{ContextOffset, StackOffset};
 use isa::Map;
 
-/// What a register holds where a statement stands.
+/// What a statement says that a register holds.
 #[derive(Clone, Copy, PartialEq, Eq, Debug)]
 pub enum Kind {
-    /// Anything, also nothing: the program doesn't read it before it writes it.
+    /// Anything, or nothing: the program writes the register before it reads it.
     Empty,
     /// One of these numbers.
     Number(StatedNumber),
@@ -21,8 +21,7 @@ pub enum Kind {
 impl Kind {
     ghost use Rattle.object.specs.Statements.{IsKind};
 
-    /// Says that each part is in its range, as the parts' types keep it. It does nothing when the
-    /// program runs.
+    /// Lemma: each part is in the range that its type guarantees. Does nothing at run time.
     pub fn check_ranges(&self)
         ensures { IsKind self.now }
     {

@@ -1,4 +1,4 @@
-//! From the numbers of a register's or a rank's bytes to what they state.
+//! From the numbers in a register's or a rank's bytes to what they state, if they are valid.
 ghost use Rattle.std.specs.Prelude.{◌≡◌, ◌↔◌, IfSome, IsTrue, Option, Some};
 ghost use Rattle.object.specs.declared.kind.Kind.{Kind};
 ghost use Rattle.object.specs.declared.rank.Rank.{Rank};
@@ -14,7 +14,7 @@ use crate::offset::{ContextOffset, StackOffset};
 use crate::rank::{Rank, RankTerm};
 use isa::Map;
 
-/// Tells whether the numbers that only a number or a map value has are zero.
+/// Whether the numbers that only a number or a map value has are zero.
 fn has_no_numbers(fields: RegisterFields) -> bool
     ensures { IsTrue result ↔ ((fields.low ≡ 0) × (fields.high ≡ 0) × (fields.mask ≡ 0)
         × (fields.value ≡ 0)) }
@@ -103,7 +103,7 @@ fn map_value(fields: RegisterFields) -> Option<Kind>
     Some(Kind::MapValue(map, numbers))
 }
 
-/// What these numbers state of a register, if they are lawful.
+/// What these numbers state of a register; `None` if they are invalid.
 pub fn kind_of(fields: RegisterFields) -> Option<Kind>
     ensures found { IfSome result (λ kind. (fields_of_kind kind ≡ fields) × IsKind kind) }
     ensures only { (kind : Kind) → IsKind kind → fields_of_kind kind ≡ fields → result ≡ Some kind }
@@ -121,8 +121,8 @@ pub fn kind_of(fields: RegisterFields) -> Option<Kind>
     }
 }
 
-/// The term of a register and a coefficient: none where both are zero. None of them where the
-/// coefficient is zero and the register isn't, or where the register is above 9.
+/// The term of a register and a coefficient: `Some(None)` if both are zero; `None` if the
+/// coefficient alone is zero or if the register is above 9.
 fn term_of(register: u8, coefficient: u32) -> Option<Option<RankTerm>>
     ensures found { IfSome result (λ term. (term_register term ≡ register)
         × (term_coefficient term ≡ coefficient)) }
@@ -138,8 +138,8 @@ fn term_of(register: u8, coefficient: u32) -> Option<Option<RankTerm>>
     Some(Some(term))
 }
 
-/// The rank that these numbers state, if they are lawful. Whether its registers are stated as
-/// numbers isn't tested here.
+/// The rank that these numbers state; `None` if they are invalid. Whether its registers are stated
+/// as numbers isn't checked here.
 pub fn rank_of(fields: RankFields) -> Option<Rank>
     ensures found { IfSome result (λ rank. fields_of_rank fields.slot rank ≡ fields) }
     ensures only { (rank : Rank) → IsRank rank → fields_of_rank fields.slot rank ≡ fields

@@ -1,5 +1,5 @@
 //! Object files: a program's code with what is stated at some of its slots, as bytes and as a type
-//! that holds no ill-formed one.
+//! that holds only well-formed ones.
 #![tactic(auto)]
 
 mod error;

@@ -1,11 +1,11 @@
-//! Numbers of which a range and some bits are known.
+//! Numbers with a known range and some known bits.
 ghost use Rattle.std.specs.Prelude.{◌≡◌, ◌↔◌, Some, IfSome, IsSome};
 ghost use Rattle.object.specs.Numbers.{Numbers, IsNumbers};
 
 use std::marker::Model;
 
-/// The numbers from `low` to `high` whose bits under `mask` are those of `value`. The range isn't
-/// turned round, and `value` has no bit outside `mask`. Clauses see the record of all four.
+/// The numbers from `low` to `high` whose bits under `mask` are those of `value`. `low` is at most
+/// `high`, and `value` has no bit outside `mask`. Contracts see the record of all four.
 #[derive(Clone, Copy, PartialEq, Eq, Debug)]
 pub struct StatedNumber {
     low: u64,
@@ -33,8 +33,8 @@ impl Model for StatedNumber {
 }
 
 impl StatedNumber {
-    /// The numbers from `low` to `high` with these known bits. None where `low` is above `high`, or
-    /// where `value` has a bit outside `mask`.
+    /// The numbers from `low` to `high` with these known bits. `None` if `low` is above `high` or
+    /// `value` has a bit outside `mask`.
     pub fn new(low: u64, high: u64, mask: u64, value: u64) -> Option<StatedNumber>
         ensures some { IsSome result
             ↔ IsNumbers (record { low = low; high = high; mask = mask; value = value }) }
@@ -52,7 +52,7 @@ impl StatedNumber {
         })
     }
 
-    /// The least one of the range.
+    /// The least number of the range.
     pub fn low(&self) -> u64
         ensures value { result ≡ self.now.low }
         ensures are { IsNumbers self.now }
@@ -60,7 +60,7 @@ impl StatedNumber {
         self.low
     }
 
-    /// The greatest one of the range.
+    /// The greatest number of the range.
     pub fn high(&self) -> u64
         ensures value { result ≡ self.now.high }
         ensures are { IsNumbers self.now }
@@ -68,7 +68,7 @@ impl StatedNumber {
         self.high
     }
 
-    /// The bits that are known.
+    /// The mask of the known bits.
     pub fn mask(&self) -> u64
         ensures value { result ≡ self.now.mask }
         ensures are { IsNumbers self.now }
@@ -76,7 +76,7 @@ impl StatedNumber {
         self.mask
     }
 
-    /// The known bits' values; 0 at each bit that isn't known.
+    /// The known bits' values; 0 at each unknown bit.
     pub fn value(&self) -> u64
         ensures value { result ≡ self.now.value }
         ensures are { IsNumbers self.now }

@@ -6,9 +6,8 @@ use crate::statement::Statement;
 use isa::{Hook, MOST_SLOTS};
 use std::marker::Model;
 
-/// A program as a file has it: 1 to 4096 slots of code, which isn't decoded here, and statements at
-/// some of them in the order of their slots. Clauses see the record of its parts, the code as its
-/// bytes.
+/// A program as a file has it: 1 to 4096 slots of code, not decoded here, and statements at some of
+/// them in the order of their slots. Contracts see the record of its parts, the code as its bytes.
 #[derive(Debug, Drop)]
 pub struct Object {
     hook: Hook,
@@ -38,7 +37,7 @@ impl Model for Object {
     }) };
 }
 
-/// Tells whether the statements' slots ascend and lie below this one.
+/// Whether the statements' slots ascend and lie below `slots`.
 fn are_in_order(statements: &[Statement], slots: usize) -> bool
     requires { slots < 2 ^ 32 }
     ensures { IsTrue result ↔ AreStatements 0 slots statements.now }
@@ -55,7 +54,7 @@ fn are_in_order(statements: &[Statement], slots: usize) -> bool
 }
 
 impl Object {
-    /// An object of these parts. None where the code isn't 1 to 4096 whole slots, or where the
+    /// An object of these parts. `None` if the code isn't 1 to 4096 whole slots, or if the
     /// statements' slots don't ascend or aren't in the code.
     pub fn new(
         hook: Hook,
@@ -121,7 +120,7 @@ impl Object {
         }
     }
 
-    /// Where in the router the program is asked.
+    /// The hook that the program is for.
     pub fn hook(&self) -> Hook
         ensures value { result ≡ self.now.hook }
         ensures is_object { IsObject self.now }
@@ -146,7 +145,7 @@ impl Object {
         &self.code
     }
 
-    /// How many slots the code has, 1 to 4096.
+    /// The number of slots of the code, 1 to 4096.
     pub fn slots(&self) -> usize
         ensures value { result ≡ slots_of self.now }
         ensures is_object { IsObject self.now }

@@ -3,7 +3,7 @@ ghost use Rattle.std.specs.Prelude.{◌≡◌, ◌≤◌, ◌↔◌, IfSome, IsS
 
 use std::marker::Model;
 
-/// A place in the context or at its end, 0 to 64. Clauses see the number.
+/// A place in the context or at its end, 0 to 64. Contracts see the number.
 #[derive(Clone, Copy, PartialEq, Eq, Debug)]
 pub struct ContextOffset {
     place: u32,
@@ -22,7 +22,7 @@ impl Model for ContextOffset {
 }
 
 impl ContextOffset {
-    /// The place so many bytes behind the context's first. None above 64.
+    /// The place this many bytes after the context's first; `None` above 64.
     pub fn new(bytes: u32) -> Option<ContextOffset>
         ensures some { IsSome result ↔ (bytes ≤ 64) }
         ensures value { IfSome result (λ offset. offset ≡ bytes) }
@@ -34,7 +34,7 @@ impl ContextOffset {
         }
     }
 
-    /// How many bytes it lies behind the first.
+    /// Its distance from the first byte, in bytes.
     pub fn bytes(self) -> u32
         ensures value { result ≡ self }
         ensures within { result ≤ 64 }
@@ -43,7 +43,7 @@ impl ContextOffset {
     }
 }
 
-/// A place in the stack or at its end, 0 to 512. Clauses see the number.
+/// A place in the stack or at its end, 0 to 512. Contracts see the number.
 #[derive(Clone, Copy, PartialEq, Eq, Debug)]
 pub struct StackOffset {
     bytes: u32,
@@ -62,7 +62,7 @@ impl Model for StackOffset {
 }
 
 impl StackOffset {
-    /// The place so many bytes behind the stack's first. None above 512.
+    /// The place this many bytes after the stack's first; `None` above 512.
     pub fn new(bytes: u32) -> Option<StackOffset>
         ensures some { IsSome result ↔ (bytes ≤ 512) }
         ensures value { IfSome result (λ offset. offset ≡ bytes) }
@@ -74,7 +74,7 @@ impl StackOffset {
         }
     }
 
-    /// How many bytes it lies behind the first.
+    /// Its distance from the first byte, in bytes.
     pub fn bytes(self) -> u32
         ensures value { result ≡ self }
         ensures within { result ≤ 512 }

@@ -1,10 +1,10 @@
-//! Ranks: what falls with each turn of a loop.
+//! Ranks: what decreases with each iteration of a loop.
 ghost use Rattle.std.specs.Prelude.{◌≡◌, ◌↔◌, IfSome, IsSome};
 ghost use Rattle.object.specs.Numbers.{Term, IsTerm};
 
 use std::marker::Model;
 
-/// The number in one of r0 to r9 times a coefficient above 0. Clauses see the record of both.
+/// The number in one of r0 to r9 times a coefficient above 0. Contracts see the record of both.
 #[derive(Clone, Copy, PartialEq, Eq, Debug)]
 pub struct RankTerm {
     register: u8,
@@ -24,7 +24,7 @@ impl Model for RankTerm {
 }
 
 impl RankTerm {
-    /// The register of this number times the coefficient. None for a register above 9 or a
+    /// The register with this number times the coefficient; `None` for a register above 9 or a
     /// coefficient of 0.
     pub fn new(register: u8, coefficient: u32) -> Option<RankTerm>
         ensures some { IsSome result
@@ -52,7 +52,7 @@ impl RankTerm {
         self.register
     }
 
-    /// What the register's number is multiplied with, above 0.
+    /// The factor of the register's number, above 0.
     pub fn coefficient(&self) -> u32
         ensures value { result ≡ self.now.coefficient }
         ensures is_term { IsTerm self.now }
@@ -61,7 +61,7 @@ impl RankTerm {
     }
 }
 
-/// A constant and up to two terms, whose registers may be the same one.
+/// A constant and up to two terms, whose registers may be the same.
 #[derive(Clone, Copy, PartialEq, Eq, Debug)]
 pub struct Rank {
     pub constant: u32,

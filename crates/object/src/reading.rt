@@ -21,7 +21,7 @@ use crate::statement::Statement;
 use isa::{Hook, MOST_SLOTS};
 use std::alloc::Global;
 
-/// What the 40 bytes of a register state of it, if they are lawful.
+/// What the 40 bytes of a register state of it; `None` if they are invalid.
 fn kind(bytes: &[u8]) -> Option<Kind>
     requires { length bytes.now ≡ 40 }
     ensures found { IfSome result (λ kind. kind_text kind ≡ bytes.now) }
@@ -30,7 +30,7 @@ fn kind(bytes: &[u8]) -> Option<Kind>
     kind_of(RegisterFields::read(bytes))
 }
 
-/// What the 400 bytes of r0 to r9 state of them, if they are lawful.
+/// What the 400 bytes of r0 to r9 state of them; `None` if they are invalid.
 fn kinds(bytes: &[u8]) -> Option<[Kind; 10]>
     requires { length bytes.now ≡ 400 }
     ensures found { IfSome result (λ kinds. flat_map kind_text kinds ≡ bytes.now) }
@@ -71,7 +71,7 @@ fn statement(bytes: &[u8]) -> Option<Statement>
     }
 }
 
-/// The slot in front of a statement's bytes.
+/// The slot at the front of a statement's bytes.
 fn slot_of(bytes: &[u8]) -> u32
     requires { 4 ≤ length bytes.now }
     ensures { result ≡ from_le_bytes w32 (take 4 bytes.now) }
@@ -79,8 +79,8 @@ fn slot_of(bytes: &[u8]) -> u32
     u32_at(bytes, 0)
 }
 
-/// The statement with this index, if it is one and its slot is in its place: not below `least`, and
-/// in code of so many slots.
+/// The statement with this index, if it is valid and its slot is neither below `least` nor outside
+/// of code of `slots` slots.
 fn statement_at(
     bytes: &[u8],
     index: usize,
@@ -104,8 +104,8 @@ fn statement_at(
     }
 }
 
-/// What is told of so many statements where memory ran out: the first one that fails, and want of
-/// memory only where none does.
+/// The error after a refused allocation: that of the first of the `count` statements that fails, or
+/// `Memory` if none does.
 fn want_of_memory(bytes: &[u8], count: usize, slots: usize) -> ReadError
     requires size { length bytes.now ≡ 484 * count }
     requires most { slots < 2 ^ 32 }
@@ -121,7 +121,7 @@ fn want_of_memory(bytes: &[u8], count: usize, slots: usize) -> ReadError
     ReadError::Memory
 }
 
-/// So many statements, each of 484 bytes, for code of so many slots.
+/// The `count` statements, of 484 bytes each, for code of `slots` slots.
 fn statements(
     alloc: Global,
     bytes: &[u8],
@@ -150,7 +150,7 @@ fn statements(
     Ok(statements)
 }
 
-/// Tells whether the bytes begin with BPFH.
+/// Whether the bytes begin with BPFH.
 #[tactic(auto, using(crate::proofs::Headers::first_four))]
 fn has_magic(bytes: &[u8]) -> bool
     requires { 16 ≤ length bytes.now }
@@ -159,7 +159,7 @@ fn has_magic(bytes: &[u8]) -> bool
     bytes[0] == 0x42 && bytes[1] == 0x50 && bytes[2] == 0x46 && bytes[3] == 0x48
 }
 
-/// The hook and the fields of a header that is lawful up to the number of slots.
+/// The hook and the fields of a header that is valid up to the number of slots.
 fn header(bytes: &[u8]) -> Result<(Hook, HeaderFields), ReadError>
     ensures found { IfOk result (λ header. AreFieldsOf bytes.now header.1
         × (hook_number header.0 ≡ header.1.hook)) }
@@ -184,7 +184,7 @@ fn header(bytes: &[u8]) -> Result<(Hook, HeaderFields), ReadError>
     Ok((hook, fields))
 }
 
-/// The object in the bytes, or the first refusal.
+/// The object in the bytes, or the first error.
 fn outcome(alloc: Global, bytes: &[u8]) -> Result<Object, ReadError>
     ensures found { IfOk result (λ object. Spells bytes.now object) }
     ensures why { IfErr result (λ e. Refuses bytes.now e) }
@@ -213,12 +213,12 @@ fn outcome(alloc: Global, bytes: &[u8]) -> Result<Object, ReadError>
 
 /// The object that the bytes spell: all of them, from BPFH to the last statement.
 pub fn read(alloc: Global, bytes: &[u8]) -> Result<Object, ReadError>
-    // What is read is spelled so.
+    // Whatever is read, the bytes spell it.
     ensures found { IfOk result (λ object. Spells bytes.now object) }
-    // What is spelled so is read, unless memory runs out.
+    // Whatever the bytes spell is read, unless an allocation is refused.
     ensures only { (object : ObjectParts) → Spells bytes.now object
         → MatchResult result (λ found. found ≡ object) (λ e. e ≡ Memory) }
-    // Which refusal it is; memory ran out only where the bytes spell an object.
+    // Which error it is; `Memory` only if the bytes spell an object.
     ensures why { IfErr result (λ e. Refuses bytes.now e) }
 {
     outcome(alloc, bytes)

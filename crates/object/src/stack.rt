@@ -7,10 +7,10 @@ ghost use Rattle.object.specs.Packing.{bit, packed_bits};
 use std::alloc::AllocError;
 use std::marker::Model;
 
-/// How many bytes the stack has.
+/// The size of the stack, in bytes.
 pub const STACK_BYTES: usize = 512;
 
-/// A set of the stack's 512 bytes. Clauses see 512 truth values, that of byte 0 first.
+/// A set of the stack's 512 bytes. Contracts see 512 truth values, that of byte 0 first.
 #[derive(Clone, Copy, PartialEq, Eq, Debug)]
 pub struct StackBytes {
     bytes: [bool; 512],
@@ -29,7 +29,7 @@ impl Model for StackBytes {
     ghost inverse = { λ bytes. record { bytes = bytes } };
 }
 
-/// Tells whether a bit of the byte is 1.
+/// Whether a bit of the byte is 1.
 fn has_bit(byte: u8, bit: usize) -> bool
     requires { bit < 8 }
     ensures { result ≡ nat_eq (bit_at byte bit) 1 }
@@ -45,7 +45,7 @@ fn bit(is_set: bool) -> u8
     if is_set { 1 } else { 0 }
 }
 
-/// The byte whose bits these eight are, bit 0 first.
+/// The byte with these eight bits, bit 0 first.
 fn packed_byte(bits: &[bool]) -> u8
     requires { length bits.now ≡ 8 }
     ensures { result ∷ [] ≡ packed_bits bits.now }
@@ -74,7 +74,7 @@ impl StackBytes {
         StackBytes { bytes: set }
     }
 
-    /// Adds the 64 bytes of the set.
+    /// Appends the 64 bytes of the set.
     pub(crate) fn pack(&self, out: &mut Vec<u8>) -> Result<(), AllocError>
         ensures { OnOk result (out.new.items ≡ out.old.items ++ packed_bits self.now) }
     {
@@ -84,7 +84,7 @@ impl StackBytes {
         Ok(())
     }
 
-    /// No byte.
+    /// The empty set.
     pub fn new() -> StackBytes
         ensures { result ≡ no_bytes }
     {
@@ -93,7 +93,7 @@ impl StackBytes {
         }
     }
 
-    /// Tells whether the byte at this place of the stack is in the set.
+    /// Whether the set contains this byte of the stack.
     pub fn contains(&self, place: usize) -> bool
         requires { place < 512 }
         ensures value { result ≡ has_byte self.now place }
@@ -102,7 +102,7 @@ impl StackBytes {
         self.bytes[place]
     }
 
-    /// Adds the bytes from `start` up to `end`, which isn't among them.
+    /// Adds the bytes from `start` up to but excluding `end`.
     pub fn insert_range(&mut self, start: usize, end: usize)
         requires ordered { start ≤ end }
         requires within { end ≤ 512 }

@@ -1,4 +1,4 @@
-//! Statements: what holds at a slot of the code whenever the program comes there.
+//! Statements: what holds at a slot of the code whenever execution reaches it.
 ghost use Rattle.std.specs.Prelude.{◌≡◌, ◌↔◌, length, IfSome, IsSome, IsTrue};
 ghost use Rattle.std.specs.List.{All};
 ghost use Rattle.object.specs.Statements.{IsKind, IsRankOver, IsStatement, IsTermOrNone};
@@ -9,8 +9,8 @@ use crate::rank::{Rank, RankTerm};
 use crate::stack::StackBytes;
 use std::marker::Model;
 
-/// What is stated at a slot: what r0 to r9 hold, which stack bytes hold bytes, and the rank, over
-/// registers that are stated as numbers. Clauses see the record of all four.
+/// What is stated at a slot: what r0 to r9 hold, which stack bytes are initialized, and the rank,
+/// over registers that are stated as numbers. Contracts see the record of all four.
 #[derive(Clone, Copy, PartialEq, Eq, Debug)]
 pub struct Statement {
     slot: u32,
@@ -36,7 +36,7 @@ impl Model for Statement {
     ghost inverse = { λ s. record { slot = s.slot; rank = s.rank; kinds = s.kinds; stack = s.stack } };
 }
 
-/// Says that what is stated of each register is in its range.
+/// Lemma: what is stated of each register is in its range.
 fn check_kinds(kinds: &[Kind])
     ensures { All IsKind kinds.now }
 {
@@ -45,7 +45,7 @@ fn check_kinds(kinds: &[Kind])
     }
 }
 
-/// Tells whether a term's register is stated as a number.
+/// Whether a term's register is stated as a number.
 fn is_term_over(kinds: &[Kind], term: Option<RankTerm>) -> bool
     requires { length kinds.now ≡ 10 }
     ensures over { IsTrue result ↔ IsTermOver kinds.now term }
@@ -58,8 +58,8 @@ fn is_term_over(kinds: &[Kind], term: Option<RankTerm>) -> bool
 }
 
 impl Statement {
-    /// What is stated at a slot. None where a term of the rank is of a register that isn't stated
-    /// as a number.
+    /// What is stated at a slot; `None` if a term of the rank names a register that isn't stated as
+    /// a number.
     pub fn new(slot: u32, rank: Rank, kinds: [Kind; 10], stack: StackBytes) -> Option<Statement>
         ensures some { IsSome result ↔ IsRankOver kinds rank }
         ensures value { IfSome result (λ s. s ≡ record {
@@ -84,7 +84,7 @@ impl Statement {
         })
     }
 
-    /// The slot that it stands at.
+    /// The slot that it is stated for.
     pub fn slot(&self) -> u32
         ensures value { result ≡ self.now.slot }
         ensures is_statement { IsStatement self.now }
@@ -108,7 +108,7 @@ impl Statement {
         &self.kinds
     }
 
-    /// The stack bytes that hold bytes there.
+    /// The stack bytes that are initialized there.
     pub fn stack(&self) -> &StackBytes
         ensures value { result.now ≡ self.now.stack }
         ensures is_statement { IsStatement self.now }

@@ -14,7 +14,7 @@ use crate::rank::{Rank, RankTerm};
 use crate::statement::Statement;
 use std::alloc::{AllocError, Global};
 
-/// The fields of a register of this kind that has numbers.
+/// The fields of a register of this kind, one with numbers.
 fn with_numbers(kind: u8, map: u8, numbers: &StatedNumber) -> RegisterFields
     ensures { result ≡ register_fields kind map 0 numbers.now }
 {
@@ -30,7 +30,7 @@ fn with_numbers(kind: u8, map: u8, numbers: &StatedNumber) -> RegisterFields
     }
 }
 
-/// The fields of a register of this kind that has no numbers.
+/// The fields of a register of this kind, one without numbers.
 fn without_numbers(kind: u8, offset: u32) -> RegisterFields
     ensures { result ≡ register_fields kind 0 offset no_numbers }
 {
@@ -146,7 +146,7 @@ fn put_front(out: &mut Vec<u8>, object: &Object) -> Result<(), AllocError>
     out.extend_from_slice(object.code())
 }
 
-/// The bytes of an object file. The only error is that memory ran out.
+/// The bytes of an object file. Errors with `AllocError` if an allocation is refused.
 pub fn write(alloc: Global, object: &Object) -> Result<Vec<u8>, AllocError>
     ensures { IfOk result (λ bytes. Spells bytes.items object.now) }
 {

@@ -5,7 +5,7 @@ use Rattle.asm_lines.specs.Reading.{line_of}
 use Rattle.asm_lines.proofs.Seen.{seen, found, none_more}
 use Rattle.asm_lines.proofs.reading.line_of.Goals as goal
 
--- what stands behind a slice's end
+-- what is read past a slice's end
 abbrev none : Bor Word
 none = record { ref_ptr = (0, 0); now = [] }
 

@@ -2,6 +2,6 @@ use Rattle.std.proofs.Common.{◌≡◌, drop}
 use Rattle.asm_words.specs.Names.{are_name_characters}
 use Rattle.asm_words.proofs.name.are_name_characters.Given as goal
 
--- what stands before the byte may stand in a name
+-- the bytes before this one may stand in a name
 abbrev pub invariant-loop-byte : goal.invariant-loop-byte
 invariant-loop-byte l = are_name_characters l.bytes ≡ are_name_characters (drop l.byte-index l.bytes)
