@@ -57,7 +57,7 @@ instruction_steps l hook rank code i at place rest again room =
     ∙ ap (λ (r : Result Instruction AsmFault). r >>= with_instruction code >>= with_code (code_sketch hook rank code)) (again (length code) (slot_at place))
     ∙ ap (λ (r : Result (List Slot) AsmFault). r >>= with_code (code_sketch hook rank code)) (cond-false _ (Err faults.Range) (Ok (code ++ slots_of i)) (le-ltb 4096 (length code + length (slots_of i)) room))
 
--- The instructions in front of slot `at` are listed, the second half of the last one with it.
+-- The instructions before slot `at` are listed, and so is the second half of the last one.
 pub record CodeSoFar (text : List ℕ) (hook : Hook) (rank : ℕ) (slots : List Slot) (at : ℕ) : Type 0 where
   pub ahead : List Slot
   pub instructions : List Instruction

@@ -1,4 +1,4 @@
--- Each line that is taken keeps what an object needs.
+-- Each line that is taken preserves what an object needs.
 use Rattle.std.proofs.Common.{◌≡◌, ◌≢◌, ℕ, zero, suc, ◌+◌, ◌≤◌, ◌<◌, ◌^◌, ◌||◌, Bool, true, false, List, [], ◌∷◌, ◌++◌, length, get_or, set, replicate, take, drop, Option, Some, None, is_some, refl, ap, ◌∙◌, sym, subst, arith, inl, inr, ⊎_elim, length-append}
 use Rattle.std.specs.Prelude.{◌⊎◌, Result, Ok, Err, if◌then◌else◌, nat_le, nat_lt, ◌==◌, is_none, ◌-◌, ◌&&◌, bit_and}
 use Rattle.std.proofs.lemmas.Bool.{false≢true, or_parts, and_parts, ltb-true, ltb-false, leb-true, leb-false, eqb-true, eqb-false}
@@ -188,7 +188,7 @@ one_more : (ss : List StatementParts) (least slots : ℕ) (l : StatementParts) �
 one_more [] least slots l are low high is = (is, low, high, tt)
 one_more (s ∷ ss) least slots l are low high is = (are.0, are.1, omega (arith, are.2, high), one_more ss (s.slot + 1) slots l are.3 (omega (arith, are.2)) high is)
 
--- with the last statement among them, where its slot is below this one
+-- with the last statement among them, if its slot is below this one
 pub all_closed : (xs : List (Option Line)) (slots next : ℕ) (before : List StatementParts) (last : Option StatementParts) → StateNone xs → slots ≤ 4096 → AreInOrder slots xs before last
     → ((l : StatementParts) → last ≡ Some l → l.slot < next) → AreStatements 0 next (all_of before last)
 all_closed xs slots next before None none most order below = subst (AreStatements 0 next) (sym order) tt
@@ -269,7 +269,7 @@ last_from : (o : Option StatementParts) (p : StatementParts) → match_last o �
 last_from (Some q) p e = cc
 last_from None p e = cc
 
--- the last statement and what becomes of it
+-- the last statement and what it becomes
 abbrev NextLast : Sketch → Sketch → (StatementParts → Result StatementParts AsmFault) → Type 0
 NextLast s t step = (p q : StatementParts) × (s.last ≡ Some p) × (step p ≡ Ok q) × (record s { last = Some q } ≡ t)
 
@@ -279,7 +279,7 @@ next_last s t step e =
     let q = taken_from (step p.0) (with_last s) t p.2 in
     (p.0, q.0, last_from s.last p.0 p.1, q.1, ok_same (record s { last = Some q.0 }) t q.2)
 
--- the statements in order, where the last one became this one
+-- the statements in order, after the last one became this one
 order_next : (slots : ℕ) (xs ys : List (Option Line)) (before : List StatementParts) (last : Option StatementParts) (p q : StatementParts) → last ≡ Some p → p.slot ≡ q.slot → (IsOpen xs p → IsOpen ys q) → AreInOrder slots xs before last
     → AreInOrder slots ys before (Some q)
 order_next slots xs ys before last p q e same now h =
@@ -292,7 +292,7 @@ next_keeps s t xs ys step n keeps is =
     let k = keeps n.0 n.1 n.3 in
     subst (IsLawful ys) n.4 (record { front = is.front; most = is.most; statements = order_next (length s.code) xs ys s.before s.last n.0 n.1 n.2 k.0 k.1 is.statements })
 
--- the line says that its own register is a number only if it gives it as one
+-- the line states its own register as a number, and no other
 says_number : (register : ℕ) (content : Content) (kind : Kind) (rest : List (Option Line)) (r : ℕ) → kind_of content ≡ Some kind → is_stated_number (Some (lines.With register content) ∷ rest) r ≡ true
     → ((register ≡ r) × ((numbers : Numbers) × (kind ≡ kinds.Number numbers))) ⊎ (is_stated_number rest r ≡ true)
 says_number register (contents.Number range) kind rest r e h =
@@ -499,7 +499,7 @@ nothing_lawful xs = record { front = refl; most = omega arith; statements = refl
 same_lines : (xs ys : List (Option Line)) (s : Sketch) → xs ≡ ys → IsLawful xs s → IsLawful ys s
 same_lines xs ys s e is = subst (λ (zs : List (Option Line)). IsLawful zs s) e is
 
--- the line at this place keeps it
+-- the line at this place preserves it
 pub keeps_at : (lines xs : List (Option Line)) (at : ℕ) (s t : Sketch) (l : Option Line) (line : Line) (place : Option Place) → at < length lines → l ≡ get_or lines at l → l ≡ Some line → xs ≡ lines
     → IsLawful (drop at lines) s → line_step s line at place (take (length xs - (at + 1)) (drop (at + 1) xs)) ≡ Ok t → IsLawful (drop (at + 1) lines) t
 keeps_at lines xs at s t l line place h el e same is step =

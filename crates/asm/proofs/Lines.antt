@@ -29,7 +29,7 @@ text-append [] b = refl
 text-append (l ∷ a) b =
     ap (λ (t : List ℕ). line_text l [] ++ t) (text-append a b) ∙ sym (append_assoc (line_text l []) (text_of a) (text_of b))
 
--- a line more is written
+-- one more line is written
 pub line_written : (old new whole : List ℕ) (l : Line) (rest : List Line) → new ≡ old ++ line_text l [] → old ++ text_of (l ∷ rest) ≡ whole → new ++ text_of rest ≡ whole
 line_written old new whole l rest e h = ap (λ (t : List ℕ). t ++ text_of rest) e ∙ append_assoc old (line_text l []) (text_of rest) ∙ h
 

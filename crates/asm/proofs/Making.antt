@@ -9,7 +9,7 @@ use Rattle.asm.specs.declared.statements.OpenStatement.{OpenStatement}
 use Rattle.asm.specs.Assembling.{all_of}
 use Rattle.asm.specs.Views.{parts_of}
 
--- one of those before has a rank that can't be
+-- one of those before has a rank that it can't have
 unlawful_before : (os : List OpenStatement) (rest : List StatementParts) (n : ℕ) (d o : OpenStatement) → n < length os → o ≡ get_or os n d → (IsRankOver o.kinds o.rank → ⊥)
     → (least slots : ℕ) → AreStatements least slots (map parts_of os ++ rest) → ⊥
 unlawful_before [] rest n d o h e never least slots are = absurd (omega arith)

@@ -1,4 +1,4 @@
--- Looking for a label line by line.
+-- Looking up a label line by line.
 use Rattle.std.proofs.Common.{⊎_elim, Bool, true, false, take, ◌-◌, ◌∙◌, sym, subst, inl, inr, ◌≡◌, ℕ, zero, suc, ◌+◌, ◌<◌, List, [], ◌∷◌, ◌&&◌, length, get_or, drop, Option, Some, None, refl, ap, arith}
 use Rattle.std.specs.Prelude.{if◌then◌else◌, Result, Ok, Err, IsOk, ◌⊎◌}
 use Rattle.std.specs.Str.{bytes_eq}
@@ -57,7 +57,7 @@ chosen_here : (given : Bool) (at slot : ℕ) (later : Option Place) → (if give
 chosen_here true at slot later = refl
 chosen_here false at slot later = refl
 
--- one line of the table: what it gives, before what the lines behind it give
+-- one line of the table: what it defines, before what the lines after it define
 pub looks_on : (at slot more : ℕ) (lines : List (Option Line)) (names : List (Bor Word)) (word : Word) (m : Option Line) → at < length lines → length lines ≡ length names
     → m ≡ get_or lines at m → more ≡ slots_in m
     → place_from at slot (drop at lines) (views (drop at names)) word
@@ -88,7 +88,7 @@ none_here : (g b : Bool) (at slot : ℕ) (later : Option Place) → g ≡ false 
 none_here true b at slot later e = absurd (false≢true (sym e))
 none_here false b at slot later e = refl
 
--- a line that gives a label puts it into the table
+-- a line that defines a label puts it into the table
 pub label_noted : (whole old new : Option Place) (at slot more : ℕ) (lines : List (Option Line)) (names : List (Bor Word)) (word : Word) (l m : Option Line) → at < length lines → length lines ≡ length names
     → l ≡ get_or lines at l → m ≡ get_or lines at m → more ≡ slots_in m → gives_label l ≡ true → whole ≡ old or_else place_from at slot (drop at lines) (views (drop at names)) word
     → new ≡ old or_else (if bytes_eq (get_or names at (record { ref_ptr = (0, 0); now = [] })).now word then Some (record { line = at; slot = slot }) else None)
@@ -141,7 +141,7 @@ stepped lines names at s l line n la lb na p x h same el e en ela ena elb ep inv
 abbrev pub Told : List ℕ → AsmError → Type 0
 Told text r = IsWantOfMemory r ⊎ Refuses text r.line r.kind
 
--- a refusal of memory is told at line 0, and another at its line
+-- a refused allocation is reported at line 0, another fault at its line
 error_told : (line : ℕ) (fault : AsmFault) → IsWantOfMemory (error_at line fault) ⊎ (error_at line fault ≡ record { line = line; kind = fault })
 error_told line faults.Syntax = inr refl
 error_told line faults.Label = inr refl

@@ -1,4 +1,4 @@
--- Listings, a line more.
+-- Listings with one more line.
 use Rattle.std.proofs.Common.{◌≡◌, ℕ, ◌+◌, ◌^◌, ◌<◌, List, [], ◌∷◌, ◌++◌, length, map, Option, Some, None, refl, ap, ◌∙◌, sym, subst, append_assoc, lt-ltb}
 use Rattle.std.specs.Prelude.{Result, Ok}
 use Rattle.std.proofs.lemmas.Bool.{cond-true}
@@ -33,7 +33,7 @@ listed_push old new l s t C D adds h next step = record {
       ∙ ap (λ (n : ℕ). take_lines places n rest names t) (sym (length_push h.lines l));
 }
 
--- the same lines, of which less is asked, and the same sketch by another name
+-- the same lines with a weaker requirement, and the same sketch by another name
 pub listed_same : (text : List ℕ) (s t : Sketch) (C D : List (Option Line) → Type 0) → s ≡ t → ((rest : List (Option Line)) → D rest → C rest) → Listed text s C → Listed text t D
 listed_same text s t C D e less h = record {
   lines = h.lines;

@@ -16,7 +16,7 @@ use Rattle.asm.specs.Assembling.{Sketch, with_bytes, with_last}
 use Rattle.asm.specs.Listed.{Listed, AddsLine, Any, Front, sketch_of}
 use Rattle.asm.proofs.Pushed.{listed_push, listed_same, in_field}
 
--- from `start` up to `end` each byte is in the set
+-- each byte from `start` up to but excluding `end` is in the set
 abbrev pub AllIn : List Bool → ℕ → ℕ → Type 0
 AllIn stack start end = take end stack ≡ take start stack ++ replicate (end - start) true
 
@@ -32,7 +32,7 @@ range_more stack start end long lt h e all =
     ∙ append_assoc (take start stack) (replicate (end - start) true) (true ∷ []) ∙ ap (λ (xs : List Bool). take start stack ++ xs) (replicate_more (end - start) true)
     ∙ ap (λ (n : ℕ). take start stack ++ replicate n true) more
 
--- the first bytes of the set, and none behind them
+-- the first bytes of the set, and none after them
 abbrev pub bytes_up_to : List Bool → ℕ → List Bool
 bytes_up_to stack at = take at stack ++ replicate (512 - at) false
 

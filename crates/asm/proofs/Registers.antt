@@ -88,7 +88,7 @@ pub stated_term : (ks : List Kind) (term : Option Term) (rest : List (Option Lin
 stated_term ks None rest over are = refl
 stated_term ks (Some term) rest over are = are term.register (omega arith) over
 
--- ---- a line more
+-- ---- one more line
 
 up_to_more : (ks : List Kind) (at : ℕ) (k : Kind) → length ks ≡ 10 → at < 10 → get_or ks at k ≡ k → take at ks ++ k ∷ replicate (10 - (at + 1)) kinds.Empty ≡ kinds_up_to ks (at + 1)
 up_to_more ks at k long h g =

@@ -25,7 +25,7 @@ stays true p None some = absurd (false≢true (some refl))
 stays false p None some = refl
 stays b p (Some q) some = refl
 
--- one that it has stays
+-- one that it has is kept
 pub keep_first : (places : Word → Option Place) (name word : Word) (p : Place) → is_some (places name) ≡ true → places word ≡ places word or_else (if bytes_eq name word then Some p else None)
 keep_first places name word p some =
     stays (bytes_eq name word) p (places word) (λ same. ap (λ (w : Word). is_some (places w)) (sym ((bytes_decides name word).0 same)) ∙ some)

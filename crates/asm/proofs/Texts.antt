@@ -60,7 +60,7 @@ slots_long bytes code spells =
 pub code_statements : (o : ObjectParts) (code : List Slot) → Spells o.code code → IsObject o → AreStatements 0 (length code) o.statements
 code_statements o code spells is = subst (λ (n : ℕ). AreStatements 0 n o.statements) (slots_long o.code code spells) is.statements
 
--- ---- the lines and the empty one behind the last line feed
+-- ---- the lines and the empty one after the last line feed
 
 nowhere : Bor Word
 nowhere = record { ref_ptr = (0, 0); now = [] }

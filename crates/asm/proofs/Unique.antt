@@ -1,4 +1,4 @@
--- A text says one thing.
+-- A text spells at most one object.
 use Rattle.std.proofs.Common.{◌≡◌, ℕ, ◌+◌, Bool, true, false, List, [], ◌∷◌, length, Option, Some, None, refl, ap, ◌∙◌, sym, subst, arith, ⊎_elim}
 use Rattle.std.specs.Prelude.{Result, Ok, Err}
 use Rattle.std.proofs.lemmas.Bool.{false≢true}
@@ -100,7 +100,7 @@ verdict_of : (text : List ℕ) (found : List (Option Line)) (names : List (Bor W
 verdict_of text found names says s =
     ap (λ (xs : List (Option Line)). taken_all xs (views names)) (lines_again found names says.same) ∙ ap (λ (ws : List Word). taken_all (lines_of (items found names)) ws) (names_again found names says.same s)
 
--- two accounts of a text, of which the first has no bad line
+-- two readings of a text, of which the first has no bad line
 same_verdict : OneReading → (text : List ℕ) (found other : List (Option Line)) (names others : List (Bor Word)) (made : Sketch) → Says text found names → Says text other others → taken_all found (views names) ≡ Ok made
     → taken_all other (views others) ≡ Ok made
 same_verdict one text found other names others made p q e =
@@ -136,7 +136,7 @@ one_object one code text a b p q =
     let same : p.made ≡ q.made = ap (sketch_in p.made) (sym (same_verdict one text p.found q.found p.names q.names p.made p.says q.says p.taken) ∙ q.taken) in
     made_one code q.made a b (subst (λ (s : Sketch). IsMade s a) same p.is_made) q.is_made
 
--- where there is no instruction
+-- if there is no instruction
 none_made : (s : Sketch) (o : ObjectParts) → s.code ≡ [] → IsMade s o → ⊥
 none_made s o e m = omega (arith, m.code.code_is.some, ap length e)
 

@@ -40,8 +40,7 @@ abbrev pub slots_in : Option Line → ℕ
 slots_in (Some line) = slots_taken line
 slots_in None = 0
 
--- where the label of this name is given first, from the line `at` on, before which there are so
--- many slots
+-- where the label with this name is first defined, from line `at` on, which `slot` slots precede
 abbrev pub place_from : ℕ → ℕ → List (Option Line) → List Word → Word → Option Place
 place_from at slot [] names word = None
 place_from at slot (line ∷ rest) [] word = None
@@ -86,7 +85,7 @@ instruction_step s line place = if is_some s.last then Err faults.Syntax
 
 -- ---- statements
 
--- with no register and no byte stated yet
+-- with neither a register nor a byte stated yet
 abbrev pub bare : ℕ → Rank → StatementParts
 bare slot rank =
     record { slot = slot; rank = rank; kinds = replicate 10 kinds.Empty; stack = no_bytes }
@@ -95,19 +94,19 @@ abbrev pub has_slot : List StatementParts → ℕ → Bool
 has_slot [] slot = false
 has_slot (s ∷ ss) slot = if s.slot == slot then true else has_slot ss slot
 
--- the statements with the last one among them
+-- the statements, the last one included
 abbrev pub all_of : List StatementParts → Option StatementParts → List StatementParts
 all_of before (Some last) = before ++ last ∷ []
 all_of before None = before
 
--- `Twice` where an earlier statement has the slot, else `Range` where the last one's isn't below it
+-- `Twice` if an earlier statement has the slot, else `Range` if the last one's isn't below it
 abbrev pub order_fault : List StatementParts → Option StatementParts → ℕ → Option AsmFault
 order_fault before None slot = None
 order_fault before (Some last) slot = if (slot == last.slot) || has_slot before slot
     then Some faults.Twice
     else (if nat_lt slot last.slot then Some faults.Range else None)
 
--- the last statement behind those before it, and another in its place
+-- the last statement appended to those before it, and another in its place
 abbrev pub with_last_statement : Sketch → Option StatementParts → Sketch
 with_last_statement s last = record s { before = all_of s.before s.last; last = last }
 
@@ -154,19 +153,19 @@ match_last None = Err faults.Syntax
 abbrev pub last_of : Sketch → Result StatementParts AsmFault
 last_of s = match_last s.last
 
--- what a call that may refuse has made
+-- what a fallible call returns
 abbrev pub Answers : {A B : Type 0} → (B → A) → Result B AsmFault → Result A AsmFault → Type 0
 Answers view (Ok x) step = step ≡ Ok (view x)
 Answers view (Err fault) step = step ≡ Err fault
 
--- The same where memory may run out, which it does only where nothing is wrong.
+-- The same if memory may run out, which it does only if nothing is wrong.
 abbrev pub Takes : {A : Type 0} → Result (Unit {0}) AsmFault → A → Result A AsmFault → Type 0
 Takes (Ok x) new step = step ≡ Ok new
 Takes (Err fault) new step = ((fault ≡ faults.Memory) × IsOk step) ⊎ (step ≡ Err fault)
 
 -- ---- a line
 
--- The label is given first by this line.
+-- The label is first defined by this line.
 abbrev pub label_step : Sketch → ℕ → Option Place → Result Sketch AsmFault
 label_step s at None = Ok s
 label_step s at (Some place) = if nat_lt place.line at then Err faults.Twice else Ok s
@@ -178,7 +177,7 @@ with_line_step s register content = last_of s >>= λ p. with_step p register con
 abbrev pub bytes_line_step : Sketch → Numeral → Numeral → Result Sketch AsmFault
 bytes_line_step s start end = last_of s >>= λ p. bytes_step p start end >>= with_last s
 
--- behind the first two
+-- after the first two
 abbrev pub body_step : Sketch → Line → ℕ → Option Place → List (Option Line)
     → Result Sketch AsmFault
 body_step s lines.Label at place rest = label_step s at place
@@ -207,7 +206,7 @@ abbrev pub blame_line : ℕ → Result Sketch AsmFault → (Sketch → Verdict) 
 blame_line at (Ok s) next = next s
 blame_line at (Err fault) next = Err (at + 1, fault)
 
--- the lines from `at` on, where the labels name what `places` says
+-- the lines from `at` on, where `places` says what the labels name
 abbrev pub take_lines : (Word → Option Place) → ℕ → List (Option Line) → List Word → Sketch
     → Verdict
 take_lines places at [] names s = Ok s
@@ -216,11 +215,11 @@ take_lines places at (None ∷ rest) (name ∷ names) s = Err (at + 1, faults.Sy
 take_lines places at (Some line ∷ rest) (name ∷ names) s =
     blame_line at (line_step s line at (places name) rest) (take_lines places (at + 1) rest names)
 
--- the whole text, whose lines say these things with these names beside them
+-- the whole text, with these lines and the names beside them
 abbrev pub taken_all : List (Option Line) → List Word → Verdict
 taken_all found names = take_lines (place_from 0 0 found names) 0 found names nothing
 
--- The object is what the lines say.
+-- The object holds what the lines say.
 pub record IsMade (s : Sketch) (o : ObjectParts) : Type 0 where
   pub hook : s.hook ≡ Some o.hook
   pub rank : s.rank ≡ Some o.entry_rank
@@ -228,7 +227,7 @@ pub record IsMade (s : Sketch) (o : ObjectParts) : Type 0 where
   pub statements : o.statements ≡ all_of s.before s.last
   pub lawful : IsObject o
 
--- None is made of them where there is no instruction, or where there is and memory runs out.
+-- No object is made of them: there is no instruction, or memory runs out.
 abbrev pub Declines : Sketch → AsmFault → Type 0
 Declines s fault = ((fault ≡ faults.Memory) × (1 ≤ length s.code))
     ⊎ ((fault ≡ faults.Syntax) × (s.code ≡ []))
@@ -239,13 +238,13 @@ AreUnlawful statements = (least slots : ℕ) → AreStatements least slots state
 
 -- ---- texts
 
--- The lines of the text say these things, with these names beside them.
+-- The text has these lines, with these names beside them.
 pub record Says (text : List ℕ) (found : List (Option Line))
     (names : List (Bor Word)) : Type 0 where
   pub same : length found ≡ length names
   pub read : Readings (lines_in text) (items found names)
 
--- The text spells the object: no line is bad, and the object is what they say.
+-- The text spells the object: no line is bad, and the object holds what they say.
 pub record TextSpells (text : List ℕ) (o : ObjectParts) : Type 0 where
   pub found : List (Option Line)
   pub names : List (Bor Word)
@@ -254,8 +253,8 @@ pub record TextSpells (text : List ℕ) (o : ObjectParts) : Type 0 where
   pub taken : taken_all found (views names) ≡ Ok made
   pub is_made : IsMade made o
 
--- The first bad line, and what is wrong with it. Where no line is bad and none is an instruction,
--- that is `Syntax` at line 1.
+-- The first bad line, and what is wrong with it. If no line is bad and none is an instruction, that
+-- is `Syntax` at line 1.
 abbrev pub Blames : Verdict → ℕ → AsmFault → Type 0
 Blames verdict line fault = (verdict ≡ Err (line, fault))
     ⊎ ((line ≡ 1) × (fault ≡ faults.Syntax)

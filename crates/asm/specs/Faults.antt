@@ -1,4 +1,4 @@
--- The refusals: their numbers, and where they stand.
+-- The errors: their numbers and their lines.
 use Rattle.std.specs.Prelude.{◌≡◌, ℕ}
 use Rattle.isa.specs.declared.decoding.DecodeFault.{DecodeFault}
 use Rattle.isa.specs.declared.decoding.DecodeFault.TheVariants as decode_faults
@@ -19,7 +19,7 @@ abbrev pub list_number : ListError → ℕ
 list_number list_errors.Code = 1
 list_number list_errors.Memory = 2
 
--- Want of memory has to do with no line, and names line 0.
+-- A refused allocation is no line's fault, and is reported at line 0.
 abbrev pub error_at : ℕ → AsmFault → AsmError
 error_at line faults.Memory = record { line = 0; kind = faults.Memory }
 error_at line fault = record { line = line; kind = fault }
@@ -27,7 +27,7 @@ error_at line fault = record { line = line; kind = fault }
 abbrev pub IsWantOfMemory : AsmError → Type 0
 IsWantOfMemory error = (error.kind ≡ faults.Memory) × (error.line ≡ 0)
 
--- A refusal to decode an object's code is told as that, and want of memory as itself.
+-- `Memory` is reported as itself, any other fault in an object's code as `Code`.
 abbrev pub as_list_error : DecodeFault → ListError
 as_list_error decode_faults.Memory = list_errors.Memory
 as_list_error fault = list_errors.Code

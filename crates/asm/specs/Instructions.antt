@@ -1,4 +1,4 @@
--- The instruction of a line, and which refusal comes where it has none.
+-- The instruction of a line, and which error there is if it has none.
 use Rattle.std.specs.Prelude.{List, ◌++◌, length, ℕ, ◌+◌, ◌-◌, ◌^◌, ℤ, Option, Some, None, Result}
 use Rattle.std.specs.Prelude.{Ok, Err, if◌then◌else◌, nat_lt}
 use Rattle.isa.specs.declared.code.Slot.{Slot}
@@ -19,13 +19,13 @@ use Rattle.asm.specs.declared.error.AsmFault.{AsmFault}
 use Rattle.asm.specs.declared.error.AsmFault.TheVariants as faults
 use Rattle.asm.specs.Numbers.{signed_in, natural_in}
 
--- What comes of a result, where it is one.
+-- apply f to the value, or pass the fault on
 infixl 10 ◌>>=◌
 abbrev pub ◌>>=◌ : {A B : Type 0} → Result A AsmFault → (A → Result B AsmFault) → Result B AsmFault
 (Ok x) >>= f = f x
 (Err fault) >>= f = Err fault
 
--- a number in its field, or `Range`
+-- a number that fits its field, or `Range`
 abbrev pub or_range_fault : {A : Type 0} → Option A → Result A AsmFault
 or_range_fault (Some x) = Ok x
 or_range_fault None = Err faults.Range
@@ -38,7 +38,7 @@ abbrev pub source_of : Operand → Option Source
 source_of (operands.Register register) = Some (sources.Register register)
 source_of (operands.Number n) = immediate_of (signed_in (2 ^ 31) n)
 
--- from the slot behind the jump to the label's
+-- from the slot after the jump to the label's
 abbrev pub distance_to : ℕ → ℕ → Numeral
 distance_to slot place = if nat_lt slot place then numerals.Natural (place - slot - 1)
     else (if nat_lt (slot - place) (2 ^ 32) then numerals.Negative (slot - place)
@@ -48,13 +48,13 @@ abbrev pub label_distance : ℕ → Option ℕ → Result Numeral AsmFault
 label_distance slot (Some place) = Ok (distance_to slot place)
 label_distance slot None = Err faults.Label
 
--- of a jump at this slot, where its label names the place
+-- of a jump at this slot, whose label names the place
 abbrev pub distance_of : Target → ℕ → Option ℕ → Result Numeral AsmFault
 distance_of (targets.Number n) slot place = Ok n
 distance_of targets.Label slot place = label_distance slot place
 
--- Where a label is missing, that comes before a number that is out of its range. A line that has no
--- instruction is `Syntax`.
+-- A missing label is reported before a number that is out of range. A line without an instruction
+-- is `Syntax`.
 abbrev pub instruction_of : Line → ℕ → Option ℕ → Result Instruction AsmFault
 instruction_of (lines.Arithmetic width operation target source) slot place =
     or_range_fault (source_of source) >>= λ s. Ok (instructions.Arithmetic width operation target s)
@@ -104,11 +104,11 @@ slots_taken (lines.Load size target base offset) = 1
 slots_taken (lines.Store size base offset source) = 1
 slots_taken other = 0
 
--- the code with an instruction behind it, if there is room for its slots
+-- the code with an instruction appended, if there is room for its slots
 abbrev pub with_instruction : List Slot → Instruction → Result (List Slot) AsmFault
 with_instruction code i = if nat_lt 4096 (length code + length (slots_of i)) then Err faults.Range
     else Ok (code ++ slots_of i)
 
--- the code with the instruction of a line behind it
+-- the code with the instruction of a line appended
 abbrev pub code_step : List Slot → Line → Option ℕ → Result (List Slot) AsmFault
 code_step code line place = instruction_of line (length code) place >>= with_instruction code

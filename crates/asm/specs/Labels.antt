@@ -6,7 +6,7 @@ use denote.Ref.{Bor}
 use Rattle.asm_words.specs.Words.{Word}
 use Rattle.asm.specs.declared.labels.Place.{Place}
 
--- where the label of this name is, by the table
+-- where the label with this name is, by the table
 abbrev pub place_in : {S : Type 0} → IndexMap (Bor Word) Place S → Word → Option Place
 place_in places word = get_by (λ (name : Bor Word). bytes_eq word name.now) places
 

@@ -1,4 +1,4 @@
--- What the lines so far keep, so that an object can be made of them once there is an instruction.
+-- The invariant of the lines so far, by which they spell an object once there is an instruction.
 use Rattle.std.specs.Prelude.{◌⊎◌, ◌≡◌, ℕ, ◌≤◌, ◌<◌, ◌^◌, true, List, [], length, Option, Some}
 use Rattle.std.specs.Prelude.{None}
 use Rattle.std.specs.List.{All}
@@ -19,13 +19,13 @@ IsFront hook None code = code ≡ []
 IsFront None (Some rank) code = ⊥
 IsFront (Some hook) (Some rank) code = rank < 2 ^ 32
 
--- A term's register is stated as a number, or a line of those that follow says so.
+-- A term's register is stated as a number, here or by a line that follows.
 abbrev pub IsTermSoon : List Kind → List (Option Line) → Option Term → Type 0
 IsTermSoon registers rest None = Unit {0}
 IsTermSoon registers rest (Some term) = IsNumberAt registers term.register
     ⊎ (is_stated_number rest term.register ≡ true)
 
--- a statement which these lines follow
+-- a statement that these lines follow
 pub record IsOpen (rest : List (Option Line)) (s : StatementParts) : Type 0 where
   pub rank : IsRank s.rank
   pub first : IsTermSoon s.kinds rest s.rank.first
@@ -34,7 +34,7 @@ pub record IsOpen (rest : List (Option Line)) (s : StatementParts) : Type 0 wher
   pub kinds : All IsKind s.kinds
   pub stack : IsStackBytes s.stack
 
--- Slots ascend and are below the code's end, and the statements before the last one are whole.
+-- Slots ascend and are below the code's end, and the statements before the last one are complete.
 abbrev pub AreInOrder : ℕ → List (Option Line) → List StatementParts → Option StatementParts
     → Type 0
 AreInOrder slots rest before None = before ≡ []

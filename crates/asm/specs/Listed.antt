@@ -30,7 +30,7 @@ no_name line = []
 abbrev pub some_line : Line → Option Line
 some_line line = Some line
 
--- New is old with this line behind it.
+-- `new` is `old` with this line appended.
 abbrev pub AddsLine : List ℕ → List ℕ → Line → Type 0
 AddsLine old new line = (items : List (Line × Word)) → AreLines old items
     → AreLines new (items ++ (line, []) ∷ [])
@@ -47,7 +47,7 @@ pub record Listed (text : List ℕ) (s : Sketch) (Next : List (Option Line) → 
 abbrev pub Any : List (Option Line) → Type 0
 Any rest = Unit {0}
 
--- ---- sketches behind the first two lines
+-- ---- sketches after the first two lines
 
 pub record Front : Type 0 where
   pub hook : Hook
@@ -75,12 +75,12 @@ pub record ListedAll (text : List ℕ) (hook : Hook) (rank : ℕ) (code : List S
 
 -- ---- statements
 
--- From this register on, what is a number is said to be one by the lines that follow.
+-- From this register on, the lines that follow state each number as one.
 abbrev pub AreStated : List Kind → ℕ → List (Option Line) → Type 0
 AreStated registers from rest = (register : ℕ) → from ≤ register → IsNumberAt registers register
     → is_stated_number rest register ≡ true
 
--- A term's register is said to be a number by the lines that follow.
+-- The lines that follow state a term's register as a number.
 abbrev pub is_stated : List (Option Line) → Option Term → Bool
 is_stated rest None = true
 is_stated rest (Some term) = is_stated_number rest term.register
@@ -117,7 +117,7 @@ AddsStack old new stack = (f : Front) (slot : ℕ) (rank : Rank) (kinds : List K
     → Listed old (sketch_of f (Some (statement_parts slot rank kinds no_bytes))) Any
     → Listed new (sketch_of f (Some (statement_parts slot rank kinds stack))) Any
 
--- behind the statements so far
+-- after the statements so far
 abbrev pub behind : Front → Option StatementParts → Front
 behind f last =
     record { hook = f.hook; rank = f.rank; code = f.code; before = all_of f.before last }

@@ -1,4 +1,4 @@
--- What a listing is: its lines in their order, and the text of them.
+-- What a listing is: its lines in order, and the text of them.
 use Rattle.std.specs.Prelude.{◌≡◌, ℕ, ◌+◌, ◌==◌, Bool, true, false, List, [], ◌∷◌, ◌++◌, map}
 use Rattle.std.specs.Prelude.{Option, Some, None, if◌then◌else◌}
 use Rattle.std.specs.List.{flat_map}
@@ -67,7 +67,7 @@ slot_lines slots.SecondHalf = []
 
 -- ---- what a statement says of the rank
 
--- `r0 * 0` stands for a term that isn't there.
+-- `r0 * 0` stands for a missing term.
 abbrev pub the_term : Option object_numbers.Term → Term
 the_term (Some term) = record { register = term.register; coefficient = Natural term.coefficient }
 the_term None = record { register = 0; coefficient = Natural 0 }
@@ -109,14 +109,14 @@ with_lines register (kind ∷ kinds) = with_line register (the_content kind)
 
 -- ---- what it says of stack bytes
 
--- A byte joins the range that begins right behind it, and is a range of its own where none does.
+-- A byte joins the range that begins right after it, or is a range of its own.
 abbrev pub join_byte : ℕ → List (ℕ × ℕ) → List (ℕ × ℕ)
 join_byte byte [] = (byte, byte + 1) ∷ []
 join_byte byte (range ∷ ranges) =
     if range.0 == byte + 1 then (byte, range.1) ∷ ranges else (byte, byte + 1) ∷ range ∷ ranges
 
 -- The longest ranges of bytes in the set, from this byte on, ascending: the first byte of each, and
--- the first behind it.
+-- the first one after it.
 abbrev pub longest_ranges : ℕ → List Bool → List (ℕ × ℕ)
 longest_ranges byte [] = []
 longest_ranges byte (true ∷ bytes) = join_byte byte (longest_ranges (byte + 1) bytes)
@@ -142,11 +142,11 @@ listing_lines o code =
     lines.Hook o.hook ∷ lines.Rank (Natural o.entry_rank)
     ∷ (flat_map slot_lines code ++ flat_map statement_lines o.statements)
 
--- Each line is words between single spaces, with a line feed behind the last.
+-- Each line is words separated by single spaces, and a line feed.
 abbrev pub text_of : List Line → List ℕ
 text_of listed = flat_map (λ line. line_text line []) listed
 
--- New is old with these lines behind it.
+-- `new` is `old` with these lines appended.
 abbrev pub AddsText : List ℕ → List ℕ → List Line → Type 0
 AddsText old new listed = new ≡ old ++ text_of listed
 

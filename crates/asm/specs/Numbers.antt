@@ -3,7 +3,7 @@ use Rattle.std.specs.Prelude.{ℕ, ℤ, pos, negsuc, Option, Some, None, if◌th
 use Rattle.asm_words.specs.declared.numeral.Numeral.{Numeral}
 use Rattle.asm_words.specs.declared.numeral.Numeral.TheVariants.{Natural, Negative, Huge}
 
--- in a signed field, which holds the numbers from minus `half` to `half` less 1
+-- in a signed field, which holds the numbers from -`half` to `half` - 1
 abbrev pub signed_in : ℕ → Numeral → Option ℤ
 signed_in half (Natural n) = if nat_lt n half then Some (pos n) else None
 signed_in half (Negative n) = if nat_lt n half then Some (negsuc n) else None

@@ -36,7 +36,7 @@ is_stated_number (Some (lines.With other (contents.Number range)) ∷ rest) regi
     if other == register then true else is_stated_number rest register
 is_stated_number (line ∷ rest) register = is_stated_number rest register
 
--- `r0 * 0` is no term; a coefficient above 0 is that of a register that is stated as a number.
+-- `r0 * 0` is no term; a coefficient above 0 needs a register that is stated as a number.
 abbrev pub term_in : List (Option Line) → ℕ → ℕ → Option (Option object_numbers.Term)
 term_in rest register coefficient = if coefficient == 0
     then (if register == 0 then Some None else None)
@@ -71,7 +71,7 @@ abbrev pub slot_of : Target → Option ℕ → Result ℕ AsmFault
 slot_of (targets.Number n) place = number_slot (natural_in (2 ^ 64) n)
 slot_of targets.Label place = label_slot place
 
--- The range isn't turned round, and the value has no bit outside the mask.
+-- The range is ordered, and the value has no bit outside the mask.
 abbrev pub stated_numbers : ℕ → ℕ → ℕ → ℕ → Option object_numbers.Numbers
 stated_numbers low high mask value = if nat_le low high && (bit_and value mask == value)
     then Some (record { low = low; high = high; mask = mask; value = value }) else None

@@ -30,13 +30,13 @@ struct Draft {
     hook: Option<Hook>,
     rank: Option<u32>,
     code: CodeBuilder,
-    /// The statements before the last one.
+    /// The closed statements, all but the last one.
     before: Vec<OpenStatement>,
-    /// The last statement.
+    /// The last statement, to which lines may still add.
     open: Option<OpenStatement>,
 }
 
-/// Whether one of the statements stands at the slot.
+/// Whether one of the statements is for this slot.
 fn has_slot(statements: &[OpenStatement], slot: u32) -> bool
     ensures { result ≡ has_slot (map parts_of statements.now) slot }
 {
@@ -48,7 +48,7 @@ fn has_slot(statements: &[OpenStatement], slot: u32) -> bool
     false
 }
 
-/// What is wrong with a further statement at this slot, if anything is.
+/// The fault of a further statement for this slot; `None` if it may follow.
 fn order_fault(before: &[OpenStatement], last: Option<OpenStatement>, slot: u32) -> Option<AsmFault>
     requires { AreAscending (map parts_of before.now) (option_map parts_of last) }
     ensures { result ≡ order_fault (map parts_of before.now) (option_map parts_of last) slot }
@@ -86,7 +86,7 @@ impl Draft {
         }
     }
 
-    /// Takes the `hook` line, which comes first.
+    /// Takes the `hook` line, which has to come first.
     fn hook(&mut self, hook: Hook) -> Result<(), AsmFault>
         ensures { Takes result (sketch self.new) (hook_step (sketch self.old) hook) }
     {
@@ -97,7 +97,7 @@ impl Draft {
         Ok(())
     }
 
-    /// Takes the `rank` line, which comes second.
+    /// Takes the `rank` line, which has to come second.
     fn rank(&mut self, rank: Numeral) -> Result<(), AsmFault>
         ensures { Takes result (sketch self.new) (rank_step (sketch self.old) rank) }
     {
@@ -113,7 +113,7 @@ impl Draft {
         }
     }
 
-    /// Takes an instruction's line, which comes before all statements.
+    /// Takes the line of an instruction, which has to come before all statements.
     fn instruction(&mut self, line: Line, place: Option<usize>) -> Result<(), AsmFault>
         ensures { Takes result (sketch self.new) (instruction_step (sketch self.old) line place) }
     {
@@ -123,7 +123,7 @@ impl Draft {
         push_instruction(&mut self.code, line, place)
     }
 
-    /// Puts the last statement, if there is one, behind those before it.
+    /// Appends the last statement, if there is one, to those before it.
     fn shift(&mut self) -> Result<(), AsmFault>
         ensures kept { MatchResult result (λ _. sketch self.new
             ≡ with_last_statement (sketch self.old)
@@ -133,7 +133,7 @@ impl Draft {
         push_open(&mut self.before, self.open)
     }
 
-    /// Takes a `state` line, which the lines `rest` follow.
+    /// Takes a `state` line that is followed by the lines `rest`.
     fn state(
         &mut self,
         slot: Target,
@@ -187,8 +187,8 @@ impl Draft {
         Ok(())
     }
 
-    /// Takes the line `at`, counted from 0, which the lines `rest` follow. `place` is what the
-    /// label that it gives or uses names.
+    /// Takes the line with index `at`, which is followed by the lines `rest`. `place` is that of
+    /// the label that the line defines or uses.
     fn line(
         &mut self,
         line: Line,
@@ -213,7 +213,7 @@ impl Draft {
         }
     }
 
-    /// Takes a line behind the first two.
+    /// Takes a line after the first two.
     fn body(
         &mut self,
         line: Line,
@@ -246,7 +246,7 @@ impl Draft {
         }
     }
 
-    /// The object that the lines spell, where there is an instruction among them.
+    /// The object that the lines spell; `Syntax` if there is no instruction among them.
     fn finish(self, alloc: Global) -> Result<Object, AsmFault>
         requires { IsLawful [] (sketch self) }
         ensures { MatchResult result (IsMade (sketch self)) (Declines (sketch self)) }
@@ -284,7 +284,7 @@ impl Draft {
     }
 }
 
-/// What is wrong with this line, counted from 1.
+/// A fault in this line, counted from 1; a refused allocation is at line 0.
 fn at_line(line: usize, kind: AsmFault) -> AsmError
     ensures { result ≡ error_at line kind }
 {
@@ -296,8 +296,8 @@ fn at_line(line: usize, kind: AsmFault) -> AsmError
 
 /// The object that a text of assembly spells.
 ///
-/// The refusal names the first bad line. A text without a bad line and without an instruction is
-/// `Syntax` at line 1. Where memory ran out the line is 0.
+/// Errors name the first bad line, counted from 1. A text with no bad line and no instruction is
+/// `Syntax` at line 1. If an allocation is refused, the error is `Memory` at line 0.
 pub fn assemble(alloc: Global, text: &str) -> Result<Object, AsmError>
     ensures spells { MatchResult result (TextSpells text.now)
         (λ error. IsWantOfMemory error ⊎ Refuses text.now error.line error.kind) }

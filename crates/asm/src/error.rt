@@ -8,17 +8,18 @@ use thiserror::Error;
 /// What is wrong with a line.
 #[derive(Clone, Copy, PartialEq, Eq, Debug, Error)]
 pub enum AsmFault {
-    /// The line is none of the forms, or it stands where it may not.
+    /// The line has none of the forms, or may not stand where it does.
     #[error("the line is none of the forms, or stands where it may not")]
     Syntax,
-    /// No line gives the label that this one uses.
+    /// No line defines the label that this one uses.
     #[error("no line gives this label")]
     Label,
-    /// A number that its field can't hold, or what an object file may not say of a statement. Also
-    /// the line that passes 4096 slots.
+    /// A number doesn't fit its field, or an object file can't hold what is stated. Also for the
+    /// line that passes 4096 slots.
     #[error("a number is out of its range, or the code is too long")]
     Range,
-    /// A label or a statement's slot is given again, or a register in two lines of one statement.
+    /// A label or a statement's slot is given again, or a register is stated twice in one
+    /// statement.
     #[error("a label, a slot or a register is given twice")]
     Twice,
     /// Memory ran out.
@@ -41,8 +42,7 @@ impl AsmFault {
     }
 }
 
-/// The first bad line, counted from 1, and what is wrong with it. Where memory ran out the line is
-/// 0.
+/// The first bad line, counted from 1, and what is wrong with it. The line is 0 if memory ran out.
 #[derive(Clone, Copy, PartialEq, Eq, Debug, Error)]
 #[error("line {line}: {kind}")]
 pub struct AsmError {

@@ -1,4 +1,4 @@
-//! The instruction of a line, both ways.
+//! The instruction of a line, and the line of an instruction.
 ghost use Rattle.std.specs.Prelude.{◌≡◌, ◌⊎◌, ℕ, Option, true, false, Some, Ok, Err, MatchResult};
 ghost use Rattle.std.specs.Prelude.{OnErr};
 ghost use Rattle.asm.specs.Instructions.{or_range_fault, source_of, distance_to, distance_of};
@@ -15,7 +15,7 @@ use asm_lines::{Line, Operand, Target};
 use asm_words::Numeral;
 use isa::{BuildError, CodeBuilder, Instruction, Source};
 
-/// A number in its field, or `Range`.
+/// A number that fits its field, or `Range`.
 fn in_range<T: Drop>(number: Option<T>) -> Result<T, AsmFault>
     ensures { result ≡ or_range_fault number }
 {
@@ -25,7 +25,7 @@ fn in_range<T: Drop>(number: Option<T>) -> Result<T, AsmFault>
     }
 }
 
-/// The second operand, if its number is one of 32 bits.
+/// The second operand; `None` if its number doesn't fit in 32 bits.
 fn source_of(operand: Operand) -> Option<Source>
     ensures { result ≡ source_of operand }
 {
@@ -38,7 +38,7 @@ fn source_of(operand: Operand) -> Option<Source>
     }
 }
 
-/// How far it is from the slot behind a jump to the place of a label, as a text would write it.
+/// The distance from the slot after a jump to the slot of a label, as a text would write it.
 fn distance_to(slot: usize, place: usize) -> Numeral
     ensures { result ≡ distance_to slot place }
 {
@@ -52,7 +52,7 @@ fn distance_to(slot: usize, place: usize) -> Numeral
     }
 }
 
-/// How far a jump at this slot goes: `Label` where its label is given nowhere.
+/// How far a jump at this slot goes; `Label` if no line defines its label.
 fn distance_of(target: Target, slot: usize, place: Option<usize>) -> Result<Numeral, AsmFault>
     ensures { result ≡ distance_of target slot place }
 {
@@ -65,8 +65,8 @@ fn distance_of(target: Target, slot: usize, place: Option<usize>) -> Result<Nume
     }
 }
 
-/// The instruction of a line at this slot, where `place` is the slot that the line's label names:
-/// `Syntax` where the line has none.
+/// The instruction of a line at this slot; `Syntax` if the line has none. `place` is the slot that
+/// the line's label names.
 pub(crate) fn instruction_of(
     line: Line,
     slot: usize,
@@ -236,8 +236,8 @@ fn wide_instruction_of(
     }
 }
 
-/// Adds the instruction of a line behind the code so far. After a refusal the code is as before;
-/// `Range` comes also where there would be more than 4096 slots.
+/// Appends the instruction of a line to the code. After an error the code is unchanged; `Range`
+/// also if there would be more than 4096 slots.
 pub(crate) fn push_instruction(
     code: &mut CodeBuilder,
     line: Line,
@@ -246,7 +246,7 @@ pub(crate) fn push_instruction(
     ensures taken { Takes result code.new (code_step code.old line place) }
     ensures same { OnErr result (code.new ≡ code.old) }
 {
-    // Names the type of a part of the instruction, whose place the generated proof has to know.
+    // Names the type of a part of the instruction; the generated proof has to know its module.
     let _none: Option<Source> = None;
     let instruction = instruction_of(line, code.len(), place)?;
     match code.push(instruction) {
@@ -381,7 +381,7 @@ fn memory_line_of(instruction: Instruction) -> Line
     }
 }
 
-/// The line of an instruction that loads a number or an address in a map, and takes two slots.
+/// The line of an instruction that loads a number or an address in a map, which takes two slots.
 fn wide_line_of(instruction: Instruction) -> Line
     requires jump { is_jump (instruction_line instruction) ≡ false }
     requires register { is_register (instruction_line instruction) ≡ false }

@@ -10,14 +10,14 @@ use asm_lines::Line;
 use indexmap::IndexMap;
 use std::alloc::{AllocError, Global};
 
-/// A label: the line that gives it first, counted from 0, and the slot that it names.
+/// A label: the first line that defines it, counted from 0, and the slot that it names.
 #[derive(Clone, Copy, PartialEq, Eq, Debug)]
 pub(crate) struct Place {
     pub line: usize,
     pub slot: usize,
 }
 
-/// How many slots the line's instruction takes; 0 where it has none.
+/// The number of slots that the line's instruction takes; 0 if it has none.
 fn slots_in(line: &Option<Line>) -> usize
     ensures value { result ≡ slots_in line.now }
     ensures most { result ≤ 2 }
@@ -47,7 +47,7 @@ fn gives_label(line: &Option<Line>) -> bool
     matches!(*line, Some(Line::Label))
 }
 
-/// Notes where a label is given, unless an earlier line gives it.
+/// Records where a label is defined, unless an earlier line defines it.
 fn note_place<'a>(
     places: &mut IndexMap<&'a str, Place>,
     name: &'a str,
@@ -62,7 +62,8 @@ fn note_place<'a>(
     Ok(())
 }
 
-/// Where the text of these lines, beside which these names stand, gives each of its labels first.
+/// Where each label is first defined in the text of these lines; `names[i]` is the label's name in
+/// line i.
 pub(crate) fn places_of<'a>(
     alloc: Global,
     lines: &[Option<Line>],
@@ -83,7 +84,7 @@ pub(crate) fn places_of<'a>(
     Ok(places)
 }
 
-/// Where the label of this name is given first, if the text gives it.
+/// Where the label with this name is first defined, if it is.
 pub(crate) fn place_of(places: &IndexMap<&str, Place>, name: &str) -> Option<Place>
     ensures { result ≡ place_in places.now name.now }
 {

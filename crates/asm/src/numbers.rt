@@ -1,17 +1,17 @@
-//! The numbers of a text in the fields that hold them. None is a number out of the field's range.
+//! The numbers of a text in the fields that hold them. `None` is a number out of the field's range.
 ghost use Rattle.std.specs.Prelude.{◌≡◌, ◌^◌, negsuc};
 ghost use Rattle.asm.specs.Numbers.{signed_in, natural_in};
 
 use asm_words::Numeral;
 
-/// A signed number of 64 bits that is -1 less this.
+/// The signed number `-1 - less`.
 fn below_zero(less: u32) -> i64
     ensures { result ≡ negsuc less }
 {
     -1 - i64::from(less)
 }
 
-/// A number from -2^63 to 2^63 - 1, if the text's is one.
+/// A number from -2^63 to 2^63 - 1; `None` if the text's is outside.
 fn signed_64(number: Numeral) -> Option<i64>
     ensures { result ≡ signed_in (2 ^ 63) number }
 {

@@ -16,8 +16,8 @@ use object::{
 };
 use std::alloc::{AllocError, Global};
 
-/// Whether a line of the statement that these lines follow says that the register is a number. The
-/// statement ends at the next `state` line.
+/// Whether a line of the statement, among the lines that follow, says that the register is a
+/// number. The statement ends at the next `state` line.
 fn is_stated_number(rest: &[Option<Line>], register: Register) -> bool
     ensures { result ≡ is_stated_number rest.now register }
 {
@@ -40,7 +40,7 @@ fn is_stated_number(rest: &[Option<Line>], register: Register) -> bool
     false
 }
 
-/// A term of the rank: Some(None) for `r0 * 0`, and None where no object can hold it.
+/// A term of the rank: `Some(None)` for `r0 * 0`, and `None` if no object can hold it.
 fn term_of(term: Term, rest: &[Option<Line>]) -> Option<Option<RankTerm>>
     ensures { result ≡ term_of rest.now term }
 {
@@ -59,7 +59,8 @@ fn term_of(term: Term, rest: &[Option<Line>]) -> Option<Option<RankTerm>>
     Some(Some(term))
 }
 
-/// The rank that a `state` line gives, which these lines follow. None where no object can hold it.
+/// The rank of a `state` line that is followed by the lines `rest`; `None` if no object can hold
+/// it.
 pub(crate) fn rank_of(constant: Numeral, terms: Terms, rest: &[Option<Line>]) -> Option<Rank>
     ensures { result ≡ rank_of constant terms rest.now }
 {
@@ -90,7 +91,7 @@ pub(crate) fn rank_of(constant: Numeral, terms: Terms, rest: &[Option<Line>]) ->
     }
 }
 
-/// The slot of a `state` line, where `place` is the slot that its label names.
+/// The slot of a `state` line; `place` is the slot that its label names.
 pub(crate) fn slot_of(slot: Target, place: Option<usize>) -> Result<u64, AsmFault>
     ensures { result ≡ slot_of slot place }
 {
@@ -127,7 +128,7 @@ fn map_of(map: Numeral) -> Option<Map>
     }
 }
 
-/// What a `with` line says of its register. None where no object can hold it.
+/// What a `with` line says of its register; `None` if no object can hold it.
 pub(crate) fn kind_of(content: Content) -> Option<Kind>
     ensures { result ≡ kind_of content }
 {
@@ -154,8 +155,8 @@ pub(crate) fn kind_of(content: Content) -> Option<Kind>
     }
 }
 
-/// The bytes of a `bytes` line, from the first up to the second. None where they aren't in the
-/// stack or turned round.
+/// The bytes of a `bytes` line, from the first up to but excluding the second. `None` if they are
+/// out of order or past the stack's end.
 pub(crate) fn bytes_of(start: Numeral, end: Numeral) -> Option<(usize, usize)>
     ensures { result ≡ bytes_of start end }
 {
@@ -168,7 +169,7 @@ pub(crate) fn bytes_of(start: Numeral, end: Numeral) -> Option<(usize, usize)>
     }
 }
 
-/// A statement whose lines aren't all read yet.
+/// A statement that lines may still add to.
 #[derive(Clone, Copy)]
 pub(crate) struct OpenStatement {
     pub slot: u32,
@@ -201,7 +202,7 @@ impl OpenStatement {
         }
     }
 
-    /// The statement with what a `with` line says.
+    /// The statement with what a `with` line says added.
     pub(crate) fn with(
         self,
         register: Register,
@@ -224,7 +225,7 @@ impl OpenStatement {
         Ok(open)
     }
 
-    /// The statement with what a `bytes` line says.
+    /// The statement with what a `bytes` line says added.
     pub(crate) fn bytes(self, start: Numeral, end: Numeral) -> Result<OpenStatement, AsmFault>
         ensures { Answers parts_of result (bytes_step (parts_of self) start end) }
     {
@@ -238,7 +239,7 @@ impl OpenStatement {
         }
     }
 
-    /// The whole statement. None where its rank speaks of a register that it doesn't state as a
+    /// The complete statement; `None` if its rank names a register that it doesn't state as a
     /// number.
     pub(crate) fn close(self) -> Option<Statement>
         ensures some { IsSome result ↔ IsRankOver self.kinds self.rank }
@@ -254,7 +255,7 @@ impl OpenStatement {
     }
 }
 
-/// Puts the last statement, if there is one, behind those before it.
+/// Appends the last statement, if there is one, to those before it.
 pub(crate) fn push_open(
     before: &mut Vec<OpenStatement>,
     last: Option<OpenStatement>,
@@ -263,7 +264,7 @@ pub(crate) fn push_open(
         ≡ all_of (map parts_of before.old.items) (option_map parts_of last)) (λ fault. fault
         ≡ AsmFault.Memory) }
 {
-    // Names the types of a statement's parts, whose places the generated proof has to know.
+    // Names the types of a statement's parts; the generated proof has to know their modules.
     let _rank: Option<(Rank, RankTerm, StackBytes)> = None;
     let _kind: Option<(Kind, StatedNumber, ContextOffset, StackOffset, Map)> = None;
     match last {
@@ -275,8 +276,8 @@ pub(crate) fn push_open(
     }
 }
 
-/// The statements before the last one, and the last one. None where the rank of one speaks of a
-/// register that it doesn't state as a number.
+/// All statements, the last one included; `None` if the rank of one names a register that it
+/// doesn't state as a number.
 pub(crate) fn statements_of(
     alloc: Global,
     before: &[OpenStatement],

@@ -30,7 +30,7 @@ use isa::{Code, DecodeFault, Hook, Register, Slot, decode};
 use object::{Kind, Object, Rank, RankTerm, StackBytes, StatedNumber, Statement};
 use std::alloc::{AllocError, Global};
 
-/// Writes a line that neither gives nor uses a label.
+/// Writes a line that neither defines nor uses a label.
 fn put(text: &mut String, line: Line) -> Result<(), AllocError>
     requires { names_label line ≡ false }
     ensures says { OnOk result (AddsLine (string_bytes text.old) (string_bytes text.new) line) }
@@ -46,7 +46,7 @@ fn number(n: u32) -> Numeral
     Numeral::Natural(u64::from(n))
 }
 
-/// A term of a rank: `r0 * 0` where there is none.
+/// A term of a rank; `r0 * 0` if there is none.
 fn term_of(term: Option<RankTerm>) -> Term
     ensures line { result ≡ the_term term }
     ensures again { (rest : List (Option Line)) → is_stated rest term ≡ true → term_of rest result
@@ -65,7 +65,7 @@ fn term_of(term: Option<RankTerm>) -> Term
     }
 }
 
-/// The terms of a rank: `r0 * 0` stands for a first one that isn't there before a second.
+/// The terms of a rank; `r0 * 0` stands for a missing first one if there is a second.
 fn terms_of(rank: Rank) -> Terms
     ensures line { result ≡ the_terms rank.first rank.second }
     ensures again { (rest : List (Option Line)) → is_stated rest rank.first ≡ true
@@ -93,7 +93,7 @@ fn range_of(numbers: StatedNumber) -> Range
     }
 }
 
-/// What a `with` line says of a register that holds this; None for an empty one.
+/// What a `with` line says of a register of this kind; `None` for an empty one.
 fn content_of(kind: Kind) -> Option<Content>
     ensures line { result ≡ the_content kind }
     ensures again { MatchOption result (kind ≡ Kind.Empty) (λ content. kind_of content
@@ -125,7 +125,7 @@ fn write_head(alloc: Global, hook: Hook, entry_rank: u32) -> Result<String, Allo
     Ok(text)
 }
 
-/// The lines of the instructions, in their order.
+/// The lines of the instructions, in order.
 fn write_code(text: &mut String, code: &Code) -> Result<(), AllocError>
     ensures says { OnOk result (AddsCode (string_bytes text.old) (string_bytes text.new) code.now) }
     ensures text { OnOk result (AddsText (string_bytes text.old) (string_bytes text.new)
@@ -159,7 +159,7 @@ fn write_kinds(text: &mut String, kinds: &[Kind]) -> Result<(), AllocError>
     Ok(())
 }
 
-/// Where the longest range of bytes ends that begins here.
+/// The end of the longest range of bytes that begins here, itself excluded.
 fn end_of_range(stack: &StackBytes, start: usize) -> usize
     requires { start < 512 }
     ensures further { start < result }
@@ -232,7 +232,7 @@ fn write_statements(text: &mut String, statements: &[Statement]) -> Result<(), A
     Ok(())
 }
 
-/// The listing of an object whose code is this.
+/// The listing of an object with this code.
 fn write_object(alloc: Global, object: &Object, code: &Code) -> Result<String, AllocError>
     requires { Spells object.now.code code.now }
     ensures spells { IfOk result (λ text. TextSpells (string_bytes text) object.now) }
@@ -245,7 +245,7 @@ fn write_object(alloc: Global, object: &Object, code: &Code) -> Result<String, A
     Ok(text)
 }
 
-/// What a refusal to decode an object's code is told as.
+/// The error for code that doesn't decode.
 fn told(fault: DecodeFault) -> ListError
     ensures { result ≡ as_list_error fault }
 {
@@ -258,7 +258,8 @@ fn told(fault: DecodeFault) -> ListError
 /// A text that spells the object: distances in place of labels, registers ascending, each longest
 /// range of stack bytes in one line.
 ///
-/// `Code` comes where the object's code doesn't decode, `Memory` only where it does.
+/// Errors with `Code` if the object's code doesn't decode, and with `Memory` if it does and an
+/// allocation is refused.
 pub fn listing(alloc: Global, object: &Object) -> Result<String, ListError>
     ensures spells { IfOk result (λ text. TextSpells (string_bytes text) object.now) }
     ensures lines { IfOk result (λ text. IsListing (string_bytes text) object.now) }

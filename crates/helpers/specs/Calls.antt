@@ -1,4 +1,4 @@
--- When a call is refused, of what r1 and r2 hold.
+-- When a call is refused, given what r1 and r2 hold.
 use Rattle.std.specs.Prelude.{is_none, List, Option, Some, None, if◌then◌else◌}
 use Rattle.machine.specs.declared.fault.Fault.{Fault}
 use Rattle.machine.specs.declared.fault.Fault.TheVariants as faults

@@ -1,4 +1,4 @@
-//! Calls of helpers by number, with every test that the machine asks for.
+//! Calls of helpers by number, with every check that the machine requires.
 ghost use Rattle.std.specs.Prelude.{◌≡◌, ◌<◌, ℕ, [], ◌∷◌, IfOk, IfErr, OnErr, Some};
 ghost use Rattle.machine.specs.declared.helper.Helper.TheVariants.{CounterAdd, CounterRead};
 ghost use Rattle.machine.specs.declared.helper.Helper.TheVariants.{PacketByte, TableCost};
@@ -15,10 +15,10 @@ use crate::lookups::{packet_byte, table_cost};
 use machine::{Content, Fault, Helper, Hook, Input};
 use maps::{Seat, Shared};
 
-/// The counters of the table.
+/// The number of counters of the table.
 const COUNTERS: u64 = 256;
 
-/// The first amount that is too large for one addition.
+/// The least amount that is too large for one addition.
 const AMOUNTS: u64 = 1 << 24;
 
 fn number_in(content: Content) -> Result<u64, Fault>
@@ -102,13 +102,13 @@ fn call_table_cost(first: Content, second: Content, input: &Input) -> Result<u64
     Ok(table_cost(input, prefix, length))
 }
 
-/// Calls the helper with a number, with what r1 and r2 hold, and gives its answer.
+/// Calls the helper with this number, with what r1 and r2 hold, and returns its answer.
 ///
 /// # Errors
 ///
-/// In this order: `Helper` where the hook has no helper with the number; `Empty` where an argument
-/// is empty; `Kind` where an argument is a pointer; `Argument` where a counter is above 255 or an
-/// amount isn't below 2^24. The seat is then as it was.
+/// In this order: `Helper` if the hook has no helper with the number; `Empty` if an argument is
+/// empty; `Kind` if an argument is a pointer; `Argument` if a counter is above 255 or an amount is
+/// 2^24 or more. The seat is then unchanged.
 pub fn call(
     hook: Hook,
     number: i32,

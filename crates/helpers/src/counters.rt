@@ -10,8 +10,8 @@ ghost use Rattle.helpers.specs.Seats.{Makes};
 
 use maps::{Seat, Shared};
 
-/// Adds an amount below 2^24 to one of the 256 counters and answers 0, or adds nothing and answers
-/// 1 where the seat has made its 2^31 additions.
+/// Adds an amount below 2^24 to one of the 256 counters and returns 0; once the seat has made its
+/// 2^31 additions, adds nothing and returns 1.
 pub fn counter_add(shared: &Shared, seat: &mut Seat, counter: u64, amount: u64) -> u64
     requires table { IsOf shared.now seat.old }
     requires counter { counter < 256 }
@@ -23,7 +23,7 @@ pub fn counter_add(shared: &Shared, seat: &mut Seat, counter: u64, amount: u64) 
     shared.add(seat, counter as usize, amount)
 }
 
-/// The number in one of the 256 counters: at least what the seat's own accesses say of it.
+/// The value of one of the 256 counters: at least what the seat's own accesses imply.
 pub fn counter_read(shared: &Shared, seat: &mut Seat, counter: u64) -> u64
     requires table { IsOf shared.now seat.old }
     requires counter { counter < 256 }
@@ -34,7 +34,7 @@ pub fn counter_read(shared: &Shared, seat: &mut Seat, counter: u64) -> u64
     shared.read(seat, counter as usize)
 }
 
-/// The number in one of the seat's own 64 cells: what the seat last stored there, or 0.
+/// The value of one of the seat's own 64 cells: what the seat last stored there, or 0.
 pub fn cell_read(shared: &Shared, seat: &mut Seat, cell: u64) -> u64
     requires table { IsOf shared.now seat.old }
     requires cell { cell < 64 }

@@ -81,7 +81,7 @@ pub(crate) fn negate(state: &mut State, width: Width, target: Register) -> Resul
     Ok(())
 }
 
-/// MOVSX.
+/// MOVSX: a sign-extending move.
 pub(crate) fn sign_extend(
     state: &mut State,
     extension: Extension,
@@ -107,7 +107,7 @@ pub(crate) fn sign_extend(
     Ok(())
 }
 
-/// END.
+/// END: a reordering of bytes.
 pub(crate) fn reorder(
     state: &mut State,
     order: ByteOrder,

@@ -12,17 +12,16 @@ use machine::{Hook, Input, State};
 use maps::{Seat, Shared};
 use word_machine::Run;
 
-/// Runs a program at a hook on an input, for at most `limit` instructions, with every test that the
-/// machine asks for.
+/// Runs a program at a hook on an input, for at most `limit` instructions, with every check that
+/// the machine requires.
 ///
-/// The answer is the number in r0 at EXIT. The seat is one of the table, and its list grows by
-/// exactly the run's accesses, also where the run ends in a trap. The call takes no memory and
-/// waits for nobody.
+/// The answer is the number in r0 at EXIT. The seat belongs to the table, and its list grows by
+/// exactly the run's accesses, even if the run ends in a trap. The call never blocks or allocates.
 ///
 /// # Errors
 ///
-/// `Trap::Stuck` where the machine is stuck after fewer than `limit` steps; `Trap::Limit` where
-/// `limit` instructions passed without EXIT.
+/// `Trap::Stuck` if the machine is stuck after fewer than `limit` steps; `Trap::Limit` if `limit`
+/// instructions passed without EXIT.
 pub fn run_checked(
     code: &Code,
     hook: Hook,
@@ -40,17 +39,17 @@ pub fn run_checked(
     steps::run_steps(code.slots(), hook, limit, input, shared, seat, &mut state)
 }
 
-/// A checked run, and where the machine stands at its end.
+/// A checked run, and the state at its end.
 #[derive(Clone, Copy, Debug)]
 pub struct Halt {
     /// The answer, or why there is none.
     pub outcome: Result<Run, Trap>,
-    /// The state at EXIT, or that is stuck, or that the last instruction led to.
+    /// The state at EXIT, the stuck state, or the one that the last instruction led to.
     pub state: State,
 }
 
-/// Runs a program as `run_checked` does, and tells where the machine stands at the end: at EXIT, at
-/// the instruction by which it is stuck, or after `limit` instructions.
+/// Runs a program as `run_checked` does, and returns the state at the end as well: at EXIT, at the
+/// instruction by which it is stuck, or after `limit` instructions.
 pub fn run_to_halt(
     code: &Code,
     hook: Hook,

@@ -8,7 +8,7 @@ ghost use Rattle.machine.specs.Faults.{has, is_nothing, operation_reads, is_same
 use isa::{Map, Operation, Test, Width, arithmetic};
 use machine::{Content, Pointer};
 
-/// The pointer further on in its region. Its offset wraps.
+/// The pointer moved within its region. Its offset wraps.
 pub(crate) fn at_distance(pointer: Pointer, distance: u64) -> Pointer
     ensures { result ≡ at_distance pointer distance }
 {
@@ -39,7 +39,7 @@ pub(crate) fn is_same_pointer(a: Pointer, b: Pointer) -> bool
     }
 }
 
-/// A pointer with a number added or subtracted, if it may be.
+/// A pointer with a number added or subtracted; `None` for any other operation.
 fn displaced(operation: Operation, pointer: Pointer, number: u64) -> Option<Content>
     ensures { result ≡ moved_pointer operation pointer number }
 {
@@ -52,7 +52,7 @@ fn displaced(operation: Operation, pointer: Pointer, number: u64) -> Option<Cont
     }
 }
 
-/// What an operation but a move makes of two contents, if it may.
+/// The result of an operation other than a move on two contents; `None` if it isn't allowed.
 fn combined(width: Width, operation: Operation, left: Content, right: Content) -> Option<Content>
     ensures { result ≡ combined_content width operation left right }
 {
@@ -68,7 +68,7 @@ fn combined(width: Width, operation: Operation, left: Content, right: Content) -
     }
 }
 
-/// What a move copies, if it may.
+/// What a move copies; `None` if it isn't allowed.
 fn copied(width: Width, content: Content) -> Option<Content>
     ensures { result ≡ copied_content width content }
 {
@@ -82,7 +82,7 @@ fn copied(width: Width, content: Content) -> Option<Content>
     }
 }
 
-/// What an operation makes of two contents, if it may.
+/// The result of an operation on two contents; `None` if it isn't allowed.
 pub(crate) fn result_of(
     width: Width,
     operation: Operation,
@@ -107,7 +107,7 @@ pub(crate) fn reads_nothing(operation: Operation, left: Content, right: Content)
     }
 }
 
-/// Whether a test of two contents holds, if it may be made.
+/// Whether a test of two contents holds; `None` if it isn't allowed.
 pub(crate) fn tested(width: Width, test: Test, left: Content, right: Content) -> Option<bool>
     ensures { result ≡ test_result width test left right }
 {

@@ -1,8 +1,8 @@
-//! Runs programs on the machine: any code with every test that it asks for, and accepted programs
-//! with none.
+//! Runs programs on the machine: any code with every check that the machine requires, and accepted
+//! programs without checks.
 //!
-//! A run takes no memory and waits for nobody. What it did to the shared words is the list of its
-//! labels: by exactly these the list of its seat has grown.
+//! A run never blocks or allocates. What it did to the shared words is the list of its labels, by
+//! exactly which the list of its seat has grown.
 #![tactic(auto)]
 
 mod assignments;

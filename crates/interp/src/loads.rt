@@ -90,7 +90,7 @@ fn load_stack(state: &mut State, size: LoadSize, target: Register, at: u64) -> R
     Ok(())
 }
 
-/// How many bytes a map has.
+/// The size of a map, in bytes.
 pub(crate) fn map_length(map: Map) -> u64
     ensures value { result ≡ Rattle.machine.specs.Memory.map_length map }
     ensures range { (512 ≤ result) × (result ≤ 2048) }
@@ -164,7 +164,7 @@ fn load_at(
     }
 }
 
-/// LDX: a load into a register, from the pointer in the base register with the offset added.
+/// LDX: a load into a register, from the pointer in the base register plus the offset.
 pub(crate) fn load(
     state: &mut State,
     size: LoadSize,

@@ -1,4 +1,4 @@
-//! What registers hold, and how the machine goes on.
+//! What registers hold, and the moves to the next slot.
 ghost use Rattle.std.specs.Prelude.{◌≡◌, ◌<◌, ◌+◌};
 ghost use Rattle.machine.specs.State.{held, operand, with_register, moved_on, after_jump};
 ghost use Rattle.machine.specs.Helpers.{state_after_call};
@@ -13,7 +13,7 @@ pub(crate) fn held(state: &State, register: Register) -> Content
     state.registers[register.index()]
 }
 
-/// What a second operand is: a number that is widened by its sign, or what a register holds.
+/// The second operand: a number, sign-extended, or what a register holds.
 pub(crate) fn operand(state: &State, source: Source) -> Content
     ensures { result ≡ operand state.now source }
 {
@@ -23,7 +23,7 @@ pub(crate) fn operand(state: &State, source: Source) -> Content
     }
 }
 
-/// Fills a register, and goes on to the next slot.
+/// Writes a register, and moves on to the next slot.
 pub(crate) fn fill(state: &mut State, target: Register, content: Content)
     requires { state.old.slot < 4096 }
     ensures { state.new ≡ with_register state.old target content }
@@ -32,7 +32,7 @@ pub(crate) fn fill(state: &mut State, target: Register, content: Content)
     state.slot += 1;
 }
 
-/// Fills a register, and goes on past a wide instruction.
+/// Writes a register, and moves on past a wide instruction.
 pub(crate) fn fill_wide(state: &mut State, target: Register, content: Content)
     requires { state.old.slot < 4096 }
     ensures { state.new
@@ -42,7 +42,7 @@ pub(crate) fn fill_wide(state: &mut State, target: Register, content: Content)
     state.slot += 2;
 }
 
-/// Goes on to the next slot.
+/// Moves on to the next slot.
 pub(crate) fn move_on(state: &mut State)
     requires { state.old.slot < 4096 }
     ensures { state.new ≡ moved_on state.old }
@@ -50,7 +50,7 @@ pub(crate) fn move_on(state: &mut State)
     state.slot += 1;
 }
 
-/// Goes to the slot at a distance from the next one. The slot is a word and wraps.
+/// Jumps by a distance from the next slot. The slot is a word and wraps.
 pub(crate) fn jump(state: &mut State, distance: i32)
     requires { state.old.slot < 4096 }
     ensures { state.new ≡ after_jump state.old distance }
@@ -58,7 +58,7 @@ pub(crate) fn jump(state: &mut State, distance: i32)
     state.slot = (state.slot + 1).wrapping_add(i64::from(distance).cast_unsigned());
 }
 
-/// Puts a helper's answer into r0, empties r1 to r5, and goes on to the next slot.
+/// Puts a helper's answer into r0, empties r1 to r5, and moves on to the next slot.
 pub(crate) fn take_answer(state: &mut State, answer: u64)
     requires { state.old.slot < 4096 }
     ensures { state.new ≡ state_after_call state.old answer }

@@ -116,7 +116,7 @@ fn store_at(
     }
 }
 
-/// ST and STX: a store at the pointer in the base register with the offset added.
+/// ST and STX: a store at the pointer in the base register plus the offset.
 pub(crate) fn store(
     state: &mut State,
     size: StoreSize,

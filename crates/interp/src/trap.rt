@@ -11,7 +11,7 @@ pub enum Trap {
     /// The machine is stuck, for this reason.
     #[error("the machine is stuck")]
     Stuck(Fault),
-    /// The stated number of instructions passed without EXIT.
+    /// `limit` instructions passed without EXIT.
     #[error("the instructions were used up without EXIT")]
     Limit,
 }

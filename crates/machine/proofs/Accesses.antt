@@ -1,4 +1,4 @@
--- Loads, stores and calls that may be made commit no fault.
+-- Loads, stores and calls that are allowed commit no fault.
 use Rattle.std.proofs.Common.{◌≡◌, ℕ, ◌+◌, ◌%◌, List, [], ◌∷◌, refl, arith, true, false, ◌||◌, not, Some, inl, inr}
 use Rattle.std.proofs.lemmas.Bool.{le-leb, eq-eqb}
 use Rattle.std.specs.Prelude.{nat_le, slice_range}

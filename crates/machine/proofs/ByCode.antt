@@ -90,7 +90,7 @@ steps_lead setting s next label (instructions.Store z x o y) does = inl (ap (λ 
 steps_lead setting s next label (instructions.LoadNumber t n) does = inl (ap (λ (z : State). z.slot) does.2)
 steps_lead setting s next label (instructions.LoadMap t m o) does = inl (ap (λ (z : State). z.slot) does.4)
 
--- another register than the one that is filled
+-- a register other than the one that is filled
 kept : (s : State) (target register : ℕ) (content : Content) → Some target ≢ Some register → held (with_register s target content) register ≡ held s register
 kept s target register content other = get_or-set_other s.registers target register content Nothing (λ e. other (ap Some (sym e)))
 

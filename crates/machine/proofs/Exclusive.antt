@@ -1,4 +1,4 @@
--- A step is taken only where the machine isn't stuck.
+-- A stuck machine takes no step.
 use Rattle.std.proofs.Common.{◌≡◌, ℕ, refl, Bool, false, cond, Some, None}
 use Rattle.std.proofs.lemmas.Bool.{ne_eqb}
 use Rattle.isa.specs.declared.instruction.Instruction.{Instruction}

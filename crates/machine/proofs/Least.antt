@@ -51,7 +51,7 @@ module _ (rank : Fault → ℕ) (committed : Fault → Bool) where
       at false e (inl same) rest = let no : committed f ≡ false = rw same at e in cc
       at false e (inr more) rest = rest more
 
-  -- where each fault is in the list or not committed
+  -- each fault is in the list or not committed
   first_least_iff : (xs : List Fault) → IsSorted rank xs → ((g : Fault) → (committed g ≡ false) ⊎ Has g xs) → (f : Fault) → (first_of committed xs ≡ Some f) ↔ IsLeast rank committed f
   first_least_iff xs sorted covers f = (to, from)
     where

@@ -1,4 +1,4 @@
--- What gives a content doesn't read an empty one.
+-- An instruction that gives a content doesn't read an empty one.
 use Rattle.std.proofs.Common.{◌≡◌, ℕ, List, [], ◌∷◌, map, refl, Bool, true, false, not, Some}
 use Rattle.std.proofs.lemmas.Bool.{eq-eqb}
 use Rattle.isa.specs.declared.instruction.Width.{Width}

@@ -25,7 +25,8 @@ use Rattle.machine.specs.State.{Setting, setting_of, held}
 use Rattle.machine.specs.Steps.{Does, Step, Exits, IsAt}
 use Rattle.machine.specs.Faults.{Stuck, commits, fault_at, fault_number, reads}
 
--- A state is in at most one of three ways: it steps, it is at EXIT with an answer, it is stuck.
+-- A state is in at most one of three conditions: it steps, it is at EXIT with an answer, it is
+-- stuck.
 pub record GoesOneWay : Type 0 where
   pub step_or_stuck : (setting : Setting) (s next : State) (label : Label) (fault : Fault)
       → Step setting s label next → Stuck setting s fault → ⊥
@@ -34,7 +35,7 @@ pub record GoesOneWay : Type 0 where
   pub step_or_exit : (setting : Setting) (s next : State) (label : Label) (word : ℕ)
       → Step setting s label next → Exits setting s word → ⊥
 
--- the place of a fault among those of an instruction: its number, but at a call Helper comes first
+-- the rank of a fault among those of an instruction: its number, but at a call Helper comes first
 abbrev pub call_rank : Fault → ℕ
 call_rank Helper = 0
 call_rank other = fault_number other
@@ -43,12 +44,12 @@ abbrev pub rank_of : Instruction → Fault → ℕ
 rank_of (Call number) fault = call_rank fault
 rank_of other fault = fault_number fault
 
--- a fault whose condition holds, and that of no fault of a lower rank
+-- a fault whose condition holds while that of no fault of a lower rank does
 pub record IsLeast (rank : Fault → ℕ) (committed : Fault → Bool) (fault : Fault) : Type 0 where
   pub holds : committed fault ≡ true
   pub least : (other : Fault) → rank other < rank fault → committed other ≡ false
 
--- Where an instruction begins, the machine is stuck for a reason exactly if it is the least one
+-- Where an instruction begins, the machine is stuck for a reason if and only if it is the least one
 -- whose condition holds.
 abbrev pub LeastFaultCounts : Type 0
 LeastFaultCounts =
@@ -78,13 +79,13 @@ IsStuckOrGoesOn setting s =
     (((label : Label) × (next : State) × Step setting s label next)
     ⊎ ((word : ℕ) × Exits setting s word))
 
--- Each state with a whole stack is one.
+-- Each state with a whole stack is of this kind.
 abbrev pub StatesGoOn : Type 0
 StatesGoOn =
     (setting : Setting) (s : State) → IsInput setting.input → length s.stack ≡ 512
     → IsStuckOrGoesOn setting s
 
--- Each state that a run reaches is one.
+-- Each state that a run reaches is of this kind.
 abbrev pub RunsGoOn : Type 0
 RunsGoOn =
     (setting : Setting) (n : ℕ) (labels : List Label) (s : State) → IsInput setting.input
@@ -104,7 +105,7 @@ adding input = record {
 abbrev pub AddingEnds : Type 0
 AddingEnds = (input : Given) → Ends (adding input) 4 (Silent ∷ Silent ∷ Add 5 3 ∷ []) 0
 
--- Whether the machine is stuck at a state, and for which reason, doesn't depend on the input.
+-- Whether the machine is stuck at a state, and why, doesn't depend on the input.
 abbrev pub FaultIgnoresInput : Type 0
 FaultIgnoresInput = (code : List Slot) (hook : Hook) (a b : Given) (s : State)
     → fault_at (setting_of code hook a) s ≡ fault_at (setting_of code hook b) s
@@ -128,14 +129,14 @@ EmptyExitIsUnsafe = (hook : Hook) (most : ℕ) → Safe (Start Exit ∷ []) hook
 abbrev pub number_content : ℤ → Content
 number_content number = Number (widened_immediate number)
 
--- What an instruction reads is what its registers hold, and then its number, if it has one. A CALL
--- reads the arguments of its helper.
+-- What an instruction other than a CALL reads is what its registers hold, followed by its number,
+-- if it has one.
 abbrev pub ReadsAreOfRegisters : Type 0
 ReadsAreOfRegisters =
     (setting : Setting) (s : State) (i : Instruction) → ((number : ℤ) → i ≢ Call number)
     → reads setting s i ≡ map (held s) (registers_read i) ++ map number_content (numbers_read i)
 
--- A step of another instruction than a CALL leaves each register as it was but the one that the
+-- A step of an instruction other than a CALL leaves each register unchanged but the one that the
 -- instruction names as its target.
 abbrev pub StepsWriteTheirTarget : Type 0
 StepsWriteTheirTarget =
@@ -143,7 +144,7 @@ StepsWriteTheirTarget =
     → ((number : ℤ) → i ≢ Call number) → register_written i ≢ Some register
     → Does i setting s label next → held next register ≡ held s register
 
--- A step leads to the slot behind its instruction, or to the target of its jump.
+-- A step leads to the slot after its instruction, or to the target of its jump.
 abbrev pub StepsLeadByCode : Type 0
 StepsLeadByCode = (setting : Setting) (s next : State) (label : Label) (i : Instruction)
     → Does i setting s label next

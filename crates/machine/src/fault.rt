@@ -1,9 +1,9 @@
-//! The reasons for which the machine is stuck.
+//! The reasons why the machine is stuck.
 
-/// Why the machine is stuck: it is at no instruction that it may execute.
+/// Why the machine is stuck: it can't execute an instruction at its state.
 ///
-/// Where several hold at one state, the one with the least number counts, but at a call `Helper`
-/// comes before the others.
+/// If several reasons hold, the one with the least number counts, except that `Helper` comes first
+/// at a call.
 #[derive(Clone, Copy, PartialEq, Eq, Debug)]
 pub enum Fault {
     /// 1: the slot isn't in the code.
@@ -12,21 +12,21 @@ pub enum Fault {
     HalfWide,
     /// 3: an empty register or stack byte is read.
     Empty,
-    /// 4: a pointer is used where only a number may be, or the other way round; a region is written
-    /// that is read only; pieces of a pointer are read in another way than all eight as a whole; or
-    /// a map isn't one of the two.
+    /// 4: a pointer is used where only a number may be, or vice versa; a read-only region is
+    /// written; pieces of a pointer are not read as all eight at once; or there is no map with the
+    /// number.
     Kind,
     /// 5: the bytes of a load or store don't all lie in its region.
     Bounds,
     /// 6: a load or store in a map isn't of eight bytes at a multiple of eight.
     Align,
-    /// 7: there is no helper with the number at the hook.
+    /// 7: the hook has no helper with the number.
     Helper,
     /// 8: a helper's argument is too large.
     Argument,
     /// 9: r10 is written.
     Frame,
-    /// 10: a pointer is answered.
+    /// 10: r0 holds a pointer at EXIT.
     ExitKind,
 }
 

@@ -2,18 +2,18 @@
 use isa::Hook;
 
 /// A function that programs may call (RFC 9669, section 4.3.1). It takes its arguments from r1 on
-/// and answers in r0.
+/// and returns its answer in r0.
 #[derive(Clone, Copy, PartialEq, Eq, Debug)]
 pub enum Helper {
-    /// 1, at every hook: adds an amount below 2^24 to a counter below 256. Answers 0, or 1 where
-    /// the seat's additions are spent and nothing was added.
+    /// 1, at every hook: adds an amount below 2^24 to a counter below 256. Returns 0, or 1 if the
+    /// seat has used up its additions, in which case nothing is added.
     CounterAdd,
-    /// 2, at every hook: the number in a counter below 256.
+    /// 2, at every hook: the value of a counter below 256.
     CounterRead,
     /// 3, at `count`: the byte of the packet at an offset, or 256 past its end.
     PacketByte,
-    /// 4, at `tag`, `price` and `veto`: the cost of the first row with exactly a prefix and a
-    /// length, or 2^32 where there is none.
+    /// 4, at `tag`, `price` and `veto`: the cost of the first row with exactly this prefix and
+    /// length, or 2^32 if there is none.
     TableCost,
 }
 
@@ -21,7 +21,7 @@ impl Helper {
     ghost use Rattle.std.specs.Prelude.{◌≡◌};
     ghost use Rattle.machine.specs.Helpers.{helper_of};
 
-    /// The helper with a number, of those that the hook has.
+    /// The helper with this number; `None` if the hook has none.
     pub fn at(hook: Hook, number: i32) -> Option<Helper>
         ensures { result ≡ helper_of hook number }
     {

@@ -5,7 +5,7 @@ ghost use Rattle.machine.specs.Laws.{FaultIgnoresInput, SafeRunsEnd, LabelsDeter
 ghost use Rattle.machine.specs.Laws.{EmptyExitIsUnsafe, ReadsAreOfRegisters, StepsLeadByCode};
 ghost use Rattle.machine.specs.Laws.{StepsWriteTheirTarget};
 
-/// No state is two of these: able to step, at EXIT with an answer, stuck.
+/// A state is at most one of these: able to step, at EXIT with an answer, stuck.
 pub fn a_state_goes_one_way()
     ensures { GoesOneWay }
 {}
@@ -20,8 +20,8 @@ pub fn a_run_goes_on_until_it_ends()
     ensures { RunsGoOn }
 {}
 
-/// Where the conditions of several faults hold, the fault with the least number counts, but at a
-/// call `Helper` before the others.
+/// If the conditions of several faults hold, the fault with the least number counts, except that
+/// `Helper` comes first at a call.
 pub fn the_least_fault_counts()
     ensures { LeastFaultCounts }
 {}
@@ -46,7 +46,7 @@ pub fn a_counting_program_ends()
     ensures { AddingEnds }
 {}
 
-/// Whether the machine is stuck at a state, and for which reason, doesn't depend on the input.
+/// Whether the machine is stuck at a state, and why, doesn't depend on the input.
 pub fn the_input_makes_no_fault()
     ensures { FaultIgnoresInput }
 {}
@@ -61,22 +61,22 @@ pub fn the_labels_determine_the_answer()
     ensures { LabelsDetermineAnswer }
 {}
 
-/// `exit` alone is safe for no number of instructions.
+/// `exit` alone is not safe, whatever the number of instructions.
 pub fn an_empty_exit_is_never_safe()
     ensures { EmptyExitIsUnsafe }
 {}
 
-/// What an instruction other than a call reads is what its registers hold, and then its number.
+/// What an instruction other than a call reads is what its registers hold, followed by its number.
 pub fn an_instruction_reads_its_registers()
     ensures { ReadsAreOfRegisters }
 {}
 
-/// A step of another instruction than a call changes no register but the instruction's target.
+/// A step of an instruction other than a call changes no register but the instruction's target.
 pub fn a_step_writes_its_target_alone()
     ensures { StepsWriteTheirTarget }
 {}
 
-/// A step leads to the slot behind its instruction, or to the target of its jump.
+/// A step leads to the slot after its instruction, or to the target of its jump.
 pub fn a_step_leads_behind_or_to_the_target()
     ensures { StepsLeadByCode }
 {}

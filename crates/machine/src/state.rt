@@ -1,10 +1,11 @@
 //! What the machine's registers and stack hold.
 use isa::Map;
 
-/// A region and an offset in it in bytes, which may lie outside: only a load or store is checked.
+/// A region and an offset in bytes. The offset may be out of bounds: only loads and stores are
+/// checked.
 #[derive(Clone, Copy, PartialEq, Eq, Debug)]
 pub enum Pointer {
-    /// Into the 64 bytes of the context, which are read only.
+    /// Into the 64 bytes of the context, which are read-only.
     Context(u64),
     /// Into the 512 bytes of the stack.
     Stack(u64),
@@ -15,7 +16,7 @@ pub enum Pointer {
 /// What a register holds.
 #[derive(Clone, Copy, PartialEq, Eq, Debug)]
 pub enum Content {
-    /// Nothing was written yet, or a call emptied the register.
+    /// Empty: not written yet, or cleared by a call.
     Nothing,
     /// A number of 64 bits.
     Number(u64),
@@ -26,21 +27,21 @@ pub enum Content {
 /// What a byte of the stack holds.
 #[derive(Clone, Copy, PartialEq, Eq, Debug)]
 pub enum StackByte {
-    /// Nothing was written yet.
+    /// Empty: not written yet.
     Nothing,
     /// A byte of a number.
     Byte(u8),
-    /// Piece k, from 0 to 7, of the eight bytes that a pointer is stored in, the lowest first.
+    /// Piece k, from 0 to 7, of a pointer that is stored in eight bytes, the lowest first.
     Piece(Pointer, u8),
 }
 
-/// The machine between two instructions.
+/// The state of the machine between two instructions.
 #[derive(Clone, Copy, Debug)]
 pub struct State {
     /// The slot of the next instruction.
     pub slot: u64,
     /// r0 to r10.
     pub registers: [Content; 11],
-    /// The stack, the lowest byte first.
+    /// The stack, from the lowest byte up.
     pub stack: [StackByte; 512],
 }

@@ -1,4 +1,4 @@
--- The numbers of the refusals.
+-- The numbers of the errors.
 use Rattle.std.specs.Prelude.{ℕ}
 use Rattle.maps.specs.declared.error.MapsError.{MapsError}
 use Rattle.maps.specs.declared.error.MapsError.TheVariants.{Seats, Memory}

@@ -5,7 +5,7 @@ use thiserror::Error;
 /// Why [`Shared::new`](crate::Shared::new) made no table.
 #[derive(Debug, Clone, Copy, PartialEq, Eq, Error)]
 pub enum MapsError {
-    /// No seat is asked for, or more than [`SEATS`](crate::SEATS).
+    /// The number of seats is 0, or more than [`SEATS`](crate::SEATS).
     #[error("a table has 1 to 64 seats")]
     Seats,
     /// An allocation was refused.
@@ -17,7 +17,7 @@ impl MapsError {
     ghost use Rattle.std.specs.Prelude.{◌≡◌};
     ghost use Rattle.maps.specs.Refusals.{number_of};
 
-    /// The number of the refusal, in the order in which they are tried: 1 for `Seats`, 2 for
+    /// The error's number, in the order in which the conditions are checked: 1 for `Seats`, 2 for
     /// `Memory`.
     pub fn number(self) -> u8
         ensures { result ≡ number_of self }

@@ -4,8 +4,8 @@ use std::marker::Model;
 
 /// The right to access a table from one thread at a time, with 64 cells of its own.
 ///
-/// It may go to another thread. Contracts see its table, its number and its accesses so far, the
-/// oldest first. A table one of whose seats was dropped can't be closed any more.
+/// It may be sent to another thread. Contracts see its table, its number and its accesses so far,
+/// the oldest first. Once a seat of a table is dropped, the table can't be closed any more.
 #[derive(Drop)]
 pub struct Seat {
     pub(crate) number: usize,

@@ -22,9 +22,9 @@ use std::marker::Model;
 
 /// The words of one table: 256 counters that all its seats share, and 64 cells for each seat.
 ///
-/// It is lent by `&` to any number of threads, each with a seat of its own. A call with a seat
-/// makes one atomic step on one word: it waits for nobody and takes no memory. Contracts see which
-/// table it is and how many seats it gave.
+/// It is shared by `&` with any number of threads, each with a seat of its own. A call with a seat
+/// makes one atomic step on one word: it never blocks or allocates. Contracts see which table it is
+/// and how many seats it has.
 #[derive(Drop)]
 pub struct Shared {
     table: Table<(), View, usize, WordsRule, Global>,
@@ -46,8 +46,8 @@ impl Shared {
     ///
     /// # Errors
     ///
-    /// `Seats` where `count` is 0 or above 64, which is tried first; `Memory` where an allocation
-    /// is refused.
+    /// `Seats` if `count` is 0 or above 64, which is checked first; `Memory` if an allocation is
+    /// refused.
     pub fn new(alloc: Global, count: usize) -> Result<(Shared, Vec<Seat>), MapsError>
         ensures seats { (result ≡ Err MapsError.Seats) ↔ ((count ≡ 0) ⊎ (64 < count)) }
         ensures table { IfOk result (λ r. r.0.seats ≡ count) }
@@ -64,8 +64,8 @@ impl Shared {
         Ok((Shared { table }, seats))
     }
 
-    /// Ends the table, whose seats are these in any order, and gives each counter's sum of their
-    /// adds, which is below 2^61.
+    /// Closes the table, given all its seats in any order, and returns for each counter the sum of
+    /// their adds, which is below 2^61.
     pub fn close(self, seats: Vec<Seat>) -> Totals
         requires all { length seats.items ≡ self.seats }
         requires table { All (IsOf self) seats.items }
@@ -84,8 +84,8 @@ impl Shared {
         totals
     }
 
-    /// Adds an amount below 2^24 to one of the 256 counters and answers 0, or takes no step and
-    /// answers 1 where the seat has made its 2^31 adds.
+    /// Adds an amount below 2^24 to one of the 256 counters and returns 0; once the seat has made
+    /// its 2^31 adds, does nothing and returns 1.
     pub fn add(&self, seat: &mut Seat, index: usize, amount: u64) -> u64
         requires table { IsOf self.now seat.old }
         requires index { index < 256 }
@@ -104,8 +104,8 @@ impl Shared {
         0
     }
 
-    /// The number in one of the 256 counters. It is at least what the seat's own accesses say of
-    /// it: what the seat last read there and added since.
+    /// The value of one of the 256 counters. It is at least what the seat's own accesses imply:
+    /// what the seat last read there plus what it added since.
     pub fn read(&self, seat: &mut Seat, index: usize) -> u64
         requires table { IsOf self.now seat.old }
         requires index { index < 256 }
@@ -116,7 +116,7 @@ impl Shared {
         self.table.shared.load::<Reads>(&mut seat.place, index)
     }
 
-    /// The number in one of the seat's own 64 cells: what the seat last stored there, or 0.
+    /// The value of one of the seat's own 64 cells: what the seat last stored there, or 0.
     pub fn cell(&self, seat: &mut Seat, index: usize) -> u64
         requires table { IsOf self.now seat.old }
         requires index { index < 64 }
@@ -139,7 +139,7 @@ impl Shared {
     }
 }
 
-// Cuts the view of all lists into seats of one list each.
+// Cuts the view of all lists into seats with one list each.
 fn deal(alloc: Global, words: &Top, mut all: Place, count: usize) -> Result<Vec<Seat>, AllocError>
     requires table { (all.table_id ≡ words.now.table_id) × IsSized words.now.table_id count
         × (words.now.key ≡ count) }

@@ -40,7 +40,7 @@ pub record IsRankOver (registers : List Kind) (rank : Rank) : Type 0 where
   pub second : IsTermOver registers rank.second
 
 -- the parts of a statement: its slot, the rank there, what r0 to r9 hold, and the stack bytes that
--- are initialized
+-- hold bytes of numbers
 pub record StatementParts : Type 0 where
   pub slot : ℕ
   pub rank : Rank

@@ -9,8 +9,8 @@ use crate::rank::{Rank, RankTerm};
 use crate::stack::StackBytes;
 use std::marker::Model;
 
-/// What is stated at a slot: what r0 to r9 hold, which stack bytes are initialized, and the rank,
-/// over registers that are stated as numbers. Contracts see the record of all four.
+/// What is stated at a slot: what r0 to r9 hold, which stack bytes hold bytes of numbers, and the
+/// rank, over registers that are stated as numbers. Contracts see the record of all four.
 #[derive(Clone, Copy, PartialEq, Eq, Debug)]
 pub struct Statement {
     slot: u32,
@@ -108,7 +108,7 @@ impl Statement {
         &self.kinds
     }
 
-    /// The stack bytes that are initialized there.
+    /// The stack bytes that hold bytes of numbers there.
     pub fn stack(&self) -> &StackBytes
         ensures value { result.now ≡ self.now.stack }
         ensures is_statement { IsStatement self.now }

@@ -1,17 +1,17 @@
-//! Why bytes have no program to run.
+//! Why bytes hold no program to run.
 ghost use Rattle.std.specs.Prelude.{◌≡◌};
 
 use isa::DecodeError;
 use object::ReadError;
 use thiserror::Error;
 
-/// Why bytes have no program to run. Either part may be want of memory.
+/// Why bytes hold no program to run. Either variant may be a refused allocation.
 #[derive(Clone, Copy, PartialEq, Eq, Debug, Error)]
 pub enum RunError {
-    /// They are no object file.
+    /// They are not an object file.
     #[error("no object file: {0}")]
     Object(ReadError),
-    /// They are an object file, whose code doesn't decode.
+    /// They are an object file whose code doesn't decode.
     #[error("no code: {0}")]
     Code(DecodeError),
 }

@@ -1,21 +1,20 @@
-//! For how many instructions a program runs at most.
+//! How many instructions a program may run.
 ghost use Rattle.std.specs.Prelude.{◌≡◌};
 ghost use Rattle.object_runs.specs.Limits.{own_limit, limit_of};
 
 use object::Object;
 use verifier::BUDGET;
 
-/// For how many instructions a program runs at most.
+/// How many instructions a program may run.
 #[derive(Clone, Copy, PartialEq, Eq, Debug)]
 pub enum Limit {
-    /// As many as its object allows: as many as there are slots, once and once more for each rank
-    /// below the entry's, and at most 1,000,000.
+    /// `(entry rank + 1) * slots`, but at most 1,000,000.
     Own,
     /// This many.
     Instructions(u64),
 }
 
-/// How many instructions the object allows.
+/// The number of instructions that the object allows.
 fn own_limit(object: &Object) -> u64
     ensures { result ≡ own_limit object.now }
 {
@@ -24,7 +23,7 @@ fn own_limit(object: &Object) -> u64
 }
 
 impl Limit {
-    /// So many instructions for this object.
+    /// The number of instructions for this object.
     pub(crate) fn of(self, object: &Object) -> u64
         ensures { result ≡ limit_of self object.now }
     {

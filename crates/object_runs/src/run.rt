@@ -12,14 +12,14 @@ use machine::Input;
 use maps::{Seat, Shared};
 use std::alloc::Global;
 
-/// Runs the program of the object file that these bytes are once, at its hook and on this input,
-/// for at most so many instructions. The answer is what the machine's run of its code came to, and
-/// the seat has made just the steps of that run.
+/// Runs the program of the object file in `bytes` once, at its hook and on this input, for at most
+/// `limit` instructions. The answer is the outcome of the machine's run of its code, and the seat
+/// has made exactly the steps of that run.
 ///
 /// # Errors
 ///
-/// Where the bytes are no object file or its code doesn't decode; and where memory is refused,
-/// which either part tells. The seat is then as before.
+/// If the bytes are not an object file, if its code doesn't decode, or, in either variant, if an
+/// allocation is refused. The seat is then unchanged.
 pub fn run_object(
     alloc: Global,
     bytes: &[u8],
@@ -41,13 +41,13 @@ pub fn run_object(
     Ok(run_checked(&code, object.hook(), most, input, shared, seat))
 }
 
-/// Runs the program of an object file as `run_object` does, and tells where the machine stands at
-/// the end: at EXIT, at the instruction by which it is stuck, or after as many instructions as it
-/// may take.
+/// Runs the program of an object file as `run_object` does, and returns the state at the end as
+/// well: at EXIT, at the instruction by which it is stuck, or after the last instruction that the
+/// limit allows.
 ///
 /// # Errors
 ///
-/// Those of `run_object`. The seat is then as before.
+/// Those of `run_object`. The seat is then unchanged.
 pub fn run_object_to_halt(
     alloc: Global,
     bytes: &[u8],
