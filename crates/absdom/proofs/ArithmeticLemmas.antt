@@ -24,12 +24,12 @@ pub low_below : (w : Width) (n : ℕ) → low w n < 2 ^ bits w
 low_below Bits32 n = omega arith
 low_below Bits64 n = omega arith
 
--- what has no more bits than the width stays as it is
+-- a number with no more bits than the width is its own low bits
 pub low_same : (w : Width) (n : ℕ) → n < 2 ^ bits w → low w n ≡ n
 low_same Bits32 n small = omega arith
 low_same Bits64 n small = omega arith
 
--- a number that is no further from 0 than the width's power of two has bits of the width
+-- a number no further from 0 than the width's power of two has the bits of the width
 unsigned_below : (w : Width) (z : ℤ) → unsigned_abs z < 2 ^ bits w → unsigned w z < 2 ^ bits w
 unsigned_below Bits32 (pos n) near = near
 unsigned_below Bits64 (pos n) near = near

@@ -1,6 +1,6 @@
--- How the parts of a pair narrow each other, by what their domains give: the first domain for its
--- tests against the least and the greatest number of the second part, the second domain for its
--- test against the first part's number, if that is one.
+-- How the parts of a pair narrow each other, in terms of what their domains give: the first domain
+-- for its tests against the least and the greatest number of the second part, the second domain for
+-- its test against the first part's number, if that is a single one.
 use Rattle.std.specs.Prelude.{◌≡◌, ℕ, Option, Some, IfSome}
 use Rattle.isa.specs.declared.instruction.Test.{Test}
 use Rattle.isa.specs.declared.instruction.Test.TheVariants.{Equal, GreaterOrEqual, LessOrEqual}
@@ -30,7 +30,7 @@ IsWithinRange {D = D} constant assumed value range left =
     (above : D) × IsLeft constant assumed GreaterOrEqual value range.0 above
     × IsLeft constant assumed LessOrEqual above range.1 left
 
--- what a range of one number leaves of the value; another range leaves it as it is
+-- what a range of one number leaves of the value; any other range leaves it unchanged
 pub record IsWithinSingle {D : Type 0} (constant : GivesConstant D) (assumed : GivesAssumed D)
     (value : D) (range : ℕ × ℕ) (left : D) : Type 0 where
   pub single : range.0 ≡ range.1 → IsLeft constant assumed Equal value range.0 left

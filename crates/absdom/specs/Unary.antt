@@ -1,4 +1,4 @@
--- What an instruction that reads one number gives, as the machine's arithmetic has it.
+-- The result of an instruction that reads one number, by the machine's arithmetic.
 use Rattle.std.specs.Prelude.{ℕ, ◌^◌}
 use Rattle.isa.specs.declared.instruction.Extension.TheVariants.{Byte, Half, Word}
 use Rattle.isa.specs.Arithmetic.{bits, negated_number, sign_extended, in_byte_order, swap_modulus}
@@ -11,7 +11,7 @@ unary_result (Extend extension) n = sign_extended extension n
 unary_result (Reorder order width) n = in_byte_order order width n
 
 -- Each result is below this power of two: that of the width that is written, and for END that of
--- the bytes that are kept.
+-- the bits that are kept.
 abbrev pub unary_modulus : UnaryOperation → ℕ
 unary_modulus (Negate width) = 2 ^ bits width
 unary_modulus (Extend (Byte width)) = 2 ^ bits width

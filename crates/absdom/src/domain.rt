@@ -1,4 +1,4 @@
-//! What an abstract value has to keep.
+//! The operations of an abstract domain, and their laws.
 ghost use Rattle.std.specs.Prelude.{◌≡◌, ℕ, ◌<◌, ◌≤◌, ◌^◌, ◌%◌, Bool, Option, IsTrue, IsSomeAnd};
 ghost use Rattle.std.specs.Prelude.{bit_and};
 ghost use Rattle.isa.specs.declared.instruction.Operation.{Operation};
@@ -13,8 +13,8 @@ use isa::{Operation, Test, Width};
 
 /// An abstract value: a set of numbers below 2^64.
 ///
-/// The laws say that no number is lost. What a domain promises besides, of how narrow its answers
-/// are, stands in the members whose names end in `gives`.
+/// The laws say that no number is lost. What a domain promises on top, about how narrow its results
+/// are, is in the members whose names end in `gives`.
 pub trait Domain: Copy {
     /// The numbers that a value stands for.
     ghost contains: { Self → ℕ → Type 0 };
@@ -55,8 +55,8 @@ pub trait Domain: Copy {
         ensures everything { ((n : ℕ) → n < 2 ^ 64 → contains other n) → IsTrue result }
         ensures gives { within_gives self other result };
 
-    /// A value for the results of the operation on the low bits of two numbers. An operation of 32
-    /// bits gives a result below 2^32.
+    /// A value for the results of the operation on the low bits of two numbers. The result of an
+    /// operation of 32 bits is below 2^32.
     fn alu(operation: Operation, width: Width, left: Self, right: Self) -> Self
         ensures holds { (a b : ℕ) → contains left a → contains right b
             → contains result (operate width operation (low width a) (low width b)) }
@@ -67,14 +67,14 @@ pub trait Domain: Copy {
         ensures holds { (a : ℕ) → contains operand a → contains result (unary_result operation a) }
         ensures gives { unary_gives operation operand result };
 
-    /// Values for the pairs whose low bits meet the test. None only where no pair meets it.
+    /// Values for the pairs whose low bits meet the test. `None` only if no pair meets it.
     fn assume(test: Test, width: Width, left: Self, right: Self) -> Option<(Self, Self)>
         ensures holds { (a b : ℕ) → contains left a → contains right b
             → IsTrue (test_holds width test (low width a) (low width b))
             → IsSomeAnd result (λ pair. contains pair.0 a × contains pair.1 b) }
         ensures gives { assume_gives test width left right result };
 
-    /// Two bounds of the numbers: none is below the first or above the second.
+    /// A lower and an upper bound of the numbers.
     fn range(self) -> (u64, u64)
         ensures holds { (n : ℕ) → contains self n → (result.0 ≤ n) × (n ≤ result.1) }
         ensures gives { range_gives self result };

@@ -1,5 +1,5 @@
-//! Abstract values of a register: sets of numbers below 2^64, and what an instruction's arithmetic
-//! or a jump's test makes of them.
+//! Abstract values of a register: sets of numbers below 2^64, with the effect of an instruction's
+//! arithmetic or a jump's test on them.
 #![tactic(auto)]
 
 pub mod arithmetic;

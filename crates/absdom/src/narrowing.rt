@@ -8,7 +8,7 @@ use crate::domain::Domain;
 use crate::pair::Pair;
 use isa::{Test, Width};
 
-/// What the test against a number leaves of the value.
+/// The numbers of the value that meet the test against a number.
 fn left_by<D: Domain>(test: Test, value: D, number: u64) -> Option<D>
     ensures holds { (n : ℕ) → D.contains value n → IsTrue (test_holds Bits64 test n number)
         → IsSomeAnd result (λ left. D.contains left n) }
@@ -19,7 +19,7 @@ fn left_by<D: Domain>(test: Test, value: D, number: u64) -> Option<D>
     Some(left)
 }
 
-/// The numbers of the value from the range's first to its second.
+/// The numbers of the value that lie in the range, both ends included.
 fn within_range<D: Domain>(value: D, range: (u64, u64)) -> Option<D>
     ensures holds { (n : ℕ) → D.contains value n → range.0 ≤ n → n ≤ range.1
         → IsSomeAnd result (λ left. D.contains left n) }
@@ -30,7 +30,7 @@ fn within_range<D: Domain>(value: D, range: (u64, u64)) -> Option<D>
     left_by(Test::LessOrEqual, above, range.1)
 }
 
-/// The number of the range, if it has one alone, and else the value.
+/// What the value has of the range, if that is a single number; else the value unchanged.
 fn within_single<D: Domain>(value: D, range: (u64, u64)) -> Option<D>
     ensures holds { (n : ℕ) → D.contains value n → range.0 ≤ n → n ≤ range.1
         → IsSomeAnd result (λ left. D.contains left n) }
@@ -45,8 +45,8 @@ fn within_single<D: Domain>(value: D, range: (u64, u64)) -> Option<D>
 }
 
 /// The pair of both values, each narrowed by the other: the first to the range of the second, and
-/// the second to the first's only number, if that has one alone. None only where no number is in
-/// both.
+/// then the second to the first, if that is a single number. `None` only if they have no number in
+/// common.
 pub(crate) fn narrowed<A: Domain, B: Domain>(first: A, second: B) -> Option<Pair<A, B>>
     ensures holds { (n : ℕ) → A.contains first n → B.contains second n
         → IsSomeAnd result (λ pair. A.contains pair.first n × B.contains pair.second n) }
@@ -58,7 +58,7 @@ pub(crate) fn narrowed<A: Domain, B: Domain>(first: A, second: B) -> Option<Pair
     Some(Pair { first, second })
 }
 
-/// The pair of both values, narrowed. Where no number is in both, they stay as they are.
+/// The pair of both values, narrowed; unchanged if they have no number in common.
 pub(crate) fn paired<A: Domain, B: Domain>(first: A, second: B) -> Pair<A, B>
     ensures holds { (n : ℕ) → A.contains first n → B.contains second n → A.contains result.first n
         × B.contains result.second n }

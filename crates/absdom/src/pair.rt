@@ -9,8 +9,8 @@ use isa::{Operation, Test, Width};
 
 /// The numbers that both parts stand for.
 ///
-/// What a call makes is narrowed: the first part lies in the range of the second, and the second is
-/// the first's only number where that has one alone, as far as the tests of the two domains tell.
+/// Each result is narrowed: the first part lies in the range of the second, and if the first is a
+/// single number, so is the second, as far as the tests of the two domains can tell.
 #[derive(Clone, Copy, Debug, PartialEq, Eq)]
 pub struct Pair<A, B> {
     pub first: A,

@@ -1,11 +1,11 @@
-//! The test that a conditional jump has failed where it falls through.
+//! The test that holds when a conditional jump falls through.
 ghost use Rattle.std.specs.Prelude.{◌≡◌, ℕ, not, IsSome, IfSome, IfNone};
 ghost use Rattle.isa.specs.declared.instruction.Width.{Width};
 ghost use Rattle.isa.specs.Arithmetic.{test_holds};
 
 use isa::Test;
 
-/// The test that holds exactly where this one does not. There is none for the test of bits.
+/// The test that holds if and only if this one does not. `AnyBitSet` has no opposite.
 pub fn opposite(test: Test) -> Option<Test>
     ensures opposite { IfSome result (λ other. (width : Width) (a b : ℕ)
         → test_holds width other a b ≡ not (test_holds width test a b)) }

@@ -1,4 +1,4 @@
--- An order with signs, on numbers that aren't negative, is the order without.
+-- A signed order, on numbers that aren't negative, is the unsigned order.
 use Rattle.std.proofs.Common.{◌≡◌, ℕ, ◌*◌, ◌<◌, ◌≤◌, ◌^◌, Bool, arith, subst, None, Some}
 use Rattle.std.specs.Prelude.{Option, IsTrue}
 use Rattle.isa.specs.declared.instruction.Width.{Width}
@@ -9,11 +9,11 @@ use Rattle.interval.specs.declared.span.Span.{Span}
 use Rattle.interval.specs.Bounds.{Bounds, bounds_of, IsBetween}
 use Rattle.interval.specs.Order.{HasPartner, IsTightAnswer, StaysInside, AreNotNegative, IsUnsigned, Trims}
 
--- a partner for one test is one for another that holds of the same pairs
+-- a partner for one test is a partner for any other that holds of the same pairs
 partner_same : (m n : ℕ → Bool) (b : Bounds) → ((k : ℕ) → IsBetween b k → m k ≡ n k) → HasPartner m b → HasPartner n b
 partner_same m n b same found = (found.0, found.1, subst IsTrue (same found.0 found.1) found.2)
 
--- bounds that are tight for one test are so for another that holds of the same pairs
+-- bounds that are tight for one test are tight for any other that holds of the same pairs
 pub tight_other : (m n : ℕ → ℕ → Bool) (left right : Span) (answer : Option (Span × Span)) → ((a b : ℕ) → a ≤ left.high → b ≤ right.high → m a b ≡ n a b) → StaysInside left right answer → IsTightAnswer m left right answer → IsTightAnswer n left right answer
 tight_other m n left right None same inside tight = tt
 tight_other m n left right (Some both) same inside tight =
@@ -32,7 +32,7 @@ tight_same w test other left right answer half same inside tight =
     (λ a b left_most right_most. same a b (omega (arith, left_most, half.left_small)) (omega (arith, right_most, half.right_small)))
     inside tight
 
--- what is trimmed although there are negative numbers is trimmed by a test without signs
+-- a test that trims even with negative numbers is an unsigned one
 pub trims_unsigned : (test : Test) (w : Width) (left right : Span) → (AreNotNegative w left right → ⊥) → Trims test w left right → IsUnsigned test
 trims_unsigned Equal w left right negative trims = tt
 trims_unsigned Greater w left right negative trims = tt

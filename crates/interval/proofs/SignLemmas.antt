@@ -7,7 +7,7 @@ use Rattle.isa.specs.declared.instruction.Test.{Test}
 use Rattle.isa.specs.Arithmetic.{low, test_holds}
 use Rattle.interval.specs.Signs.{biased_number}
 
--- a number is biased by what takes the bias away
+-- biasing a number twice gives it back
 pub biased_twice : (n : ℕ) → n < 2 ^ 64 → biased_number (biased_number n) ≡ n
 biased_twice n small = omega arith
 

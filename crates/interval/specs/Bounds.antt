@@ -17,7 +17,7 @@ pub record Bounds : Type 0 where
 abbrev pub bounds_of : Span → Bounds
 bounds_of span = record { low = span.low; high = span.high }
 
--- bounds that aren't wider
+-- bounds that lie within others
 pub record IsInside (inner outer : Bounds) : Type 0 where
   pub low : outer.low ≤ inner.low
   pub high : inner.high ≤ outer.high
@@ -25,9 +25,9 @@ pub record IsInside (inner outer : Bounds) : Type 0 where
 abbrev pub every_of : Width → Bounds
 every_of w = record { low = 0; high = 2 ^ bits w - 1 }
 
--- The numbers cut to the width: where all have the same bits above it, the low bits of the bounds,
--- else every number of the width. So numbers below the width's power of two stay as they are, and
--- one number gives its low bits.
+-- The numbers cut to the width: if all have the same bits above it, the low bits of the bounds,
+-- else every number of the width. So numbers below the width's power of two are unchanged, and a
+-- single number gives its low bits.
 abbrev pub cut_bounds : Width → Bounds → Bounds
 cut_bounds w b =
     if b.low / 2 ^ bits w == b.high / 2 ^ bits w

@@ -1,4 +1,4 @@
--- How narrow intervals are: their bounds are inside of what unsigned and signed bounds give alone.
+-- How narrow intervals are: their bounds lie within what unsigned and signed bounds give alone.
 use Rattle.std.specs.Prelude.{ℕ, Option, Some, IfSome}
 use Rattle.isa.specs.declared.instruction.Width.{Width}
 use Rattle.isa.specs.declared.instruction.Width.TheVariants.{Bits64}
@@ -33,8 +33,8 @@ pub record IsNarrowInterval (operation : Operation) (w : Width) (left right resu
   pub unsigned : IsNarrowUnsignedPart operation w left right result
   pub signed : IsNarrowSignedPart operation w left right result
 
--- Signed bounds are trimmed whatever the operands: each that is left is in a pair that meets the
--- test.
+-- Signed bounds are trimmed whatever the operands: each that is left belongs to a pair that meets
+-- the test.
 pub record IsTrimmedSigned (test : Test) (w : Width) (left right : Span)
     (answer : Option (Span × Span)) : Type 0 where
   pub inside : StaysInside left right answer
@@ -42,7 +42,7 @@ pub record IsTrimmedSigned (test : Test) (w : Width) (left right : Span)
       → IsTightAnswer (λ a b. test_holds w test (low w (biased_number a)) (low w (biased_number b)))
       left right answer
 
--- what is left is inside of what unsigned and signed bounds are trimmed to
+-- what is left lies within what unsigned and signed bounds are trimmed to
 pub record IsTrimmedInterval (test : Test) (w : Width) (left right : Interval)
     (both : Interval × Interval) : Type 0 where
   pub unsigned : (found : Span × Span)

@@ -1,4 +1,4 @@
--- The pairs of numbers that meet a test, and how narrow the spans of them are.
+-- The pairs of numbers that meet a test, and how narrow their spans are.
 use Rattle.std.specs.Prelude.{ℕ, ◌*◌, ◌<◌, ◌≤◌, ◌^◌, Bool, IsTrue, Option, IsSomeAnd, IfSome}
 use Rattle.isa.specs.declared.instruction.Width.{Width}
 use Rattle.isa.specs.declared.instruction.Test.{Test}
@@ -9,7 +9,7 @@ use Rattle.isa.specs.Arithmetic.{bits, test_holds}
 use Rattle.interval.specs.declared.span.Span.{Span}
 use Rattle.interval.specs.Bounds.{IsIn, Bounds, bounds_of, IsInside, IsBetween}
 
--- Each pair that meets the test is in the answer; there is none only where no pair meets it.
+-- Each pair that meets the test is in the answer, which is None only if no pair meets it.
 abbrev pub KeepsPairs : (ℕ → ℕ → Bool) → Span → Span → Option (Span × Span) → Type 0
 KeepsPairs meets left right answer =
     (a b : ℕ) → IsIn left a → IsIn right b → IsTrue (meets a b)
@@ -19,8 +19,8 @@ KeepsPairs meets left right answer =
 abbrev pub HasPartner : (ℕ → Bool) → Bounds → Type 0
 HasPartner meets b = (n : ℕ) × IsBetween b n × IsTrue (meets n)
 
--- Each bound that is left is in a pair that meets the test, so no narrower spans have each such
--- pair, and where no pair meets it nothing is left.
+-- Each bound that is left belongs to a pair that meets the test, so no narrower spans have each
+-- such pair, and if no pair meets it nothing is left.
 pub record IsTight (meets : ℕ → ℕ → Bool) (l r left right : Bounds) : Type 0 where
   pub left_low : HasPartner (λ b. meets left.low b) r
   pub left_high : HasPartner (λ b. meets left.high b) r
@@ -49,7 +49,7 @@ pub record AreNotNegative (w : Width) (left right : Span) : Type 0 where
   pub left_small : 2 * left.high < 2 ^ bits w
   pub right_small : 2 * right.high < 2 ^ bits w
 
--- equality, or an order without signs
+-- equality, or an unsigned order
 abbrev pub IsUnsigned : Test → Type 0
 IsUnsigned AnyBitSet = ⊥
 IsUnsigned SignedGreater = ⊥

@@ -42,7 +42,7 @@ IsNarrow w ShiftLeft l r result =
 IsNarrow w ShiftRight l r result =
     (IsSingle r → IsLeast w ShiftRight l r result) × (result.high ≤ l.high)
 IsNarrow w Move l r result = result ≡ r
--- every number of the width, which is said below
+-- every number of the width, which IsNarrowResult says
 IsNarrow w other l r result = Unit {0}
 
 pub record IsNarrowResult (w : Width) (operation : Operation) (l r result : Bounds) : Type 0 where
@@ -59,7 +59,7 @@ IsNarrowUnary (Negate w) operand result =
     0 < (cut_bounds w operand).low
     → (result.low ≡ 2 ^ bits w - (cut_bounds w operand).high)
     × (result.high ≡ 2 ^ bits w - (cut_bounds w operand).low)
--- every number below the modulus, which is said below
+-- every number below the modulus, which IsNarrowUnaryResult says
 IsNarrowUnary other operand result = Unit {0}
 
 pub record IsNarrowUnaryResult (operation : UnaryOperation) (operand result : Bounds) : Type 0 where

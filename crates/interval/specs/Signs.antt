@@ -1,5 +1,5 @@
--- Signed bounds. A signed number is kept as the number without a sign that is 2^63 above it, its
--- biased number, so that the signed order is the order of biased numbers.
+-- Signed bounds. A signed number is kept as its biased number, the unsigned number that is 2^63
+-- above it, so that the signed order is the order of biased numbers.
 use Rattle.std.specs.Prelude.{◌≡◌, ℕ, ◌+◌, ◌-◌, ◌*◌, ◌%◌, ◌<◌, ◌≤◌, ◌^◌, ◌⊎◌}
 use Rattle.isa.specs.declared.instruction.Width.{Width}
 use Rattle.isa.specs.declared.instruction.Width.TheVariants.{Bits32, Bits64}
@@ -18,16 +18,17 @@ biased_number n = (n + 2 ^ 63) % 2 ^ 64
 abbrev pub biased_bounds : Bounds → Bounds
 biased_bounds b = record { low = biased_number b.low; high = biased_number b.high }
 
--- The numbers lie on one side of 2^63: all have a sign or none has, so biased they are a span too.
+-- The numbers lie on one side of 2^63: all or none are negative, so that biased they are a span
+-- too.
 abbrev pub IsOnOneSide : Bounds → Type 0
 IsOnOneSide b = (b.high < 2 ^ 63) ⊎ (2 ^ 63 ≤ b.low)
 
--- Where one pair of bounds doesn't cross 2^63, which for signed numbers is 0, both are the same.
+-- If one pair of bounds doesn't cross 2^63, which as a signed number is 0, both are the same.
 abbrev pub AreNarrowed : Bounds → Bounds → Type 0
 AreNarrowed unsigned signed =
     IsOnOneSide unsigned ⊎ IsOnOneSide signed → signed ≡ biased_bounds unsigned
 
--- The signed bounds of 64-bit results, from those of the operands: exact where no sum or difference
+-- The signed bounds of 64-bit results, from those of the operands: exact if no sum or difference
 -- overflows as a signed number.
 abbrev pub IsNarrowSigned : Width → Operation → Bounds → Bounds → Bounds → Type 0
 IsNarrowSigned Bits64 Add l r result =

@@ -1,4 +1,4 @@
-//! Spans of the numbers of a width.
+//! Spans of the numbers of a width, and their bounds.
 ghost use Rattle.std.specs.Prelude.{◌≡◌, ℕ, ◌-◌, ◌*◌, ◌%◌, ◌<◌, ◌≤◌, ◌^◌, ◌↔◌, IsSome, IfSome};
 ghost use Rattle.isa.specs.Arithmetic.{bits, low};
 ghost use Rattle.interval.specs.Bounds.{IsIn, bounds_of, every_of, cut_bounds};
@@ -84,7 +84,7 @@ pub(crate) fn wrapped(width: Width, low: u128, high: u128) -> Span
     every(width)
 }
 
-/// The numbers from low to high, if there are any.
+/// The numbers from low to high; `None` if there are none.
 pub(crate) fn between(low: u64, high: u64) -> Option<Span>
     ensures some { IsSome result ↔ (low ≤ high) }
     ensures ends { IfSome result (λ i. (i.low ≡ low) × (i.high ≡ high)) }

@@ -17,7 +17,7 @@ use crate::value::Interval;
 use absdom::{Domain, UnaryOperation};
 use isa::{Operation, Test, Width};
 
-/// Whether the bounds are not wider than the others.
+/// Whether the bounds of one span lie within those of the other.
 fn is_inside(inner: Span, outer: Span) -> bool
     ensures { IsTrue result ↔ IsInside (bounds_of inner) (bounds_of outer) }
 {

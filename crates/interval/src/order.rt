@@ -61,7 +61,7 @@ fn at_most(left: Span, right: Span) -> Option<(Span, Span)>
     Some((before, after))
 }
 
-/// The span without an end that is the only number of the other.
+/// The span without an end that is the only number of the other; `None` if nothing is left.
 fn trimmed(left: Span, right: Span) -> Option<Span>
     ensures holds { (a b : ℕ) → IsIn left a → IsIn right b → IsTrue (not (a == b))
         → IsSomeAnd result (λ i. IsIn i a) }
@@ -95,7 +95,7 @@ fn different(left: Span, right: Span) -> Option<(Span, Span)>
     Some((before, after))
 }
 
-/// The pairs the other way round.
+/// The pairs with their parts swapped.
 fn swapped(answer: Option<(Span, Span)>) -> Option<(Span, Span)>
     ensures holds { (meets : ℕ → ℕ → Bool) (left right : Span) → KeepsPairs meets right left answer
         → KeepsPairs (λ a b. meets b a) left right result }
@@ -109,7 +109,7 @@ fn swapped(answer: Option<(Span, Span)>) -> Option<(Span, Span)>
     Some((right, left))
 }
 
-/// The pairs of numbers that meet a test without signs. Another test trims nothing here.
+/// The pairs of numbers that meet an unsigned test. Other tests trim nothing here.
 pub(crate) fn met_unsigned(test: Test, left: Span, right: Span) -> Option<(Span, Span)>
     ensures holds { (width : Width) → KeepsPairs (test_holds width test) left right result }
     ensures inside { StaysInside left right result }
@@ -127,7 +127,7 @@ pub(crate) fn met_unsigned(test: Test, left: Span, right: Span) -> Option<(Span,
     }
 }
 
-/// The test that numbers which aren't negative meet where they meet this one.
+/// An unsigned test that is equivalent to this one on nonnegative numbers.
 fn unsigned(test: Test) -> Test
     ensures same { (width : Width) (a b : ℕ) → 2 * a < 2 ^ bits width → 2 * b < 2 ^ bits width
         → test_holds width result a b ≡ test_holds width test a b }
@@ -143,7 +143,7 @@ fn unsigned(test: Test) -> Test
     }
 }
 
-/// Whether no number is negative, read as one of the width with its sign.
+/// Whether no number is negative when it is read as a signed one of the width.
 fn are_not_negative(width: Width, left: Span, right: Span) -> bool
     ensures { IsTrue result ↔ AreNotNegative width left right }
 {
@@ -151,8 +151,8 @@ fn are_not_negative(width: Width, left: Span, right: Span) -> bool
     (left.high as u128) < half && (right.high as u128) < half
 }
 
-/// The pairs whose low bits meet a test. Numbers above the width's greatest are left as they are,
-/// and for an order with signs those that have negative ones.
+/// The pairs whose low bits meet a test. Spans with numbers above the width's greatest are left
+/// unchanged, and so are, for a signed order, those with negative numbers.
 pub(crate) fn assumed(test: Test, width: Width, left: Span, right: Span) -> Option<(Span, Span)>
     ensures holds { KeepsPairs (λ a b. test_holds width test (low width a) (low width b)) left right
         result }

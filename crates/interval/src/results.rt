@@ -96,7 +96,7 @@ fn remainder(width: Width, left: Span, right: Span) -> Span
     }
 }
 
-/// What an AND may give.
+/// The results of an AND.
 #[tactic(auto, using(std::proofs::lemmas::Nat::and_le_l, std::proofs::lemmas::Nat::and_le_r))]
 fn conjunction(width: Width, left: Span, right: Span) -> Span
     requires left { left.high < 2 ^ bits width }
@@ -110,7 +110,7 @@ fn conjunction(width: Width, left: Span, right: Span) -> Span
     }
 }
 
-/// How far a shift by this number moves the bits.
+/// The number of bits that a shift by this number moves.
 fn shift_count(width: Width, number: u64) -> u64
     ensures value { result ≡ number % bits width }
     ensures small { result < 64 }
@@ -121,14 +121,14 @@ fn shift_count(width: Width, number: u64) -> u64
     }
 }
 
-/// The power of two by which a shift to the left multiplies.
+/// The power of two that a left shift multiplies by.
 fn power(width: Width, number: u64) -> u64
     ensures { result ≡ 2 ^ (number % bits width) }
 {
     1 << shift_count(width, number)
 }
 
-/// The numbers shifted to the left: by one number the products by its power of two.
+/// The numbers shifted to the left; by a single count, the products with its power of two.
 fn left_shift(width: Width, left: Span, right: Span) -> Span
     ensures holds { HasResults width ShiftLeft left right result }
     ensures narrow { IsNarrow width ShiftLeft (bounds_of left) (bounds_of right)
@@ -141,7 +141,7 @@ fn left_shift(width: Width, left: Span, right: Span) -> Span
     product(width, left, single(power(width, right.low)))
 }
 
-/// The numbers shifted to the right: no result is above the number.
+/// The numbers shifted to the right; no result exceeds the number.
 fn right_shift(width: Width, left: Span, right: Span) -> Span
     requires left { left.high < 2 ^ bits width }
     ensures holds { HasResults width ShiftRight left right result }
@@ -203,7 +203,7 @@ fn negation(width: Width, operand: Span) -> Span
     )
 }
 
-/// The greatest number that an operation on one number may give.
+/// The greatest possible result of an operation on one number.
 fn greatest(operation: UnaryOperation) -> u64
     ensures { result + 1 ≡ unary_modulus operation }
 {

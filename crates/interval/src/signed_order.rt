@@ -11,7 +11,8 @@ use crate::order::met_unsigned;
 use crate::span::Span;
 use isa::{Test, Width};
 
-/// The test without signs that biased numbers meet where the numbers meet this one. None for a test
+/// The unsigned test that biased numbers meet if and only if the numbers meet this one. `None` for
+/// a test that does not go by the signed order.
 /// that does not go by the signed order.
 fn of_biased(test: Test) -> Option<Test>
     ensures same { IfSome result (λ other. (width : Width) (a b : ℕ) → a < 2 ^ 64 → b < 2 ^ 64
@@ -32,7 +33,7 @@ fn of_biased(test: Test) -> Option<Test>
 }
 
 /// The pairs that meet a test of 64 bits that goes by the signed order. Other tests leave the spans
-/// as they are.
+/// unchanged.
 pub(crate) fn assumed_signed(
     test: Test,
     width: Width,

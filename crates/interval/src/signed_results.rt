@@ -10,10 +10,11 @@ use crate::bounds::{every, wrapped};
 use crate::span::Span;
 use isa::{Operation, Width};
 
-/// What is added to a signed number.
+/// The difference between a biased number and the signed one.
 const BIAS: u128 = 1 << 63;
 
-/// The sums. One bias of two is taken away by the third, modulo 2^64.
+/// The sums. Two biases are added where one is needed; adding a third removes the other, modulo
+/// 2^64.
 fn signed_sum(left: Span, right: Span) -> Span
     ensures holds { (a b : ℕ) → IsIn left (biased_number a) → IsIn right (biased_number b)
         → IsIn result (biased_number (low Bits64 (a + b))) }
@@ -27,7 +28,7 @@ fn signed_sum(left: Span, right: Span) -> Span
     )
 }
 
-/// The differences. The two biases cancel out, so it is added once more.
+/// The differences. The two biases cancel out, so one is added again.
 fn signed_difference(left: Span, right: Span) -> Span
     ensures holds { (a b : ℕ) → b < 2 ^ 64 → IsIn left (biased_number a)
         → IsIn right (biased_number b)
@@ -42,7 +43,7 @@ fn signed_difference(left: Span, right: Span) -> Span
     )
 }
 
-/// The results of an operation. Of others than these every number may be one.
+/// The results of an operation: sums, differences and moves of 64 bits; else every number.
 pub(crate) fn signed_results(width: Width, operation: Operation, left: Span, right: Span) -> Span
     ensures holds { (a b : ℕ) → a < 2 ^ 64 → b < 2 ^ 64 → IsIn left (biased_number a)
         → IsIn right (biased_number b)

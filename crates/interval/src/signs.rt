@@ -1,4 +1,4 @@
-//! Unsigned and signed bounds that narrow each other.
+//! Unsigned and signed bounds, which narrow each other.
 ghost use Rattle.std.specs.Prelude.{◌≡◌, ℕ, ◌+◌, ◌%◌, ◌<◌, ◌≤◌, ◌^◌, ◌⊎◌, ◌↔◌, IsTrue, IsSomeAnd};
 ghost use Rattle.std.specs.Prelude.{IfSome, max, min};
 ghost use Rattle.interval.specs.Bounds.{IsIn, bounds_of, IsInside};
@@ -10,10 +10,10 @@ use crate::span::Span;
 use crate::value::Interval;
 use isa::Width;
 
-/// What is added to a signed number.
+/// The difference between a biased number and the signed one.
 const BIAS: u64 = 1 << 63;
 
-/// Whether the numbers lie on one side of 2^63.
+/// Whether all numbers lie on one side of 2^63.
 fn is_on_one_side(span: Span) -> bool
     ensures { IsTrue result ↔ IsOnOneSide (bounds_of span) }
 {
@@ -33,7 +33,7 @@ fn turned(span: Span) -> Span
     }
 }
 
-/// The numbers of both spans.
+/// The numbers that both spans have.
 fn common(left: Span, right: Span) -> Option<Span>
     ensures holds { (n : ℕ) → IsIn left n → IsIn right n → IsSomeAnd result (λ span. IsIn span n) }
     ensures left { IfSome result (λ span. IsInside (bounds_of span) (bounds_of left)) }
@@ -43,7 +43,7 @@ fn common(left: Span, right: Span) -> Option<Span>
 }
 
 /// The numbers that lie between the unsigned bounds and, biased, between the signed ones. Bounds
-/// that do not cross 2^63 narrow the others.
+/// that do not cross 2^63 narrow the other ones.
 pub(crate) fn narrowed(unsigned: Span, signed: Span) -> Option<Interval>
     ensures holds { (n : ℕ) → IsIn unsigned n → IsIn signed (biased_number n)
         → IsSomeAnd result (λ interval. IsMember interval n) }
@@ -82,7 +82,8 @@ pub(crate) fn of(unsigned: Span) -> Interval
     }
 }
 
-/// The numbers that lie between both bounds; where there are none, those of the unsigned bounds.
+/// The numbers that lie between both pairs of bounds; if there are none, those between the unsigned
+/// ones.
 pub(crate) fn between_both(unsigned: Span, signed: Span) -> Interval
     ensures holds { (n : ℕ) → IsIn unsigned n → IsIn signed (biased_number n) → IsMember result n }
     ensures unsigned { IsInside (bounds_of result.unsigned) (bounds_of unsigned) }

@@ -4,11 +4,11 @@ ghost use Rattle.interval.specs.Signs.{AreNarrowed};
 
 use crate::span::Span;
 
-/// The numbers below 2^64 that lie between two bounds, and between two more when they are read with
-/// their sign.
+/// The numbers below 2^64 that lie between two unsigned bounds and, read as signed numbers, between
+/// two signed bounds.
 ///
-/// A signed bound is kept as the signed number plus 2^63, so that the order of these biased numbers
-/// is the signed order: 0 stands for the least signed number, 2^63 for 0.
+/// A signed bound is stored biased, as the signed number plus 2^63, so that the order of biased
+/// numbers is the signed order: 0 stands for the least signed number, 2^63 for 0.
 #[derive(Clone, Copy, Debug, PartialEq, Eq)]
 pub struct Interval {
     pub(crate) unsigned: Span,

@@ -1,4 +1,4 @@
--- What is known of a stack whose bytes are looked at one after the other while a part is overwritten.
+-- What is known of a stack whose bytes are visited one by one while a part is overwritten.
 use Rattle.std.proofs.Common.{◌≡◌, ◌≢◌, ℕ, zero, suc, ◌+◌, ◌<◌, ◌≤◌, List, [], ◌∷◌, length, get_or, set, refl, sym, ◌∙◌, subst, arith, ⊎_elim, get_or-set_other, get_or-set_same, length-set}
 use Rattle.std.proofs.lemmas.Bool.{cases_lt}
 use Rattle.machine.specs.declared.state.StackByte.{StackByte}
@@ -9,7 +9,7 @@ use Rattle.kinds.specs.Filled.{StaysFilledAt}
 use Rattle.kinds.specs.Knows.{KnowsEntryOverwritten}
 use Rattle.kinds.specs.Meaning.{EntryHolds, StackHolds}
 
--- within a list it doesn't matter what stands behind its end
+-- within a list, the default for what is past its end doesn't matter
 same_inside : {A : Type 0} (xs : List A) (i : ℕ) (d e : A) → i < length xs → get_or xs i d ≡ get_or xs i e
 same_inside [] i d e inside = absurd (omega (arith, inside))
 same_inside (x ∷ xs) zero d e inside = refl

@@ -1,4 +1,4 @@
--- Kinds that are read of what is stated.
+-- Kinds that are read from what is stated.
 use Rattle.std.proofs.Common.{◌≡◌, ℕ, ◌<◌, length, get_or}
 use Rattle.object.specs.declared.kind.Kind.{Kind as Stated}
 use Rattle.object.specs.declared.kind.Kind.TheVariants as said

@@ -1,4 +1,4 @@
--- Stack bytes that are known to be filled: with a byte, or with a piece of a pointer.
+-- Stack bytes that are known to be filled: with a byte of a number, or with a piece of a pointer.
 use Rattle.std.specs.Prelude.{◌≡◌, ℕ, ◌<◌, ◌≤◌, List, length, slice_index_or}
 use Rattle.kinds.specs.declared.state.Entry.{Entry}
 use Rattle.kinds.specs.declared.state.Entry.TheVariants as entries
@@ -12,19 +12,20 @@ abbrev pub IsKnownFilled : {D : Type 0} → Entry D → Type 0
 IsKnownFilled entries.Unknown = ⊥
 IsKnownFilled other = Unit {0}
 
--- each byte from start to end is
+-- the same of each byte from start to end
 abbrev pub AreKnownFilled : {D : Type 0} → ℕ → ℕ → List (Entry D) → Type 0
 AreKnownFilled start end known = (at : ℕ) → start ≤ at → at < end
     → IsKnownFilled (entry_in known at)
 
--- After bytes are put from start to end, of each of which `inside` is known, a byte is known to be
--- filled if it was before; and if `inside` says so, those that were put are.
+-- After the bytes from start to end are overwritten by bytes of which `inside` is known: if
+-- `inside` says that a byte is filled, those bytes are known to be filled, and so are all that were
+-- known to be before.
 pub record StaysFilledAt {D : Type 0} (at start end : ℕ) (inside entry after : Entry D)
     : Type 0 where
   pub stays : IsKnownFilled inside → IsKnownFilled entry → IsKnownFilled after
   pub put : IsKnownFilled inside → start ≤ at → at < end → IsKnownFilled after
 
--- the same of each byte of which something may be known
+-- the same for each byte of which something may be known
 pub record StaysFilled {D : Type 0} (start end : ℕ) (inside : Entry D)
     (known after : List (Entry D)) : Type 0 where
   pub long : length after ≡ length known

@@ -1,4 +1,4 @@
--- What is known wherever a state holds, and what stays known.
+-- What is known whenever a state holds, and what remains known.
 use Rattle.std.specs.Prelude.{◌≡◌, ◌+◌, ◌≤◌, ◌<◌, ℕ, List, length, slice_set, Option}
 use Rattle.isa.specs.Arithmetic.{operate, low}
 use Rattle.isa.specs.declared.instruction.Width.TheVariants.{Bits64}
@@ -14,20 +14,20 @@ use Rattle.kinds.specs.declared.state.Fact.{Fact}
 use Rattle.kinds.specs.declared.state.State.{State}
 use Rattle.kinds.specs.Meaning.{KindHolds, FactHolds, EntryHolds, StackHolds, StateHolds}
 
--- what is read of each machine that the state describes is of the kind
+-- what is read from each machine that the state describes is of the kind
 abbrev pub KnowsKind : {D : Type 0} → (D → ℕ → Type 0) → State D → (Machine → Content) → Kind D
     → Type 0
 KnowsKind contains state read kind =
     (start now : Machine) → StateHolds contains state start now → KindHolds contains kind (read now)
 
--- and it follows from the start of the segment as the fact says
+-- and it relates to the start of the segment as the fact says
 abbrev pub KnowsFact : {D : Type 0} → (D → ℕ → Type 0) → State D → (Machine → Content)
     → Option Fact → Type 0
 KnowsFact contains state read fact =
     (start now : Machine) → StateHolds contains state start now → FactHolds fact start (read now)
 
--- once the register is filled with a content of the kind, at any slot, the other state describes
--- the machine
+-- once the register is filled with a content of the kind, at whatever slot, the other state
+-- describes the machine
 abbrev pub KnowsFilled : {D : Type 0} → (D → ℕ → Type 0) → State D → ℕ → Kind D → Option Fact
     → State D → Type 0
 KnowsFilled contains state target kind fact after =
@@ -44,21 +44,22 @@ plus amount y = operate Bits64 Add (low Bits64 y) (low Bits64 amount)
 abbrev pub minus : ℕ → ℕ → ℕ
 minus amount y = operate Bits64 Subtract (low Bits64 y) (low Bits64 amount)
 
--- where the fact is of one of the value's numbers, the other fact is of what becomes of that number
+-- if the fact is of one of the value's numbers, the other fact is of what that number becomes
 abbrev pub MovesFact : {D : Type 0} → (D → ℕ → Type 0) → D → (ℕ → ℕ) → Option Fact → Option Fact
     → Type 0
 MovesFact contains value becomes fact after =
     (start : Machine) (y : ℕ) → contains value y
     → FactHolds fact start (contents.Number y) → FactHolds after start (contents.Number (becomes y))
 
--- each of the bytes that are put from start to end has what is known inside
+-- `inside` holds of each of the new bytes from start to end
 abbrev pub PutsInside : {D : Type 0} → (D → ℕ → Type 0) → Entry D → ℕ → ℕ
     → List StackByte → List StackByte → Type 0
 PutsInside contains inside start end old bytes =
     (at : ℕ) → start ≤ at → at < end
     → EntryHolds contains inside (overwritten_stack old start bytes) at
 
--- after bytes are put from start to end, of each of which `inside` is known, the entries hold
+-- after the bytes from start to end are overwritten by bytes of which `inside` is known, the
+-- entries hold
 abbrev pub KnowsOverwritten : {D : Type 0} → (D → ℕ → Type 0) → List (Entry D) → ℕ → ℕ → Entry D
     → List (Entry D) → Type 0
 KnowsOverwritten contains entries start end inside after =
@@ -67,7 +68,7 @@ KnowsOverwritten contains entries start end inside after =
     → PutsInside contains inside start end old bytes
     → StackHolds contains after (overwritten_stack old start bytes)
 
--- the same of the entry at one byte
+-- the same for the entry at one byte
 abbrev pub KnowsEntryOverwritten : {D : Type 0} → (D → ℕ → Type 0) → Entry D → ℕ → ℕ → ℕ → Entry D
     → Entry D → Type 0
 KnowsEntryOverwritten contains entry at start end inside after =

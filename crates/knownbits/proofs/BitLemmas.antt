@@ -83,7 +83,7 @@ join_known n a b small =
 clash_bit : (n a b : ℕ) → n < 2 → a < 2 → b < 2 → min ((min n a + min n b) % 2) (min a b) ≡ 0
 clash_bit n a b p q r = omega arith
 
--- two sides that know a bit agree on it
+-- two sides that know a bit of one number agree on it
 pub join_clash : (n a b : ℕ) → n < 2 ^ 64 → bit_and (bit_xor (bit_and n a) (bit_and n b)) (bit_and a b) ≡ 0
 join_clash n a b small =
     same_from_bits_below 64 _ _ (and_below _ _ (xor_lt 64 _ _ (and_below n a small) (and_below n b small))) (omega arith)
@@ -104,7 +104,7 @@ zero_bit : (n v a l : ℕ) → n < 2 → v < 2 → a < 2 → l < 2 → min n a �
 zero_bit n v a l p q r s same (inl known) = omega arith
 zero_bit n v a l p q r s same (inr none) = omega arith
 
--- where the low bits are known to be 0, the power divides
+-- if the low bits are known to be 0, their power of two divides
 pub divides_known : (n a k : ℕ) → n < 2 ^ 64 → ((i : ℕ) → i < k → bit_at (bit_and a (bit_not w64 (bit_and n a))) i ≡ 1) → k ≤ 64 → n % 2 ^ k ≡ 0
 divides_known n a k small known within =
     rw (← and_mask n k)
@@ -160,12 +160,12 @@ known_of_right a b i known = omega (arith, known, bit_at_and a b i, bit_at-lt b 
 pub all_ones : (m : ℕ) → m < 2 ^ 64 → ((i : ℕ) → i < 64 → bit_at m i ≡ 1) → m ≡ 18446744073709551615
 all_ones m small known = same_from_bits_below 64 m 18446744073709551615 small (omega arith) (λ i below. known i below ∙ sym (bit_at_ones 64 i below))
 
--- a run of ones is no longer than the ones
+-- a run of ones ends before a zero
 pub run_within : (m t count : ℕ) → bit_at m t ≡ 0 → ((i : ℕ) → i < count → bit_at m i ≡ 1) → count ≤ t
 run_within m t count end known =
     ⊎_elim (λ (inside : t < count). absurd (omega (arith, known t inside, end))) (λ (within : count ≤ t). within) (cases_lt t count)
 
--- one side knows a 0 where the other knows a 1
+-- one side knows a 0 and the other a 1
 pub clash_seen : (a b v u i : ℕ) → bit_at a i ≡ 1 → bit_at v i ≡ 0 → bit_at b i ≡ 1 → bit_at u i ≡ 1 → bit_and (bit_xor v u) (bit_and a b) ≡ 0 → ⊥
 clash_seen a b v u i left low right high none =
     let there : bit_at (bit_and (bit_xor v u) (bit_and a b)) i ≡ 1 = simp (bit_at_and, bit_at_xor) (omega (arith, left, low, right, high)) in
@@ -275,7 +275,7 @@ run_knows t count i within below = bit_at_ones t i (omega arith)
 pub word_small : (n : ℕ) → n % 2 ^ 64 < 2 ^ 64
 word_small n = omega arith
 
--- what is known of the low half of one number holds of another with that half
+-- what is known of the low half of one number holds of any other with the same low half
 pub shared_bits : (a b m : ℕ) → a % 2 ^ 32 ≡ b % 2 ^ 32 → bit_and a (bit_and m 4294967295) ≡ bit_and (bit_and b m) 4294967295
 shared_bits a b m same =
     let halves : bit_and a 4294967295 ≡ bit_and b 4294967295 = and_mask a 32 ∙ same ∙ sym (and_mask b 32) in
@@ -291,7 +291,7 @@ zero_seen m v i small below known low = both_known m (bit_not w64 v) i known (no
 apart_bit : (v m : ℕ) → v < 2 → m < 2 → min v m ≡ v → min v (1 - m) ≡ 0
 apart_bit v m p q r = omega arith
 
--- what lies under a mask doesn't lie beside it
+-- bits under a mask are not outside it
 apart : (v m : ℕ) → m < 2 ^ 64 → bit_and v m ≡ v → bit_and v (bit_not w64 m) ≡ 0
 apart v m small within =
     same_from_bits_below 64 _ _ (omega (arith, and_le_l v (bit_not w64 m), and_le_r v m, within)) (omega arith)
@@ -302,7 +302,7 @@ apart v m small within =
 pub greatest : (v m : ℕ) → m < 2 ^ 64 → bit_and v m ≡ v → bit_or v (bit_not w64 m) ≡ v + (18446744073709551615 - m)
 greatest v m small within = or_disjoint v (bit_not w64 m) (apart v m small within)
 
--- a number's bits lie under a mask or beside it
+-- a number is its bits under a mask and those outside it
 two_parts : (n m : ℕ) → n < 2 ^ 64 → m < 2 ^ 64 → bit_or (bit_and n m) (bit_and n (bit_not w64 m)) ≡ n
 two_parts n m small small' =
     same_from_bits_below 64 _ _ (or_lt 64 _ _ (and_below n m small) (and_below n _ small)) small
@@ -325,7 +325,7 @@ mask_within s o small knows =
     (λ (one : 1 ≤ bit_at o i). let there : bit_at o i ≡ 1 = omega (arith, one, bit_at-lt o i) in omega (arith, there, knows i below there))
     (cases_lt (bit_at o i) 1))
 
--- where each bit under the mask is the same
+-- if each bit under the mask is the same
 pub value_within : (v m w : ℕ) → m < 2 ^ 64 → bit_and w m ≡ w → ((i : ℕ) → i < 64 → bit_at m i ≡ 1 → bit_at v i ≡ bit_at w i) → bit_and v m ≡ w
 value_within v m w small within knows =
     same_from_bits_below 64 _ _ (omega (arith, and_le_r v m)) (omega (arith, and_le_r w m, within))

@@ -48,7 +48,7 @@ pub low_difference : (w : Width) (x y : ℕ) → y < 2 ^ bits w → low w ((x + 
 low_difference Bits32 x y small = omega arith
 low_difference Bits64 x y small = omega arith
 
--- where all bits are known the number is the value
+-- if all bits are known, the number is the value
 pub single_value : (known : KnownBits) (n : ℕ) → known.mask ≡ 18446744073709551615 → HasBits known n → known.value ≡ n
 single_value known n whole inside = sym inside.bits ∙ ap (bit_and n) whole ∙ and_mask n 64 ∙ mod-eq_of_lt inside.small
 
@@ -74,7 +74,7 @@ unary_low (Reorder orders.Little swaps.Bits64) n = let same : n % 2 ^ 64 % 2 ^ 6
 unary_low (Reorder orders.Big swaps.Bits64) n = let same : n % 2 ^ 64 % 2 ^ 64 ≡ n % 2 ^ 64 = omega arith in rw same refl
 unary_low (Reorder orders.Swap swaps.Bits64) n = let same : n % 2 ^ 64 % 2 ^ 64 ≡ n % 2 ^ 64 = omega arith in rw same refl
 
--- a low bit that is known to be 1 is so in what is known of the low bits
+-- a low bit that is known to be 1 is still so in what is known of the low bits
 pub shared_one : (w : Width) (known : KnownBits) (i : ℕ) → i < bits w → KnowsOne known i → KnowsOne (shared_known w known) i
 shared_one Bits32 known i below one = (both_known known.mask 4294967295 i one.0 (bit_at_ones 32 i below), both_known known.value 4294967295 i one.1 (bit_at_ones 32 i below))
 shared_one Bits64 known i below one = one

@@ -1,4 +1,5 @@
--- Which bits of a result are known. What they are follows: the value has every result.
+-- Which bits of a result are known. Their values follow, since the result has to contain every
+-- number.
 use Rattle.std.specs.Prelude.{◌≡◌, ℕ, ◌+◌, ◌%◌, ◌<◌, ◌≤◌, ◌^◌, ◌⊎◌, ◌-◌, Bool, IsTrue, Option, Some}
 use Rattle.std.specs.Prelude.{None, IfSome, bit_and, bit_or}
 use Rattle.std.specs.Int.{bit_at}
@@ -38,7 +39,7 @@ IsPrecise w Add l r result =
     (count : ℕ) → count ≤ bits w → KnowsBelow l count → KnowsBelow r count → KnowsBelow result count
 IsPrecise w Subtract l r result =
     (count : ℕ) → count ≤ bits w → KnowsBelow l count → KnowsBelow r count → KnowsBelow result count
--- by one number the bits move, and what is filled in is known
+-- a single count moves the bits, and those that come in are known
 IsPrecise w ShiftLeft l r result = KnowsBelow r 64 → (i : ℕ) → i < bits w →
     (i < r.value % bits w → Knows result i)
     × ((j : ℕ) → j + r.value % bits w ≡ i → Knows l j → Knows result i)
@@ -48,13 +49,13 @@ IsPrecise w ShiftRight l r result = KnowsBelow r 64 → (i : ℕ) → i < bits w
 IsPrecise w Move l r result = result ≡ r
 IsPrecise w other l r result = Unit {0}
 
--- The low bits of the numbers, as many as the width has: the upper half is known to be 0.
+-- The low bits of the numbers; the bits above the width are known to be 0.
 abbrev pub low_known : Width → KnownBits → KnownBits
 low_known Bits32 known =
     record { mask = bit_or known.mask 18446744069414584320; value = bit_and known.value 4294967295 }
 low_known Bits64 known = known
 
--- What is known of the low bits alone, as many as the width has.
+-- What is known of the low bits alone; nothing is known of those above the width.
 abbrev pub shared_known : Width → KnownBits → KnownBits
 shared_known Bits32 known =
     record { mask = bit_and known.mask 4294967295; value = bit_and known.value 4294967295 }
@@ -82,7 +83,7 @@ abbrev pub IsPreciseOf : Operation → Width → KnownBits → KnownBits → Kno
 IsPreciseOf operation w left right result =
     IsPreciseResult w operation (low_known w left) (low_known w right) result
 
--- The width of what an instruction that reads one number reads and writes.
+-- The width that an instruction on one number reads and writes.
 abbrev pub unary_width : UnaryOperation → Width
 unary_width (Negate w) = w
 unary_width (Extend (Byte w)) = w
@@ -96,17 +97,17 @@ pub record IsPreciseUnary (operation : UnaryOperation) (operand result : KnownBi
   pub single : KnowsBelow (low_known (unary_width operation) operand) 64 → KnowsBelow result 64
   pub upper : KnowsUpper (unary_width operation) result
 
--- Where both are known to be the same number, each side knows what either knew.
+-- If both are known to be the same number, each side knows what either knew.
 pub record KnowsBoth (left right joined : KnownBits) : Type 0 where
   pub from_left : (i : ℕ) → i < 64 → Knows left i → Knows joined i
   pub from_right : (i : ℕ) → i < 64 → Knows right i → Knows joined i
 
--- the two sides know different things of one of the low bits
+-- the two sides have different values for one of the low bits
 abbrev pub Contradict : ℕ → KnownBits → KnownBits → Type 0
 Contradict count left right = (i : ℕ) × (i < count) × KnowsZero left i × KnowsOne right i
 
--- A test that the low bits are equal joins what both know of them; other tests tell nothing of
--- single bits.
+-- A test that the low bits are equal joins what both sides know of them; other tests give no single
+-- bits.
 abbrev pub IsPreciseTest : Test → Width → KnownBits → KnownBits → Option (KnownBits × KnownBits)
     → Type 0
 IsPreciseTest Equal w left right answer =
@@ -116,22 +117,22 @@ IsPreciseTest Equal w left right answer =
     × (Contradict (bits w) left right ⊎ Contradict (bits w) right left → answer ≡ None)
 IsPreciseTest other w left right answer = answer ≡ Some (left, right)
 
--- No run of low bits that are known to be 0 is longer.
+-- No longer run of low bits is known to be 0.
 abbrev pub KnowsZerosTo : KnownBits → ℕ → Type 0
 KnowsZerosTo known most =
     (count : ℕ) → count ≤ 64 → ((i : ℕ) → i < count → KnowsZero known i) → count ≤ most
 
--- The least number has 0 for each bit that isn't known, the greatest 1.
+-- The least number has 0 for each unknown bit, the greatest 1.
 abbrev pub IsPreciseRange : KnownBits → ℕ × ℕ → Type 0
 IsPreciseRange known answer =
     IsWithinMask known
     → (answer.0 ≡ known.value) × (answer.1 ≡ known.value + (18446744073709551615 - known.mask))
 
--- each bit that the other knows is known, and is the same
+-- each bit that the other knows is known, with the same value
 abbrev pub KnowsAllOf : KnownBits → KnownBits → Type 0
 KnowsAllOf other known =
     (i : ℕ) → i < 64 → Knows other i → Knows known i × (bit_at known.value i ≡ bit_at other.value i)
 
--- What knows all of the other is within it.
+-- A value that knows all that the other knows is within it.
 abbrev pub IsPreciseWithin : KnownBits → KnownBits → Bool → Type 0
 IsPreciseWithin known other answer = IsWithinMask other → KnowsAllOf other known → IsTrue answer

@@ -1,4 +1,4 @@
--- Numbers below 2^64 of which some bits are known.
+-- Numbers below 2^64 with some known bits.
 use Rattle.std.specs.Prelude.{◌≡◌, ℕ, ◌<◌, ◌^◌, bit_and}
 use Rattle.std.specs.Int.{bit_at}
 use Rattle.knownbits.specs.declared.value.KnownBits.{KnownBits}
@@ -12,10 +12,10 @@ pub record HasBits (known : KnownBits) (n : ℕ) : Type 0 where
 abbrev pub Knows : KnownBits → ℕ → Type 0
 Knows known i = bit_at known.mask i ≡ 1
 
--- the low bits are known, so many of them
+-- the low `count` bits are known
 abbrev pub KnowsBelow : KnownBits → ℕ → Type 0
 KnowsBelow known count = (i : ℕ) → i < count → Knows known i
 
--- no bit of the value lies outside the mask
+-- the value has no bit outside the mask
 abbrev pub IsWithinMask : KnownBits → Type 0
 IsWithinMask known = bit_and known.value known.mask ≡ known.value

@@ -36,7 +36,7 @@ pub(crate) fn is_single(known: KnownBits) -> bool
     known.mask == u64::MAX
 }
 
-/// Every number of the width: what is above it is 0.
+/// Every number of the width: the bits above it are known to be 0.
 pub(crate) fn every(width: Width) -> KnownBits
     ensures holds { (n : ℕ) → n < 2 ^ bits width → HasBits result n }
     ensures upper { KnowsUpper width result }
@@ -50,7 +50,7 @@ pub(crate) fn every(width: Width) -> KnownBits
     }
 }
 
-/// The low bits of each number.
+/// The low bits of each number; the bits above the width are known to be 0.
 pub(crate) fn cut(width: Width, known: KnownBits) -> KnownBits
     ensures is { result ≡ low_known width known }
     ensures holds { (n : ℕ) → HasBits known n → HasBits result (low width n) }
@@ -66,7 +66,7 @@ pub(crate) fn cut(width: Width, known: KnownBits) -> KnownBits
     }
 }
 
-/// What is known of the low bits alone.
+/// What is known of the low bits alone; nothing is known of those above the width.
 pub(crate) fn shared(width: Width, known: KnownBits) -> KnownBits
     ensures is { result ≡ shared_known width known }
     ensures holds { (a b : ℕ) → a < 2 ^ 64 → HasBits known b → low width a ≡ low width b
@@ -81,7 +81,7 @@ pub(crate) fn shared(width: Width, known: KnownBits) -> KnownBits
     }
 }
 
-/// What is known of an AND.
+/// The known bits of an AND.
 pub(crate) fn and(left: KnownBits, right: KnownBits) -> KnownBits
     ensures holds { (x y : ℕ) → HasBits left x → HasBits right y → HasBits result (bit_and x y) }
     ensures precise { (width : Width) → IsPrecise width And left right result }
@@ -95,7 +95,7 @@ pub(crate) fn and(left: KnownBits, right: KnownBits) -> KnownBits
     }
 }
 
-/// What is known of an OR.
+/// The known bits of an OR.
 pub(crate) fn or(left: KnownBits, right: KnownBits) -> KnownBits
     ensures holds { (x y : ℕ) → HasBits left x → HasBits right y → HasBits result (bit_or x y) }
     ensures precise { (width : Width) → IsPrecise width Or left right result }
@@ -108,7 +108,7 @@ pub(crate) fn or(left: KnownBits, right: KnownBits) -> KnownBits
     }
 }
 
-/// What is known of an XOR.
+/// The known bits of an XOR.
 pub(crate) fn xor(left: KnownBits, right: KnownBits) -> KnownBits
     ensures holds { (x y : ℕ) → HasBits left x → HasBits right y → HasBits result (bit_xor x y) }
     ensures precise { (width : Width) → IsPrecise width Xor left right result }
@@ -120,7 +120,7 @@ pub(crate) fn xor(left: KnownBits, right: KnownBits) -> KnownBits
     }
 }
 
-/// What both know of one number; None where they contradict each other.
+/// What both know of one number; `None` if they contradict each other.
 pub(crate) fn join(left: KnownBits, right: KnownBits) -> Option<KnownBits>
     ensures holds { (n : ℕ) → HasBits left n → HasBits right n
         → IsSomeAnd result (λ known. HasBits known n) }
@@ -136,7 +136,7 @@ pub(crate) fn join(left: KnownBits, right: KnownBits) -> Option<KnownBits>
     })
 }
 
-/// How many low bits are known to be 0.
+/// The number of low bits that are known to be 0.
 pub(crate) fn low_zeros(known: KnownBits) -> u32
     ensures holds { (n : ℕ) → HasBits known n → n % 2 ^ result ≡ 0 }
     ensures all { KnowsZerosTo known result }
@@ -148,7 +148,7 @@ pub(crate) fn low_zeros(known: KnownBits) -> u32
     zeros.trailing_ones()
 }
 
-/// A mask of so many low bits.
+/// A mask of the low `count` bits.
 pub(crate) fn low_mask(count: u32) -> u64
     requires { count ≤ 64 }
     ensures { result ≡ 2 ^ count - 1 }

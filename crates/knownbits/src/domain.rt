@@ -17,7 +17,7 @@ use absdom::arithmetic::unary;
 use absdom::{Domain, UnaryOperation};
 use isa::{Extension, Operation, SwapWidth, Test, Width, arithmetic};
 
-/// The numbers shifted to the left: by one number the bits move.
+/// The numbers shifted to the left; a single count moves the bits.
 fn shifted_left(width: Width, left: KnownBits, right: KnownBits) -> KnownBits
     ensures holds { HasResults width ShiftLeft left right result }
     ensures precise { IsPrecise width ShiftLeft left right result }
@@ -29,7 +29,7 @@ fn shifted_left(width: Width, left: KnownBits, right: KnownBits) -> KnownBits
     left_shift(width, left, shift_count(width, right.value))
 }
 
-/// The numbers shifted to the right: by one number the bits move.
+/// The numbers shifted to the right; a single count moves the bits.
 fn shifted_right(width: Width, left: KnownBits, right: KnownBits) -> KnownBits
     ensures holds { HasResults width ShiftRight left right result }
     ensures precise { IsPrecise width ShiftRight left right result }
@@ -59,7 +59,7 @@ fn subtracted(width: Width, left: KnownBits, right: KnownBits) -> KnownBits
     cut(width, difference(left, right))
 }
 
-/// What is known of the results of an operation on numbers of the width.
+/// The known bits of the results of an operation on numbers of the width.
 fn results(width: Width, operation: Operation, left: KnownBits, right: KnownBits) -> KnownBits
     requires left { KnowsUpper width left }
     requires right { KnowsUpper width right }
@@ -80,7 +80,7 @@ fn results(width: Width, operation: Operation, left: KnownBits, right: KnownBits
     }
 }
 
-/// The width of what an instruction that reads one number reads and writes.
+/// The width that an instruction on one number reads and writes.
 fn unary_width(operation: UnaryOperation) -> Width
     ensures { result ≡ unary_width operation }
 {

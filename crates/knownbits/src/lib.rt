@@ -1,4 +1,4 @@
-//! Numbers of which some bits are known, as abstract values.
+//! Numbers with some known bits, as abstract values.
 #![tactic(auto)]
 
 mod bits;

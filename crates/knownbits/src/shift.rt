@@ -1,4 +1,4 @@
-//! Shifts by one number: the bits move, and zeros come in.
+//! Shifts by a single count: the bits move, and zeros come in.
 ghost use Rattle.std.specs.Prelude.{◌≡◌, ℕ, ◌*◌, ◌/◌, ◌%◌, ◌+◌, ◌<◌, ◌≤◌, ◌^◌};
 ghost use Rattle.isa.specs.Arithmetic.{bits, low};
 ghost use Rattle.knownbits.specs.Masks.{HasBits, Knows, KnowsBelow};
@@ -8,7 +8,7 @@ use crate::bits::{cut, low_mask};
 use crate::value::KnownBits;
 use isa::Width;
 
-/// How many bits a shift by this number moves.
+/// The number of bits that a shift by this number moves.
 pub(crate) fn shift_count(width: Width, number: u64) -> u32
     ensures value { result ≡ number % bits width }
     ensures small { result < bits width }

@@ -7,7 +7,7 @@ ghost use Rattle.knownbits.specs.Masks.{HasBits, Knows, KnowsBelow};
 use crate::bits::low_mask;
 use crate::value::KnownBits;
 
-/// How many low bits are known in both.
+/// The number of low bits that are known in both.
 fn known_in_both(left: KnownBits, right: KnownBits) -> u32
     ensures most { result ≤ 64 }
     ensures left { KnowsBelow left result }
@@ -22,7 +22,7 @@ fn known_in_both(left: KnownBits, right: KnownBits) -> u32
     both.trailing_ones()
 }
 
-/// The sums: the bits below the first one that isn't known in both.
+/// The known bits of the sums: those below the first one that isn't known in both.
 pub(crate) fn sum(left: KnownBits, right: KnownBits) -> KnownBits
     ensures holds { (x y : ℕ) → HasBits left x → HasBits right y
         → HasBits result ((x + y) % 2 ^ 64) }
@@ -36,7 +36,7 @@ pub(crate) fn sum(left: KnownBits, right: KnownBits) -> KnownBits
     }
 }
 
-/// The differences: the bits below the first one that isn't known in both.
+/// The known bits of the differences: those below the first one that isn't known in both.
 pub(crate) fn difference(left: KnownBits, right: KnownBits) -> KnownBits
     ensures holds { (x y : ℕ) → HasBits left x → HasBits right y
         → HasBits result ((x + (2 ^ 64 - y)) % 2 ^ 64) }

@@ -1,4 +1,4 @@
-//! Numbers of which some bits are known.
+//! Numbers with some known bits.
 
 /// The numbers below 2^64 whose bits under the mask are those of the value.
 ///
@@ -7,6 +7,6 @@
 pub struct KnownBits {
     /// The bits that are known.
     pub mask: u64,
-    /// What they are.
+    /// Their values.
     pub value: u64,
 }

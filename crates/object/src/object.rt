@@ -128,8 +128,7 @@ impl Object {
         self.hook
     }
 
-    /// The rank with which the program begins: how often it may jump back, where each statement
-    /// says less.
+    /// The rank at the entry, an upper bound of the backward jumps of a run.
     pub fn entry_rank(&self) -> u32
         ensures value { result ≡ self.now.entry_rank }
         ensures is_object { IsObject self.now }

@@ -1,4 +1,4 @@
--- The program that an object's bytes hold, and what the verifier says of it.
+-- The program that an object's bytes hold, and the verifier's answer about it.
 use Rattle.std.proofs.Common.{◌≡◌, ◌<◌, ◌≤◌, ◌+◌, ◌*◌, ◌∙◌, ℕ, List, ap, ap₂, sym, subst, subst₂, length, arith}
 use Rattle.std.specs.Prelude.{IfErr, Result, Ok, Err}
 use Rattle.std.specs.Result.{IsErrAnd}
@@ -42,7 +42,7 @@ accepts_of bytes object spelled code hook rank accepted spells own decoded at fr
       (subst (λ (h : Hook). Safe code h ((rank + 1) * length code)) (sym same_hook) safe);
 }
 
--- two errors of one result are one
+-- two errors of one result are the same
 error_in : {A : Type 0} → Refusal → Result A Refusal → Refusal
 error_in other (Ok value) = other
 error_in other (Err error) = error
@@ -72,7 +72,7 @@ program_refused given bytes object spelled code hook rank statements refusal is 
   plain = subst₂ (λ (r : ℕ) (s : List StatementParts). IsPlain code r s → refusal.rule ≡ rules.Memory) from stated plain;
 }
 
--- and is told as that
+-- and is reported as that
 pub refused_so : {A T : Type 0} (given : Result A Refusal) (result : Result T VerifyError) (bytes : List ℕ) (object : ObjectParts) (spelled : List ℕ)
     (code : List Slot) (hook : Hook) (rank : ℕ) (statements : List StatementParts) (refusal : Refusal)
     → IsErrAnd result (λ e. e ≡ Refused refusal) → given ≡ Err refusal

@@ -1,4 +1,4 @@
--- From the bytes of an object file to the verifier's word.
+-- From the bytes of an object file to the verifier's answer.
 use Rattle.std.specs.Prelude.{◌≡◌, ℕ, ◌+◌, ◌*◌, ◌<◌, ◌≤◌, List, length}
 use Rattle.isa.specs.declared.code.Slot.{Slot}
 use Rattle.isa.specs.declared.decoding.DecodeFault.{DecodeFault}
@@ -21,13 +21,12 @@ pub record HoldsProgram (bytes : List ℕ) (object : ObjectParts) (slots : List 
   pub spells : objects.Spells bytes object
   pub decoded : code.Spells object.code slots
 
--- how many instructions a run of the object may take: all slots once, and once more for each rank
--- below the entry's
+-- the bound of the instructions of a run: the number of slots, times the entry's rank plus 1
 abbrev pub bound_of : ObjectParts → List Slot → ℕ
 bound_of object slots = (object.entry_rank + 1) * length slots
 
--- The program that the bytes hold is accepted, as it is and at its hook: each of its runs is never
--- stuck and ends within its bound.
+-- The program that the bytes hold is accepted, unchanged and at its hook: none of its runs is ever
+-- stuck, and each ends within its bound.
 pub record Accepts (bytes : List ℕ) (accepted : Program) : Type 0 where
   pub object : ObjectParts
   pub holds : HoldsProgram bytes object accepted.code
@@ -36,9 +35,9 @@ pub record Accepts (bytes : List ℕ) (accepted : Program) : Type 0 where
   pub most : accepted.bound ≤ budget
   pub safe : Safe accepted.code accepted.hook accepted.bound
 
--- The program that the bytes hold may be refused at this slot by this rule, which is the first that
--- counts there: for its bound, where that is above what any program may take, whatever memory there
--- is; a plain program for want of memory alone.
+-- The program that the bytes hold may be refused at this slot by this rule, the first that counts
+-- there: for its bound, whatever memory there is, if that exceeds the budget; a plain program only
+-- if an allocation is refused.
 pub record RefusesProgram (bytes : List ℕ) (refusal : Refusal) : Type 0 where
   pub object : ObjectParts
   pub slots : List Slot

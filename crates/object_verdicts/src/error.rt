@@ -6,16 +6,16 @@ use object::ReadError;
 use thiserror::Error;
 use verifier::Refusal;
 
-/// Why bytes hold no program that is accepted. Each part may be want of memory.
+/// Why bytes hold no accepted program. Each variant may be a refused allocation.
 #[derive(Clone, Copy, PartialEq, Eq, Debug, Error)]
 pub enum VerifyError {
-    /// They are no object file.
+    /// They are not an object file.
     #[error("no object file: {0}")]
     Object(ReadError),
-    /// They are an object file, whose code doesn't decode.
+    /// They are an object file whose code doesn't decode.
     #[error("no code: {0}")]
     Code(DecodeError),
-    /// They are an object file with code, which the verifier refuses.
+    /// They are an object file whose code the verifier refuses.
     #[error("refused: {0:?}")]
     Refused(Refusal),
 }

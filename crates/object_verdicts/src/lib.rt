@@ -1,4 +1,4 @@
-//! Verdicts on object files: from the bytes of a file to what the verifier says of its program.
+//! Verdicts on object files: from the bytes of a file to the verifier's answer about its program.
 #![tactic(auto)]
 
 mod error;

@@ -1,4 +1,4 @@
-//! What the verifier says of an object file.
+//! The verifier's answer about an object file.
 ghost use Rattle.std.specs.Prelude.{IfOk, IfErr};
 ghost use Rattle.object_verdicts.specs.Verdicts.{Accepts, Refuses};
 
@@ -10,13 +10,13 @@ use knownbits::KnownBits;
 use std::alloc::Global;
 use verifier::{Accepted, verify};
 
-/// Verifies the program of the object file that these bytes are, with intervals and known bits side
-/// by side: at the object's hook, from its entry rank, with its statements.
+/// Verifies the program of the object file in `bytes`, with intervals and known bits in parallel:
+/// at the object's hook, from its entry rank, with its statements.
 ///
 /// # Errors
 ///
-/// Where the bytes are no object file, its code doesn't decode, or the verifier refuses it, with
-/// the slot and the rule; and where memory is refused, which each part tells.
+/// If the bytes are not an object file, its code doesn't decode, or the verifier refuses it, with
+/// the slot and the rule; and, in each variant, if an allocation is refused.
 pub fn verify_object(alloc: Global, bytes: &[u8]) -> Result<Accepted, VerifyError>
     ensures accepts { IfOk result (λ accepted. Accepts bytes.now accepted) }
     ensures refuses { IfErr result (Refuses bytes.now) }

@@ -1,4 +1,4 @@
--- What a step of each form leads to, from what is known of the slot.
+-- Where a step of each form leads, from what is known at the slot.
 use Rattle.std.proofs.Common.{◌≡◌, ℕ, ◌+◌, ◌<◌, Bool, true, false, List, Option, Some, None, ◌⊎◌, inl, inr, ⊎_elim, refl, ap, ◌∙◌, arith}
 use Rattle.std.specs.Prelude.{nat_le, slice_get, IsSomeAnd, ℤ, if◌then◌else◌}
 use Rattle.std.proofs.lemmas.Bool.Decides.{nat_tests}
@@ -59,7 +59,7 @@ enters_next contains targets segment target slot to start next less at stated en
     rw (there, forward) enters
 
 module _ {D : Type 0} (contains : D → ℕ → Type 0) (code : List Slot) (hook : Hook) (targets : List (Option (Target D))) (segment : Target D) (slot : ℕ) (after : Known D) where
-  -- a step to the slot behind
+  -- a step to the next slot
   Passes : Instruction → Machine → Machine → Type 0
   Passes i start next = EntersNext contains targets segment slot start next ⊎ ((target_at targets (slot + size i) ≡ None) × Knows contains segment after start next)
 
@@ -73,7 +73,7 @@ module _ {D : Type 0} (contains : D → ℕ → Type 0) (code : List Slot) (hook
         passes;
   }
 
-  -- an instruction that isn't a jump and isn't EXIT
+  -- an instruction that is neither a jump nor EXIT
   pub goes_straight : (i : Instruction) (state known : State D) → CanStepIsFree → slice_get code slot ≡ Some (Start i) → IsWellPlaced code targets slot i → goes_on i ≡ true → IsSound contains hook i state known
       → ((start next : Machine) → next.slot ≡ slot + size i → IsKnown contains segment known start next → EntersNext contains targets segment slot start next ⊎ ((target_at targets (slot + size i) ≡ None) × Knows contains segment after start next))
       → IsFollowed contains code hook targets segment slot i state after

@@ -1,4 +1,4 @@
--- What the tests of a slot's jumps and statements show.
+-- What the checks of a slot's jumps and statements show.
 use Rattle.std.proofs.Common.{◌≡◌, ℕ, ◌+◌, ◌<◌, ◌≤◌, true, List, Option, Some, None, ◌⊎◌, inl, ⊎_elim, refl, subst, length, arith}
 use Rattle.std.specs.Prelude.{IfSome, IsSome, IsSomeAnd, slice_get}
 use Rattle.std.proofs.lemmas.Bool.{cases_lt}
@@ -28,7 +28,7 @@ none_is_some o none some = cc
 same_instruction : (slot : Option Slot) (i j : Instruction) → slot ≡ Some (Start i) → slot ≡ Some (Start j) → j ≡ i
 same_instruction slot i j a b = cc
 
--- where an instruction begins the code has a slot
+-- a slot where an instruction begins is in the code
 pub inside_code : (code : List Slot) (slot : ℕ) → Begins code slot → slot < length code
 inside_code code slot begins =
     ⊎_elim

@@ -1,4 +1,4 @@
--- Instructions and edges of plain programs are refused by no rule.
+-- No rule refuses an instruction or edge of a plain program.
 use Rattle.std.proofs.Common.{◌≡◌, ℕ, ◌<◌, Bool, true, false, List, Option, Some, None, inl, inr, ⊎_elim, refl, sym, subst, ◌∙◌, length, arith}
 use Rattle.std.specs.Prelude.{IfErr, Result, Ok, Err, nat_le}
 use Rattle.std.specs.Result.{IsErrAnd}
@@ -21,7 +21,7 @@ use Rattle.transfer.specs.Rules.{MayName}
 use Rattle.segments.specs.Places.{goes_on}
 use Rattle.segments.specs.Plain.{AsksAtMost, IsFilledBehind, IsPlainHere, KeepsNumbers, MayEnter}
 
--- ---- what is asked of registers
+-- ---- what is required of registers
 
 admits_kind : {D : Type 0} (contains : D → ℕ → Type 0) (kind other : Kind D) → IsNumber kind → HasEveryNumber contains other → Admits contains kind other
 admits_kind contains kinds.Empty other number every = absurd number
@@ -53,7 +53,7 @@ never wrong = absurd (false_is_true wrong)
     false_is_true : false ≡ true → ⊥
     false_is_true wrong = cc
 
--- what a `?` hands on
+-- what a `?` passes on
 pub hands_on : {A T : Type 0} (result : Result A T) (error : T) (P : T → Type 0) → IsErrAnd result (λ e. e ≡ error) → P error → IfErr result P
 hands_on (Ok value) error P is broken = absurd is
 hands_on (Err other) error P is broken = subst P (sym is) broken
@@ -65,7 +65,7 @@ pub beside : {D : Type 0} (i : Instruction) (state : State D) → register_writt
 beside i state none r = ⊎_elim (λ (filled : IsFilled state r). filled) (λ (written : register_written i ≡ Some r). absurd (none_is_some (register_written i) none written))
 
 module _ {D : Type 0} (contains : D → ℕ → Type 0) (targets : List (Option (Target D))) (segment : Target D) where
-  -- where more is filled, the edge is plain too
+  -- if more is filled, the edge is plain too
   pub enter_more : (back : Bool) (to : ℕ) (filled more : ℕ → Type 0) → ((r : ℕ) → filled r → more r) → MayEnter contains targets segment back to filled → MayEnter contains targets segment back to more
   enter_more back to filled more grows may = λ target stated.
       let edge = may target stated in
@@ -90,7 +90,7 @@ module _ {D : Type 0} (contains : D → ℕ → Type 0) (targets : List (Option 
         enter_more false next (IsFilledBehind i state) (IsFilled after) grows
         (subst (λ back. MayEnter contains targets segment back next (IsFilledBehind i state)) forward (here.edges next (inr (on, behind))))
 
--- ---- what stays known
+-- ---- what remains known
 
 -- an instruction that writes no register
 pub kept_beside : {D : Type 0} (i : Instruction) (state after : State D) → register_written i ≡ None → length state.kinds.items ≡ 10 → KeepsNumbers state after → KeepsFilled i state after
@@ -118,7 +118,7 @@ filled_behind i state after kept r = ⊎_elim (λ (filled : IsFilled state r). k
 
 -- ---- rules
 
--- the rule on r10 is named only where it is broken
+-- the rule on r10 is named only if it is broken
 pub no_frame : (hook : Hook) (i : Instruction) (rule : Rule) → rule ≡ rules.Frame → MayName hook i rule → writes_frame i ≡ false → ⊥
 no_frame hook i rule is named free =
     let writes : MayName hook i rules.Frame = subst (λ r. MayName hook i r) is named in

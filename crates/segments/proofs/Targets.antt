@@ -12,7 +12,7 @@ use Rattle.kinds.specs.Stated.{GivesStated, MeetsStatement}
 use Rattle.segments.specs.Places.{target_at}
 use Rattle.segments.specs.Stated.{statement_at, IsTargetOf, Agrees, AreTargets, MeetStatements}
 
--- what is past the end stands there already
+-- appending the default changes no element
 pub pushed_default : {A : Type 0} (xs : List A) (d : A) (r : ℕ) → get_or (xs ++ d ∷ []) r d ≡ get_or xs r d
 pushed_default [] d zero = refl
 pushed_default [] d (suc r) = refl
@@ -57,7 +57,7 @@ statement_agrees contains (Some other) (Some target) s agrees some =
     let same : other ≡ s = cc in
     (target, refl, subst (λ x. IsTargetOf contains x target) same agrees)
 
--- where something is stated there is its target
+-- the slot of a statement has its target
 pub target_stated : {D : Type 0} (contains : D → ℕ → Type 0) (statements : List StatementParts) (targets : List (Option (Target D))) (slot : ℕ) (s : StatementParts)
     → AreTargets contains statements targets → statement_at statements slot ≡ Some s → (target : Target D) × (target_at targets slot ≡ Some target) × IsTargetOf contains s target
 target_stated contains statements targets slot s are some = statement_agrees contains (statement_at statements slot) (target_at targets slot) s (are slot) some
@@ -83,7 +83,7 @@ target_of_statement contains statements targets slot target are some =
 
 -- ---- the list as it grows
 
--- at a slot stands the target of its statement; where there is none, what is stated stands among the rest
+-- the slot of a statement has its target; without one, what is stated is among the rest
 pub Found : {D : Type 0} → (D → ℕ → Type 0) → Option StatementParts → Option StatementParts → Option (Target D) → Type 0
 Found contains whole rest None = whole ≡ rest
 Found contains whole rest (Some target) = IsSomeAnd whole (λ s. IsTargetOf contains s target)

@@ -7,7 +7,7 @@ use Rattle.isa.specs.declared.instruction.Instruction.TheVariants as instruction
 use Rattle.isa.specs.Flow.{Begins, size, jump_target}
 use Rattle.kinds.specs.declared.statement.Target.{Target}
 
--- whether the instruction may go on behind itself: all do but EXIT and the unconditional jumps
+-- whether the instruction may fall through: all but EXIT and the unconditional jumps
 abbrev pub goes_on : Instruction → Bool
 goes_on (instructions.Jump distance) = false
 goes_on (instructions.LongJump distance) = false
@@ -29,8 +29,8 @@ pub record IsEntry {D : Type 0} (code : List Slot) (targets : List (Option (Targ
   pub begins : Begins code slot
   pub stated : IsSome (target_at targets slot)
 
--- The slots that may come after the instruction are as they should be: a jump's has a statement,
--- and the one behind is in the code.
+-- The slots that may come after the instruction are valid: a jump's target has a statement, and an
+-- instruction that falls through is followed by another.
 pub record IsWellPlaced {D : Type 0} (code : List Slot) (targets : List (Option (Target D)))
     (slot : ℕ) (i : Instruction) : Type 0 where
   pub jump : IfSome (jump_target slot i) (IsEntry code targets)

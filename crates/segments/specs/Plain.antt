@@ -1,5 +1,4 @@
--- What an instruction of a plain program finds known at its slot, and what may be asked where it
--- leads.
+-- What is known before an instruction of a plain program, and what may be required where it leads.
 use Rattle.std.specs.Prelude.{◌≡◌, ◌⊎◌, ℕ, ◌+◌, ◌≤◌, Bool, true, false, nat_le, if◌then◌else◌, List}
 use Rattle.std.specs.Prelude.{Option, Some, length}
 use Rattle.isa.specs.declared.instruction.Instruction.{Instruction}
@@ -16,25 +15,25 @@ use Rattle.ranks.specs.Lines.{IsConstant}
 use Rattle.transfer.specs.Plain.{IsPlainInstruction, ReadsFilled}
 use Rattle.segments.specs.Places.{goes_on, target_at}
 
--- the instruction at the slot may lead there, by its jump or behind itself
+-- the instruction at the slot may lead there, by its jump or by falling through
 abbrev pub LeadsTo : ℕ → Instruction → ℕ → Type 0
 LeadsTo slot i to =
     (jump_target slot i ≡ Some to) ⊎ ((goes_on i ≡ true) × (slot_after slot i ≡ to))
 
--- once the instruction is done the register is known to hold a number: it was, or is written
+-- after the instruction the register is known to hold a number: it was before, or is written
 abbrev pub IsFilledBehind : {D : Type 0} → Instruction → State D → ℕ → Type 0
 IsFilledBehind i state r = IsFilled state r ⊎ (register_written i ≡ Some r)
 
--- Of a register nothing is asked, or that it is any number, and then it is filled.
+-- Nothing is required of a register, or that it is any number, and then it is filled.
 abbrev pub AsksAtMost : {D : Type 0} → (D → ℕ → Type 0) → Type 0 → Kind D → Type 0
 AsksAtMost contains filled kinds.Empty = Unit {0}
 AsksAtMost contains filled (kinds.Number value) =
     HasEveryNumber contains (kinds.Number value) × filled
 AsksAtMost contains filled other = ⊥
 
--- An edge of a plain program: the target asks for no more numbers than are filled, of any value,
--- and for no bytes. Both ranks are constants, and the target's isn't above the segment's, on a
--- back jump less.
+-- An edge of a plain program: the target requires no more numbers than are filled, of any value,
+-- and no bytes. Both ranks are constants, and the target's is at most the segment's, less on a
+-- backward jump.
 pub record IsPlainEdge {D : Type 0} (contains : D → ℕ → Type 0) (back : Bool)
     (segment target : Target D) (filled : ℕ → Type 0) : Type 0 where
   pub asks : (r : ℕ) → AsksAtMost contains (filled r) (kind_in target.kinds.items r)
@@ -44,15 +43,15 @@ pub record IsPlainEdge {D : Type 0} (contains : D → ℕ → Type 0) (back : Bo
   pub falls : target.statement.now.rank.constant + (if back then 1 else 0)
       ≤ segment.statement.now.rank.constant
 
--- where the slot has a statement, the edge to it is plain
+-- if the slot has a statement, the edge to it is plain
 abbrev pub MayEnter : {D : Type 0} → (D → ℕ → Type 0) → List (Option (Target D)) → Target D → Bool
     → ℕ → (ℕ → Type 0) → Type 0
 MayEnter {D} contains targets segment back to filled =
     (target : Target D) → target_at targets to ≡ Some target
     → IsPlainEdge contains back segment target filled
 
--- An instruction of a plain program, not of r10: what it reads is known to be numbers, and each
--- edge from it is plain.
+-- An instruction of a plain program that doesn't write r10: what it reads is known to be numbers,
+-- and each edge from it is plain.
 pub record IsPlainHere {D : Type 0} (contains : D → ℕ → Type 0)
     (targets : List (Option (Target D))) (segment : Target D)
     (slot : ℕ) (i : Instruction) (state : State D) : Type 0 where
@@ -63,7 +62,7 @@ pub record IsPlainHere {D : Type 0} (contains : D → ℕ → Type 0)
   pub edges : (to : ℕ) → LeadsTo slot i to
       → MayEnter contains targets segment (nat_le to slot) to (IsFilledBehind i state)
 
--- as many registers as before, and numbers stay numbers
+-- as many registers as before, and numbers remain numbers
 pub record KeepsNumbers {D : Type 0} (state after : State D) : Type 0 where
   pub long : length after.kinds.items ≡ length state.kinds.items
   pub others : (r : ℕ) → IsFilled state r → IsFilled after r

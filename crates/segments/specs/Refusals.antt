@@ -1,4 +1,4 @@
--- Where the rules are broken that are said of the code and its statements alone.
+-- How the rules that concern the code and its statements alone are broken.
 use Rattle.std.specs.Prelude.{◌≡◌, ◌⊎◌, ℕ, ℤ, ◌+◌, ◌*◌, ◌<◌, Bool, true, false, List, length, Some}
 use Rattle.std.specs.Prelude.{None, IsSome}
 use Rattle.object.specs.Statements.{StatementParts}
@@ -15,11 +15,11 @@ use Rattle.transfer.specs.Rules.{LacksHelper}
 use Rattle.segments.specs.Places.{goes_on}
 use Rattle.segments.specs.Stated.{statement_at}
 
--- the most instructions that a run may execute
+-- the maximum number of instructions that a run may execute
 abbrev pub budget : ℕ
 budget = 1000000
 
--- ---- rule 1: a jump or a statement at a slot that starts no instruction
+-- ---- rule 1: a jump to, or a statement for, a slot where no instruction begins
 
 -- the instruction at the slot jumps to where none begins
 pub record JumpsNowhere (code : List Slot) (slot : ℕ) : Type 0 where
@@ -29,7 +29,7 @@ pub record JumpsNowhere (code : List Slot) (slot : ℕ) : Type 0 where
   pub jumps : jump_target slot instruction ≡ Some to
   pub nowhere : Begins code to → ⊥
 
--- a statement stands at the slot, and no instruction begins there
+-- a statement is for the slot, and no instruction begins there
 pub record IsStray (code : List Slot) (statements : List StatementParts) (slot : ℕ) : Type 0 where
   pub stated : IsSome (statement_at statements slot)
   pub nowhere : Begins code slot → ⊥
@@ -73,13 +73,13 @@ pub record IsUnstated (code : List Slot) (statements : List StatementParts)
 
 -- ---- rules 9, 13 and 15
 
--- there is no helper with the number that the call at the slot has
+-- the hook has no helper with the number of the call at the slot
 pub record LacksHelperAt (code : List Slot) (hook : Hook) (slot : ℕ) : Type 0 where
   pub number : ℤ
   pub at : BeginsAt (Call number) code slot
   pub none : helper_of hook number ≡ None
 
--- the code's slots for each turn that the rank at the entry allows, and once more, are too many
+-- the code's slots, times the rank at the entry plus 1, exceed the budget
 pub record IsOverBudget (code : List Slot) (entry_rank slot : ℕ) : Type 0 where
   pub first : slot ≡ 0
   pub over : budget < (entry_rank + 1) * length code
@@ -92,8 +92,8 @@ pub record WritesFrame (code : List Slot) (slot : ℕ) : Type 0 where
 
 -- ---- all rules
 
--- The program may be refused by the rule at the slot. Of the other rules it is said that an
--- instruction begins there; want of memory is reported at slot 0.
+-- The program may be refused by the rule at the slot. Of the other rules only that an instruction
+-- begins there is said; a refused allocation is reported at slot 0.
 abbrev pub MayRefuse : Hook → List Slot → ℕ → List StatementParts → ℕ → Rule → Type 0
 MayRefuse hook code entry_rank statements slot rules.Target = IsBadTarget code statements slot
 MayRefuse hook code entry_rank statements slot rules.FallsOff = FallsOff code slot
@@ -107,7 +107,7 @@ MayRefuse hook code entry_rank statements slot other = Begins code slot
 
 -- ---- the order
 
--- the rules on jumps, statements and the code's end are met at the slot
+-- the slot follows the rules on jumps, statements and the code's end
 pub record IsWellMade (code : List Slot) (statements : List StatementParts)
     (slot : ℕ) : Type 0 where
   pub target : IsBadTarget code statements slot → ⊥
@@ -115,9 +115,9 @@ pub record IsWellMade (code : List Slot) (statements : List StatementParts)
   pub reached : IsUnreached code statements slot → ⊥
   pub stated : IsUnstated code statements slot → ⊥
 
--- Of those rules, the ones that come before this one at a slot are met there. A rule on edges that
--- is broken at slot 0 may be so where the start of a run enters a statement, which is tried before
--- that slot's own rules.
+-- The slot follows those of these rules that are checked before this one. A rule on edges may be
+-- reported at slot 0 because of the edge from the entry to a statement there, which is checked
+-- before that slot's own rules.
 abbrev pub IsFirstHere : List Slot → List StatementParts → ℕ → Rule → Type 0
 IsFirstHere code statements slot rules.Target = Unit {0}
 IsFirstHere code statements slot rules.FallsOff = IsBadTarget code statements slot → ⊥
@@ -132,7 +132,7 @@ IsFirstHere code statements slot rules.Budget = Unit {0}
 IsFirstHere code statements slot rules.Memory = Unit {0}
 IsFirstHere code statements slot other = IsWellMade code statements slot
 
--- and all of them are met at the slots before
+-- and the slots before follow all of them
 pub record IsFirst (code : List Slot) (statements : List StatementParts) (slot : ℕ)
     (rule : Rule) : Type 0 where
   pub earlier : (before : ℕ) → before < slot → IsWellMade code statements before
@@ -140,12 +140,14 @@ pub record IsFirst (code : List Slot) (statements : List StatementParts) (slot :
 
 -- ---- what is found at a slot
 
--- whether the instruction that ends at the slot may go on to it; to the first slot the entry leads
+-- whether the instruction that ends at the slot may fall through to it; the entry leads to the
+-- first slot
 abbrev pub IsPassedTo : Bool → List Slot → ℕ → Type 0
 IsPassedTo true code slot = IsCutOff code slot → ⊥
 IsPassedTo false code slot = IsCutOff code slot
 
--- a rule on jumps, statements or the code's end is broken at the slot, and those before it are met
+-- the slot breaks a rule on jumps, statements or the code's end, and follows those that are checked
+-- before
 abbrev pub IsPlaceRefusal : List Slot → List StatementParts → ℕ → Rule → Type 0
 IsPlaceRefusal code statements slot rules.Target = IsBadTarget code statements slot
 IsPlaceRefusal code statements slot rules.FallsOff =
@@ -162,8 +164,8 @@ IsOfEdge rules.NotWithin = Unit {0}
 IsOfEdge rules.Rank = Unit {0}
 IsOfEdge other = ⊥
 
--- An instruction may be refused by the rule where its slot is well made: the rules on helpers and
--- on r10 only where they are broken, and none on jumps, statements, the bound and memory.
+-- An instruction may be refused by the rule if its slot is well made: by those on helpers and on
+-- r10 only if they are broken, and by none on jumps, statements, the bound and memory.
 abbrev pub MayFollow : Hook → Instruction → Rule → Type 0
 MayFollow hook instruction rules.Helper = LacksHelper hook instruction
 MayFollow hook instruction rules.Frame = writes_frame instruction ≡ true

@@ -19,11 +19,11 @@ use Rattle.ranks.specs.Lines.{rank_value}
 use Rattle.segments.specs.declared.known.Known.{Known}
 use Rattle.segments.specs.Places.{target_at}
 
--- ---- the machine's side: no abstract state is mentioned
+-- ---- the machine's side, without abstract states
 
--- A segment that starts at one state of the machine visits another: it starts at the entry, where
--- slot 0 has no statement, or at a statement, and goes on from an instruction to the one behind it,
--- as long as that has no statement.
+-- A segment that starts in one state of the machine visits another. It starts at the entry, if slot
+-- 0 has no statement, or at a statement, and goes from an instruction to the one after it, as long
+-- as that has no statement.
 pub data Visits {D : Type 0} (contains : D → ℕ → Type 0) (setting : Setting)
     (targets : List (Option (Target D))) (entry : Target D) : Target D
     → Machine → Machine → Type 0 where
@@ -40,24 +40,24 @@ pub data Visits {D : Type 0} (contains : D → ℕ → Type 0) (setting : Settin
       → target_at targets next.slot ≡ None
       → Visits contains setting targets entry segment start next
 
--- The machine is as the target's statement says, and the rank there is not above the one at the
--- start of the segment, on a back jump less.
+-- The machine is as the target's statement says, and the rank there is at most the one at the start
+-- of the segment, less on a backward jump.
 pub record Enters {D : Type 0} (contains : D → ℕ → Type 0) (back : Bool) (segment target : Target D)
     (start next : Machine) : Type 0 where
   pub holds : TargetHolds contains target next
   pub rank : rank_value target.statement.now.rank next + (if back then 1 else 0)
       ≤ rank_value segment.statement.now.rank start
 
--- a step from the slot leads to a statement and enters it; to its own or an earlier slot it is a
--- back jump
+-- a step from the slot leads to a statement and enters it; a step to the slot itself or an earlier
+-- one is a backward jump
 abbrev pub EntersNext : {D : Type 0} → (D → ℕ → Type 0) → List (Option (Target D)) → Target D → ℕ
     → Machine → Machine → Type 0
 EntersNext contains targets segment slot start next =
     IsSomeAnd (target_at targets next.slot)
     (λ target. Enters contains (nat_le next.slot slot) segment target start next)
 
--- where a step of the segment leads: to an instruction, whose statement it enters, or which is the
--- one behind and has none
+-- where a step of the segment leads: to an instruction whose statement it enters, or to the next
+-- one, which has none
 pub record LeadsOn {D : Type 0} (contains : D → ℕ → Type 0) (code : List Slot)
     (targets : List (Option (Target D))) (segment : Target D) (slot : ℕ) (i : Instruction)
     (start next : Machine) : Type 0 where
@@ -65,7 +65,7 @@ pub record LeadsOn {D : Type 0} (contains : D → ℕ → Type 0) (code : List S
   pub leads : EntersNext contains targets segment slot start next
       ⊎ ((next.slot ≡ slot + size i) × (target_at targets next.slot ≡ None))
 
--- No visit of the slot is stuck, and each step from it leads on, with any input.
+-- No visit of the slot is stuck, and each step from it leads on, on any input.
 pub record IsFine {D : Type 0} (contains : D → ℕ → Type 0) (code : List Slot) (hook : Hook)
     (targets : List (Option (Target D))) (entry : Target D) (slot : ℕ) : Type 0 where
   pub free : (input : Given) (segment : Target D) (start now : Machine) (fault : Fault)
@@ -80,19 +80,19 @@ pub record IsFine {D : Type 0} (contains : D → ℕ → Type 0) (code : List Sl
 
 -- ---- what the verifier knows
 
--- a state of the machine in the segment, of all that is known
+-- a state of the machine in the segment, by all that is known
 pub record IsKnown {D : Type 0} (contains : D → ℕ → Type 0) (segment : Target D) (state : State D)
     (start now : Machine) : Type 0 where
   pub begins : TargetHolds contains segment start
   pub holds : StateHolds contains state start now
 
--- the same, where the slot may be reached
+-- the same, if the slot may be reached
 pub record Knows {D : Type 0} (contains : D → ℕ → Type 0) (segment : Target D) (known : Known D)
     (start now : Machine) : Type 0 where
   pub live : known.is_live ≡ true
   pub is_known : IsKnown contains segment known.state start now
 
--- a step leads to the slot behind, which has no statement, and what comes of it is known
+-- a step leads to the next slot, which has no statement, and what holds there is known
 pub record FallsThrough {D : Type 0} (contains : D → ℕ → Type 0)
     (targets : List (Option (Target D))) (segment : Target D) (slot : ℕ) (i : Instruction)
     (after : Known D) (start next : Machine) : Type 0 where
@@ -100,7 +100,7 @@ pub record FallsThrough {D : Type 0} (contains : D → ℕ → Type 0)
   pub unstated : target_at targets next.slot ≡ None
   pub knows : Knows contains segment after start next
 
--- a step to the slot behind enters the statement there, or there is none and what comes of it is
+-- a step to the next slot enters the statement there, or there is none and what holds there is
 -- known
 abbrev pub PassesTo : {D : Type 0} → (D → ℕ → Type 0) → List (Option (Target D)) → Target D → ℕ → ℕ
     → Known D → Machine → Machine → Type 0
@@ -116,7 +116,7 @@ pub record GoesOn {D : Type 0} (contains : D → ℕ → Type 0) (code : List Sl
   pub goes : EntersNext contains targets segment slot start next
       ⊎ FallsThrough contains targets segment slot i after start next
 
--- From what is known at the slot the instruction is never stuck, and each step goes on as it
+-- In each state that is known at the slot, the instruction isn't stuck, and each step goes on as it
 -- should.
 pub record IsFollowed {D : Type 0} (contains : D → ℕ → Type 0) (code : List Slot) (hook : Hook)
     (targets : List (Option (Target D))) (segment : Target D) (slot : ℕ) (i : Instruction)
@@ -129,7 +129,7 @@ pub record IsFollowed {D : Type 0} (contains : D → ℕ → Type 0) (code : Lis
       → Does i (setting_of code hook input) now label next
       → GoesOn contains code targets segment slot i after start next
 
--- Every visit of the slot, with any input, is in this segment and known.
+-- Every visit of the slot, on any input, is in this segment and known.
 pub record IsCurrent {D : Type 0} (contains : D → ℕ → Type 0) (code : List Slot) (hook : Hook)
     (targets : List (Option (Target D))) (entry : Target D) (slot : ℕ) (segment : Target D)
     (known : Known D) : Type 0 where

@@ -1,4 +1,4 @@
--- What is stated at a slot, and the list of targets that says it once more.
+-- What is stated at a slot, and the list of targets that says it again.
 use Rattle.std.specs.Prelude.{◌≡◌, ℕ, ◌<◌, ◌==◌, if◌then◌else◌, List, [], ◌∷◌, Option, Some, None}
 use Rattle.std.specs.Prelude.{length, slice_index_or}
 use Rattle.object.specs.Statements.{StatementParts}
@@ -10,12 +10,12 @@ use Rattle.kinds.specs.Meaning.{TargetHolds}
 use Rattle.kinds.specs.Stated.{GivesStated, IsRead, MeetsStatement}
 use Rattle.segments.specs.Places.{target_at}
 
--- what is stated at the slot, if anything is
+-- what is stated at the slot, if anything
 abbrev pub statement_at : List StatementParts → ℕ → Option StatementParts
 statement_at [] slot = None
 statement_at (s ∷ ss) slot = if s.slot == slot then Some s else statement_at ss slot
 
--- the target is of the statement: its kinds are what is stated of r0 to r9
+-- the target is that of the statement: its kinds are what is stated of r0 to r9
 pub record IsTargetOf {D : Type 0} (contains : D → ℕ → Type 0) (statement : StatementParts)
     (target : Target D) : Type 0 where
   pub same : target.statement.now ≡ statement
@@ -30,7 +30,7 @@ Agrees contains None None = Unit {0}
 Agrees contains (Some statement) (Some target) = IsTargetOf contains statement target
 Agrees contains stated found = ⊥
 
--- at each slot the list has the statement's target, where there is a statement, and else none
+-- at each slot the list has the statement's target if there is a statement, else none
 abbrev pub AreTargets : {D : Type 0} → (D → ℕ → Type 0) → List StatementParts
     → List (Option (Target D)) → Type 0
 AreTargets contains statements targets =

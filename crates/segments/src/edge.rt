@@ -1,4 +1,4 @@
-//! What has to hold where a statement is entered.
+//! What has to hold where control enters a statement.
 ghost use Rattle.std.specs.Prelude.{IfErr, IfOk, IsOk};
 ghost use Rattle.machine.specs.declared.state.State.{State as Machine};
 ghost use Rattle.kinds.specs.Plain.{IsFilled};
@@ -11,8 +11,8 @@ use kinds::{State, Target, bytes_within, kinds_within};
 use ranks::{bound_of, falls};
 use transfer::rule::Rule;
 
-/// Whether what is known at an edge is within the statement that it leads to, and the rank falls as
-/// it has to.
+/// Checks that what is known at an edge is within the statement at its target, and that the rank
+/// decreases as required.
 pub fn enter<'a, D: Domain>(
     target: &Target<'a, D>,
     back: bool,

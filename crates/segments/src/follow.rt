@@ -1,4 +1,4 @@
-//! What one instruction makes of what is known, and where it may lead.
+//! What is known after one instruction, and where it may lead.
 ghost use Rattle.std.specs.Prelude.{◌≡◌, ◌<◌, ℕ, List, IfErr, IfOk, IsOk, IsSome, IsSomeAnd, Some};
 ghost use Rattle.std.specs.Prelude.{false, nat_le, true, slice_get};
 ghost use Rattle.isa.specs.declared.code.Slot.{Slot as AnySlot};
@@ -36,14 +36,14 @@ use transfer::laws::{
 use transfer::rule::Rule;
 use transfer::straight::straight;
 
-/// What a conditional jump compares.
+/// The operands that a conditional jump compares.
 #[derive(Clone, Copy)]
 pub struct Operands {
     pub left: Register,
     pub right: Source,
 }
 
-/// Whether a jump enters the statement that it leads to.
+/// Checks that a jump may enter the statement at its target.
 pub fn jump_to<'a, D: Domain>(
     targets: &[Option<Target<'a, D>>],
     segment: &Target<'a, D>,
@@ -65,7 +65,8 @@ pub fn jump_to<'a, D: Domain>(
     enter(target, to <= slot, segment, state)
 }
 
-/// What is known at the next slot; where it has a statement, that is entered.
+/// What is known at the next slot. If that has a statement, the edge to it is checked, and nothing
+/// is known beyond the statement.
 pub fn pass_on<'a, D: Domain>(
     targets: &[Option<Target<'a, D>>],
     segment: &Target<'a, D>,
@@ -94,8 +95,8 @@ pub fn pass_on<'a, D: Domain>(
     })
 }
 
-/// Whether a conditional jump enters the statement that it leads to, where its test may hold. The
-/// state serves the other edge afterwards.
+/// Checks that a conditional jump may enter the statement at its target, if its test can hold. The
+/// resulting state serves the other edge.
 fn take<'a, D: Domain>(
     targets: &[Option<Target<'a, D>>],
     segment: &Target<'a, D>,
@@ -129,7 +130,7 @@ fn take<'a, D: Domain>(
     Ok(there)
 }
 
-/// What is known at the next slot after a conditional jump, where its test may fail.
+/// What is known at the next slot after a conditional jump, if its test can fail.
 fn stay<'a, D: Domain>(
     targets: &[Option<Target<'a, D>>],
     segment: &Target<'a, D>,
@@ -196,7 +197,8 @@ fn branch<'a, D: Domain>(
     Ok(after)
 }
 
-/// Whether an unconditional jump enters the statement that it leads to.
+/// Checks that an unconditional jump may enter the statement at its target; nothing is known after
+/// it.
 fn leave<'a, D: Domain>(
     targets: &[Option<Target<'a, D>>],
     segment: &Target<'a, D>,
@@ -220,7 +222,7 @@ fn leave<'a, D: Domain>(
     })
 }
 
-/// What is known behind EXIT: nothing.
+/// Checks that EXIT has an answer; nothing is known after it.
 fn end<D: Domain>(state: State<D>) -> Result<Known<D>, Rule>
     ensures free { IfOk result (λ _. (code : List AnySlot) (hook : AnyHook) (input : Given)
         (start now : Machine) → StateHolds D.contains state start now
@@ -238,7 +240,7 @@ fn end<D: Domain>(state: State<D>) -> Result<Known<D>, Rule>
     })
 }
 
-/// What is known behind an instruction that goes on there.
+/// What is known after an instruction that always falls through.
 fn go_on<'a, D: Domain>(
     code: &Code,
     hook: Hook,
@@ -268,7 +270,7 @@ fn go_on<'a, D: Domain>(
     Ok(after)
 }
 
-/// What is known at the next slot after an instruction, if it may be reached.
+/// What is known at the next slot after an instruction, if control may reach it.
 pub fn follow<'a, D: Domain>(
     code: &Code,
     hook: Hook,

@@ -1,7 +1,8 @@
 //! What is known at a slot.
 use kinds::State;
 
-/// What is known at a slot. Where it isn't live no run comes there, and the state says nothing.
+/// What is known at a slot. If it isn't live, no run of the current segment reaches the slot, and
+/// the state says nothing.
 #[derive(Drop)]
 pub struct Known<D> {
     pub state: State<D>,

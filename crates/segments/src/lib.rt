@@ -1,4 +1,4 @@
-//! Segments of a program, and what an instruction in one makes of what is known there.
+//! Segments of a program, and what is known after each instruction in one.
 #![tactic(auto)]
 
 pub mod edge;

@@ -16,7 +16,7 @@ use isa::{Code, Instruction, Slot};
 use kinds::Target;
 use transfer::rule::Rule;
 
-/// How many slots the instruction takes.
+/// The number of slots that the instruction takes.
 pub fn slots_of(instruction: &Instruction) -> usize
     ensures value { result ≡ size instruction.now }
     ensures some { 1 ≤ result }
@@ -25,7 +25,7 @@ pub fn slots_of(instruction: &Instruction) -> usize
     if instruction.is_wide() { 2 } else { 1 }
 }
 
-/// Whether the instruction may go on behind itself.
+/// Whether the instruction may fall through.
 pub fn falls_through(instruction: &Instruction) -> bool
     ensures { result ≡ goes_on instruction.now }
 {
@@ -51,7 +51,7 @@ pub fn jumped_near(slot: usize, distance: i16) -> usize
     jumped(slot, i32::from(distance))
 }
 
-/// Where the instruction at the slot may jump to.
+/// The slot that the instruction may jump to.
 pub fn jump_of(slot: usize, instruction: &Instruction) -> Option<usize>
     requires { slot < 4096 }
     ensures { result ≡ jump_target slot instruction.now }
@@ -74,7 +74,7 @@ pub fn begins(code: &Code, slot: usize) -> bool
     }
 }
 
-/// Whether the instruction jumps to where none begins: rule 1.
+/// Whether the instruction jumps to a slot where none begins: rule 1.
 fn jumps_nowhere(code: &Code, to: Option<usize>) -> bool
     ensures begins { result ≡ false → IfSome to (Begins code.now) }
     ensures nowhere { result ≡ true → IsSomeAnd to (λ slot. Begins code.now slot → ⊥) }
@@ -85,7 +85,7 @@ fn jumps_nowhere(code: &Code, to: Option<usize>) -> bool
     }
 }
 
-/// Whether the instruction jumps to where nothing is stated: rule 4.
+/// Whether the instruction jumps to a slot without a statement: rule 4.
 fn jumps_unstated<'a, D: Domain>(targets: &[Option<Target<'a, D>>], to: Option<usize>) -> bool
     ensures stated { result ≡ false → IfSome to (λ slot. IsSome (target_at targets.now slot)) }
     ensures unstated { result ≡ true → IsSomeAnd to (λ slot. target_at targets.now slot ≡ None) }
@@ -96,7 +96,7 @@ fn jumps_unstated<'a, D: Domain>(targets: &[Option<Target<'a, D>>], to: Option<u
     }
 }
 
-/// Whether the code ends behind an instruction that may go on there: rule 2.
+/// Whether the code ends after an instruction that may fall through: rule 2.
 fn falls_off(code: &Code, slot: usize, instruction: &Instruction) -> bool
     requires { slot < 4096 }
     ensures off { result ≡ true → (goes_on instruction.now ≡ true)
@@ -121,7 +121,7 @@ fn is_unreached<'a, D: Domain>(
     !is_passed_to && !is_stated(targets, slot)
 }
 
-/// Whether the slots that may come after the instruction are as they should be: rules 1 to 4.
+/// Checks the slots that may come after the instruction: rules 1 to 4.
 pub fn check_places<'a, D: Domain>(
     code: &Code,
     targets: &[Option<Target<'a, D>>],

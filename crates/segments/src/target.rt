@@ -31,7 +31,7 @@ pub fn is_stated<'a, D: Domain>(targets: &[Option<Target<'a, D>>], slot: usize) 
     stated_at(targets, slot).is_some()
 }
 
-/// As many slots without a statement.
+/// `size` slots without a statement.
 fn unstated<'a, D: Domain>(
     alloc: Global,
     size: usize,
@@ -46,7 +46,7 @@ fn unstated<'a, D: Domain>(
     Ok(targets)
 }
 
-/// The statements by their slots. An error comes only where memory ran out.
+/// The statements by their slots. Errors with `AllocError` if an allocation is refused.
 pub fn targets_of<'a, D: Domain>(
     alloc: Global,
     size: usize,

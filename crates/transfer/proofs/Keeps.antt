@@ -1,4 +1,4 @@
--- Registers that are known to hold numbers, and go on to.
+-- Registers that are known to hold numbers, and remain known to.
 use Rattle.std.proofs.Common.{◌≡◌, ◌≢◌, ℕ, ◌<◌, ◌≤◌, List, ◌∷◌, length, get_or, Option, Some, refl, sym, subst, ◌∙◌, arith, ⊎_elim}
 use Rattle.std.specs.Prelude.{slice_set}
 use Rattle.std.proofs.Math.ListN.{get_or-eq_default}
@@ -15,7 +15,7 @@ use Rattle.kinds.specs.Plain.{IsNumber, IsFilled}
 use Rattle.isa.specs.Flow.{register_written, operation_registers, source_registers}
 use Rattle.transfer.specs.Plain.{FillsNumber, KeepsFilled}
 
--- where a number is put, numbers stay numbers
+-- after a number is put into a list, numbers remain numbers
 pub number_set : {D : Type 0} (xs : List (Kind D)) (i : ℕ) (kind : Kind D) → IsNumber kind → (r : ℕ) → IsNumber (get_or xs r Empty)
     → IsNumber (get_or (slice_set xs i kind) r Empty)
 number_set xs i kind new r old =

@@ -1,4 +1,4 @@
--- Where pointers lead once a number is added.
+-- Where pointers lead after a number is added.
 use Rattle.std.specs.Prelude.{◌≡◌, ℕ, ℤ}
 use Rattle.isa.specs.Arithmetic.{widened_immediate}
 use Rattle.machine.specs.declared.state.Content.{Content}
@@ -9,7 +9,7 @@ use Rattle.kinds.specs.declared.state.Place.{Place}
 use Rattle.kinds.specs.declared.state.Kind.{Kind}
 use Rattle.kinds.specs.Meaning.{PlaceHolds, KindHolds}
 
--- a pointer to the one place, at the distance that one of the value's numbers makes, points to the
+-- a pointer to one place, at the distance that one of the value's numbers gives, points to the
 -- other place
 abbrev pub LeadsTo : {D : Type 0} → (D → ℕ → Type 0) → Place D → D → (ℕ → ℕ) → Place D → Type 0
 LeadsTo contains place value distance after =

@@ -1,4 +1,4 @@
--- The instructions of plain programs: which they are, and what they leave known.
+-- The instructions of plain programs: which they are, and what is known after them.
 use Rattle.std.specs.Prelude.{◌≡◌, ℕ, ◌<◌, length, slice_set, Some}
 use Rattle.std.specs.List.{AllByRecursion}
 use Rattle.isa.specs.declared.instruction.Instruction.{Instruction}
@@ -8,7 +8,7 @@ use Rattle.kinds.specs.declared.state.Kind.{Kind}
 use Rattle.kinds.specs.declared.state.State.{State}
 use Rattle.kinds.specs.Plain.{IsNumber, IsFilled}
 
--- It goes on behind itself: it is no jump and no EXIT.
+-- It always falls through: it is neither a jump nor EXIT.
 abbrev pub IsStraight : Instruction → Type 0
 IsStraight (instructions.Jump distance) = ⊥
 IsStraight (instructions.LongJump distance) = ⊥
@@ -16,7 +16,7 @@ IsStraight (instructions.Branch width test left right distance) = ⊥
 IsStraight instructions.Exit = ⊥
 IsStraight other = Unit {0}
 
--- It works on numbers in registers alone: arithmetic, and loading a wide number.
+-- It uses only numbers in registers: arithmetic, or loading a wide number.
 abbrev pub IsPlainStep : Instruction → Type 0
 IsPlainStep (instructions.Arithmetic width operation target source) = Unit {0}
 IsPlainStep (instructions.Negate width target) = Unit {0}
@@ -25,8 +25,8 @@ IsPlainStep (instructions.Reorder order width target) = Unit {0}
 IsPlainStep (instructions.LoadNumber target number) = Unit {0}
 IsPlainStep other = ⊥
 
--- An instruction of plain programs: one of those, a jump or EXIT. It touches no memory and calls no
--- helper.
+-- An instruction of plain programs: one of those, a jump or EXIT. It accesses no memory and calls
+-- no helper.
 abbrev pub IsPlainInstruction : Instruction → Type 0
 IsPlainInstruction (instructions.Jump distance) = Unit {0}
 IsPlainInstruction (instructions.LongJump distance) = Unit {0}
@@ -40,14 +40,14 @@ IsPlainInstruction other = IsPlainStep other
 abbrev pub ReadsFilled : {D : Type 0} → Instruction → State D → Type 0
 ReadsFilled instruction state = AllByRecursion (IsFilled state) (registers_read instruction)
 
--- What the instruction writes is a number, and numbers stay numbers.
+-- What the instruction writes is a number, and numbers remain numbers.
 pub record KeepsFilled {D : Type 0} (instruction : Instruction)
     (state after : State D) : Type 0 where
   pub ten : length after.kinds.items ≡ 10
   pub written : (r : ℕ) → register_written instruction ≡ Some r → IsFilled after r
   pub others : (r : ℕ) → IsFilled state r → IsFilled after r
 
--- the register, which isn't r10, is known to hold a number, and the others are known as they were
+-- the register, which isn't r10, is known to hold a number, and the same is known of the others
 pub record FillsNumber {D : Type 0} (state : State D) (target : ℕ)
     (after : State D) : Type 0 where
   pub kind : Kind D

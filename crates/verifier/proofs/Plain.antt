@@ -1,4 +1,4 @@
--- A plain program is refused by no rule.
+-- No rule refuses a plain program.
 use Rattle.std.proofs.Common.{◌≡◌, ℕ, ◌+◌, ◌<◌, ◌≤◌, Bool, true, false, List, [], ◌∷◌, Option, Some, None, ◌⊎◌, inl, inr, ⊎_elim, refl, sym, ap, subst, ◌∙◌, length, get_or, arith}
 use Rattle.std.specs.Prelude.{nat_le, slice_get, MatchOption, unwrap_or}
 use Rattle.std.specs.List.{AllByRecursion}
@@ -120,9 +120,9 @@ no_place code statements slot rules.ExitKind made is = is
 no_place code statements slot rules.Frame made is = is
 no_place code statements slot rules.Memory made is = is
 
--- ---- what stays known
+-- ---- what remains known
 
--- where the slot may be reached
+-- if the slot may be reached
 pub kept_live : {D : Type 0} (i : Instruction) (known after : Known D) → known.is_live ≡ true → KeepsFilled i known.state after.state → KeepsPlain i known after
 kept_live i known after live kept = record { ten = kept.ten; from = λ next. live; keeps = λ next. kept }
 
@@ -136,7 +136,7 @@ nothing_filled code statements none slot r zeroth (is_written before i unstated 
 -- ---- the pass
 
 module _ {D : Type 0} (contains : D → ℕ → Type 0) (code : List Slot) (entry_rank : ℕ) (statements : List StatementParts) (targets : List (Option (Target D))) (program : IsPlainProgram contains code entry_rank statements targets) where
-  -- what the target asks of a register
+  -- what the target requires of a register
   asks_at : (s : StatementParts) (target : Target D) → IsTargetOf contains s target → IsPlainStatement s → (filled : ℕ → Type 0) → ((r : ℕ) → IsNumberIn s r → filled r)
       → (r : ℕ) → AsksAtMost contains (filled r) (kind_in target.kinds.items r)
   asks_at s target is plain filled gives r =
@@ -157,7 +157,7 @@ module _ {D : Type 0} (contains : D → ℕ → Type 0) (code : List Slot) (entr
     falls = rw (is.same, own.same) falls;
   }
 
-  -- where a segment begins, the numbers that are stated are known
+  -- at the start of a segment, the stated numbers are known
   filled_stated : (slot : ℕ) (target : Target D) (state : State D) → target_at targets slot ≡ Some target → ((r : ℕ) → r < 10 → kind_in state.kinds.items r ≡ kind_in target.kinds.items r)
       → (r : ℕ) → IsFilledAt code statements slot r → IsFilled state r
   filled_stated slot target state there same r (is_stated s is number) =
@@ -207,7 +207,7 @@ module _ {D : Type 0} (contains : D → ℕ → Type 0) (code : List Slot) (entr
         (program.plain.falls slot i to found.0 edge segment.statement.now.rank.constant knows.rank);
   }
 
-  -- the slot behind
+  -- the next slot
   pub comes_behind : OneEndsAtASlot → IsCode code → (slot : ℕ) (i : Instruction) → BeginsAt i code slot → (segment : Target D) (known after : Known D) → KnowsPlain code entry_rank statements slot segment known → KeepsPlain i known after
       → ComesPlainly code entry_rank statements (slot + size i) segment after
   comes_behind one is_code slot i here segment known after knows keeps = record {
@@ -268,7 +268,7 @@ module _ {D : Type 0} (contains : D → ℕ → Type 0) (code : List Slot) (entr
       subst (λ (b : Option ℕ). KnowsPlain code entry_rank statements slot (segment_of targets entry b) found) (sym new.0)
       (subst (λ (t : Target D). KnowsPlain code entry_rank statements slot t found) (sym same) (knows_stated slot target found there (kinds_are target there)))
 
-  -- a statement, if the slot has one, and else what came from the slot before
+  -- a statement, if the slot has one, else what comes from the slot before
   pub arrives : (entry : Target D) (slot : ℕ) (begun here : Option ℕ) (known found : Known D) → ComesPlainly code entry_rank statements slot (segment_of targets entry begun) known
       → MatchOption (target_at targets slot) ((here ≡ begun) × (found ≡ known)) (λ target. (here ≡ Some slot) × (found.is_live ≡ true) × ((machine : Machine) → TargetHolds contains target machine → StateHolds contains found.state machine machine))
       → ((target : Target D) → target_at targets slot ≡ Some target → (r : ℕ) → r < 10 → kind_in found.state.kinds.items r ≡ kind_in target.kinds.items r)

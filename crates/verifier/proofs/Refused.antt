@@ -1,4 +1,4 @@
--- Where the pass refuses a program, the rule that it names is broken, and none that is tried before.
+-- If the pass refuses a program, the rule that it names is broken, and none that is checked before.
 use Rattle.std.proofs.Common.{◌≡◌, ℕ, ◌+◌, ◌*◌, ◌∙◌, ◌<◌, ◌≤◌, Bool, true, false, List, Option, Some, None, inr, ⊎_elim, refl, sym, ap, subst, arith}
 use Rattle.std.specs.Prelude.{IfErr, IsSome, Result, Ok, Err, slice_get}
 use Rattle.std.specs.Result.{IsErrAnd}
@@ -22,7 +22,7 @@ use Rattle.segments.specs.Refusals.{JumpsNowhere, IsStray, LacksHelperAt, IsWell
 use Rattle.segments.proofs.Targets.{stated_of, unstated_of}
 use Rattle.verifier.proofs.SegmentLemmas.{none_between, size_some, sizes}
 
--- what a `?` hands on
+-- what a `?` passes on
 pub handed_on : {A T : Type 0} (result : Result A T) (error : T) (P : T → Type 0) → IsErrAnd result (λ e. e ≡ error) → P error → IfErr result P
 handed_on (Ok value) error P is broken = absurd is
 handed_on (Err other) error P is broken = subst P (sym is) broken
@@ -94,7 +94,7 @@ follow_refused hook code entry_rank statements slot i rules.ExitKind here made m
 follow_refused hook code entry_rank statements slot i rules.Frame here made may = (record { instruction = i; at = here; writes = may }, made)
 follow_refused hook code entry_rank statements slot i rules.Memory here made may = absurd may
 
--- what may be empty is used
+-- a register that may be empty is used
 pub empty_refused : (hook : Hook) (code : List Slot) (entry_rank : ℕ) (statements : List StatementParts) (slot : ℕ) (i : Instruction) (rule : Rule)
     → BeginsAt i code slot → IsWellMade code statements slot → rule ≡ rules.Empty → IsRefusal hook code entry_rank statements slot rule
 empty_refused hook code entry_rank statements slot i rule here made is =
@@ -173,7 +173,7 @@ module _ {D : Type 0} (contains : D → ℕ → Type 0) (second : WideHasSecondH
       (λ (high : slot ≤ k). let at : slot ≡ k = omega (arith, below, high) in subst (λ n. IsWellMade code statements n) at this)
       (cases_lt k slot)
 
-  -- the slots up to the one behind the instruction
+  -- the slots up to the next instruction
   pub made_more : ((k : ℕ) → k < slot → IsWellMade code statements k) → IsWellMade code statements slot
       → (is_wide i ≡ true → target_at targets (slot + 1) ≡ None) → (k : ℕ) → k < slot + size i → IsWellMade code statements k
   made_more before this whole k below =

@@ -1,4 +1,4 @@
--- What the verifier finds at a slot holds of every visit.
+-- What the verifier finds out at a slot holds of every visit.
 use Rattle.std.proofs.Common.{◌≡◌, ℕ, ◌+◌, ◌<◌, ◌≤◌, Bool, true, false, List, [], ◌∷◌, Option, Some, None, ◌⊎◌, inl, inr, ⊎_elim, refl, sym, subst, ◌∙◌, length, arith}
 use Rattle.std.specs.Prelude.{slice_get, IsSomeAnd, MatchOption, nat_le, unwrap_or}
 use Rattle.isa.specs.declared.code.Slot.{Slot}
@@ -40,7 +40,7 @@ size_some i = ⊎_elim (λ (one : (size i ≡ 1) × (is_wide i ≡ false)). omeg
 half_is_start : (slot : Option Slot) (i : Instruction) → slot ≡ Some SecondHalf → slot ≡ Some (Start i) → ⊥
 half_is_start slot i half start = cc
 
--- between an instruction and the slot behind it no instruction begins
+-- no instruction begins between an instruction and the next slot
 pub none_between : WideHasSecondHalf → (code : List Slot) (slot k : ℕ) (i : Instruction) → IsCode code → slice_get code slot ≡ Some (Start i) → slot < k → k < slot + size i → Begins code k → ⊥
 none_between second code slot k i is_code here above below begins =
     ⊎_elim
@@ -60,7 +60,7 @@ code_begins code is =
     rw is.whole.slots_are (⊎_elim (λ (none : 0 ≡ length (flat_map slots_of is.whole.instructions)). absurd (omega (arith, none, some))) (λ (begins : Begins (flat_map slots_of is.whole.instructions) 0). begins) (starts is.whole.instructions))
 
 module _ {D : Type 0} (contains : D → ℕ → Type 0) (code : List Slot) (hook : Hook) (targets : List (Option (Target D))) (entry : Target D) where
-  -- at a statement's slot a new segment starts
+  -- a new segment starts at a statement's slot
   stated_visit : {target other : Target D} {input : Given} {start now : Machine} → target_at targets now.slot ≡ Some target → Visits contains (setting_of code hook input) targets entry other start now → (target ≡ other) × TargetHolds contains target start × (start ≡ now)
   stated_visit stated (at_entry first unstated holds) = absurd (none_is_some _ unstated stated)
   stated_visit {target} {other} {input} {start} stated (at_target other_stated holds) =
@@ -109,7 +109,7 @@ module _ {D : Type 0} (contains : D → ℕ → Type 0) (code : List Slot) (hook
       absurd (subst (λ o. IsSomeAnd o (λ target. Enters contains (nat_le next.slot slot) segment target start next)) unstated enters)
   through_only segment slot i after start next unstated (inr through) = through.knows
 
-  -- A visit of the slot behind comes from the instruction that ends there, and that is one alone.
+  -- A visit of the next slot comes from the instruction that ends there, and there is only one.
   next_visit : {slot : ℕ} {segment other : Target D} {input : Given} {start next : Machine} (known after : Known D) (i : Instruction) → OneEndsAtASlot → IsCode code → slice_get code slot ≡ Some (Start i)
       → target_at targets (slot + size i) ≡ None → IsCurrent contains code hook targets entry slot segment known → (known.is_live ≡ true → IsFollowed contains code hook targets segment slot i known.state after)
       → Visits contains (setting_of code hook input) targets entry other start next → next.slot ≡ slot + size i → (segment ≡ other) × Knows contains segment after start next
@@ -146,7 +146,7 @@ module _ {D : Type 0} (contains : D → ℕ → Type 0) (code : List Slot) (hook
         (found.0, known_at_start live own found.1 found.2);
   }
 
-  -- a statement, if the slot has one, and else what came from the slot before
+  -- a statement, if the slot has one, else what comes from the slot before
   arrived_at : (slot : ℕ) (begun here : Option ℕ) (known found : Known D) → IsCurrentUnlessStated contains code hook targets entry slot (segment_of targets entry begun) known → (stated : Option (Target D)) → target_at targets slot ≡ stated
       → MatchOption stated ((here ≡ begun) × (found ≡ known)) (λ target. (here ≡ Some slot) × (found.is_live ≡ true) × ((machine : Machine) → TargetHolds contains target machine → StateHolds contains found.state machine machine))
       → IsCurrent contains code hook targets entry slot (segment_of targets entry here) found
@@ -164,7 +164,7 @@ module _ {D : Type 0} (contains : D → ℕ → Type 0) (code : List Slot) (hook
       → IsCurrent contains code hook targets entry slot (segment_of targets entry here) found
   arrived slot begun here known found current there = arrived_at slot begun here known found current (target_at targets slot) refl there
 
-  -- the slots up to the one behind the instruction
+  -- the slots up to the next instruction
   pub fine_more : WideHasSecondHalf → IsCode code → (slot : ℕ) (i : Instruction) → slice_get code slot ≡ Some (Start i) → ((k : ℕ) → k < slot → Begins code k → IsFine contains code hook targets entry k) → IsFine contains code hook targets entry slot
       → (k : ℕ) → k < slot + size i → Begins code k → IsFine contains code hook targets entry k
   fine_more second is_code slot i here before this k below begins =

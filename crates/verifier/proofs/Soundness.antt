@@ -1,4 +1,4 @@
--- A program whose slots are all fine is safe, and its loads and stores go to the regions that are kept.
+-- A program whose slots are all fine is safe, and its loads and stores access the recorded regions.
 use Rattle.std.proofs.Common.{◌≡◌, ℕ, suc, ◌+◌, ◌-◌, ◌*◌, ◌<◌, ◌≤◌, true, false, List, [], ◌∷◌, Option, Some, None, ⊎_elim, refl, subst, length, arith}
 use Rattle.std.specs.Prelude.{IsSomeAnd, nat_le, if◌then◌else◌}
 use Rattle.std.proofs.Math.Nat.{mul-le-mul_left}
@@ -31,7 +31,8 @@ use Rattle.verifier.specs.Kept.{IsKept}
 use Rattle.verifier.specs.Stated.{RunsMeetStatements}
 use Rattle.verifier.proofs.SegmentLemmas.{size_some}
 
--- The steps that are left: the rank counts the turns that the code may still be gone through, and the slot what is left of this one.
+-- The steps that are left: the rank counts the passes over the code that are left, and the slot
+-- what is left of this one.
 Left : ℕ → ℕ → ℕ → ℕ
 Left slots rank slot = rank * slots + (slots - slot)
 
@@ -40,12 +41,12 @@ left_on : (slots rank rank' slot to : ℕ) → slot < to → to < slots → rank
 unfolding Left
 left_on slots rank rank' slot to later inside below = omega (arith, mul-le-mul_left slots below)
 
--- one step back, to less rank
+-- one step back, to a lower rank
 left_back : (slots rank rank' slot to : ℕ) → slot < slots → rank' < rank → suc (Left slots rank' to) ≤ Left slots rank slot
 unfolding Left
 left_back slots rank rank' slot to inside below = omega (arith, mul-le-mul_left slots below)
 
--- a step either way
+-- a step in either direction
 left_jump : (slots rank rank' slot to : ℕ) → slot < slots → to < slots → rank' + (if nat_le to slot then 1 else 0) ≤ rank → suc (Left slots rank' to) ≤ Left slots rank slot
 left_jump slots rank rank' slot to inside inside' below =
     ⊎_elim
@@ -170,21 +171,21 @@ module _ {D : Type 0} (contains : D → ℕ → Type 0) (code : List Slot) (hook
       let reached = reached_along fine labels 0 start s (first_reached begins holds edge room (target_at targets 0) refl) run.leads in
       (keeps s.slot reached.begins).keeps input reached.segment reached.begin s reached.visit refl
 
--- What the verifier has found when it accepts makes the program safe.
+-- A program that the verifier accepts is safe.
 pub safe_program : {D : Type 0} (contains : D → ℕ → Type 0) (code : List Slot) (hook : Hook) (targets : List (Option (Target D))) (entry : Target D) (rank : ℕ) → Begins code 0 → TargetHolds contains entry start
     → rank_value entry.statement.now.rank start ≡ rank → ((target : Target D) → target_at targets 0 ≡ Some target → Enters contains false entry target start start)
     → ((slot : ℕ) → Begins code slot → IsFine contains code hook targets entry slot) → Safe code hook ((rank + 1) * length code)
 safe_program contains code hook targets entry rank begins holds rank_is edge fine =
     λ input m labels s run. met contains code hook targets entry ((rank + 1) * length code) input fine begins holds edge (rw rank_is (omega arith)) m labels s run
 
--- And the regions that it has written down are those of the program's loads and stores.
+-- And the regions that it recorded are those of the program's loads and stores.
 pub kept_regions : {D : Type 0} (contains : D → ℕ → Type 0) (code : List Slot) (hook : Hook) (targets : List (Option (Target D))) (entry : Target D) → Begins code 0 → TargetHolds contains entry start
     → ((target : Target D) → target_at targets 0 ≡ Some target → Enters contains false entry target start start) → ((slot : ℕ) → Begins code slot → IsFine contains code hook targets entry slot)
     → (kept : List Region) → ((slot : ℕ) → Begins code slot → IsKept contains code hook targets entry kept slot) → AreKeptRegions code hook kept
 kept_regions contains code hook targets entry begins holds edge fine kept keeps =
     λ input m labels s run. met_kept contains code hook targets entry ((rank_value entry.statement.now.rank start + 1) * length code) input fine begins holds edge (omega arith) kept keeps m labels s run
 
--- And each run that comes to a slot with a statement is as stated there.
+-- And each run that reaches a slot with a statement is as stated there.
 pub runs_as_stated : {D : Type 0} (contains : D → ℕ → Type 0) (gives : GivesStated D) (code : List Slot) (hook : Hook) (targets : List (Option (Target D))) (entry : Target D) → Begins code 0 → TargetHolds contains entry start
     → ((target : Target D) → target_at targets 0 ≡ Some target → Enters contains false entry target start start) → ((slot : ℕ) → Begins code slot → IsFine contains code hook targets entry slot)
     → (statements : List StatementParts) → AreTargets contains statements targets → MeetStatements contains gives targets → RunsMeetStatements contains gives code hook statements

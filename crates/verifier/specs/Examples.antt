@@ -49,8 +49,8 @@ endless_code = Start (instructions.Jump (negsuc 0)) ∷ []
 abbrev pub constant_rank : ℕ → Rank
 constant_rank constant = record { constant = constant; first = None; second = None }
 
--- at the slot r0 is of the kind, of the other registers and of the stack nothing is said, and the
--- rank is the constant
+-- at the slot r0 is of the kind, nothing is said of the other registers and the stack, and the rank
+-- is the constant
 abbrev pub says : ℕ → Kind → ℕ → StatementParts
 says slot kind constant = record {
   slot = slot;
@@ -63,7 +63,7 @@ says slot kind constant = record {
 abbrev pub only_seven : Kind
 only_seven = kinds.Number (record { low = 7; high = 7; mask = 0; value = 0 })
 
--- byte 0 of the stack is a byte
+-- byte 0 of the stack is a byte of a number
 abbrev pub says_byte : StatementParts
 says_byte = record {
   slot = 1;

@@ -1,4 +1,4 @@
--- What the pass knows of a plain program.
+-- What the pass knows about a plain program.
 use Rattle.std.specs.Prelude.{◌≡◌, ℕ, true, List, Option, None, length}
 use Rattle.isa.specs.declared.code.Slot.{Slot}
 use Rattle.isa.specs.declared.instruction.Instruction.{Instruction}
@@ -24,8 +24,8 @@ pub record HasRank {D : Type 0} (target : Target D) (rank : ℕ) : Type 0 where
   pub constant : IsConstant target.statement.now.rank
   pub same : target.statement.now.rank.constant ≡ rank
 
--- Where the slot may be reached, what is filled there is known to hold numbers; and the segment's
--- rank is the one there.
+-- If the slot may be reached, registers that are filled there are known to hold numbers; and the
+-- segment's rank is the one there.
 pub record KnowsPlain {D : Type 0} (code : List Slot) (entry_rank : ℕ)
     (statements : List StatementParts) (slot : ℕ) (segment : Target D)
     (known : Known D) : Type 0 where
@@ -34,7 +34,7 @@ pub record KnowsPlain {D : Type 0} (code : List Slot) (entry_rank : ℕ)
   pub constant : IsConstant segment.statement.now.rank
   pub rank : IsRankAt code entry_rank statements slot segment.statement.now.rank.constant
 
--- what came from the slot before, which counts unless the slot has a statement
+-- what comes from the slot before, unless the slot has a statement
 pub record ComesPlainly {D : Type 0} (code : List Slot) (entry_rank : ℕ)
     (statements : List StatementParts) (slot : ℕ) (segment : Target D)
     (known : Known D) : Type 0 where
@@ -42,13 +42,13 @@ pub record ComesPlainly {D : Type 0} (code : List Slot) (entry_rank : ℕ)
   pub knows : statement_at statements slot ≡ None
       → KnowsPlain code entry_rank statements slot segment known
 
--- where the slot may be reached, the instruction is one of a plain program
+-- if the slot may be reached, the instruction is one of a plain program
 abbrev pub IsPlainIfLive : {D : Type 0} → (D → ℕ → Type 0) → List (Option (Target D)) → Target D
     → ℕ → Instruction → Known D → Type 0
 IsPlainIfLive contains targets segment slot i known =
     known.is_live ≡ true → IsPlainHere contains targets segment slot i known.state
 
--- the slot behind may be reached only where this one may, and then what is filled is kept
+-- the next slot may be reached only if this one may, and then filled registers remain filled
 pub record KeepsPlain {D : Type 0} (i : Instruction) (known after : Known D) : Type 0 where
   pub ten : length after.state.kinds.items ≡ 10
   pub from : after.is_live ≡ true → known.is_live ≡ true

@@ -1,6 +1,5 @@
--- Plain programs: they work on numbers in registers alone, and their statements ask for no more
--- than that registers hold numbers. The verifier accepts each of them, whatever the precision of
--- its domain.
+-- Plain programs: they use only numbers in registers, and their statements require no more than
+-- that registers hold numbers. The verifier accepts each of them, however imprecise its domain.
 use Rattle.std.specs.Prelude.{◌≡◌, ◌⊎◌, ℕ, ◌+◌, ◌≤◌, ◌<◌, Bool, nat_le, if◌then◌else◌, List, Some}
 use Rattle.std.specs.Prelude.{None, slice_index_or}
 use Rattle.std.specs.List.{AllByRecursion}
@@ -25,8 +24,8 @@ use Rattle.segments.specs.Stated.{statement_at}
 abbrev pub said_of : StatementParts → ℕ → Kind
 said_of s r = slice_index_or s.kinds r kinds.Empty
 
--- it says of each register nothing, or that it is any number, and nothing of the stack; its rank
--- is a constant
+-- it says of each register nothing, or that it is any number, and nothing of the stack; its rank is
+-- a constant
 pub record IsPlainStatement (s : StatementParts) : Type 0 where
   pub registers : (r : ℕ) → r < 10 → (said_of s r ≡ kinds.Empty) ⊎ (said_of s r ≡ any_number)
   pub stack : s.stack ≡ no_bytes
@@ -52,7 +51,7 @@ pub data IsFilledAt (code : List Slot) (statements : List StatementParts) : ℕ 
       → BeginsAt i code before → slot_after before i ≡ slot → register_written i ≡ Some r
       → IsFilledAt code statements slot r
 
--- once the instruction at the slot is done, the register is filled: it was, or is written
+-- after the instruction at the slot the register is filled: it was before, or is written
 abbrev pub IsFilledAfter : List Slot → List StatementParts → ℕ → Instruction → ℕ → Type 0
 IsFilledAfter code statements slot i r =
     IsFilledAt code statements slot r ⊎ (register_written i ≡ Some r)
@@ -72,7 +71,7 @@ pub data IsRankAt (code : List Slot) (entry_rank : ℕ) (statements : List State
       → IsRankAt code entry_rank statements before rank
       → IsRankAt code entry_rank statements slot rank
 
--- the rank, on a back jump one more, is at most the other
+-- the rank, plus 1 on a backward jump, is at most the other
 abbrev pub Falls : Bool → ℕ → ℕ → Type 0
 Falls back rank other = rank + (if back then 1 else 0) ≤ other
 
@@ -87,10 +86,10 @@ pub record IsEdge (code : List Slot) (statements : List StatementParts) (slot : 
 
 -- ---- programs
 
--- Only arithmetic, jumps, wide numbers and EXIT; plain statements; the rules on jumps,
--- statements, the code's end, the bound and r10 are met. Each register that is read, and each
--- that an edge's target states as a number, is filled; and the target's rank is never above the
--- segment's, on a back jump less.
+-- Only arithmetic, jumps, wide numbers and EXIT; plain statements; the program follows the rules on
+-- jumps, statements, the code's end, the bound and r10. Each register that is read, and each that
+-- an edge's target states as a number, is filled; and the target's rank is at most the segment's,
+-- less on a backward jump.
 pub record IsPlain (code : List Slot) (entry_rank : ℕ)
     (statements : List StatementParts) : Type 0 where
   pub instructions : (slot : ℕ) (i : Instruction) → BeginsAt i code slot → IsPlainInstruction i

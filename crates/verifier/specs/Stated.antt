@@ -1,4 +1,4 @@
--- What the runs of an accepted program come to at the slots that have statements.
+-- The states of an accepted program's runs at the slots that have statements.
 use Rattle.std.specs.Prelude.{◌≡◌, ℕ, List, Some}
 use Rattle.isa.specs.declared.code.Slot.{Slot}
 use Rattle.isa.specs.declared.hook.Hook.{Hook}
@@ -11,8 +11,8 @@ use Rattle.machine.specs.State.{setting_of}
 use Rattle.kinds.specs.Stated.{GivesStated, MeetsStatement}
 use Rattle.segments.specs.Stated.{statement_at}
 
--- Each run that comes to a slot with a statement, with any input and whatever the maps answer,
--- finds the machine as that says, as far as the domain tells numbers apart.
+-- Each run that reaches a slot with a statement, on any input and whatever the maps answer, finds
+-- the machine as stated, as far as the domain distinguishes numbers.
 abbrev pub RunsMeetStatements : {D : Type 0} → (D → ℕ → Type 0) → GivesStated D → List Slot → Hook
     → List StatementParts → Type 0
 RunsMeetStatements contains gives code hook statements =

@@ -19,11 +19,11 @@ use segments::target::targets_of;
 use std::alloc::Global;
 use transfer::rule::Rule;
 
-/// The greatest number of instructions that a run may execute.
+/// The maximum number of instructions that a run may execute.
 pub const BUDGET: u64 = 1_000_000;
 
-/// How many instructions a run may execute: the code's slots for each turn that the rank allows,
-/// and once more. That may be too many.
+/// The bound of the instructions that a run may execute: the rank at the entry plus 1, times the
+/// slots of the code. Errors with `Budget` if that exceeds `BUDGET`.
 fn bound_of_runs(rank: u32, size: usize) -> Result<u64, Refusal>
     requires { size ≤ 4096 }
     ensures value { IfOk result (λ bound. bound ≡ (rank + 1) * size) }
@@ -41,19 +41,19 @@ fn bound_of_runs(rank: u32, size: usize) -> Result<u64, Refusal>
     Ok(bound)
 }
 
-/// Accepts the code only where it is safe within (rank + 1) times its slots, at most 1,000,000.
+/// Accepts the code only if it is safe within `(entry_rank + 1) * slots` instructions, at most
+/// 1,000,000.
 ///
-/// Each run that comes to a stated slot is as stated there, as far as the domain tells numbers
-/// apart.
+/// Each run that reaches a slot with a statement is as stated there, as far as the domain
+/// distinguishes numbers.
 ///
-/// A refusal names the first slot that breaks a rule, and of the rules broken there the one that
-/// is tried first: those on jumps, statements and the code's end are named only where they are
-/// broken and none of them is broken before, those on helpers, on the bound and on r10 only where
-/// they are broken, and want of memory at slot 0 alone. That memory ran out then is what the
-/// code does, and no clause says it. A plain program, one that works on numbers in registers
-/// alone and states no more than that they are numbers, is refused for want of memory or not at
-/// all, whatever the domain. The statements are in the order of their slots, each slot once, as
-/// an object holds them.
+/// A refusal names the first slot that breaks a rule and, of the rules broken there, the one that
+/// is checked first. The rules on jumps, statements and the code's end are named only if they are
+/// broken and none of them is broken before; those on helpers, on the bound and on r10 only if they
+/// are broken; and `Memory` at slot 0 alone. That an allocation was refused then is how the code
+/// behaves, which no clause says. A plain program, one that uses only numbers in registers and
+/// states no more than that they are numbers, is refused for memory or not at all, whatever the
+/// domain. The statements are in the order of their slots, each slot once, as an object holds them.
 pub fn verify<D: Domain>(
     alloc: Global,
     hook: Hook,
@@ -74,8 +74,8 @@ pub fn verify<D: Domain>(
         IsFirst code statements.now refusal.slot refusal.rule) }
     ensures plain { IsPlain code entry_rank statements.now
         → IfErr result (λ refusal. refusal.rule ≡ Rule.Memory) }
-    // The bound is tried before anything needs memory, so no want of memory hides that it is
-    // passed.
+    // The bound is checked before anything is allocated, so that a refused allocation never hides
+    // that it is exceeded.
     ensures over { budget < (entry_rank + 1) * length code
         → IsErrOf result (record { slot = 0; rule = Rule.Budget }) }
 {

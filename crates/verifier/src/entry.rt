@@ -1,4 +1,4 @@
-//! Where a run begins.
+//! The start of a run.
 ghost use Rattle.std.specs.Prelude.{◌≡◌, ℕ, true, false, length, IfErr, IfOk, IsOk, Some};
 ghost use Rattle.machine.specs.declared.state.State.{State as Machine};
 ghost use Rattle.machine.specs.State.{start};
@@ -20,7 +20,7 @@ use segments::known::Known;
 use segments::target::stated_at;
 use std::alloc::{AllocError, Global};
 
-/// What is stated where a run begins: nothing but the rank.
+/// What is stated at the start of a run: only the rank.
 pub fn entry_statement(rank: u32) -> Statement
     ensures stack { result.stack ≡ no_bytes }
     ensures rank { (machine : Machine) → rank_value result.rank machine ≡ rank }
@@ -56,7 +56,7 @@ pub fn entry_of<'a, D: Domain>(
     Ok(Target { statement, kinds })
 }
 
-/// Room for what is known at a slot.
+/// A state in which nothing is known, whose memory the pass reuses at each slot.
 pub fn unknown<D: Domain>(alloc: Global) -> Result<State<D>, AllocError>
     ensures ten { IfOk result (λ state. length state.kinds.items ≡ 10) }
 {
@@ -77,7 +77,7 @@ pub fn unknown<D: Domain>(alloc: Global) -> Result<State<D>, AllocError>
     })
 }
 
-/// What is known where a run begins. Where slot 0 has a statement, that is entered.
+/// What is known at the start of a run. If slot 0 has a statement, the edge to it is checked.
 pub fn enter_start<'a, D: Domain>(
     targets: &[Option<Target<'a, D>>],
     entry: &Target<'a, D>,

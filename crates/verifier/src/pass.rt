@@ -1,4 +1,4 @@
-//! The pass over the slots, in the order of their addresses.
+//! The pass over the slots, in ascending order.
 ghost use Rattle.std.specs.Prelude.{◌≡◌, ◌+◌, ◌<◌, ℕ, List, false, true, IfErr, IfOk, IsOk, IsSome};
 ghost use Rattle.std.specs.Prelude.{MatchOption, None, Some, length, slice_get};
 ghost use Rattle.isa.specs.Code.{is_wide};
@@ -34,7 +34,7 @@ use segments::places::{check_places, falls_through, slots_of};
 use segments::target::{is_stated, stated_at};
 use transfer::rule::Rule;
 
-/// What is known at the slot, with the start of the segment that it is in: a statement starts a new
+/// What is known at the slot, with the start of the segment that it is in; a statement starts a new
 /// one.
 fn arrive<'a, D: Domain>(
     targets: &[Option<Target<'a, D>>],
@@ -64,7 +64,7 @@ fn arrive<'a, D: Domain>(
     }
 }
 
-/// What is known at the next slot, where this one may be reached.
+/// What is known at the next slot; nothing unless this one is live.
 fn pass<'a, D: Domain>(
     code: &Code,
     hook: Hook,
@@ -129,7 +129,7 @@ fn pass_in<'a, D: Domain>(
     Ok(after)
 }
 
-/// Goes from one instruction to the slot behind it, and says which region a load or store goes to.
+/// Moves from one instruction to the next slot, and gives the region that a load or store accesses.
 fn step<'a, D: Domain>(
     code: &Code,
     hook: Hook,
@@ -183,7 +183,7 @@ fn step<'a, D: Domain>(
     Ok((here, after, region))
 }
 
-/// Whether a statement stands at the second half of the instruction.
+/// Whether there is a statement for the second half of the instruction.
 fn splits<'a, D: Domain>(
     targets: &[Option<Target<'a, D>>],
     slot: usize,
@@ -198,8 +198,8 @@ fn splits<'a, D: Domain>(
     instruction.is_wide() && is_stated(targets, slot + 1)
 }
 
-/// Passes once over the instructions. What it gives has at each slot the region that a load or
-/// store there goes to, in the room that it is given.
+/// Passes once over the instructions. The result, which reuses `regions`, has at each slot the
+/// region that a load or store there accesses.
 pub fn pass_all<'a, D: Domain>(
     code: &Code,
     hook: Hook,

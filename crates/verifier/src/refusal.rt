@@ -2,7 +2,7 @@
 use std::alloc::AllocError;
 use transfer::rule::Rule;
 
-/// The rule that a program breaks, and the slot at which it does.
+/// The rule that a program breaks, and the slot at which it breaks it.
 #[derive(Clone, Copy, Debug, PartialEq, Eq)]
 pub struct Refusal {
     pub slot: usize,

@@ -6,7 +6,7 @@ use Rattle.interval.specs.Bounds.{Bounds, bounds_of, IsSingle}
 use Rattle.interval.specs.Results.{IsResult}
 use Rattle.interval.proofs.results.left_shift.Goals as goal
 
--- A product by the power of two of the only count is a shift by it.
+-- A product with the power of two of the only count is a shift by it.
 shifted : (w : Width) (l r p : Bounds) (n : ℕ) → IsSingle r → p.low ≡ 2 ^ (r.low % bits w) → p.high ≡ 2 ^ (r.low % bits w) → IsResult w Multiply l p n → IsResult w ShiftLeft l r n
 shifted w l r p n one low_power high_power found =
     let same : found.1 ≡ 2 ^ (r.low % bits w) = omega (arith, found.3.above, found.3.below) in

@@ -6,7 +6,7 @@ use Rattle.kinds.specs.Filled.{IsKnownFilled}
 use Rattle.kinds.specs.Meaning.{StackHolds, stack_byte}
 use Rattle.kinds.proofs.stack.are_filled.Given as goal
 
--- each so far is known not to be empty
+-- each byte so far is known not to be empty
 abbrev pub invariant-loop-at : goal.invariant-loop-at
 invariant-loop-at g l =
     ((stack : List StackByte) → StackHolds g.D.Domain.contains l.entries stack → (at : ℕ) → l.start ≤ at → at < l.at → stack_byte stack at ≢ Nothing)

@@ -3,6 +3,6 @@ use Rattle.kinds.specs.declared.state.Kind.TheVariants.{Empty}
 use Rattle.verifier.proofs.Entries.{entry_kinds}
 use Rattle.verifier.proofs.entry.entry_of.Given as goal
 
--- the kinds past those are empty
+-- the kinds not written yet are empty
 abbrev pub invariant-loop-register : goal.invariant-loop-register
 invariant-loop-register g l = (r : ℕ) → get_or l.kinds.items r Empty ≡ get_or entry_kinds r Empty

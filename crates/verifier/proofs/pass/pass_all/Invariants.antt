@@ -9,8 +9,9 @@ use Rattle.verifier.specs.Kept.{IsKept}
 use Rattle.verifier.specs.Pass.{ComesPlainly, HasRank, IsPlainProgram}
 use Rattle.verifier.proofs.pass.pass_all.Given as goal
 
--- The instructions so far are fine and well made, and their regions are kept. What is known is known of every visit of this slot, and
--- the slot is the end or begins an instruction. Of a plain program what is filled is known.
+-- The instructions so far are fine and well made, and their regions are recorded. What is known
+-- holds of every visit of this slot, which is the end or begins an instruction. Of a plain program,
+-- what is filled is known.
 abbrev pub invariant-loop-slot : goal.invariant-loop-slot
 invariant-loop-slot g l = record {
   fine : (k : ℕ) → k < l.slot → Begins l.code k → IsFine g.D.Domain.contains l.code l.hook l.targets l.entry k;

@@ -16,7 +16,7 @@ bit_past_end n l none = omega arith
 and_below : (a b : ℕ) → a < 2 ^ 64 → bit_and a b < 2 ^ 64
 and_below a b small = omega (arith, and_le_l a b)
 
--- where the low bits are 0, their power of two divides
+-- if the low bits are 0, their power of two divides
 low_zeros : (n k : ℕ) → n < 2 ^ 64 → ((i : ℕ) → i < k → bit_at n i ≡ 0) → n % 2 ^ k ≡ 0
 low_zeros n k small zeros =
     rw (← and_mask n k)

@@ -1,7 +1,7 @@
 use Rattle.std.proofs.Common.{◌≤◌, arith, lit<}
 use Rattle.interval.proofs.domain.IntervalDomain.within.Goals as goal
 
--- the least signed number is 2^63 without its sign, the greatest 2^63 - 1
+-- the least signed number is 2^63 as an unsigned one, the greatest 2^63 - 1
 pub returns-then-is_inside-clause-everything : goal.returns-then-is_inside-clause-everything
 returns-then-is_inside-clause-everything c = λ all.
     let least : c.args.other.signed.low ≤ 0 = (all 9223372036854775808 (lit< tt)).signed.low in
