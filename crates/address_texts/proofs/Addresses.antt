@@ -35,12 +35,12 @@ dotted_again w octets n d e =
     let same : to_be_bytes w32 n ≡ octets = be_bytes_4 octets n (ap length d.value) bytes e in
     d.spelled ∙ sym (ap ipv4_text d.value) ∙ sym (bits_text n octets same)
 
--- the address that is read is the one that is spelled
+-- a word that is read as an address spells it
 pub address_spelled : (w : List ℕ) (x : Ipv4Addr) (n : ℕ) → IsIpv4Text w x → n ≡ ipv4_bits x → w ≡ dotted_address n
 unfolding ipv4_bits
 address_spelled w x n d e = dotted_again w (ipv4_octets x) n d e
 
--- an address that is spelled is read
+-- a word that spells an address is read
 pub address_unread : (w : List ℕ) → ((x : Ipv4Addr) → IsIpv4Text w x → ⊥) → (a : ℕ) → w ≢ dotted_address a
 address_unread w none a e =
     none (record { octets = a / 16777216 % 256 ∷ a / 65536 % 256 ∷ a / 256 % 256 ∷ a % 256 ∷ [] }) (record {
@@ -86,7 +86,7 @@ free_dotted a =
     let t = free_append 47 _ _ s free_dot in
     free_append 47 _ _ t (free_octet 47 a low)
 
--- a byte that is no digit, dot or slash isn't in a prefix's text
+-- a byte above the digits isn't in the text of a number
 high_octet : (byte n : ℕ) → 57 < byte → Free byte (decimal (n % 256))
 high_octet byte n high = not_in_digits own (decimal (n % 256)) byte (digits_decimal own (n % 256) (omega arith)) (λ r. absurd (omega (arith, r.1)))
 
@@ -114,7 +114,7 @@ high_in_prefix byte n high few =
 free_rest : (byte x : ℕ) (xs : List ℕ) → Free byte (x ∷ xs) → Free byte xs
 free_rest byte x xs f i lt e = f (suc i) (omega arith) e
 
--- where texts are cut at a byte that isn't in front, they are one text only where both parts are
+-- two texts cut at a byte that isn't in either front are the same only if both parts are
 halves : (byte : ℕ) (xs ys vs ws : List ℕ) → Free byte xs → Free byte vs → xs ++ byte ∷ ys ≡ vs ++ byte ∷ ws → (xs ≡ vs) × (ys ≡ ws)
 halves byte [] ys [] ws f g e = (refl, (cc))
 halves byte [] ys (v ∷ vs) ws f g e = absurd (g 0 (omega arith) (cc))
@@ -135,7 +135,7 @@ same_number : (a b : ℕ) → a < 2 ^ 32 → b < 2 ^ 32 → a / 16777216 % 256 �
     → a / 256 % 256 ≡ b / 256 % 256 → a % 256 ≡ b % 256 → a ≡ b
 same_number a b h k p q r s = omega arith
 
--- a text is of one address
+-- a text spells one address
 pub one_address : (a b : ℕ) → a < 2 ^ 32 → b < 2 ^ 32 → dotted_address a ≡ dotted_address b → a ≡ b
 one_address a b h k e =
     let low : 46 < 48 = lit< tt in
@@ -171,7 +171,7 @@ place_spelled w r x h some a l e f =
     subst (λ (q : Option (Bor (List ℕ) × Bor (List ℕ))). MatchOption q ((i : ℕ) → i < length w → get_or w i 0 ≢ 47) (λ x. (w ≡ x.0.now ++ (47 ∷ x.1.now)) × ((i : ℕ) → i < length x.0.now → get_or x.0.now i 0 ≢ 47))) some (split_parts 47 w r h (lit< tt)) in
     parts.0 ∙ ap (λ (t : List ℕ). t ++ (47 ∷ x.1.now)) e ∙ ap (λ (t : List ℕ). dotted_address a ++ (47 ∷ t)) f ∙ sym (slash_text (record { address = a; length = l }))
 
--- a text is of one place
+-- a text spells one place
 pub one_place : (m n : Network) → m.address < 2 ^ 32 → n.address < 2 ^ 32 → m.length ≤ 32 → n.length ≤ 32 → prefix_text m ≡ prefix_text n → (m.address ≡ n.address) × (m.length ≡ n.length)
 one_place m n h k p q e =
     let parts = halves 47 _ _ _ _ (free_dotted m.address) (free_dotted n.address) (sym (slash_text m) ∙ e ∙ slash_text n) in

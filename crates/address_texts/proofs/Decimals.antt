@@ -14,7 +14,7 @@ own = numerals_by_value _ tells_all_ascii_digits
 abbrev pub leading_zero : List ℕ → Bool
 leading_zero w = (slice_index w 0 == 48) && not (length w == 1)
 
--- what isn't digits alone spells no number
+-- a word that isn't digits alone spells no number
 pub not_digits : (w : List ℕ) → all_ascii_digits w ≡ false → (n : ℕ) → n < 2 ^ 64 → w ≢ decimal n
 not_digits w e n h s = let digits = digits_decimal own n h in absurd (cc (ap all_ascii_digits s))
 
@@ -39,7 +39,7 @@ one_digit w e z = elim (eqb (length w) 1) as (λ b. eqb (length w) 1 ≡ b → l
   | false ↦ λ q. let lead : leading_zero w ≡ true = rw (z, q) refl in absurd (cc)
 ] refl
 
--- the number that is read is the one that is spelled
+-- a word that is read as a number spells it
 pub spelled : {E : Type 0} (w : List ℕ) (r : Result ℕ E) (n : ℕ) → all_ascii_digits w ≡ true → leading_zero w ≡ false → ParsesUnsigned 64 10 w r → r ≡ Ok n → (w ≡ decimal n) × (n < 2 ^ 64)
 spelled {E} w r n digits plain h e =
     let read : Result ℕ E = Ok n in
@@ -47,7 +47,7 @@ spelled {E} w r n digits plain h e =
     subst (λ (q : Result ℕ E). OkIff q ((0 < length w) × (digits_value 10 w < 2 ^ 64)) (digits_value 10 w)) e (parse_digits own 64 w r h digits) in
     (sym (decimal-digits_value own w digits parsed.0.0 (one_digit w plain) parsed.0.1) ∙ ap decimal (sym parsed.1), omega (arith, parsed.0.1, parsed.1))
 
--- a number that is spelled is read
+-- a word that spells a number is read
 pub unread : {E : Type 0} (w : List ℕ) (r : Result ℕ E) (x : E) → ParsesUnsigned 64 10 w r → r ≡ Err x → (n : ℕ) → n < 2 ^ 64 → w ≢ decimal n
 unread w r x h e n small s = absurd (cc (parse-decimal 64 n w r small small s h))
 

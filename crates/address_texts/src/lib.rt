@@ -1,4 +1,4 @@
-//! Texts of numbers, addresses and prefixes, read.
+//! Parses numbers, addresses and prefixes.
 #![tactic(auto)]
 
 mod reading;

@@ -1,5 +1,5 @@
-//! Words to values. Each value has one text: numbers are decimal without a leading zero or a sign,
-//! addresses are four such numbers below 256 with dots between them, and a prefix is an address, a
+//! From words to values. Each value has one text: numbers are decimal without a leading zero or a
+//! sign, addresses are four such numbers below 256 separated by dots, and a prefix is an address, a
 //! slash and its length.
 ghost use Rattle.std.specs.Prelude.{◌≡◌, ◌≢◌, ◌<◌, ◌≤◌, ◌^◌, ◌==◌, ◌&&◌, ℕ, MatchOption};
 ghost use Rattle.std.specs.Prelude.{decimal, length, not, slice_index};
@@ -10,7 +10,7 @@ ghost use Rattle.words.specs.Text.{dotted_address, prefix_text};
 use std::net::Ipv4Addr;
 use words::{Address, Prefix};
 
-/// Whether the word is made of decimal digits alone.
+/// Whether the word consists of decimal digits.
 fn is_digits(word: &str) -> bool
     ensures { result ≡ all_ascii_digits word.now }
 {
@@ -22,7 +22,7 @@ fn is_digits(word: &str) -> bool
     true
 }
 
-/// Whether a number of two digits or more begins with a zero.
+/// Whether a number with two digits or more begins with a zero.
 fn has_leading_zero(word: &str) -> bool
     ensures { result ≡ ((slice_index word.now 0 == 48) && not (length word.now == 1)) }
 {
@@ -33,7 +33,7 @@ fn has_leading_zero(word: &str) -> bool
     }
 }
 
-/// The number that the word spells in decimal.
+/// The number that the word spells in decimal; `None` if it is 2^64 or more, or not a number.
 fn read_decimal(word: &str) -> Option<u64>
     ensures { MatchOption result
         ((n : ℕ) → n < 2 ^ 64 → word.now ≢ decimal n)
@@ -51,7 +51,7 @@ fn read_decimal(word: &str) -> Option<u64>
     }
 }
 
-/// The number from `least` to `most` that the word spells in decimal.
+/// The number from `least` to `most`, both included, that the word spells in decimal.
 pub fn read_within(word: &str, least: u64, most: u64) -> Option<u64>
     ensures { MatchOption result
         ((n : ℕ) → least ≤ n → n ≤ most → word.now ≢ decimal n)
@@ -75,8 +75,7 @@ pub fn read_address(word: &str) -> Option<Address>
     }
 }
 
-/// The address and the length that the word spells, with a slash between them. Host bits may be
-/// set.
+/// The address and the length that the word spells, separated by a slash. Host bits may be set.
 pub fn read_place(word: &str) -> Option<(Address, u8)>
     ensures { MatchOption result
         ((n : Network) → n.address < 2 ^ 32 → n.length ≤ 32 → word.now ≢ prefix_text n)
@@ -95,7 +94,7 @@ pub fn read_place(word: &str) -> Option<(Address, u8)>
     }
 }
 
-/// The network that the word spells.
+/// The prefix that the word spells, without host bits.
 pub fn read_prefix(word: &str) -> Option<Prefix>
     ensures { MatchOption result
         ((n : Network) → IsNetwork n → word.now ≢ prefix_text n)

@@ -1,4 +1,4 @@
--- Which requests a command makes of its words.
+-- The requests that a command makes of its words.
 use Rattle.std.proofs.Common.{◌≡◌, ◌≢◌, ◌∙◌, ap, sym, refl, arith, ℕ, List, [], Option, Some, None, codes, inl, inr, slice_index}
 use Rattle.clap.specs.Walk.{Row, Text, first_of}
 use Rattle.command_line.specs.Requests.{HasSeats, HasWord, MadeBy, Makes, MakesNone, command_of}
@@ -122,7 +122,7 @@ no_route rows none (requests.List object) named has = absurd (list≢route (sym 
 no_route rows none (requests.Verify object) named has = absurd (verify≢route (sym named))
 no_route rows none (requests.Route config) named has = none config.now has
 
--- a command of another name makes nothing
+-- a command with another name makes no request
 pub no_other : (rows : List Row) (name : Text) → name ≢ codes "raw" → name ≢ codes "run" → name ≢ codes "asm" → name ≢ codes "list" → name ≢ codes "verify"
     → name ≢ codes "route" → MadeBy name rows None
 no_other rows name raw run asm list verify route (requests.Raw hook file seats) named has = raw (sym named)
@@ -132,7 +132,7 @@ no_other rows name raw run asm list verify route (requests.List object) named ha
 no_other rows name raw run asm list verify route (requests.Verify object) named has = verify (sym named)
 no_other rows name raw run asm list verify route (requests.Route config) named has = route (sym named)
 
--- what the command makes that was named
+-- the request of the named command
 pub named_makes : (name : Text) (rows : List Row) (request : Request) → MadeBy name rows (Some request) → Makes (Some (name, rows)) request
 named_makes name rows request made = (rows, ap (λ (t : Text). Some (t, rows)) (sym made.0), made.1)
 
@@ -146,14 +146,14 @@ named_makes_none name rows none request makes =
 pub none_makes_none : MakesNone None
 none_makes_none request makes = some≢none _ (sym makes.1)
 
--- what there is under a name, read as a reference
+-- the word with a name, read as a reference
 pub has_word : (rows : List Row) (name : Text) (word : Bor Text) → Rattle.std.specs.Option.option_map (λ (w : Bor Text). w.now) (Some word) ≡ first_of name rows → HasWord rows name word.now
 has_word rows name word e = sym e
 
 pub has_none : (rows : List Row) (name : Text) → None ≡ first_of name rows → (word : Text) → HasWord rows name word → ⊥
 has_none rows name none word has = some≢none word (sym has ∙ sym none)
 
--- what a word stands for that was read as a context
+-- the context of a word
 pub context_is : (word : Text) (made : Option (List ℕ)) (context : List ℕ) → made ≡ Some context → (word ≡ codes "-" → made ≡ Some (replicate 64 0))
     → (word ≢ codes "-" → made ≡ result_ok (decode_sized word 64)) → IsContext word context
 context_is word made context is dash hex = go (bytes_eq word (codes "-")) refl
@@ -170,7 +170,7 @@ context_is word made context is dash hex = go (bytes_eq word (codes "-")) refl
         let other : word ≢ codes "-" = λ e. true≢false (sym ((bytes_eq-Decides word (codes "-")).1 e) ∙ differs) in
         inr (other, of_ok (decode_sized word 64) (sym is ∙ hex other))
 
--- what a word stands for that was read as a packet
+-- the packet of a word
 pub packet_is : (word packet : List ℕ) → (word ≡ codes "-" → packet ≡ []) → (word ≢ codes "-" → decode_of word ≡ Ok packet) → IsPacket word packet
 packet_is word packet dash hex = go (bytes_eq word (codes "-")) refl
   where

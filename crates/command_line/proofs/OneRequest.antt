@@ -1,4 +1,4 @@
--- Words ask for one request at most, and for none where there is a mistake.
+-- Words make at most one request, and none if they have a mistake.
 use Rattle.std.proofs.Common.{◌≡◌, ◌∙◌, ap, sym, subst, refl, ℕ, List, [], ◌∷◌, Some, Ok, inl, inr, slice_index}
 use Rattle.std.specs.Prelude.{◌==◌, Option, Result, if◌then◌else◌}
 use Rattle.std.specs.Str.Parse.{digits_value, without_leading_plus}
@@ -64,7 +64,7 @@ one_packet word other a b same x y = elim x [
 one_hook : (a b : Hook) → hook_name a ≡ hook_name b → a ≡ b
 one_hook a b e = sym (hook_back a) ∙ ap hook_from e ∙ hook_back b
   where
-    -- the first byte tells the names apart
+    -- the first byte distinguishes the names
     hook_from : Text → Hook
     hook_from name = if slice_index name 0 == 99 then hooks.Count else (if slice_index name 0 == 116 then hooks.Tag
         else (if slice_index name 0 == 112 then hooks.Price else hooks.Veto))

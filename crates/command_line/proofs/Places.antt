@@ -1,4 +1,4 @@
--- Two lists of rules that differ only where a walk doesn't look give the same rows.
+-- Two lists of rules that differ only where a parse doesn't look give the same rows.
 use Rattle.std.proofs.Common.{◌≡◌, ◌∙◌, ap, ap₂, refl, ℕ, zero, suc, Bool, List, [], ◌∷◌, Option, Some, None, fold, length}
 use Rattle.std.specs.Prelude.{if◌then◌else◌, drop, encode_utf8, slice_get}
 use Rattle.std.specs.Str.{bytes_eq, chars}
@@ -10,7 +10,7 @@ use Rattle.clap.specs.Walk.{flag_met, long_met, long_or_other, option_met, optio
 use Rattle.clap.specs.Walk.{short_or_plain, subcommand_met, subcommand_or_other, takes_values, to_positional, used, walk, walk_from, walked}
 use Rattle.clap.specs.Walk.{finished, nothing_held, walked_from, with_default, word_met}
 
--- all that a walk reads of the rules
+-- all that a parse reads of the rules
 pub record SameRows (rules other : List Rule) : Type 0 where
   pub rows : (p : Option (Text × List Text)) (rows : List Row) → settled_rows rules p rows ≡ settled_rows other p rows
   pub long : (name : Text) → arg_by_long rules name ≡ arg_by_long other name

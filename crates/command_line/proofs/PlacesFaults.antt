@@ -1,4 +1,4 @@
--- Two lists of rules that differ only where a walk doesn't look fail by the same kinds of error.
+-- Two lists of rules that differ only where a parse doesn't look fail with the same kinds of error.
 use Rattle.std.proofs.Common.{◌≡◌, ◌∙◌, ap, ap₂, refl, ℕ, zero, suc, List, [], ◌∷◌, Option, Some, None, length, is_some}
 use Rattle.std.specs.Prelude.{◌&&◌, Bool, not, if◌then◌else◌, drop, encode_utf8, slice_get}
 use Rattle.std.specs.List.{list_any}
@@ -127,7 +127,7 @@ check_same s rules other same rows has_subcommand = ap (λ (lacks : Bool). check
     (not has_subcommand && s.subcommand_required)
     (not (s.subcommand_negates_reqs && has_subcommand) && lacks)) (same.required rows)
 
--- what is wrong at the end of a walk
+-- what is wrong at the end of a parse
 abbrev end_fault : Shape → Held → Bool → Kinds
 end_fault s held has_subcommand = or_else (settle_fault s.rules s.args_override_self held)
     (or_else (defaults_fault (settled s.rules held).rows s.rules) (check_fault s (finished s.rules held) has_subcommand))

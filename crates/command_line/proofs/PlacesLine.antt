@@ -1,4 +1,5 @@
--- Wherever the names of the hooks lie, a command line takes the same words and fails by the same kinds of error.
+-- Wherever the names of the hooks are in memory, a command line takes the same words and fails with
+-- the same kinds of error.
 use Rattle.std.proofs.Common.{◌≡◌, ap, ap₂, sym, subst₂, refl, ℕ, Bool, true, false, List, [], ◌∷◌, Option, Some, None, codes, is_some, option_map}
 use Rattle.std.specs.Prelude.{if◌then◌else◌, find, pos}
 use Rattle.std.specs.Borrow.{Bor}
@@ -64,7 +65,7 @@ answers_same p q same words =
       named,
     )
 
--- the same names are read alike, wherever they lie
+-- the same names are read alike, wherever they are in memory
 names_same : (hooks other : Bor (List (Bor Text))) (a b c d a_2 b_2 c_2 d_2 : ℕ × ℕ)
     → hooks.now ≡ hook_names a b c d → other.now ≡ hook_names a_2 b_2 c_2 d_2 → SameParser (Names hooks) (Names other)
 names_same hooks other a b c d a_2 b_2 c_2 d_2 first second =

@@ -1,4 +1,5 @@
--- The rules of `raw` with two parsers of the hook that take and refuse alike: a walk reads them the same.
+-- The rules of `raw` with two parsers of the hook that take and refuse the same texts: a parse
+-- reads them alike.
 use Rattle.std.proofs.Common.{◌≡◌, ◌∙◌, ap, ap₂, refl, ℕ, Bool, true, false, List, [], ◌∷◌, Option, Some, None, codes, length}
 use Rattle.std.specs.Prelude.{◌==◌, ◌&&◌, ◌||◌, if◌then◌else◌, pos}
 use Rattle.std.specs.Option.{option_map_or}

@@ -34,7 +34,7 @@ abbrev pub rows_in : Option (Text × List Row) → List Row
 rows_in None = []
 rows_in (Some named) = named.1
 
--- What a line with its names anywhere asks for, each line does.
+-- A request that a line makes with its names anywhere is made by each line.
 at_line : (words : List Text) (request : Request) → ((hooks : Bor (List (Bor Text))) → Asks (line_with hooks) words request)
     → (line : App) → IsCommandLine line → Asks line words request
 at_line words request asks line own = subst (λ (l : App). Asks l words request) (sym own.6) (asks own.0)

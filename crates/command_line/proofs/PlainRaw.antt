@@ -1,4 +1,4 @@
--- The words of `raw`, of which the file is no flag and the others are right.
+-- The words of `raw`, if the file is no flag and the others are valid.
 use Rattle.std.proofs.Common.{◌≡◌, sym, subst, refl, ℕ, List, [], ◌∷◌, Some, codes, false, true}
 use Rattle.std.specs.Prelude.{pos}
 use Rattle.std.specs.Borrow.{Bor}
@@ -33,7 +33,7 @@ taken_hook names a b c d e hooks.Tag = record { plain = record { not_end = refl;
 taken_hook names a b c d e hooks.Price = record { plain = record { not_end = refl; not_long = refl; not_short = refl }; taken = rw e refl }
 taken_hook names a b c d e hooks.Veto = record { plain = record { not_end = refl; not_long = refl; not_short = refl }; taken = rw e refl }
 
--- the command line, with any parsers for the hook and the seats, so that nothing of them computes
+-- the command line, with any parsers for the hook and the seats, so that no proof computes them
 abbrev pub line_by : ValueParser → ValueParser → App
 line_by hook seats = record (line_with (record { ref_ptr = (0, 0); now = [] })) {
   subs = command (codes "raw") (checked_word (codes "HOOK") hook ∷ required_word (codes "FILE") ∷ checked_word (codes "SEATS") seats ∷ [])

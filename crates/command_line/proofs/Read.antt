@@ -1,4 +1,4 @@
--- What is read of words.
+-- What is read from words.
 use Rattle.std.proofs.Common.{◌≡◌, ◌∙◌, ap, refl, sym, subst, List, [], Option, Some, None, Ok, Err, MatchResult, inl, inr, true}
 use Rattle.std.specs.Prelude.{Result, IfSome, IsErrAnd, ◌⊎◌}
 use Rattle.clap.specs.Faults.{fault_of, is_simple_and_free}
@@ -43,17 +43,17 @@ mistaken line words e has = elim has [
   | inr among ↦ inr (inl among)
 ]
 
--- what was entered is the subcommand of the words
+-- the command that was entered is the subcommand of the words
 pub entered : (line : App) (words : List Text) (m : ArgMatches) → IsCommandLine line → HasMatchesOf line words m → subcommand_rows_of m ≡ subcommand_of line words
 entered line words m own has = (has (is_simple_line line own)).1
 
--- what is made of the words of what was entered
+-- the request of the words of the command that was entered
 pub made : (line : App) (words : List Text) (m : ArgMatches) (o : Option Request) (request : Request) → IsCommandLine line → HasMatchesOf line words m → o ≡ Some request
     → IfSome o (Makes (subcommand_rows_of m)) → Makes (subcommand_of line words) request
 made line words m o request own has is makes =
     subst (λ (named : Option (Text × List Row)). Makes named request) (entered line words m own has) (rw is at makes)
 
--- a wrong word of the command that is named, or want of memory
+-- a wrong word of the named command, or a refused allocation
 pub wrong_word : (line : App) (words : List Text) (m : ArgMatches) (e : Error) → IsCommandLine line → HasMatchesOf line words m → fault_of line words ≡ []
     → (kind_of e ≡ kinds.OutOfMemory) ⊎ IsWrongWord (subcommand_rows_of m) e → IsRefusal line words e
 wrong_word line words m e own has taken given = elim given [

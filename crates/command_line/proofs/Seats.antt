@@ -1,4 +1,4 @@
--- The number of seats that a word gives.
+-- The number of seats that a word spells.
 use Rattle.std.proofs.Common.{◌≡◌, ◌∙◌, ◌≤◌, ap, sym, refl, arith, ℕ, Option, Some, None, Ok, Err}
 use Rattle.std.specs.Prelude.{Result}
 use Rattle.std.specs.Str.Parse.{IsNumeral, ParsesUnsigned, digits_value, without_leading_plus}
@@ -7,7 +7,7 @@ use Rattle.clap.specs.Walk.{Text}
 use Rattle.command_line.specs.Requests.{IsSeats}
 use Rattle.command_line.proofs.Made.{some≢none, some_is}
 
--- a number that was read of a text is that of its digits
+-- a number that was read from a text is that of its digits
 pub read_number : (E : Type 0) (G : Text → Result ℕ E → Type 0) → ((t : Text) (x : Result ℕ E) → G t x → ParsesUnsigned 8 10 t x)
     → (o : Option Text) (r : Option ℕ) (n : ℕ) → r ≡ Some n → (o ≡ None → r ≡ None) → ((t : Text) → o ≡ Some t → ReadsOne G t r)
     → (t : Text) × (o ≡ Some t) × IsNumeral 10 (without_leading_plus t) × (n ≡ digits_value 10 (without_leading_plus t))
@@ -27,7 +27,7 @@ far_from_seats E G only o r n is none value far word seats has given =
     let equal : n ≡ seats = read.3 ∙ ap (λ t. digits_value 10 (without_leading_plus t)) same ∙ sym given.1 in
     far (omega (arith, equal, given.2)) (omega (arith, equal, given.3))
 
--- and no number of seats is where none was read
+-- if none was read, there is no number of seats
 pub unread_seats : (E : Type 0) (G : Text → Result ℕ E → Type 0) → ((t : Text) (x : Result ℕ E) → G t x → ParsesUnsigned 8 10 t x)
     → (o : Option Text) (r : Option ℕ) → r ≡ None → ((t : Text) → o ≡ Some t → ReadsOne G t r)
     → (word : Text) (seats : ℕ) → o ≡ Some word → IsSeats word seats → ⊥

@@ -20,7 +20,7 @@ use Rattle.isa.specs.declared.hook.Hook.TheVariants as hooks
 abbrev hooks_at : ℕ × ℕ → ℕ × ℕ → ℕ × ℕ → ℕ × ℕ → ℕ × ℕ → Bor (List (Bor Text))
 hooks_at at a b c d = record { ref_ptr = at; now = hook_names a b c d }
 
--- what holds of the line with the names at each place holds of each line
+-- what holds of the line with the names at each address holds of each line
 each_line : (words : List Text) (mistakes : Kinds)
     → ((at a b c d : ℕ × ℕ) → fault_of (line_with (hooks_at at a b c d)) words ≡ mistakes) → Fails words mistakes
 each_line words mistakes holds line own =

@@ -1,4 +1,4 @@
--- The command line: its commands, and the words that each has to have.
+-- The command line: its commands, and the words that each requires.
 use Rattle.std.specs.Prelude.{◌≡◌, ℕ, true, false, List, [], ◌∷◌, Some, codes, pos}
 use Rattle.std.specs.Borrow.{Bor}
 use Rattle.clap.specs.Simple.{App, Shape, new_rule, new_shape}
@@ -8,18 +8,18 @@ use Rattle.clap.specs.declared.builder.value_parser.ValueParser.TheVariants as p
 use Rattle.isa.specs.Hooks.{hook_name}
 use Rattle.isa.specs.declared.hook.Hook.TheVariants as hook
 
--- a word that has to be there
+-- a required word
 abbrev pub required_word : Text → Rule
 required_word id = record (new_rule id) { value_names = 1; required = true }
 
--- and has to pass this
+-- that this parser has to accept
 abbrev pub checked_word : Text → ValueParser → Rule
 checked_word id parser = record (required_word id) { parser = Some parser }
 
 abbrev pub command : Text → List Rule → Shape
 command name rules = record (new_shape name) { rules = rules }
 
--- the names of the hooks, wherever they lie
+-- the names of the hooks, wherever they are in memory
 abbrev pub hook_names : ℕ × ℕ → ℕ × ℕ → ℕ × ℕ → ℕ × ℕ → List (Bor Text)
 hook_names a b c d =
     record { ref_ptr = a; now = hook_name hook.Count }
@@ -56,7 +56,7 @@ verify = command (codes "verify") (required_word (codes "OBJECT") ∷ [])
 abbrev pub route : Shape
 route = command (codes "route") (required_word (codes "CONFIG") ∷ [])
 
--- One of these commands has to be named, and without any word the answer is help.
+-- One of these commands has to be named; without any word, help is shown.
 abbrev pub line_with : Bor (List (Bor Text)) → App
 line_with hooks = record {
   top =
@@ -65,7 +65,7 @@ line_with hooks = record {
   subs = raw hooks ∷ run ∷ asm ∷ list ∷ verify ∷ route ∷ [];
 }
 
--- the command line, wherever the names of the hooks lie
+-- the command line, wherever the names of the hooks are in memory
 abbrev pub IsCommandLine : App → Type 0
 IsCommandLine line =
     (hooks : Bor (List (Bor Text))) × (a b c d : ℕ × ℕ) × (hooks.now ≡ hook_names a b c d)

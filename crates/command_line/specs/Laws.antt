@@ -13,7 +13,7 @@ use Rattle.command_line.specs.declared.requests.Request.{Request}
 use Rattle.command_line.specs.declared.requests.Request.TheVariants as requests
 use Rattle.isa.specs.declared.hook.Hook.{Hook}
 
--- The same command, with the same texts, numbers and bytes, wherever they lie.
+-- The same command, with the same texts, numbers and bytes, wherever they are in memory.
 abbrev pub SameRequest : Request → Request → Type 0
 SameRequest (requests.Raw hook file seats) (requests.Raw hook_2 file_2 seats_2) =
     (hook ≡ hook_2) × (file.now ≡ file_2.now) × (seats ≡ seats_2)
@@ -35,12 +35,12 @@ abbrev pub MistakenWordsAskForNothing : Type 0
 MistakenWordsAskForNothing = (line : App) (words : List Text) (error : Error) (request : Request)
     → IsMistake line words error → Asks line words request → ⊥
 
--- A word that is no flag: it doesn't begin with a hyphen (45), or is one.
+-- A word that is no flag: it doesn't begin with a hyphen (45), or is a single one.
 abbrev pub IsPlain : Text → Type 0
 IsPlain [] = ⊤
 IsPlain (first ∷ rest) = (first ≢ 45) ⊎ (rest ≡ [])
 
--- Whatever the program is called, and whatever the file: these words ask for this request.
+-- Whatever the program's name and the file: these words make this request.
 abbrev pub RawIsTaken : Type 0
 RawIsTaken = (line : App) (program seats_word : Text) (hook : Hook) (file : Bor Text) (seats : ℕ)
     → IsCommandLine line
@@ -81,8 +81,8 @@ abbrev pub PlainWordsAreTaken : Type 0
 PlainWordsAreTaken =
     RawIsTaken × RunIsTaken × AsmIsTaken × ListIsTaken × VerifyIsTaken × RouteIsTaken
 
--- What a line makes of its words, and what it finds wrong with them, is the same wherever the names
--- of the hooks lie.
+-- A line makes the same request of its words, and finds the same mistakes in them, wherever the
+-- names of the hooks are in memory.
 abbrev pub WhereTheNamesLieChangesNothing : Type 0
 WhereTheNamesLieChangesNothing = (line other : App) (words : List Text) → IsCommandLine line
     → IsCommandLine other

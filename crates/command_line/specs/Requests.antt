@@ -1,4 +1,4 @@
--- What the words of a command line ask for.
+-- The requests that the words of a command line make.
 use Rattle.std.specs.Prelude.{◌≡◌, ◌⊎◌, ◌≤◌, ℕ, List, [], Option, Some, None, codes}
 use Rattle.std.specs.Str.Parse.{IsNumeral, digits_value, without_leading_plus}
 use Rattle.clap.specs.Faults.{fault_of}
@@ -21,11 +21,11 @@ command_of (requests.List object) = codes "list"
 command_of (requests.Verify object) = codes "verify"
 command_of (requests.Route config) = codes "route"
 
--- the word under this name
+-- the word with this name
 abbrev pub HasWord : List Row → Text → Text → Type 0
 HasWord rows name word = first_of name rows ≡ Some word
 
--- the number of seats, 1 to 64 in decimal digits, that a word gives
+-- the number of seats, 1 to 64 in decimal digits, that a word spells
 abbrev pub IsSeats : Text → ℕ → Type 0
 IsSeats word seats = IsNumeral 10 (without_leading_plus word)
     × (seats ≡ digits_value 10 (without_leading_plus word)) × (1 ≤ seats) × (seats ≤ 64)
@@ -46,18 +46,18 @@ HasWordsOf rows (requests.List object) = HasWord rows (codes "OBJECT") object.no
 HasWordsOf rows (requests.Verify object) = HasWord rows (codes "OBJECT") object.now
 HasWordsOf rows (requests.Route config) = HasWord rows (codes "CONFIG") config.now
 
--- what the command of this name makes of its words, if it makes a request of them
+-- the request that the command with this name makes of its words, if it makes one
 abbrev pub MadeBy : Text → List Row → Option Request → Type 0
 MadeBy name rows (Some request) = (command_of request ≡ name) × HasWordsOf rows request
 MadeBy name rows None = (request : Request) → command_of request ≡ name → HasWordsOf rows request
     → ⊥
 
--- A word of this command is wrong, so that it makes no request; or memory was refused.
+-- A word of this command is wrong, so that it makes no request; or an allocation was refused.
 abbrev pub IsWrong : Text → List Row → Error → Type 0
 IsWrong name rows error = (kind_of error ≡ kinds.OutOfMemory)
     ⊎ ((kind_of error ≡ kinds.InvalidValue) × MadeBy name rows None)
 
--- A command that was named, with its words, makes the request.
+-- The named command, with its words, makes the request.
 abbrev pub Makes : Option (Text × List Row) → Request → Type 0
 Makes named request = (rows : List Row) × (named ≡ Some (command_of request, rows))
     × HasWordsOf rows request
@@ -66,12 +66,11 @@ abbrev pub MakesNone : Option (Text × List Row) → Type 0
 MakesNone named = (request : Request) → Makes named request → ⊥
 
 -- The command line takes the words, and the command that they name makes the request of the words
--- under its names.
+-- with its names.
 abbrev pub Asks : App → List Text → Request → Type 0
 Asks line words request = (fault_of line words ≡ []) × Makes (subcommand_of line words) request
 
--- What is wrong with words that the command line takes: that no command is named, or a value where
--- one is.
+-- What is wrong with words that the command line takes: they name no command, or a value is wrong.
 abbrev pub IsWrongKind : Option (Text × List Row) → Error → Type 0
 IsWrongKind None error = kind_of error ≡ kinds.MissingSubcommand
 IsWrongKind (Some named) error = kind_of error ≡ kinds.InvalidValue
@@ -79,12 +78,12 @@ IsWrongKind (Some named) error = kind_of error ≡ kinds.InvalidValue
 abbrev pub IsWrongWord : Option (Text × List Row) → Error → Type 0
 IsWrongWord named error = IsWrongKind named error × MakesNone named
 
--- The command line doesn't take the words, for a reason of this kind (help is one); or no request
--- is made of them.
+-- The command line doesn't take the words, for a reason of this kind (help is one); or they make no
+-- request.
 abbrev pub IsMistake : App → List Text → Error → Type 0
 IsMistake line words error = IsAmong (kind_of error) (fault_of line words)
     ⊎ ((fault_of line words ≡ []) × IsWrongWord (subcommand_of line words) error)
 
--- Want of memory is one more reason.
+-- A refused allocation is one more reason.
 abbrev pub IsRefusal : App → List Text → Error → Type 0
 IsRefusal line words error = (kind_of error ≡ kinds.OutOfMemory) ⊎ IsMistake line words error

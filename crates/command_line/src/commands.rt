@@ -1,4 +1,4 @@
-//! The commands, the words that each has to have, and their help.
+//! The commands, the words that each requires, and their help.
 
 ghost use Rattle.std.specs.Prelude.{◌≡◌, ◌⊎◌, ℕ, List, false, codes, pos, IfOk};
 ghost use Rattle.std.specs.Borrow.{Bor};
@@ -95,7 +95,7 @@ const VERIFY: &str =
     "Verifies the program of an object file: whether each run of it is safe, and within how many \
         instructions it ends";
 
-// What is written behind the help of `verify`: what it prints, and the rules.
+// The end of the help of `verify`: what it prints, and the rules.
 const VERIFY_RULES: &str = "\
 Example: routerd verify sum.o
 
@@ -158,7 +158,7 @@ Statuses:
 docs/use/OPERATING.md has the form of the configuration, each line of the console and each
 refusal.";
 
-// What is written behind the top help: a line for each command and what it prints, the statuses and
+// The end of the top-level help: a line for each command and what it prints, the exit statuses and
 // the version.
 const WORKED: &str = "\
 Examples:
@@ -173,8 +173,8 @@ Statuses: 0 done, 1 refused or stuck, 2 usage, 3 file, socket or stream, 4 memor
 
 Leafrunt 0.4.0";
 
-// The names of the hooks, `Hook::name`'s: a `static` can't call it, and the clause of `hook` holds
-// of no others.
+// The names of the hooks, as in `Hook::name`, which a `static` can't call. The contract of `hook`
+// holds of no others.
 static HOOKS: [&str; 4] = ["count", "tag", "price", "veto"];
 
 fn required<'a>(alloc: Global, name: &'a str, help: &'a str) -> Arg<'a>
@@ -187,7 +187,7 @@ fn required<'a>(alloc: Global, name: &'a str, help: &'a str) -> Arg<'a>
         .required(true)
 }
 
-/// A word that has to be there, and has to pass this.
+/// A required word that this parser has to accept.
 fn checked<'a>(alloc: Global, name: &'a str, help: &'a str, parser: ValueParser<'a>) -> Arg<'a>
     ensures rule { rule_of result ≡ line.checked_word name.entry.now parser.entry }
     ensures local { result.global ≡ false }
@@ -317,7 +317,7 @@ pub(crate) fn error(alloc: Global, kind: ErrorKind, text: &str) -> Result<Error,
     whole(alloc)?.error(kind, text)
 }
 
-/// An error about a wrong word, or want of memory.
+/// An error about a wrong word, or about a refused allocation.
 pub(crate) fn wrong_value(alloc: Global, text: &str) -> Error
     ensures { (kind_of result ≡ ErrorKind.OutOfMemory) ⊎ (kind_of result ≡ ErrorKind.InvalidValue) }
 {

@@ -3,28 +3,29 @@ ghost use Rattle.command_line.specs.Laws.{MistakenWordsAskForNothing, PlainWords
 ghost use Rattle.command_line.specs.Laws.{WhereTheNamesLieChangesNothing, WordsMakeOneRequest};
 ghost use Rattle.command_line.specs.Worked.{WorkedWords};
 
-/// Words ask for one request at most.
+/// Words make at most one request.
 pub fn words_make_one_request()
     ensures { WordsMakeOneRequest }
 {}
 
-/// Words in which there is a mistake ask for nothing.
+/// Words with a mistake make no request.
 pub fn mistaken_words_ask_for_nothing()
     ensures { MistakenWordsAskForNothing }
 {}
 
-/// Each command takes its words, where none of them is a flag and each is right, and asks for just
-/// what they say.
+/// Each command takes its words, if none of them is a flag and each is valid, and makes exactly the
+/// request that they say.
 pub fn plain_words_are_taken()
     ensures { PlainWordsAreTaken }
 {}
 
-/// Wherever the names of the hooks lie, the words ask for the same and the same is wrong with them.
+/// Wherever the names of the hooks are in memory, the same words make the same request or have the
+/// same mistakes.
 pub fn where_the_names_lie_changes_nothing()
     ensures { WhereTheNamesLieChangesNothing }
 {}
 
-/// Worked command lines: what some words ask for, and what is wrong with others.
+/// Worked command lines: the requests of some words, and the mistakes of others.
 pub fn worked_words()
     ensures { WorkedWords }
 {}

@@ -1,4 +1,4 @@
-//! The command line of `routerd`: the words that it takes, and what they ask for.
+//! The command line of `routerd`: the words that it takes, and the requests that they make.
 #![tactic(auto)]
 
 mod commands;

@@ -1,4 +1,4 @@
-//! The words of a command line, read.
+//! Parses the words of a command line.
 
 ghost use Rattle.std.specs.Prelude.{◌≡◌, ◌⊎◌, map, MatchResult};
 ghost use Rattle.std.specs.IoError.{error_kind};
@@ -14,7 +14,7 @@ use clap::error::ErrorKind;
 use std::alloc::{AllocError, Global};
 use std::io::{self, ErrorKind as IoKind};
 
-/// The text for words that can't be read: memory was refused, or a word isn't UTF-8.
+/// The error for words that can't be read: an allocation was refused, or a word isn't UTF-8.
 pub fn unread(alloc: Global, error: &io::Error) -> Error
     ensures memory { error_kind error.now ≡ IoKind.OutOfMemory
         → kind_of result ≡ ErrorKind.OutOfMemory }
@@ -27,11 +27,11 @@ pub fn unread(alloc: Global, error: &io::Error) -> Error
     }
 }
 
-/// Reads the words of a command line, of which the first is the program's name.
+/// Parses the words of a command line, of which the first is the program's name.
 ///
-/// `Ok` is just what the words ask for. `Err` has the text for the user: a mistake in the words,
-/// where they ask for nothing, or the help that they ask for; its kind is `OutOfMemory` where an
-/// allocation was refused.
+/// `Ok` is exactly the request of the words. `Err` has the text for the user: a mistake in the
+/// words, which then make no request, or the help that they request. Its kind is `OutOfMemory` if
+/// an allocation was refused.
 pub fn parse<'a>(alloc: Global, words: &'a [&'a str]) -> Result<Request<'a>, Error>
     ensures { (line : App) × IsCommandLine line
         × MatchResult result (Asks line (map (λ w. w.now) words.entry.now))

@@ -1,4 +1,4 @@
-//! What a command and its words ask for.
+//! The requests that commands and their words make.
 
 ghost use Rattle.std.specs.Prelude.{◌≡◌, ◌≢◌, ◌⊎◌, [], ℕ, codes, replicate, option_map, IfOk};
 ghost use Rattle.std.specs.Prelude.{IfErr, IfSome, MatchResult, Err, Ok, Some, None};
@@ -19,10 +19,10 @@ use hex::{FromHex, FromHexError};
 use isa::Hook;
 use std::alloc::{AllocError, Global};
 
-/// What the words of a command line ask for.
+/// The request that the words of a command line make.
 #[derive(Drop)]
 pub enum Request<'a> {
-    /// Run bare code once on each of `seats` threads.
+    /// Run raw code once on each of `seats` threads.
     Raw {
         hook: Hook,
         file: &'a str,
@@ -47,14 +47,13 @@ pub enum Request<'a> {
     Verify {
         object: &'a str,
     },
-    /// Run a router by a configuration.
+    /// Run a router with a configuration.
     Route {
         config: &'a str,
     },
 }
 
-/// The context that a word stands for: zeros for `-`, else 64 bytes in hex. None where it is
-/// neither.
+/// The context that a word stands for: zeros for `-`, or 64 bytes in hex. `None` if it is neither.
 fn context_of(word: &str) -> Option<[u8; 64]>
     ensures dash { word.now ≡ codes "-" → result ≡ Some (replicate 64 0) }
     ensures hex { word.now ≢ codes "-" → result ≡ result_ok (decode_sized word.now 64) }
@@ -65,7 +64,7 @@ fn context_of(word: &str) -> Option<[u8; 64]>
     <[u8; 64] as FromHex>::from_hex(word).ok()
 }
 
-/// The packet that a word stands for: none for `-`, else bytes in hex.
+/// The packet that a word stands for: an empty one for `-`, else bytes in hex.
 fn packet_of(alloc: Global, word: &str) -> Result<Vec<u8>, FromHexError>
     ensures dash { word.now ≡ codes "-" → MatchResult result (λ bytes. bytes.items ≡ []) (λ _. ⊥) }
     ensures hex { word.now ≢ codes "-" → MatchResult result (λ bytes. decode_of word.now
@@ -77,7 +76,7 @@ fn packet_of(alloc: Global, word: &str) -> Result<Vec<u8>, FromHexError>
     hex::decode(alloc, word)
 }
 
-/// The word under a name.
+/// The word with this name.
 fn word_of<'a>(matches: &ArgMatches<'a>, name: &str) -> Option<&'a str>
     ensures { option_map (λ word. word.now) result
         ≡ first_of name.now (rows_of (found_of matches.now)) }
@@ -159,7 +158,7 @@ fn route_request<'a>(matches: &ArgMatches<'a>) -> Option<Request<'a>>
     Some(Request::Route { config })
 }
 
-// What a command makes of its words. None where it makes nothing of them, or there is no such
+// The request that a command makes of its words. `None` if it makes none, or there is no such
 // command.
 fn made_by<'a>(
     alloc: Global,
@@ -180,7 +179,7 @@ fn made_by<'a>(
     }
 }
 
-// The request that a command makes of its words. A wrong value where it makes none.
+// The request that a command makes of its words. An invalid-value error if it makes none.
 fn request_by<'a>(alloc: Global, name: &str, matches: &ArgMatches<'a>) -> Result<Request<'a>, Error>
     ensures ok { IfOk result (λ request. MadeBy name.now (rows_of (found_of matches.now))
         (Some request)) }
@@ -193,7 +192,7 @@ fn request_by<'a>(alloc: Global, name: &str, matches: &ArgMatches<'a>) -> Result
     }
 }
 
-/// What the command that the words name makes of its words. None where they name no command.
+/// The request that the named command makes of its words. `None` if the words name no command.
 pub(crate) fn request_of<'a>(
     alloc: Global,
     matches: &ArgMatches<'a>,

@@ -1,4 +1,4 @@
--- What is found in the numbers below 64, number by number.
+-- Searching the numbers below 64 one by one.
 use Rattle.std.proofs.Common.{◌≡◌, ℕ, suc, ◌+◌, ◌-◌, ◌<◌, ◌≤◌, Bool, true, false, Option, Some, None, refl, arith}
 use Rattle.std.specs.List.{find, range_with_len}
 

@@ -16,7 +16,7 @@ use Rattle.words.specs.Fields.{field}
 use Rattle.words.specs.Interfaces.{has_interface}
 use Rattle.words.specs.Numbers.{Moment, InterfaceNumber}
 
--- a field: where it begins, how many bytes it has, and its number, whose lowest byte comes first
+-- a field: its first byte, its size in bytes, and its number, which is little-endian
 pub record Field : Type 0 where
   pub offset : ℕ
   pub width : ℕ
@@ -28,24 +28,24 @@ four_bytes offset number = record { offset = offset; width = 4; number = number 
 abbrev pub eight_bytes : (offset number : ℕ) → Field
 eight_bytes offset number = record { offset = offset; width = 8; number = number }
 
--- the bytes with this field written over them
+-- the bytes with this field written
 abbrev pub with_field : List ℕ → Field → List ℕ
 with_field bytes f =
     take f.offset bytes ++ bytes_low_first 0 f.width f.number ++ drop (f.offset + f.width) bytes
 
--- 64 bytes, of which those that no field has are 0
+-- 64 bytes, 0 outside of all fields
 abbrev pub context_of : List Field → List ℕ
 context_of fields = fold with_field (replicate 64 0) fields
 
--- the second byte of a packet is its type, and the bytes 4 to 7 are its Router ID (RFC 2328,
--- A.3.1); 0 where the packet ends before
+-- the second byte of a packet is its type, and bytes 4 to 7 are its Router ID (RFC 2328, A.3.1); 0
+-- if the packet ends before
 abbrev pub type_in : (packet : List ℕ) → ℕ
 type_in packet = if nat_lt (length packet) 2 then 0 else slice_index packet 1
 
 abbrev pub router_id_in : (packet : List ℕ) → ℕ
 router_id_in packet = if nat_lt (length packet) 8 then 0 else field packet 4 4
 
--- `count` is asked of a packet that came on an interface at a moment
+-- the context of `count` for a packet that came in on an interface at a moment
 abbrev pub count_context : InterfaceNumber → Moment → (packet : List ℕ) → List ℕ
 count_context interface moment packet = context_of (
     four_bytes 0 (hook_number Count)
@@ -60,7 +60,7 @@ abbrev pub external_type_number : ExternalType → ℕ
 external_type_number Type1 = 1
 external_type_number Type2 = 2
 
--- `tag` and `price` are asked of an external route at a moment
+-- the context of `tag` and `price` for an external route at a moment
 abbrev pub external_context : Hook → External → Moment → List ℕ
 external_context hook external moment = context_of (
     four_bytes 0 (hook_number hook)
@@ -84,7 +84,7 @@ route_kind_number Inter = 2
 route_kind_number External1 = 3
 route_kind_number External2 = 4
 
--- the number of the first interface in a set, 0 where there is none
+-- the number of the first interface in a set; 0 if there is none
 abbrev pub found_or_0 : Option ℕ → ℕ
 found_or_0 (Some interface) = interface
 found_or_0 None = 0
@@ -92,12 +92,12 @@ found_or_0 None = 0
 abbrev pub first_hop : (hops : ℕ) → InterfaceNumber
 first_hop hops = found_or_0 (find (has_interface hops) (range_with_len 0 64))
 
--- the distance of a type 2 route; a route of another kind has none
+-- the type 2 distance of a type 2 external route; 0 for any other route
 abbrev pub type_2_distance : RouteKind → (distance : ℕ) → ℕ
 type_2_distance External2 distance = distance
 type_2_distance other distance = 0
 
--- `veto` is asked of a route at a moment
+-- the context of `veto` for a route at a moment
 abbrev pub veto_context : Route → Moment → List ℕ
 veto_context route moment = context_of (
     four_bytes 0 (hook_number Veto)

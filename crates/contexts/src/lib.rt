@@ -1,7 +1,7 @@
 //! The contexts of questions: the 64 bytes that a program is run on, hook by hook.
 //!
-//! Numbers stand with their lowest byte first, and bytes that no field has are 0. A prefix and a
-//! Router ID stand as their 32-bit numbers.
+//! Numbers are little-endian, and bytes outside of all fields are 0. A prefix's address and a
+//! Router ID are their 32-bit numbers.
 #![tactic(auto)]
 
 mod fields;

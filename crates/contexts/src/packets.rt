@@ -7,14 +7,14 @@ use crate::fields::{put_eight, put_four};
 use isa::Hook;
 use words::{Second, u32_at};
 
-/// The packet's type (RFC 2328, A.3.1), 0 where it has fewer than two bytes.
+/// The packet's type (RFC 2328, A.3.1); 0 if it has fewer than two bytes.
 fn type_in(packet: &[u8]) -> u8
     ensures { result ≡ type_in packet.now }
 {
     if packet.len() < 2 { 0 } else { packet[1] }
 }
 
-/// The packet's Router ID, 0 where it has fewer than eight bytes.
+/// The packet's Router ID; 0 if it has fewer than eight bytes.
 fn router_id_in(packet: &[u8]) -> u32
     ensures { result ≡ router_id_in packet.now }
 {
@@ -25,8 +25,8 @@ fn router_id_in(packet: &[u8]) -> u32
     }
 }
 
-/// What `count` is asked of a packet that came on the interface at the moment. Of the packet's
-/// length it has the low 32 bits.
+/// The context of `count` for a packet that came in on the interface at this moment. The packet's
+/// length is cut to its low 32 bits.
 pub fn count_context(interface: u16, moment: Second, packet: &[u8]) -> Context
     ensures { result ≡ count_context interface moment packet.now }
 {

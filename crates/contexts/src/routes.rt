@@ -32,14 +32,14 @@ fn external_context(hook: Hook, external: External, moment: Second) -> Context
     context
 }
 
-/// What `tag` is asked of an external destination at the moment.
+/// The context of `tag` for an external destination at this moment.
 pub fn tag_context(external: External, moment: Second) -> Context
     ensures { result ≡ tag_context external moment }
 {
     external_context(Hook::Tag, external, moment)
 }
 
-/// What `price` is asked of an external destination at the moment.
+/// The context of `price` for an external destination at this moment.
 pub fn price_context(external: External, moment: Second) -> Context
     ensures { result ≡ price_context external moment }
 {
@@ -57,7 +57,7 @@ fn route_kind_number(kind: RouteKind) -> u64
     }
 }
 
-/// The first interface of the set, 0 where it is empty.
+/// The first interface of the set; 0 if it is empty.
 fn first_hop(hops: Hops) -> u64
     ensures { result ≡ first_hop hops }
 {
@@ -69,7 +69,7 @@ fn first_hop(hops: Hops) -> u64
     0
 }
 
-/// The distance of a type 2 route, 0 for a route of another kind.
+/// The type 2 distance of a type 2 external route; 0 for any other route.
 fn type_2_distance(kind: RouteKind, distance: u32) -> u32
     ensures { result ≡ type_2_distance kind distance }
 {
@@ -79,7 +79,7 @@ fn type_2_distance(kind: RouteKind, distance: u32) -> u32
     }
 }
 
-/// What `veto` is asked of a route at the moment.
+/// The context of `veto` for a route at this moment.
 pub fn veto_context(route: Route, moment: Second) -> Context
     ensures { result ≡ veto_context route moment }
 {

@@ -1,4 +1,4 @@
--- What answers a question is a run's word or the default.
+-- The answer to a question is a run's word or the default.
 use Rattle.std.proofs.Common.{◌≡◌, ℕ, List, [], Option, Some, None, MatchOption, slice_range, inl, inr, sym, ◌∙◌, subst}
 use Rattle.isa.specs.declared.hook.Hook.{Hook}
 use Rattle.isa.specs.Hooks.{hook_number}
@@ -23,7 +23,7 @@ answered hook ops i labels word is h =
     let found : IsAnswer h.0 i word = answered_at h.0 i (leaves h.0 ops) labels word (at-leaves h.0 ops) h.2 in
     subst (λ k. IsAnswer k i word) (number-injective h.0 hook (sym h.1 ∙ is)) found
 
--- an equal input has an equal word
+-- equal inputs have equal answers
 pub same_answer : (before now : List Operation) (old new : SeatView) (i j : Given) (v w : ℕ) → i ≡ j → v ≡ w
     → IsAnswered before now old new i v → IsAnswered before now old new j w
 same_answer before now old new i j v w inputs words is =

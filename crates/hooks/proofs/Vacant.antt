@@ -1,4 +1,4 @@
--- What answers an input where no program stands.
+-- How a hook without a program answers an input.
 use Rattle.std.proofs.Common.{◌≡◌, ℕ, ◌<◌, ◌^◌, List, [], Option, Some, None, MatchOption, refl, ◌∙◌, rules}
 use mathlib.Core.List.{IsPrefix}
 use Rattle.isa.specs.declared.hook.Hook.{Hook}

@@ -1,4 +1,4 @@
--- What an answer was made of.
+-- Which operations an answer was given by.
 use Rattle.std.specs.Prelude.{ℕ, List}
 use mathlib.Core.List.{IsPrefix}
 use Rattle.machine.specs.Given.{Given}
@@ -8,8 +8,8 @@ use Rattle.helpers.specs.Seats.{Makes}
 use Rattle.hooks.specs.declared.operation.Operation.{Operation}
 use Rattle.hooks.specs.Operations.{Answers}
 
--- The list that the asker knows now answers the input with the word. It begins with all that it
--- knew before, and the seat made just the steps of the run.
+-- The operations that the asker knows now answer the input with the word. They begin with all that
+-- it knew before, and the seat made exactly the steps of the run.
 pub record IsAnswered (before now : List Operation) (old new : SeatView) (input : Given)
     (word : ℕ) : Type 0 where
   pub labels : List Label

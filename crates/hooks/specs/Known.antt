@@ -1,4 +1,4 @@
--- What the loader has done, what an asker or a notice knows of it.
+-- What the loader has done, and what an asker or a notice knows of it.
 use Rattle.std.specs.Prelude.{◌≡◌, List, []}
 use Rattle.logbook.specs.Pages.{Book}
 use Rattle.hooks.specs.declared.operation.Operation.{Operation}
@@ -11,24 +11,24 @@ use Rattle.hooks.specs.Shown.{published_operations, history}
 abbrev pub operations_of : {R : Type 0} → Loader R → List Operation
 operations_of l = published_operations l.writer.desk.shown.value
 
--- which history they are
+-- their history
 abbrev pub history_of : {R : Type 0} → Loader R → Book
 history_of l = history l.writer.desk.shown.value
 
--- the operations that the loader told, and of which history
+-- the operations that the loader told, and their history
 abbrev pub told_by : Notice → List Operation
 told_by n = n.front.seen.log
 
 abbrev pub tells_of : Notice → Book
 tells_of n = n.front.seen.book
 
--- all operations that the asker saw or learnt, and of which history
+-- all operations that the asker saw or was told, and their history
 abbrev pub known_to : Asker → List Operation
 known_to a = a.front.seen.log
 
 abbrev pub asks_of : Asker → Book
 asks_of a = a.front.seen.book
 
--- it has seen nothing, and was told nothing
+-- it has seen nothing and was told nothing
 abbrev pub IsNew : Book → Asker → Type 0
 IsNew book a = (asks_of a ≡ book) × (known_to a ≡ [])

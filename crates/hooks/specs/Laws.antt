@@ -1,4 +1,4 @@
--- What the definitions mean, as laws.
+-- Laws that show what the definitions mean.
 use Rattle.std.specs.Prelude.{◌≡◌, ◌≢◌, ◌<◌, ◌^◌, List, [], ◌∷◌, ◌++◌}
 use Rattle.isa.specs.declared.hook.Hook.{Hook}
 use Rattle.isa.specs.declared.hook.Hook.TheVariants.{Tag, Price}
@@ -9,8 +9,7 @@ use Rattle.hooks.specs.declared.operation.Operation.{Operation}
 use Rattle.hooks.specs.Operations.{hook_of, outcome_of, leaves, default_of}
 use Rattle.hooks.specs.Questions.{tag_input, price_input}
 
--- after an operation at its own hook stands what it leaves there, and at the others what stood
--- there
+-- an operation decides what is attached at its own hook, and leaves the other hooks unchanged
 abbrev pub LastDecides : Type 0
 LastDecides = (before : List Operation) (last : Operation) (hook : Hook)
     → (hook_of last ≡ hook → leaves hook (before ++ last ∷ []) ≡ outcome_of last)

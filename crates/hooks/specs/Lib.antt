@@ -8,5 +8,5 @@ pub mod Laws
 pub mod Refusals
 pub mod Answered
 pub mod Vacant
--- what crates above name of those below
+-- names of the crates below for those above
 pub use Rattle.machine.specs as machine

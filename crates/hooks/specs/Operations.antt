@@ -1,4 +1,4 @@
--- What a list of operations leaves at a hook, and what answers an input there.
+-- What a list of operations leaves at a hook, and how that answers an input.
 use Rattle.std.specs.Prelude.{◌≡◌, ℕ, ◌≤◌, ◌==◌, if◌then◌else◌, List, [], fold, Option, Some, None}
 use Rattle.std.specs.Prelude.{MatchOption, slice_range}
 use Rattle.isa.specs.declared.code.Slot.{Slot}
@@ -17,14 +17,14 @@ use Rattle.hooks.specs.declared.operation.Operation.{Operation}
 use Rattle.hooks.specs.declared.operation.Operation.TheVariants.{Attach, Detach}
 
 -- The code, the hook that it is for, a number of instructions within which every run ends, and for
--- each slot the region that a load or store there goes to.
+-- each slot the region that a load or store there accesses.
 pub record Program : Type 0 where
   pub code : List Slot
   pub hook : Hook
   pub bound : ℕ
   pub regions : List Region
 
--- the program, whatever room it has
+-- the program, whatever its capacity
 abbrev pub program_of : verifier.Program → Program
 program_of p = record { code = p.code; hook = p.hook; bound = p.bound; regions = p.regions }
 
@@ -49,7 +49,7 @@ abbrev pub outcome_of : Operation → Option Program
 outcome_of (Attach accepted) = Some (program_of accepted)
 outcome_of (Detach hook) = None
 
--- what stands at the hook after one more operation
+-- what is attached at the hook after one more operation
 abbrev pub after : Hook → Option Program → Operation → Option Program
 after hook before operation =
     if hook_number (hook_of operation) == hook_number hook then outcome_of operation else before
@@ -58,7 +58,7 @@ after hook before operation =
 abbrev pub leaves : Hook → List Operation → Option Program
 leaves hook operations = fold (after hook) None operations
 
--- the answer where no program stands at the hook: the configured tag or metric of the context, or 0
+-- the answer of a hook without a program: the configured tag or metric of the context, or 0
 abbrev pub default_of : Hook → Given → ℕ
 default_of Count input = 0
 default_of Tag input = number_of (slice_range input.context 16 20)
@@ -74,7 +74,7 @@ pub record RunsTo (program : Program) (input : Given) (labels : List Label)
   pub ends : Ends (setting_of program.code program.hook input) used labels word
 
 -- The word of a run, with these labels, of the program that the operations leave at the input's
--- hook; or, only where they leave none there, the default.
+-- hook; or the default, if and only if they leave none there.
 abbrev pub Answers : List Operation → Given → List Label → ℕ → Type 0
 Answers operations input labels word =
     (hook : Hook) × IsOfHook hook input
@@ -82,7 +82,7 @@ Answers operations input labels word =
     ((labels ≡ []) × (word ≡ default_of hook input))
     (λ program. RunsTo program input labels word)
 
--- the input is of some hook: its first four bytes are a hook's number
+-- the input belongs to some hook: its first four bytes are a hook's number
 abbrev pub IsAsked : Given → Type 0
 IsAsked input =
     (1 ≤ number_of (slice_range input.context 0 4))

@@ -1,4 +1,4 @@
--- The inputs of questions, and what their answers are.
+-- The inputs of questions, and their answers.
 use Rattle.std.specs.Prelude.{◌≡◌, ℕ, ◌⊎◌, List, []}
 use Rattle.isa.specs.declared.hook.Hook.{Hook}
 use Rattle.isa.specs.declared.hook.Hook.TheVariants.{Tag, Price, Veto}

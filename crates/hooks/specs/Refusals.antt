@@ -1,4 +1,4 @@
--- The numbers of the refusals, in the order in which they are tried.
+-- The numbers of the errors, in the order in which they are checked.
 use Rattle.std.specs.Prelude.{ℕ}
 use Rattle.hooks.specs.declared.error.HookError.{HookError}
 use Rattle.hooks.specs.declared.error.HookError.TheVariants.{Count, Memory, Places}

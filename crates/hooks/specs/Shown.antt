@@ -8,15 +8,15 @@ use Rattle.hooks.specs.declared.value.Programs.{Programs}
 use Rattle.hooks.specs.declared.value.Entry.{Entry}
 use Rattle.hooks.specs.Operations.{after, leaves}
 
--- the operations that were published
+-- the published operations
 abbrev pub published_operations : Programs → List Operation
 published_operations p = p.front.seen.log
 
--- which history they are of
+-- their history
 abbrev pub history : Programs → Book
 history p = p.front.seen.book
 
--- no program stands at any hook
+-- no program is attached at any hook
 abbrev pub vacant : Front → Programs
 vacant front = record { count = None; tag = None; price = None; veto = None; front = front }
 
@@ -39,7 +39,7 @@ after_operation p e =
       front = e.front;
     }
 
--- the value with these entries stays one that stands, of the same history
+-- the value with these entries remains valid, with the same history
 abbrev pub Fits : Programs → List Entry → Type 0
 Fits p entries =
     Stands p → Stands (fold after_operation p entries)

@@ -1,4 +1,4 @@
--- What is answered where no program stands.
+-- The answers of hooks without a program.
 use Rattle.std.specs.Prelude.{◌≡◌, ◌↔◌, ℕ, IsTrue, List, None}
 use Rattle.isa.specs.declared.hook.Hook.{Hook}
 use Rattle.isa.specs.declared.hook.Hook.TheVariants.{Tag, Price, Veto}
@@ -16,18 +16,18 @@ use Rattle.hooks.specs.Questions.{RouteAnswer}
 abbrev pub IsVacant : Hook → List Operation → Type 0
 IsVacant hook operations = leaves hook operations ≡ None
 
--- it tells at which of three hooks they leave none
+-- for three hooks, whether the operations leave no program there
 pub record AreVacancies (operations : List Operation) (v : Vacancies) : Type 0 where
   pub tag : IsTrue v.tag ↔ IsVacant Tag operations
   pub price : IsTrue v.price ↔ IsVacant Price operations
   pub veto : IsTrue v.veto ↔ IsVacant Veto operations
 
--- The list that the asker knows now answers the input with the word, and no seat has a part in it:
--- each is as it was.
+-- The operations that the asker knows now answer the input with the word, without a seat: each seat
+-- is unchanged.
 abbrev pub IsAnsweredByNone : (before now : List Operation) → Given → (word : ℕ) → Type 0
 IsAnsweredByNone before now input word =
     (seat : SeatView) → IsAnswered before now seat seat input word
 
--- the answer of `veto` that lets a route in
+-- the answer of `veto` that accepts a route
 abbrev pub let_in : Moment → Route → RouteAnswer
 let_in moment route = record { route = route; moment = moment; word = 0 }

@@ -1,4 +1,4 @@
-//! Answers that carry their question. They are made in this crate alone.
+//! Answers with their questions. Only this crate makes them.
 ghost use Rattle.std.specs.Prelude.{◌≡◌, ◌%◌, ◌^◌};
 ghost use Rattle.hooks.specs.Questions.{IsTag, IsPrice, IsVeto};
 
@@ -57,7 +57,7 @@ impl TagAnswer {
         self.moment
     }
 
-    /// The word that was answered.
+    /// The answered word.
     pub fn word(&self) -> u64
         ensures value { result ≡ self.now.word }
         ensures answers { ∥ IsTag self.now ∥₁ }
@@ -125,7 +125,7 @@ impl PriceAnswer {
         self.moment
     }
 
-    /// The word that was answered.
+    /// The answered word.
     pub fn word(&self) -> u64
         ensures value { result ≡ self.now.word }
         ensures answers { ∥ IsPrice self.now ∥₁ }
@@ -181,7 +181,7 @@ impl VetoAnswer {
         self.moment
     }
 
-    /// The word that was answered.
+    /// The answered word.
     pub fn word(&self) -> u64
         ensures value { result ≡ self.now.word }
         ensures answers { ∥ IsVeto self.now ∥₁ }

@@ -1,4 +1,4 @@
-//! Who runs the published programs.
+//! The threads' access to the published programs.
 ghost use Rattle.std.specs.Prelude.{◌≡◌, ◌⊎◌, IfSome, IfNone, IsSome};
 ghost use Rattle.std.specs.Option.{ForSome};
 ghost use mathlib.Core.List.{IsPrefix};
@@ -15,7 +15,7 @@ use crate::rule::{ProgramReader, Sees};
 use machine::Input;
 use maps::{Seat, Shared};
 
-/// It runs the programs on its own thread.
+/// Runs the published programs on its own thread.
 #[derive(Drop)]
 pub struct Asker {
     pub(crate) reader: Option<ProgramReader>,
@@ -81,8 +81,8 @@ impl Asker {
         }
     }
 
-    /// Runs the program that stands at the input's hook. It takes no memory, and waits for nobody.
-    /// `None` where the published programs give no reading.
+    /// Runs the program that is attached at the input's hook. Never blocks or allocates. `None` if
+    /// the published programs can't be read.
     pub fn ask(&mut self, input: &Input, shared: &Shared, seat: &mut Seat) -> Option<Answer>
         requires asked { IsAsked (given_by input.now) }
         requires table { IsOf shared.now seat.old }
@@ -101,7 +101,7 @@ impl Asker {
         answer
     }
 
-    /// From now on it sees no less than the loader had done.
+    /// From now on the asker sees all that the loader had done at the notice.
     pub fn learn(&mut self, notice: Notice)
         requires { asks_of self.old ≡ tells_of notice }
         ensures history { asks_of self.new ≡ asks_of self.old }

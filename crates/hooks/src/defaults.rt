@@ -1,4 +1,4 @@
-//! Answers where no program stands.
+//! The answers at hooks without a program.
 ghost use Rattle.std.specs.Prelude.{◌≡◌, List, IfOk, IfSome, map};
 ghost use mathlib.Core.List.{IsPrefix};
 ghost use Rattle.left_right.specs.Sides.{view};
@@ -17,7 +17,7 @@ use crate::value::Vacancies;
 use std::alloc::{AllocError, Global};
 use words::{External, Route, Second};
 
-// Lets these routes in, in their order.
+// Accepts these routes, in order.
 fn let_in(alloc: Global, routes: &[Route], moment: Second) -> Result<Vec<VetoAnswer>, AllocError>
     ensures { IfOk result (λ answers. answers.items ≡ map (let_in moment) routes.now) }
 {
@@ -27,7 +27,7 @@ fn let_in(alloc: Global, routes: &[Route], moment: Second) -> Result<Vec<VetoAns
         .collect(alloc)
 }
 
-// At which hooks no program stands, by one reading; `None` where the published programs give none.
+// The hooks without a program, by one reading; `None` if the published programs can't be read.
 fn look(reader: ProgramReader, front: &mut Front) -> (ProgramReader, Option<Vacancies>)
     requires { HasSeen front.old.seen.book (view reader.place) }
     ensures same { (front.new.seen.book ≡ front.old.seen.book)
@@ -49,7 +49,7 @@ fn look(reader: ProgramReader, front: &mut Front) -> (ProgramReader, Option<Vaca
 }
 
 impl Asker {
-    // The same, of the programs that this asker reads.
+    // The same, for the programs that this asker reads.
     fn vacancies(&mut self) -> Option<Vacancies>
         ensures history { asks_of self.new ≡ asks_of self.old }
         ensures known { IsPrefix (known_to self.old) (known_to self.new) }
@@ -63,10 +63,10 @@ impl Asker {
         vacancies
     }
 
-    /// The answers of `tag` and `price` on an external destination where one reading shows no
-    /// program at either: the configured tag and the configured metric. They are those beside
-    /// whatever rows, and no seat has a part in them. `None` where a program stands at one of the
-    /// two, or the published programs give no reading.
+    /// The answers of `tag` and `price` on an external destination if one reading shows no program
+    /// at either: the configured tag and the configured metric. They are the same whatever the
+    /// rows, and use no seat. `None` if either hook has a program, or if the published programs
+    /// can't be read.
     pub fn configured(
         &mut self,
         external: &External,
@@ -91,11 +91,11 @@ impl Asker {
         Some((tag, price))
     }
 
-    /// The answers of `veto` on routes, in their order, where one reading shows no program there:
-    /// each route is let in. They are those beside whatever rows, and no seat has a part in them.
-    /// `None` where a program stands there, or the published programs give no reading.
+    /// The answers of `veto` on routes, in order, if one reading shows no program there: each route
+    /// is accepted. They are the same whatever the rows, and use no seat. `None` if the hook has a
+    /// program, or if the published programs can't be read.
     ///
-    /// `AllocError` comes where memory for the answers is refused.
+    /// Errors with `AllocError` if an allocation is refused.
     pub fn all_let_in(
         &mut self,
         alloc: Global,

@@ -5,13 +5,13 @@ use thiserror::Error;
 /// Why [`programs`](crate::programs) made no loader and no askers.
 #[derive(Debug, Clone, Copy, PartialEq, Eq, Error)]
 pub enum HookError {
-    /// No asker is asked for, or more than [`ASKERS`](crate::ASKERS).
+    /// The number of askers is 0, or more than [`ASKERS`](crate::ASKERS).
     #[error("a loader has 1 to 64 askers")]
     Count,
     /// An allocation was refused.
     #[error("out of memory")]
     Memory,
-    /// There was no place for an asker. No cause is claimed.
+    /// There was no place for an asker. The cause is unspecified.
     #[error("no place for an asker")]
     Places,
 }
@@ -20,7 +20,7 @@ impl HookError {
     ghost use Rattle.std.specs.Prelude.{◌≡◌};
     ghost use Rattle.hooks.specs.Refusals.{refusal_number};
 
-    /// The number of the refusal: 1 for `Count`, 2 for `Memory`, 3 for `Places`.
+    /// The error's number: 1 for `Count`, 2 for `Memory`, 3 for `Places`.
     pub fn number(self) -> u8
         ensures { result ≡ refusal_number self }
     {

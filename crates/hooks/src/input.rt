@@ -1,4 +1,4 @@
-//! What an input says of itself.
+//! The hook that an input is for, and its default answer.
 ghost use Rattle.std.specs.Prelude.{◌≡◌, ◌+◌, ◌≤◌, length, slice_range};
 ghost use Rattle.isa.specs.Hooks.{hook_number};
 ghost use Rattle.machine.specs.Given.{given_by};
@@ -7,7 +7,7 @@ ghost use Rattle.hooks.specs.Operations.{IsAsked, default_of};
 
 use machine::{Hook, Input};
 
-/// The number that four bytes spell, the lowest first.
+/// The number of four bytes, the lowest first.
 fn number_of(bytes: &[u8]) -> u64
     requires { length bytes.now ≡ 4 }
     ensures { result ≡ number_of bytes.now }
@@ -21,7 +21,7 @@ fn number_of(bytes: &[u8]) -> u64
     }
 }
 
-/// The hook whose number stands in the first four bytes of the context.
+/// The hook whose number is in the first four bytes of the context.
 pub fn hook_of(input: &Input) -> Hook
     requires { IsAsked (given_by input.now) }
     ensures { number_of (slice_range input.now.context 0 4) ≡ hook_number result }
@@ -35,7 +35,7 @@ pub fn hook_of(input: &Input) -> Hook
     }
 }
 
-/// The answer where no program stands at the hook.
+/// The answer if no program is attached at the hook.
 pub fn default_word(hook: Hook, input: &Input) -> u64
     ensures { result ≡ default_of hook (given_by input.now) }
 {

@@ -1,7 +1,7 @@
-//! What the definitions mean, as laws.
+//! Laws that show what the definitions mean.
 ghost use Rattle.hooks.specs.Laws.{LastDecides, DefaultsAreConfigured};
 
-/// The last operation at a hook decides what stands there.
+/// The last operation at a hook decides which program is attached there.
 pub fn last_operation_decides()
     ensures { LastDecides }
 {}

@@ -1,8 +1,8 @@
 //! Programs that a loader publishes at the hooks, and askers that run them.
 //!
-//! An asker runs what stands at a hook on its own thread: it takes no lock and no memory, and waits
-//! for nobody. What it sees begins with all operations that it saw before, and with all that it
-//! learnt of by a notice.
+//! An asker runs the program that is attached at a hook on its own thread, and never locks, blocks
+//! or allocates. The operations that it sees begin with all those that it saw before, and with all
+//! that a notice told it.
 #![tactic(auto)]
 
 mod answer;
@@ -28,5 +28,5 @@ pub use loader::{Loader, Notice};
 pub use operation::Operation;
 pub use start::programs;
 
-/// The most askers of one loader.
+/// The maximum number of askers of one loader.
 pub const ASKERS: usize = 64;

@@ -1,4 +1,4 @@
-//! Who attaches and detaches programs.
+//! Attaches and detaches programs.
 ghost use Rattle.std.specs.Prelude.{◌≡◌, ◌≢◌, ◌<◌, ◌≤◌, [], ◌∷◌, ◌++◌, drop, fold, Some, All};
 ghost use Rattle.std.specs.Prelude.{vec_len, IfOk, IfErr, MatchResult};
 ghost use Rattle.left_right.specs.Sides.{view};
@@ -20,7 +20,8 @@ use std::alloc::{AllocError, Global};
 use std::sync::Wait;
 use verifier::Accepted;
 
-/// It keeps the handle `R`, since its drop waits for the askers that are reading.
+/// Attaches and detaches programs. It keeps the handle `R`, since its drop waits for the askers
+/// that are reading.
 pub struct Loader<R: Wait + Drop> {
     writer: ProgramWriter,
     head: Head,
@@ -36,7 +37,7 @@ pub struct Notice {
     pub(crate) front: Front,
 }
 
-/// Shows askers each pending entry.
+/// Publishes each pending entry.
 fn show<R: Wait>(writer: ProgramWriter, rt: &R) -> (ProgramWriter, ())
     requires { Fits writer.desk.shown.value (drop writer.behind writer.log.items) }
     ensures shown { result.0.desk.shown.value ≡ fold after_operation writer.desk.shown.value
@@ -48,7 +49,7 @@ fn show<R: Wait>(writer: ProgramWriter, rt: &R) -> (ProgramWriter, ())
     (writer, ())
 }
 
-/// Detaches nothing.
+/// An entry that has no effect: it detaches from a hook without a program.
 fn pad(front: &Front) -> Entry
     ensures { (result.operation ≡ Detach HookCount) × (result.front ≡ front.now) }
 {
@@ -58,8 +59,7 @@ fn pad(front: &Front) -> Entry
     }
 }
 
-/// Makes room for two entries, so that no later one takes memory: readers see one, and the next one
-/// comes.
+/// Reserves two entries, so that no later one allocates: the one that readers see, and the next.
 fn make_room<R: Wait>(
     mut writer: ProgramWriter,
     rt: &R,
@@ -118,7 +118,8 @@ impl<R: Wait + Drop> Loader<R> {
         Ok(list)
     }
 
-    /// Publishes the program at its hook, or answers want of memory and changes nothing.
+    /// Publishes the program at its hook, without an allocation. Errors with `AllocError`, and
+    /// changes nothing, if the history has no number left for it.
     pub fn attach(&mut self, accepted: Accepted) -> Result<(), AllocError>
         ensures operations { MatchResult result (λ _. operations_of self.new
             ≡ operations_of self.old ++ Attach accepted ∷ []) (λ _. operations_of self.new
@@ -128,7 +129,8 @@ impl<R: Wait + Drop> Loader<R> {
         self.publish(Operation::Attach(accepted))
     }
 
-    /// Publishes that no program stands at the hook, or answers want of memory and changes nothing.
+    /// Publishes that the hook has no program, without an allocation. Errors with `AllocError`, and
+    /// changes nothing, if the history has no number left for it.
     pub fn detach(&mut self, hook: Hook) -> Result<(), AllocError>
         ensures operations { MatchResult result (λ _. operations_of self.new
             ≡ operations_of self.old ++ Detach hook ∷ []) (λ _. operations_of self.new
@@ -138,7 +140,7 @@ impl<R: Wait + Drop> Loader<R> {
         self.publish(Operation::Detach(hook))
     }
 
-    // Once the operation has its number, nothing is refused any more.
+    // Once the operation has its number, nothing can fail any more.
     fn publish(&mut self, operation: Operation) -> Result<(), AllocError>
         ensures operations { MatchResult result (λ _. operations_of self.new
             ≡ operations_of self.old ++ operation ∷ []) (λ _. operations_of self.new
@@ -154,7 +156,7 @@ impl<R: Wait + Drop> Loader<R> {
         Ok(())
     }
 
-    /// Tells all operations so far.
+    /// A notice of all operations so far.
     pub fn notice(&self) -> Notice
         ensures { (told_by result ≡ operations_of self.now)
             × (tells_of result ≡ history_of self.now) }

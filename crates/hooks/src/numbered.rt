@@ -1,4 +1,4 @@
-//! An operation that has its number in the history.
+//! An operation with a number in the history.
 ghost use Rattle.std.specs.Prelude.{◌≡◌, [], ◌∷◌, ◌++◌, drop, IfSome};
 ghost use Rattle.hooks.specs.History.{head_of};
 
@@ -9,15 +9,15 @@ use crate::value::Entry;
 use std::sync::Wait;
 use std::thread;
 
-/// An operation whose number in the history is taken. A number isn't given back, so a value of this
-/// type can't be dropped: who took the number appends the operation.
+/// An operation that has taken its number in the history. A number can't be given back, so a value
+/// of this type can't be dropped: whoever took the number appends the operation.
 pub struct Numbered {
     entry: Entry,
 }
 
 impl Numbered {
-    /// Takes the next number for the operation. `None` where the history is longer than the front,
-    /// or no number is left.
+    /// Takes the next number for the operation. `None` if the history is longer than the front, or
+    /// if no number is left.
     pub fn next(front: &Front, head: &Head, operation: Operation) -> Option<Numbered>
         requires { head.now ≡ head_of front.now.seen.book }
         ensures operation { IfSome result (λ n. n.entry.operation ≡ operation) }
@@ -30,8 +30,8 @@ impl Numbered {
         })
     }
 
-    /// Appends the operation to those that the writer publishes next. Where its place there gets no
-    /// memory it tries again, until there is some: a place that was reserved needs none.
+    /// Appends the operation to those that the writer publishes next. If an allocation is refused
+    /// it tries again until one succeeds; a reserved place needs none.
     pub fn append_to<R: Wait>(self, writer: &mut ProgramWriter, rt: &R)
         ensures desk { writer.new.desk ≡ writer.old.desk }
         ensures pending { drop writer.new.behind writer.new.log.items

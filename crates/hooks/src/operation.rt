@@ -1,4 +1,4 @@
-//! What the loader does to the published programs.
+//! The loader's operations on the published programs.
 ghost use Rattle.std.specs.Prelude.{◌≡◌};
 ghost use Rattle.hooks.specs.Operations.{hook_of};
 
@@ -8,9 +8,9 @@ use verifier::Accepted;
 /// One operation of the loader.
 #[derive(Drop)]
 pub enum Operation {
-    /// The program stands at its hook from now on, in the place of any other.
+    /// The program is attached at its hook from now on, in place of any other.
     Attach(Accepted),
-    /// No program stands at the hook from now on.
+    /// The hook has no program from now on.
     Detach(Hook),
 }
 

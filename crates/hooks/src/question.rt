@@ -12,10 +12,11 @@ use machine::{Input, TableRow};
 use maps::{Seat, Shared};
 use words::{External, Route, Second};
 
-/// A question takes no memory and waits for nobody. `None` where the published programs give no
-/// reading: no cause is claimed, and asker and seat are as before. The seat is one of the table.
+/// A question never blocks or allocates. `None` if the published programs can't be read, for an
+/// unspecified cause; asker and seat are then unchanged. The seat belongs to the table.
 impl Asker {
-    /// Asks `count` of a packet that came on the interface at the moment, before it is read.
+    /// Asks `count` about a packet that came in on the interface at this moment, before it is
+    /// parsed.
     pub fn count(
         &mut self,
         interface: u16,
@@ -41,7 +42,7 @@ impl Asker {
         Some(answer)
     }
 
-    /// Asks `tag` which tag an external destination is announced with, beside the rows of a table.
+    /// Asks `tag` for the tag to announce an external destination with, given the rows of a table.
     pub fn tag(
         &mut self,
         external: &External,
@@ -68,7 +69,7 @@ impl Asker {
         Some(TagAnswer::new(*external, moment, answer.word))
     }
 
-    /// Asks `price` which metric an external destination is announced with, beside the rows of a
+    /// Asks `price` for the metric to announce an external destination with, given the rows of a
     /// table.
     pub fn price(
         &mut self,
@@ -96,8 +97,8 @@ impl Asker {
         Some(PriceAnswer::new(*external, moment, answer.word))
     }
 
-    /// Asks `veto` whether a route is kept out of the table, beside the rows of a table: 0 lets it
-    /// in.
+    /// Asks `veto` whether to keep a route out of the table, given the rows of a table; 0 accepts
+    /// it.
     pub fn veto(
         &mut self,
         route: &Route,

@@ -7,7 +7,7 @@ use std::alloc::{AllocError, Global};
 use std::marker::Model;
 use verifier::Accepted;
 
-/// Its program counts while it is `attached`. There is room for each program. A clause sees the
+/// The program counts while `attached`. The slot has capacity for every program. Contracts see the
 /// program that it shows.
 #[derive(Drop)]
 pub struct Slot {
@@ -28,7 +28,7 @@ impl Model for Slot {
 }
 
 impl Slot {
-    /// A place without a program, with room for each.
+    /// A slot without a program, with capacity for every one.
     pub fn empty(alloc: Global) -> Result<Slot, AllocError>
         ensures { IfOk result (λ s. s ≡ None) }
     {
@@ -38,7 +38,7 @@ impl Slot {
         })
     }
 
-    /// Shows what the operation leaves. It takes no memory.
+    /// Applies the operation, without an allocation.
     pub fn change(&mut self, operation: &Operation)
         ensures { self.new ≡ outcome_of operation.now }
     {
@@ -51,14 +51,14 @@ impl Slot {
         }
     }
 
-    /// Tells whether no program stands here.
+    /// Whether no program is attached here.
     pub fn is_vacant(&self) -> bool
         ensures { IsTrue result ↔ (self.now ≡ None) }
     {
         !self.attached
     }
 
-    /// The program that stands here.
+    /// The program that is attached here.
     pub fn program(&self) -> Option<&Accepted>
         ensures { MatchOption result (self.now ≡ None) (λ a. self.now ≡ Some (program_of a.now)) }
     {

@@ -1,4 +1,4 @@
-//! The published programs, and who asks them.
+//! Makes a loader and its askers.
 ghost use Rattle.std.specs.Prelude.{◌≡◌, ◌<◌, ◌⊎◌, ◌↔◌, [], All, IfOk, Err, vec_len};
 ghost use Rattle.hooks.specs.declared.error.HookError.TheVariants.{Count};
 ghost use Rattle.hooks.specs.Known.{operations_of, history_of, IsNew};
@@ -10,14 +10,14 @@ use crate::loader::Loader;
 use std::alloc::Global;
 use std::sync::Wait;
 
-/// Makes a loader with no program at any hook, and so many askers, which have seen nothing. All
-/// memory that attaching and detaching ever need is taken here: four places for programs of 4,096
-/// slots in each of two copies.
+/// Makes a loader with no program at any hook, and `askers` askers, which have seen nothing. All
+/// memory that attaching and detaching will ever need is allocated here: for a program of 4,096
+/// slots at each of the four hooks, in each of two copies.
 ///
 /// # Errors
 ///
-/// `Count` where `askers` is 0 or above 64, which is tried first; `Memory` where an allocation is
-/// refused; `Places` where there was no place for an asker.
+/// `Count` if `askers` is 0 or above 64, which is checked first; `Memory` if an allocation is
+/// refused; `Places` if there was no place for an asker.
 pub fn programs<R: Wait + Drop>(
     alloc: Global,
     rt: R,

@@ -1,5 +1,5 @@
-//! `routerd`: runs a router, and assembles, lists, verifies and runs its programs. What it does
-//! stands in `commands` and `daemon`. Routers that run are tested in `command_tests`.
+//! `routerd`: runs a router, and assembles, lists, verifies and runs its programs. What it does is
+//! in `commands` and `daemon`. Running routers are tested in `command_tests`.
 #![tactic(auto)]
 
 ghost use Rattle.std.specs.Prelude.{◌≤◌};
@@ -20,8 +20,8 @@ use std::thread::Threads;
 use std::time::Clock;
 use std::{env, fs, io};
 
-/// The configuration of the router that the words ask for. `main` runs it, which alone has this
-/// machine's threads.
+/// The configuration of the router to run. `main` runs it, since it alone has this machine's
+/// threads.
 #[derive(Drop)]
 struct Asked {
     alloc: Global,
@@ -38,7 +38,7 @@ impl Routing for Asked {
     }
 }
 
-// Tells why there is no router, and answers the status.
+// Prints why there is no router, and returns the exit status.
 fn tell<O: Write>(error: &RouteError, output: &mut O) -> u8
     ensures { result ≤ 4 }
 {
@@ -48,8 +48,8 @@ fn tell<O: Write>(error: &RouteError, output: &mut O) -> u8
     }
 }
 
-// A file that stands where a standard stream is closed: the null device, which can be read, and has
-// no bytes; it can't be written. None where descriptors 0 to 2 are taken.
+// A file in place of a closed standard stream: the null device, opened for reading, so that it is
+// empty and can't be written. `None` if descriptors 0 to 2 are in use.
 fn stand_in(rt: &HostRuntime) -> Option<File> {
     let file = match fs::open(rt, "/dev/null") {
         Ok(file) => file,
@@ -62,7 +62,7 @@ fn stand_in(rt: &HostRuntime) -> Option<File> {
     }
 }
 
-// Runs the router of a configuration, whose console's input is read through a buffer.
+// Runs the router of a configuration. The console's input is read through a buffer.
 fn run<R: Input + Net + Threads + Wait + Clock + Log + Files + AllocGlobal + Sync + Drop, O: Write>(
     rt: &R,
     configuration: &str,
@@ -74,12 +74,12 @@ fn run<R: Input + Net + Threads + Wait + Clock + Log + Files + AllocGlobal + Syn
     }
 }
 
-/// Hands the arguments and the standard streams to the program, runs the router that they ask for,
-/// if they do, and ends with the status.
+/// Hands the arguments and the standard streams to the program, runs the router if one is
+/// requested, and exits with the status.
 ///
-/// A standard stream that was closed at the start has the null device in its place to the end: else
-/// a socket or a file that is opened would get its number, and a datagram would be a console's
-/// line.
+/// A standard stream that was closed at the start is replaced by the null device for the whole run:
+/// otherwise a socket or a file that is opened would get its descriptor, and a datagram would be
+/// read as a line of the console.
 fn main(rt: HostRuntime) -> ExitCode {
     let _stand_ins = (stand_in(&rt), stand_in(&rt), stand_in(&rt));
     let mut input = rt.reader();

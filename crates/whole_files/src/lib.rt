@@ -1,4 +1,4 @@
-//! Files that are read and written whole.
+//! Reads and writes whole files.
 #![tactic(auto)]
 
 mod reading;

@@ -1,24 +1,24 @@
-//! Files that are read whole.
+//! Reads whole files.
 ghost use Rattle.std.specs.Prelude.{◌≤◌, IfOk, vec_len};
 
 use std::fs;
 use std::io::{ErrorKind, Read};
 use std::rt::Files;
 
-/// A file that is longer than this many bytes can't be read: no code, object or text is.
+/// The size limit, in bytes, above which a file isn't read: no code, object or text is larger.
 const MOST_BYTES: u64 = 16_777_216;
 
 /// Why a file wasn't read.
 #[derive(Clone, Copy, Debug, PartialEq, Eq)]
 pub enum ReadFault {
-    /// It can't be opened or read, is no regular file, or is longer than 16 MiB.
+    /// It can't be opened or read, isn't a regular file, or is longer than 16 MiB.
     Unreadable,
     /// An allocation was refused.
     Memory,
 }
 
-// Whether a regular file is there. Of what is none it is known before it is opened: to open a pipe
-// may wait for its other end.
+// Whether there is a regular file. It is checked before the file is opened, since opening a pipe
+// may block until its other end is opened.
 fn is_regular<R: Files>(rt: &R, path: &str) -> bool {
     match fs::metadata(rt, path) {
         Ok(found) => found.is_file(),
@@ -30,8 +30,8 @@ fn is_regular<R: Files>(rt: &R, path: &str) -> bool {
 ///
 /// # Errors
 ///
-/// `Unreadable` where it can't be opened or read, is no regular file (a directory, a pipe or a
-/// device), or has more than 16,777,216 bytes; `Memory` where an allocation was refused.
+/// `Unreadable` if it can't be opened or read, isn't a regular file (but a directory, a pipe or a
+/// device), or has more than 16,777,216 bytes; `Memory` if an allocation is refused.
 pub fn read<R: Files + AllocGlobal>(rt: &R, path: &str) -> Result<Vec<u8>, ReadFault>
     ensures within { IfOk result (λ bytes. vec_len bytes ≤ 16777216) }
 {

@@ -1,4 +1,4 @@
-//! Files that are written whole.
+//! Writes whole files.
 ghost use Rattle.std.specs.Prelude.{◌≡◌, ◌↔◌};
 ghost use Rattle.whole_files.specs.declared.writing.WriteFault.TheVariants.{Memory};
 
@@ -10,7 +10,7 @@ use std::rt::Files;
 /// Why a file wasn't written.
 #[derive(Clone, Copy, Debug, PartialEq, Eq)]
 pub enum WriteFault {
-    /// It can't be made, written or named.
+    /// It can't be created, written or renamed.
     Unwritable,
     /// An allocation was refused.
     Memory,
@@ -33,7 +33,7 @@ fn fault_of(error: ErrorKind) -> WriteFault
     }
 }
 
-// Takes a file away that was begun. Where that fails too, nothing is left to do.
+// Removes a file that was begun. If that fails too, there is nothing left to do.
 fn give_up<R: Files>(rt: &R, begun: &str, error: ErrorKind) -> WriteFault
     ensures { (result ≡ Memory) ↔ (error ≡ ErrorKind.OutOfMemory) }
 {
@@ -41,7 +41,7 @@ fn give_up<R: Files>(rt: &R, begun: &str, error: ErrorKind) -> WriteFault
     fault_of(error)
 }
 
-// Whether what is there already is no regular file, as a device or a pipe.
+// Whether there is something other than a regular file, such as a device or a pipe.
 fn is_special<R: Files>(rt: &R, path: &str) -> bool {
     match fs::metadata(rt, path) {
         Ok(found) => !found.is_file(),
@@ -49,13 +49,13 @@ fn is_special<R: Files>(rt: &R, path: &str) -> bool {
     }
 }
 
-/// Makes the file at `path` one of these bytes. They are written beside it first, to `path` with
-/// `.part` behind it, and take its name once they are whole, so that after an error it is as
-/// before; only where a device or a pipe is there, they are written to it.
+/// Makes these bytes the contents of the file at `path`. They are first written to `path` with
+/// `.part` appended, and then renamed to `path`, so that after an error the file is unchanged. A
+/// device or a pipe is written to directly.
 ///
 /// # Errors
 ///
-/// `Unwritable` where that can't be done, `Memory` where an allocation was refused.
+/// `Unwritable` if that fails, `Memory` if an allocation is refused.
 pub fn write<R: Files + AllocGlobal>(rt: &R, path: &str, bytes: &[u8]) -> Result<(), WriteFault> {
     if is_special(rt, path) {
         return match fs::write(rt, path, bytes) {

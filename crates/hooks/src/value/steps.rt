@@ -1,4 +1,4 @@
-//! What is done with the published value.
+//! The operations on the published value.
 ghost use Rattle.std.specs.Prelude.{◌≡◌, List, IfOk};
 ghost use Rattle.machine.specs.Given.{given_by};
 ghost use Rattle.machine.specs.Label.{Label};
@@ -43,7 +43,7 @@ impl Programs {
         }
     }
 
-    /// At which hooks no program stands.
+    /// Which hooks have no program.
     pub fn vacancies(&self) -> Vacancies
         requires { Stands self.now }
         ensures { AreVacancies (published_operations self.now) result }
@@ -55,7 +55,7 @@ impl Programs {
         }
     }
 
-    /// Runs the program at the input's hook. Takes no memory, and waits for nobody.
+    /// Runs the program at the input's hook. Never blocks or allocates.
     pub fn answer(&self, input: &Input, shared: &Shared, seat: &mut Seat) -> u64
         requires asked { IsAsked (given_by input.now) }
         requires stands { Stands self.now }
@@ -86,7 +86,7 @@ impl Absorb<Entry> for Programs {
 
     ghost never_fails = { Unit {0} };
 
-    /// Takes no memory.
+    /// Allocates nothing.
     fn absorb_first(&mut self, entry: &Entry, _other: &Programs) -> Result<(), AllocError> {
         match entry.operation.hook() {
             Hook::Count => self.count.change(&entry.operation),
