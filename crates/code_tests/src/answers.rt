@@ -79,10 +79,10 @@ fn the_cost_of_the_first_row_with_exactly_the_prefix(rt: HostRuntime) {
     }
 }
 
-// A call of the helper of this number at a hook, with two arguments.
+// A call of the helper with this number at a hook, with two arguments.
 type Call = (Hook, i32, Content, Content);
 
-// The answer of the call at a seat of a new table.
+// The answer of the call with the seat of a new table.
 fn called(alloc: Global, called: &Call, input: &Input) -> Option<Result<u64, Fault>> {
     let (shared, mut seat) = one_seat(alloc)?;
     let (hook, number, first, second) = *called;

@@ -1,6 +1,6 @@
 //! Tests of code as bytes and as text (`isa`, `object`, `asm_words`, `asm_lines` and `asm`), and of
-//! what runs it (`maps`, `helpers` and `interp`), by their public calls alone. They stand above
-//! those crates, since a crate is proved once more for its tests.
+//! what runs it (`maps`, `helpers` and `interp`), by their public calls alone. They are in a crate
+//! above those, since a crate is proved a second time for its own tests.
 #![tactic(auto)]
 
 #[cfg(test)]

@@ -1,4 +1,4 @@
-//! Lines, written and read again.
+//! Lines, written and read back.
 ghost use Rattle.std.specs.Prelude.{◌≡◌, true};
 ghost use Rattle.asm_lines.specs.Written.{IsNamed};
 
@@ -8,7 +8,7 @@ use isa::Hook;
 use std::alloc::Global;
 use std::process::Abort;
 
-/// Whether a line may stand beside this name: a label's name where it gives or uses one, else the
+/// Whether a line may have this name beside it: a label's name if it defines or uses one, else the
 /// empty one.
 fn takes_name(line: &Line, name: &str) -> bool
     ensures { result ≡ true → IsNamed line.now name.now }
@@ -54,10 +54,9 @@ fn read_each(rt: &impl Abort, alloc: Global, rows: &[(Line, &str, &str)]) {
     }
 }
 
-// Where no answer comes, the question is asked once more: one allocation may be refused, in a run
-// of the tests with a refusal.
+// A question without an answer is asked once more: a test run may refuse one allocation.
 
-/// Whether the line, beside its name, is written so.
+/// Whether the line, with this name, is written as this text.
 fn is_written(alloc: Global, line: &Line, name: &str, text: &str) -> Option<bool> {
     if !takes_name(line, name) {
         return Some(false);
@@ -67,12 +66,12 @@ fn is_written(alloc: Global, line: &Line, name: &str, text: &str) -> Option<bool
     Some(written.as_str() == text)
 }
 
-/// Whether the first line that was read is this one, beside this name.
+/// Whether the first line that was read is this one, with this name.
 fn begin_with(lines: &[Option<Line>], names: &[&str], line: &Option<Line>, name: &str) -> bool {
     lines.get(0) == Some(line) && names.get(0).copied().unwrap_or("?") == name
 }
 
-/// Whether the text's first line reads so.
+/// Whether the text's first line reads as this one, with this name.
 fn is_read(alloc: Global, text: &str, line: &Option<Line>, name: &str) -> Option<bool> {
     let mut lines = Vec::new(alloc);
     let mut names = Vec::new(alloc);

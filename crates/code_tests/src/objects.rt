@@ -7,8 +7,8 @@ use object::{
 use std::alloc::Global;
 use std::process::Abort;
 
-/// The object of this text, at `price`, entry rank 10: `r1 = 10; r0 = 0; r0 += r1; r1 += -1; if r1
-/// != 0 goto -3; exit`, with slot 2 stated: rank `r1 * 1`, r0 any number, r1 from 1 to 10.
+/// The object of this text, at `price`, with entry rank 10: `r1 = 10; r0 = 0; r0 += r1; r1 += -1;
+/// if r1 != 0 goto -3; exit`, with slot 2 stated: rank `r1 * 1`, r0 any number, r1 from 1 to 10.
 fn counting() -> [u8; 548] {
     let mut bytes = [0; 548];
     bytes[..64].copy_from_slice(&[
@@ -28,8 +28,7 @@ fn counting() -> [u8; 548] {
     bytes
 }
 
-// What is done here without an answer is done once more: one allocation may be refused, in a run of
-// the tests with a refusal.
+// What gives no answer is done once more: a test run may refuse one allocation.
 
 fn object_of(alloc: Global, bytes: &[u8]) -> Option<Object> {
     match read(alloc, bytes) {
@@ -50,7 +49,7 @@ const WITHOUT_STATEMENTS: &[u8] = &[
     0, 0, 0, 0, 0, 0,
 ];
 
-// Whether the object that is read from the bytes is written as these.
+// Whether the object that is read from the bytes is written as the same bytes.
 fn are_written_again(alloc: Global, bytes: &[u8]) -> Option<bool> {
     let object = object_of(alloc, bytes)?;
     let written = bytes_of(alloc, &object)?;
@@ -138,7 +137,7 @@ fn packed(alloc: Global) -> Option<Object> {
     }
 }
 
-// Whether the object that is read from the bytes that are written of the object has its statements.
+// Whether the object's statements survive writing and reading.
 fn is_read_again(alloc: Global, object: &Object) -> Option<bool> {
     let bytes = bytes_of(alloc, object)?;
     let again = object_of(alloc, &bytes)?;

@@ -9,8 +9,8 @@ use maps::{Seat, Shared};
 use std::alloc::Global;
 use std::process::Abort;
 
-// A slot is written as a number whose lowest byte is its first: the immediate, the offset, the
-// registers (source and target) and the opcode.
+// A slot is a little-endian number: from the highest bits, the immediate, the offset, the registers
+// (source and target) and the opcode.
 const EXIT: u64 = 0x95;
 
 fn bytes_of(slots: &[u64]) -> [u8; 128] {
@@ -22,8 +22,7 @@ fn bytes_of(slots: &[u64]) -> [u8; 128] {
     bytes
 }
 
-// The code of at most 16 slots. One allocation may be refused, as a run of the tests with a refusal
-// makes it.
+// The code of at most 16 slots. Retries once: a test run may refuse one allocation.
 fn code(alloc: Global, slots: &[u64]) -> Option<Code> {
     let bytes = bytes_of(slots);
     let count = slots.len().min(16) * 8;
@@ -52,7 +51,7 @@ fn input() -> Input<'static> {
     }
 }
 
-// Answer and used of a run, or a trap's number and 0.
+// A run's answer and number of instructions, or a trap's number and 0.
 fn shown(outcome: Result<Run, Trap>) -> (u64, u64) {
     match outcome {
         Ok(run) => (run.answer, run.used),
@@ -60,19 +59,19 @@ fn shown(outcome: Result<Run, Trap>) -> (u64, u64) {
     }
 }
 
-// What a run of the code comes to, on a new table.
+// The outcome of a run of the code, on a new table.
 fn outcome_of(alloc: Global, hook: Hook, limit: u64, code: &Code) -> Option<(u64, u64)> {
     let (words, mut seat) = one_seat(alloc)?;
     Some(shown(run_checked(code, hook, limit, &input(), &words, &mut seat)))
 }
 
-// What a run of at most so many instructions comes to, at a hook.
+// The outcome of a run of at most `limit` instructions at a hook.
 fn outcome(alloc: Global, hook: Hook, limit: u64, slots: &[u64]) -> Option<(u64, u64)> {
     let code = code(alloc, slots)?;
     outcome_of(alloc, hook, limit, &code)
 }
 
-// A run of at most so many instructions at the hook comes to this.
+// Asserts that a run of at most `limit` instructions at the hook has this outcome.
 fn comes_to_at<R: AllocGlobal + Abort>(
     rt: &R,
     hook: Hook,

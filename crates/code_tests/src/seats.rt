@@ -6,7 +6,7 @@ ghost use Rattle.maps.specs.Words.{IsOf, fresh};
 use maps::{MapsError, Seat, Shared};
 use std::alloc::Global;
 
-/// A new table. One allocation may be refused, as a run of the tests with a refusal makes it.
+/// A new table. Retries once: a test run may refuse one allocation.
 pub fn table(alloc: Global, count: usize) -> Result<(Shared, Vec<Seat>), MapsError>
     ensures seats { IfOk result (λ r. r.0.seats ≡ count) }
     ensures fresh { IfOk result (λ r. r.1.items ≡ map (fresh r.0.table) (range_with_len 0 count)) }
@@ -17,7 +17,7 @@ pub fn table(alloc: Global, count: usize) -> Result<(Shared, Vec<Seat>), MapsErr
     }
 }
 
-/// A new table of one seat.
+/// A new table with one seat.
 pub fn one_seat(alloc: Global) -> Option<(Shared, Seat)>
     ensures { IfSome result (λ r. IsOf r.0 r.1) }
 {
@@ -28,7 +28,7 @@ pub fn one_seat(alloc: Global) -> Option<(Shared, Seat)>
     Some((shared, seat))
 }
 
-/// A new table of two seats: the first of them, and the second.
+/// A new table with two seats: the first of them, and the second.
 pub fn two_seats(alloc: Global) -> Option<(Shared, Seat, Seat)>
     ensures first { IfSome result (λ r. IsOf r.0 r.1) }
     ensures second { IfSome result (λ r. IsOf r.0 r.2) }

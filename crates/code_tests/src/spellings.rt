@@ -1,5 +1,5 @@
-//! The words of assembly text by the calls that name them: each reads as what it is written for,
-//! and another word as nothing.
+//! The words of assembly text by the calls that name them: each word reads as what it is written
+//! for, and any other word as nothing.
 use asm_words::{
     Numeral, extension_of, extension_word, hook_of, hook_word, is_name, load_of, load_word,
     operation_of, operation_word, read_distance, read_number, register_of, register_word,

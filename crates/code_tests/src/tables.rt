@@ -27,7 +27,7 @@ fn are_6000_at_5(rt: &impl Abort, sums: &[u64]) {
     }
 }
 
-// Each seat on a thread of its own, and what it reads at last.
+// Each seat on a thread of its own, and what it reads at the end.
 fn add_side_by_side<R: Threads>(
     rt: &R,
     words: &Shared,
@@ -52,7 +52,7 @@ fn add_side_by_side<R: Threads>(
     )
 }
 
-// The sums of the counters once both seats are back.
+// The sums of the counters after both seats are back.
 fn closed(
     words: Shared,
     seats: Vec<Seat>,
@@ -70,7 +70,7 @@ fn closed(
     Ok(words.close(seats).sums)
 }
 
-// What the seats read at last, and the sums.
+// What the seats read at the end, and the sums.
 fn seen_and_summed<R: Threads>(
     rt: &R,
     words: Shared,
@@ -88,7 +88,7 @@ fn seen_and_summed<R: Threads>(
     Ok(([one, two], sums))
 }
 
-// The same of a new table.
+// The same for a new table.
 fn two_threads<R: Threads>(rt: &R, alloc: Global) -> Option<([u64; 2], [u64; 256])> {
     let Ok((words, mut seats)) = table(alloc, 2) else {
         return None;
@@ -106,7 +106,7 @@ fn two_threads_add_a_thousand_times(rt: HostRuntime) {
     are_6000_at_5(&rt, &sums);
 }
 
-// What the seats' adds answer, and what the other seat then reads.
+// The answers to the seats' adds, and what the other seat then reads.
 fn seen_by_each_other(words: &Shared, first: &mut Seat, second: &mut Seat) -> [u64; 5]
     requires first { IsOf words.now first.old }
     requires second { IsOf words.now second.old }
@@ -127,7 +127,7 @@ fn a_read_shows_another_seats_add(rt: HostRuntime) {
     assert!(rt; found == [0, 3, 0, 16_777_215, 0], "{found:?}");
 }
 
-// Cells 63 and 0 of both seats, once the first has set its 63 and the second its 0.
+// Cells 63 and 0 of both seats, after the first has set its cell 63 and the second its cell 0.
 fn cells(words: &Shared, first: &mut Seat, second: &mut Seat) -> [u64; 4]
     requires first { IsOf words.now first.old }
     requires second { IsOf words.now second.old }
@@ -153,7 +153,7 @@ fn is_refused(alloc: Global, count: usize) -> bool {
     matches!(Shared::new(alloc, count), Err(MapsError::Seats))
 }
 
-// What cell 63 of the seat holds once it is set.
+// What cell 63 of the seat holds after it is set.
 fn last_cell(words: &Shared, seat: &mut Seat) -> u64
     requires { IsOf words.now seat.old }
 {
@@ -161,7 +161,7 @@ fn last_cell(words: &Shared, seat: &mut Seat) -> u64
     words.cell(seat, 63)
 }
 
-// How many seats a table of 64 gives, and what the last one's last cell holds once it is set.
+// The number of seats of a table of 64, and what the last one's last cell holds after it is set.
 fn last_of_64(alloc: Global) -> Option<(usize, u64)> {
     let Ok((words, mut seats)) = table(alloc, 64) else {
         return None;

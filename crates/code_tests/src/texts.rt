@@ -27,16 +27,16 @@ fn is_listed(alloc: Global, object: &Object, listed: &str) -> Option<bool> {
     spells_again(alloc, &written, object)
 }
 
-/// Whether the listing of what the first text spells is the second, which spells the same.
+/// Whether the listing of what the first text spells is the second, which spells the same object.
 fn lists_once(alloc: Global, text: &str, listed: &str) -> Option<bool> {
     let object = assemble(alloc, text).ok()?;
     is_listed(alloc, &object, listed)
 }
 
-// Where no answer comes, the question is asked once more: one allocation may be refused, in a run
-// of the tests with a refusal.
+// A question without an answer is asked once more: a test run may refuse one allocation.
 
-/// The listing of what the first text spells is the second, which spells the same.
+/// Asserts that the listing of what the first text spells is the second, which spells the same
+/// object.
 fn lists(rt: &impl Abort, alloc: Global, text: &str, listed: &str) {
     let mut found = lists_once(alloc, text, listed);
     if found.is_none() {
@@ -45,7 +45,7 @@ fn lists(rt: &impl Abort, alloc: Global, text: &str, listed: &str) {
     assert!(rt; found == Some(true), "{text}: {found:?}");
 }
 
-/// The object of the text.
+/// The object of the text. Retries once.
 fn object_of(alloc: Global, text: &str) -> Option<Object> {
     match assemble(alloc, text) {
         Ok(object) => Some(object),
@@ -64,7 +64,7 @@ const SUM_LISTED: &str =
         state 2 rank 0 r1 * 1\nwith r0 number 0 18446744073709551615 0 0\n\
         with r1 number 1 10 0 0\n";
 
-/// The object of the sum has its hook, rank, slots and statement.
+/// Whether the object of the sum has its hook, rank, slots and statement.
 fn is_the_sum(object: &Object) -> bool {
     object.hook() == Hook::Price
         && object.entry_rank() == 10
@@ -78,7 +78,7 @@ fn sums_a_loop(rt: HostRuntime) {
     assert!(rt; is_the_sum(&object));
 }
 
-// Texts with labels, spaces and pieces in another order, and their listings.
+// Texts with labels, spaces and lines in another order, and their listings.
 const LISTED: &[(&str, &str)] = &[
     (SUM, SUM_LISTED),
     (
@@ -105,7 +105,7 @@ fn a_listing_has_no_labels_and_the_pieces_in_order(rt: HostRuntime) {
     }
 }
 
-/// The refusal of an object whose code is no instruction, by its number.
+/// The number of the error for an object whose code is no instruction.
 fn no_listing_once(alloc: Global) -> Option<u8> {
     let code = b"\xff\xff\xff\xff\xff\xff\xff\xff".to_vec(alloc).ok()?;
     let object = Object::new(Hook::Count, 0, code, Vec::new(alloc))?;

@@ -1,4 +1,4 @@
--- How a refusal is told.
+-- The text of a refusal.
 use Rattle.std.proofs.Common.{◌≡◌, ◌++◌, ℕ, List, Err, append_assoc, codes, decimal}
 use Rattle.object_verdicts.specs.declared.error.VerifyError.TheVariants as errors
 use Rattle.transfer.specs.Rules.{rule_number}

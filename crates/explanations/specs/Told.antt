@@ -1,4 +1,4 @@
--- How a verdict is told.
+-- The text of a verdict.
 use Rattle.std.specs.Prelude.{◌≡◌, ℕ, List, [], ◌∷◌, ◌++◌, Result, Ok, Err, codes, decimal}
 use Rattle.object_verdicts.specs.declared.error.VerifyError.{VerifyError}
 use Rattle.object_verdicts.specs.declared.error.VerifyError.TheVariants as errors
@@ -10,13 +10,13 @@ use Rattle.verifier.specs.declared.refusal.Refusal.{Refusal}
 abbrev pub accepted_line : (bound : ℕ) → List ℕ
 accepted_line bound = codes "accepted bound " ++ (decimal bound ++ 10 ∷ [])
 
--- and the first words for a refused one
+-- and the beginning of that for a refused one
 abbrev pub refused_words : Refusal → List ℕ
 refused_words refusal = codes "refused slot "
     ++ (decimal refusal.slot ++ (codes " rule " ++ decimal (rule_number refusal.rule)))
 
--- The text tells the bound of an accepted program alone, and the slot and the rule of a refused one
--- first.
+-- The text is the bound of an accepted program alone; it begins with the slot and the rule of a
+-- refused one.
 abbrev pub TellsVerdict : Result Program VerifyError → List ℕ → Type 0
 TellsVerdict (Ok program) text = text ≡ accepted_line program.bound
 TellsVerdict (Err (errors.Refused refusal)) text =

@@ -1,4 +1,4 @@
-//! What breaks a rule where a statement is entered.
+//! What breaks a rule at an edge to a statement.
 ghost use Rattle.std.specs.Prelude.{◌<◌};
 
 use crate::phrases::{Value, followed_at, is_byte, known_at, push_rank, push_register};
@@ -16,7 +16,7 @@ use transfer::branch::{refined, tested};
 use transfer::straight::straight;
 use verifier::Rule;
 
-/// What is known of the register, and what is stated there, unless that is within it.
+/// What is known of the register, and what is stated there, unless the former is within the latter.
 fn push_register_outside(
     out: &mut Text,
     target: &Target<'_, Value>,
@@ -60,7 +60,7 @@ fn push_outside(out: &mut Text, target: &Target<'_, Value>, state: &State<Value>
     push_byte_outside(out, target, state)
 }
 
-/// A line for the register of a rank's term, and how it follows from the statement above.
+/// A line for the register of a rank's term, and how it relates to the statement above.
 fn push_term(out: &mut Text, state: &State<Value>, term: Option<RankTerm>) {
     if let Some(term) = term {
         let register = term.register() as usize;
@@ -81,7 +81,7 @@ fn push_term(out: &mut Text, state: &State<Value>, term: Option<RankTerm>) {
     }
 }
 
-/// The rank that an edge leads to, and what it is to be.
+/// The rank at the edge's target, and what it should be.
 fn push_ranks(
     out: &mut Text,
     target: &Target<'_, Value>,
@@ -111,19 +111,19 @@ pub(crate) fn target_at<'t, 'a>(
     stated_at(targets, slot)
 }
 
-/// The ways from a slot.
+/// The edges from a slot.
 #[derive(Clone, Copy)]
 pub(crate) struct Ways<'a> {
     pub memory: &'a Memory,
     pub targets: &'a [Option<Target<'a, Value>>],
     /// The statement of the slot's segment.
     pub segment: &'a Target<'a, Value>,
-    /// None at the entry.
+    /// `None` at the entry.
     pub slot: Option<usize>,
 }
 
 impl Ways<'_> {
-    /// A line for the way to the slot.
+    /// A line for the edge to the slot.
     fn push_way(&self, out: &mut Text, to: usize) {
         match self.slot {
             Some(slot) => out.fill(
@@ -134,7 +134,8 @@ impl Ways<'_> {
         }
     }
 
-    /// What is wrong on the way to the slot. Whether that is stated and anything is.
+    /// What is wrong on the edge to the slot. Returns whether the slot is stated and something is
+    /// wrong.
     pub fn push_to(&self, out: &mut Text, to: usize, state: &State<Value>) -> bool {
         if let Some(target) = target_at(self.targets, to) {
             let is_back = match self.slot {
@@ -153,8 +154,8 @@ impl Ways<'_> {
         false
     }
 
-    /// What is wrong on a way from a conditional jump, where its operands have these values.
-    /// Whether anything is.
+    /// What is wrong on an edge of a conditional jump, if its operands have these values. Returns
+    /// whether anything is.
     fn push_narrowed(
         &self,
         out: &mut Text,
@@ -173,7 +174,7 @@ impl Ways<'_> {
         }
     }
 
-    /// What is wrong on the ways from a jump.
+    /// What is wrong on the edges of a jump.
     fn push_jump(
         &self,
         out: &mut Text,
@@ -209,7 +210,7 @@ impl Ways<'_> {
         }
     }
 
-    /// What is wrong on the ways from an instruction at the slot, where this is known at it.
+    /// What is wrong on the edges of an instruction at the slot, given what is known there.
     pub fn push(
         &self,
         out: &mut Text,

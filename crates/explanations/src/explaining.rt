@@ -1,4 +1,4 @@
-//! A program and the verifier's word on it, explained.
+//! A program and the verifier's answer about it, explained.
 ghost use Rattle.std.specs.Prelude.{◌≡◌, ◌++◌, IfErr, IfOk, string_bytes};
 ghost use Rattle.explanations.specs.Told.{TellsVerdict, accepted_line, refused_words};
 ghost use Rattle.object_verdicts.specs.Verdicts.{Accepts, Refuses};
@@ -22,20 +22,20 @@ use segments::target::targets_of;
 use std::alloc::{AllocError, Global};
 use verifier::{Accepted, Refusal, Rule};
 
-/// What is to be told of an object, and what the verifier says of it.
+/// The explanation of an object, and the verifier's answer about it.
 #[derive(Drop)]
 pub struct Explanation {
-    /// Each slot before the last one that is told of.
+    /// The slots that are explained, except the last one.
     pub before: String,
-    /// The last one: where the program is refused, the slot of the refusal.
+    /// The last one; if the program is refused, the slot of the refusal.
     pub last: String,
     /// The verdict in words: the bound; or the rule, what breaks it, what is allowed, and a hint.
     pub told: String,
-    /// The verifier's own.
+    /// The verifier's own answer.
     pub verdict: Result<Accepted, VerifyError>,
 }
 
-/// Why nothing can be told.
+/// Why there is no explanation.
 #[derive(Clone, Copy)]
 pub enum ExplainError {
     Object(ReadError),
@@ -43,7 +43,7 @@ pub enum ExplainError {
     Memory,
 }
 
-/// What the bound is made of, where that is too great.
+/// How the bound is computed, if it is too great.
 fn push_budget(out: &mut Text, object: &Object) {
     let rank = object.entry_rank();
     let slots = object.slots() as u64;
@@ -61,7 +61,7 @@ fn accepted(alloc: Global, bound: u64) -> Result<String, AllocError>
     format!(in alloc; "accepted bound {bound}\n")
 }
 
-/// What is told behind that: the rule by its name, the reasons, and a hint.
+/// The rest of a refusal's text: the rule by its name, the reasons, and a hint.
 fn push_refusal(out: &mut Text, object: &Object, rule: Rule, reasons: &str) {
     out.line(" ", rule_name(rule));
     match rule {
@@ -71,7 +71,7 @@ fn push_refusal(out: &mut Text, object: &Object, rule: Rule, reasons: &str) {
     out.line("  hint: ", rule_hint(rule))
 }
 
-/// The refusal in words: where and by which rule, and then these.
+/// The refusal in words: the slot and the rule, and then `more`.
 #[tactic(auto, using(crate::proofs::Refusals::refused_text))]
 fn refusal_told(alloc: Global, refusal: Refusal, more: &str) -> Result<String, AllocError>
     ensures { IfOk result (λ text. string_bytes text ≡ refused_words refusal ++ more.now) }
@@ -81,7 +81,7 @@ fn refusal_told(alloc: Global, refusal: Refusal, more: &str) -> Result<String, A
     format!(in alloc; "refused slot {slot} rule {rule}{more}")
 }
 
-/// The verdict in words, if no memory was refused for the page.
+/// The verdict in words. Errors with `AllocError` if an allocation was refused for the page.
 #[tactic(auto, using(crate::proofs::Refusals::tells_refusal))]
 fn verdict_told(
     alloc: Global,
@@ -100,7 +100,7 @@ fn verdict_told(
     }
 }
 
-/// Where the pass ends. Of the budget and of memory no slot says anything.
+/// The refusal at which the pass ends. No slot explains the budget or a refused allocation.
 fn refusal_in(verdict: &Result<Accepted, VerifyError>) -> Option<Refusal> {
     match verdict {
         Err(VerifyError::Refused(refusal)) => match refusal.rule {
@@ -127,7 +127,7 @@ fn push_program(page: &mut Page<'_>, program: &Program<'_>) {
     }
 }
 
-/// The same of an object's program, of which this is stated at the entry.
+/// The same for an object's program, with this statement at the entry.
 fn push_entered<'a>(
     page: &mut Page<'_>,
     memory: &'a Memory,
@@ -152,7 +152,7 @@ fn push_entered<'a>(
     }
 }
 
-/// The same of an object's program.
+/// The same for an object's program.
 fn push_object(
     page: &mut Page<'_>,
     memory: &Memory,
@@ -176,7 +176,7 @@ fn push_head(out: &mut Text, object: &Object) {
     out.numbered(", rank ", object.entry_rank() as u64, " at the entry\n");
 }
 
-/// All that is told of the object and its verdict, but how the verdict begins.
+/// The whole explanation of the object and its verdict, except how the verdict begins.
 fn push_all(
     alloc: Global,
     page: &mut Page<'_>,
@@ -194,8 +194,7 @@ fn push_all(
     }
 }
 
-/// The verdict on an object, with what is told of it and of the object, whose instructions have
-/// these lines.
+/// The verdict on an object, with its explanation. `lines` are the assembly of its instructions.
 fn explained(
     alloc: Global,
     object: &Object,

@@ -7,7 +7,7 @@ use object::Object;
 use segments::places::begins;
 use std::alloc::Global;
 
-/// The object without its statements. None where memory is refused.
+/// The object without its statements; `None` if an allocation is refused.
 fn bare_object(alloc: Global, object: &Object) -> Option<Object> {
     match Vec::from_slice(alloc, object.code()) {
         Ok(code) => Object::new(object.hook(), object.entry_rank(), code, Vec::new(alloc)),
@@ -15,8 +15,8 @@ fn bare_object(alloc: Global, object: &Object) -> Option<Object> {
     }
 }
 
-/// The lines of the object's listing behind its first two, which tell the hook and the rank. None
-/// where memory is refused.
+/// The lines of the object's listing after the first two, which are the hook and the rank. `None`
+/// if an allocation is refused.
 fn lines_of(alloc: Global, object: &Object) -> Option<String> {
     match listing(alloc, object) {
         Ok(text) => {
@@ -27,7 +27,7 @@ fn lines_of(alloc: Global, object: &Object) -> Option<String> {
     }
 }
 
-/// The instructions of the object's code in assembly, a line for each.
+/// The object's instructions in assembly, one per line.
 pub fn instruction_lines(alloc: Global, object: &Object) -> Result<String, ExplainError> {
     match bare_object(alloc, object) {
         Some(bare) => lines_of(alloc, &bare).ok_or(ExplainError::Memory),
@@ -35,7 +35,7 @@ pub fn instruction_lines(alloc: Global, object: &Object) -> Result<String, Expla
     }
 }
 
-/// The line of the instruction that begins at the slot, of these lines.
+/// The line of the instruction that begins at the slot.
 pub fn line_at<'a>(lines: &'a str, code: &Code, slot: u64) -> Option<&'a str> {
     let slot = slot as usize;
     if !begins(code, slot) {

@@ -1,18 +1,18 @@
-//! The text of an explanation as it grows.
+//! The text of an explanation under construction.
 
 use crate::text::Text;
 use std::alloc::Global;
 use std::str::Lines;
 
-/// What was told of the slots before, what of this one, and why the program is refused.
+/// The text of the slots before, that of the current one, and why the program is refused.
 #[derive(Drop)]
 pub(crate) struct Page<'a> {
     pub before: Text,
     pub here: Text,
     pub reasons: Text,
-    /// The verdict behind its slot and rule: the reasons, and a hint.
+    /// The verdict after its slot and rule: the reasons, and a hint.
     pub told: Text,
-    /// The lines of the instructions that come.
+    /// The lines of the instructions to come.
     lines: Lines<'a>,
 }
 
@@ -27,7 +27,7 @@ impl<'a> Page<'a> {
         }
     }
 
-    /// Begins to tell of the next slot, by the next instruction's line.
+    /// Begins the text of the next slot, with the next instruction's line.
     pub fn turn(&mut self, slot: usize) {
         self.before.take(&mut self.here);
         let line = self.lines.next().unwrap_or("");
@@ -35,7 +35,7 @@ impl<'a> Page<'a> {
         self.here.line("", line);
     }
 
-    /// Whether memory was refused for a part of it.
+    /// Whether an allocation was refused for a part of it.
     pub fn is_cut(&self) -> bool {
         self.before.is_cut | self.here.is_cut | self.reasons.is_cut | self.told.is_cut
     }

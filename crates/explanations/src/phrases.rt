@@ -7,17 +7,17 @@ use inference::memory::element_or;
 use kinds::{Entry, Fact, Kind, Place};
 use object::{Rank, RankTerm};
 
-/// The bits of the numbers from 0 to this one: its highest bit that is set, and all below it.
+/// A mask of the bits of the numbers from 0 to `high`: its highest set bit, and all below.
 fn span(high: u64) -> u64 {
     u64::MAX.checked_shr(high.leading_zeros()).unwrap_or(0)
 }
 
-/// Two bounds of the value's numbers.
+/// A lower and an upper bound of the value's numbers.
 pub(crate) fn range_of(value: Value) -> (u64, u64) {
     value.range()
 }
 
-/// Which bits are known, beyond what the range and the multiple say.
+/// The known bits, and which of them are set.
 fn push_known_bits(out: &mut Text, known: u64, set: u64) {
     out.is_cut |= write!(out.words, ", of the bits {known:x} (hex) {set:x} are set").is_err();
 }
@@ -57,7 +57,7 @@ fn push_number(out: &mut Text, value: Value) {
     }
 }
 
-/// Where a pointer points.
+/// The place that a pointer points to.
 pub(crate) fn push_place(out: &mut Text, place: Place<Value>) {
     match place {
         Place::Context(at) => out.numbered("context, byte ", at, ""),
@@ -69,12 +69,12 @@ pub(crate) fn push_place(out: &mut Text, place: Place<Value>) {
     }
 }
 
-/// What is known of the register, of these.
+/// What is known of the register.
 pub(crate) fn known_at(kinds: &[Kind<Value>], register: usize) -> Kind<Value> {
     element_or(kinds, register, Kind::Empty)
 }
 
-/// How the register follows from the last statement, where that is known.
+/// How the register relates to the last statement, if that is known.
 pub(crate) fn followed_at(facts: &[Option<Fact>], register: usize) -> Option<Fact> {
     element_or(facts, register, None)
 }
@@ -88,7 +88,7 @@ pub(crate) fn push_kind(out: &mut Text, kind: Kind<Value>) {
     }
 }
 
-/// What is known of a register, behind words with `{}` for its number, and before others.
+/// What is known of a register, between two texts, of which the first has a `{}` for its number.
 pub(crate) fn push_register(
     out: &mut Text,
     before: &str,
@@ -101,7 +101,7 @@ pub(crate) fn push_register(
     out.push(behind)
 }
 
-/// How the register follows from the statement at the slot, unless it is as it was there.
+/// How the register relates to the statement at the slot, unless it is unchanged.
 pub(crate) fn push_fact(out: &mut Text, register: usize, fact: Fact, begun: usize) {
     let Fact { origin, up, down } = fact;
     if (origin as usize != register) | (up != down) {
@@ -123,7 +123,7 @@ fn push_term(out: &mut Text, term: Option<RankTerm>) {
     }
 }
 
-/// A rank between these words.
+/// A rank between two texts.
 pub(crate) fn push_rank(out: &mut Text, before: &str, rank: Rank, behind: &str) {
     out.numbered(before, rank.constant as u64, "");
     push_term(out, rank.first);
@@ -131,17 +131,17 @@ pub(crate) fn push_rank(out: &mut Text, before: &str, rank: Rank, behind: &str) 
     out.push(behind)
 }
 
-/// What is known of the stack from the place on.
+/// What is known of the stack from this place on.
 fn entry_at(entries: &[Entry<Value>], place: usize) -> Entry<Value> {
     element_or(entries, place, Entry::Unknown)
 }
 
-/// Whether a byte is known at the place of the stack.
+/// Whether the byte at this place of the stack is known to be one of a number.
 pub(crate) fn is_byte(entries: &[Entry<Value>], place: usize) -> bool {
     matches!(entry_at(entries, place), Entry::Byte)
 }
 
-/// Where the bytes end that begin at the place.
+/// The end of the range of bytes that begins at this place.
 pub(crate) fn end_of(entries: &[Entry<Value>], start: usize) -> usize {
     for place in start..entries.len() {
         if !is_byte(entries, place) {
@@ -151,8 +151,8 @@ pub(crate) fn end_of(entries: &[Entry<Value>], start: usize) -> usize {
     entries.len()
 }
 
-/// A line for the bytes or the pointer that begin at the place of the stack. Returns where the
-/// bytes end, if there are any.
+/// A line for the bytes or the pointer that begin at this place of the stack. Returns the end of
+/// the bytes, if there are any.
 fn push_entry(out: &mut Text, entries: &[Entry<Value>], place: usize) -> usize {
     match entry_at(entries, place) {
         Entry::Byte => {

@@ -13,7 +13,7 @@ use transfer::place::reached;
 use transfer::store::store_length;
 use verifier::Rule;
 
-/// A load or store: where its base points, at which distance, and of how many bytes.
+/// A load or store: the register with its base, the offset, and the number of bytes.
 #[derive(Clone, Copy)]
 struct Access {
     base: Register,
@@ -47,7 +47,7 @@ fn access_of(instruction: &Instruction) -> Option<Access> {
     }
 }
 
-/// The operands that the instruction takes.
+/// The operands that the instruction allows.
 fn allowed_kinds(instruction: &Instruction) -> &'static str {
     match *instruction {
         Instruction::Load { .. } =>
@@ -68,12 +68,12 @@ fn allowed_kinds(instruction: &Instruction) -> &'static str {
     }
 }
 
-/// The most that may be passed in r1, a counter, and in r2, what is added to it.
+/// The greatest number that may be passed in r1, a counter, and in r2, the amount to add.
 const MOST_COUNTER: u64 = 255;
 
 const MOST_ADDED: u64 = 16_777_215;
 
-/// Whether it breaks the rule that a register which is read is of this kind.
+/// Whether a register of this kind breaks the rule when it is read.
 fn is_wrong(rule: Rule, register: usize, kind: Kind<Value>) -> bool {
     match (rule, kind) {
         (Rule::Kind | Rule::ExitKind, _) | (Rule::Empty, Kind::Empty) => true,
@@ -89,7 +89,7 @@ fn is_wrong(rule: Rule, register: usize, kind: Kind<Value>) -> bool {
     }
 }
 
-/// The end of such a register's line, and what is allowed where that differs by the register.
+/// The end of such a register's line, and what is allowed if that depends on the register.
 fn behind_register(rule: Rule, register: usize) -> &'static str {
     match (rule, register) {
         (Rule::Argument, 1) => "\n  allowed: r1, the counter, 0..255\n",
@@ -116,7 +116,7 @@ fn push_registers(
     }
 }
 
-/// The first byte of an access to the stack that isn't known to be a byte.
+/// The first byte of an access to the stack that isn't known to be a byte of a number.
 fn push_unknown(out: &mut Text, entries: &[Entry<Value>], place: Place<Value>, length: u64) {
     if let Place::Stack(start) = place {
         let byte = end_of(entries, start as usize) as u64;
@@ -144,8 +144,7 @@ fn length_of(place: Place<Value>) -> u64 {
     }
 }
 
-/// What is wrong with the bytes of the access; where they are out of bounds, also the offsets that
-/// are allowed there.
+/// What is wrong with the bytes of the access; if they are out of bounds, also the allowed offsets.
 fn push_access(out: &mut Text, state: &State<Value>, access: &Access, rule: Rule) {
     if let Ok(place) = reached(kind_at(state, access.base), access.offset) {
         match rule {
@@ -161,7 +160,7 @@ fn push_access(out: &mut Text, state: &State<Value>, access: &Access, rule: Rule
     }
 }
 
-/// Which helper the hook lacks.
+/// The helper that the hook lacks.
 fn push_helper(out: &mut Text, hook: Hook, instruction: &Instruction) {
     if let Instruction::Call { helper } = *instruction {
         out.push("  the hook ");
@@ -171,7 +170,7 @@ fn push_helper(out: &mut Text, hook: Hook, instruction: &Instruction) {
     }
 }
 
-/// The line of what is allowed, where that depends on no number.
+/// The line of what is allowed, if that contains no number.
 fn allowed(hook: Hook, instruction: &Instruction, rule: Rule) -> &'static str {
     match (rule, hook) {
         (Rule::Kind, _) => allowed_kinds(instruction),

@@ -14,7 +14,7 @@ pub(crate) fn entry_statement(rank: u32) -> Option<Statement> {
     Statement::new(0, constant, [Stated::Empty; 10], StackBytes::new())
 }
 
-/// What is known of the register, and how it has moved since the statement at the slot.
+/// What is known of the register, and how it has changed since the statement at the slot.
 pub(crate) fn push_live(
     out: &mut Text,
     begun: Option<usize>,

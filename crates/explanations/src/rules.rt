@@ -1,8 +1,8 @@
-//! The rules by name, and what an author can do.
+//! The rules by name, and what an author can do about them.
 
 use verifier::Rule;
 
-/// The names of the rules, as docs/reference/VERIFIER.md has them, by their numbers from 1 on.
+/// The names of the rules, as in docs/reference/VERIFIER.md, by their numbers from 1 on.
 const NAMES: [&str; 16] = [
     "Target",
     "FallsOff",
@@ -22,7 +22,7 @@ const NAMES: [&str; 16] = [
     "Memory",
 ];
 
-/// What an author can do where a rule is broken, in the same order.
+/// What an author can do if a rule is broken, in the same order.
 const HINTS: [&str; 16] = [
     "name the slot by a label, and jump to the label",
     "end the code by exit, or by a goto",
@@ -48,8 +48,8 @@ const HINTS: [&str; 16] = [
     "",
 ];
 
-/// What is told where a rule is broken, and what is allowed, in the same order; a `{}` stands for a
-/// slot. It is empty where other words are chosen by the instruction.
+/// The text for a broken rule, and what is allowed, in the same order; a `{}` stands for a slot.
+/// Empty if the text depends on the instruction.
 const WORDS: [&str; 16] = [
     "  it jumps to slot {}, where no instruction begins\n  allowed: a slot of the code where one \
         begins\n",
@@ -72,23 +72,23 @@ const WORDS: [&str; 16] = [
     "",
 ];
 
-/// What the table has for the rule.
+/// The rule's row in the table.
 fn row_of(table: &[&'static str], rule: Rule) -> &'static str {
     let place = usize::from(rule.number()).saturating_sub(1);
     table.get(place).copied().unwrap_or("")
 }
 
-/// The name of a rule, as docs/reference/VERIFIER.md has it.
+/// The name of a rule, as in docs/reference/VERIFIER.md.
 pub fn rule_name(rule: Rule) -> &'static str {
     row_of(&NAMES, rule)
 }
 
-/// What an author can do where a rule is broken.
+/// What an author can do if a rule is broken.
 pub fn rule_hint(rule: Rule) -> &'static str {
     row_of(&HINTS, rule)
 }
 
-/// What is told where a rule is broken, apart from what is known there.
+/// The text for a broken rule, without what is known there.
 pub(crate) fn rule_words(rule: Rule) -> &'static str {
     row_of(&WORDS, rule)
 }

@@ -1,12 +1,12 @@
-//! A text as it grows.
+//! A text under construction.
 
 use std::alloc::{AllocError, Global};
 
-/// A text that grows. Where memory was refused for a part of it, there is none at its end.
+/// A text that grows. If an allocation is refused for a part of it, there is no text at the end.
 #[derive(Drop)]
 pub struct Text {
     pub(crate) words: String,
-    /// Whether memory was refused for a part of it.
+    /// Whether an allocation was refused for a part of it.
     pub(crate) is_cut: bool,
 }
 
@@ -28,20 +28,20 @@ impl Text {
         self.is_cut |= write!(self.words, "{number}").is_err();
     }
 
-    /// Adds the number, with a minus where it is below 0.
+    /// Adds the number, with a minus if it is below 0.
     pub fn signed(&mut self, number: i64) {
         self.is_cut |= write!(self.words, "{number}").is_err();
     }
 
-    /// Adds the number between these words.
+    /// Adds the number between two texts.
     pub fn numbered(&mut self, before: &str, number: u64, behind: &str) {
         self.push(before);
         self.number(number as u128);
         self.push(behind);
     }
 
-    /// Adds the words, with the numbers in the places of their `{}`, in their order. Numbers behind
-    /// the last place are left out.
+    /// Adds the words, with the numbers in place of their `{}`, in order. Numbers without a place
+    /// are left out.
     pub fn fill(&mut self, words: &str, numbers: &[u128]) {
         let mut rest = words;
         for number in numbers {
@@ -54,21 +54,21 @@ impl Text {
         self.push(rest);
     }
 
-    /// Adds these words, with the end of a line.
+    /// Adds these words, and ends the line.
     pub fn line(&mut self, before: &str, words: &str) {
         self.push(before);
         self.push(words);
         self.push("\n");
     }
 
-    /// Adds the other text, and empties that.
+    /// Appends the other text, and empties it.
     pub fn take(&mut self, other: &mut Text) {
         self.push(other.words.as_str());
         self.is_cut |= other.is_cut;
         other.words.clear();
     }
 
-    /// The text.
+    /// The text; errors with `AllocError` if an allocation was refused for a part of it.
     pub fn finish(self) -> Result<String, AllocError> {
         let Text { words, is_cut } = self;
         if is_cut { Err(AllocError) } else { Ok(words) }

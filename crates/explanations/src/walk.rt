@@ -18,7 +18,7 @@ use segments::known::Known;
 use segments::places::check_places;
 use verifier::{Refusal, Rule};
 
-/// A program, and what doesn't change from slot to slot.
+/// A program, and what is the same at all slots.
 #[derive(Drop)]
 pub(crate) struct Program<'a> {
     pub memory: &'a Memory,
@@ -28,7 +28,7 @@ pub(crate) struct Program<'a> {
     pub targets: Vec<Option<Target<'a, Value>>>,
     /// The statement of the entry.
     pub entry: Target<'a, Value>,
-    /// Where and by which rule the verifier refuses it, if it does.
+    /// The slot and the rule by which the verifier refuses it, if it does.
     pub refusal: Option<Refusal>,
 }
 
@@ -53,7 +53,7 @@ impl<'a> Program<'a> {
 /// What is known at a slot.
 #[derive(Drop)]
 pub(crate) struct Here {
-    /// Where the segment begins, if not at the entry.
+    /// The slot at which the segment begins, or `None` for the entry.
     begun: Option<usize>,
     known: Known<Value>,
 }
@@ -70,7 +70,7 @@ impl Here {
         }
     }
 
-    /// Comes to the slot. A statement there is told of, and begins a segment.
+    /// Reaches the slot. A statement there is printed, and begins a segment.
     fn arrive(&mut self, out: &mut Text, program: &Program<'_>, slot: usize) {
         if let Some(target) = target_at(&program.targets, slot) {
             push_rank(out, "    stated, rank ", target.statement.rank(), "\n");
@@ -80,7 +80,7 @@ impl Here {
         }
     }
 
-    /// Tells what is known at the slot, of each register that may be read from there on, and of the
+    /// Prints what is known at the slot of each register that may be read from there on, and of the
     /// stack.
     fn push(&self, out: &mut Text, program: &Program<'_>, slot: usize) {
         if self.known.is_live {
@@ -96,7 +96,7 @@ impl Here {
         }
     }
 
-    /// Goes on behind the instruction. Whether it isn't refused.
+    /// Moves on past the instruction. Returns whether it isn't refused.
     fn follow(&mut self, program: &Program<'_>, slot: usize, instruction: Instruction) -> bool
         requires small { slot < 4096 }
         requires here { slice_get program.now.code.now slot ≡ Some (Start instruction) }
@@ -160,8 +160,8 @@ impl Here {
         }
     }
 
-    /// Tells of the slot, and goes on behind its instruction. Where the verifier refuses it, says
-    /// what is wrong there. Whether it goes on.
+    /// Prints the slot, and moves on past its instruction. If the verifier refuses it, prints what
+    /// is wrong there. Returns whether it moved on.
     fn pass(
         &mut self,
         page: &mut Page<'_>,
@@ -185,7 +185,7 @@ impl Here {
     }
 }
 
-/// Passes over the code as the verifier does, up to the slot that it refuses, and says what is
+/// Passes over the code as the verifier does, up to the slot that it refuses, and prints what is
 /// wrong there.
 pub(crate) fn push_pass(page: &mut Page<'_>, program: &Program<'_>, here: &mut Here) {
     for slot in 0..program.code.len() {

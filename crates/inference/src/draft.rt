@@ -1,4 +1,4 @@
-//! The statements so far.
+//! The statements found so far.
 
 use crate::edges::{Edge, registers_of};
 use crate::joining::{Growth, Value, first_statement, joined_statement};
@@ -9,46 +9,46 @@ use crate::widening::Widening;
 use kinds::{State, put};
 use object::Statement;
 
-/// What a pass over the code does with what it finds at an edge.
+/// What a pass over the code does with the state at an edge.
 #[derive(Clone, Copy)]
 pub enum Purpose {
-    /// It widens the statement there.
+    /// It widens the statement at the target.
     Rise,
     /// It collects a new statement from the edges alone.
     Fall,
-    /// It keeps the edge.
+    /// It records the edge.
     Gather,
-    /// It collects what comes to each site, turn by turn, and counts the turns.
+    /// It collects the states at each site, iteration by iteration, and counts the iterations.
     Unroll,
 }
 
-/// The statements so far, a place for each site.
+/// The statements found so far, with an element for each site.
 #[derive(Drop)]
 pub struct Draft {
     pub purpose: Purpose,
     /// Whether edges that no run takes are followed too, to sites that have no statement.
     pub is_lenient: bool,
     pub has_changed: bool,
-    /// Whether the segment that begins at the entry is still to be passed over.
+    /// Whether the entry's segment is still to be visited.
     pub is_new: bool,
-    /// Where bounds that grow stop.
+    /// The limits that growing bounds are widened to.
     limits: Vec<u64>,
-    /// Whose segments are still to be passed over, since their statements have changed.
+    /// The sites whose segments are still to be visited, since their statements have changed.
     waiting: Vec<bool>,
-    /// How often the statements have changed.
+    /// How often each statement has changed.
     changes: Vec<u32>,
-    /// Which statements stay as they are.
+    /// The sites whose statements are fixed.
     kept: Vec<bool>,
     pub stated: Vec<Option<Statement>>,
-    /// What a falling pass finds, or what has come to the site and isn't followed yet.
+    /// What a narrowing pass finds, or the states at the site that aren't followed yet.
     found: Vec<Option<Statement>>,
     pub edges: Vec<Edge>,
     pub turns: Turns,
 }
 
-/// An edge to a site: the site's slot, the site that the edge comes from, or the number behind the
-/// last one's for the entry, whether it is a jump back, and whether one goes there, and which
-/// registers may still be read there.
+/// An edge to a site: the site and its slot; the site that the edge comes from, or the number of
+/// sites for the entry; whether it is a backward jump; whether any backward jump leads to the site;
+/// and which registers may be read from there on.
 #[derive(Clone, Copy)]
 pub struct Arrival {
     pub slot: usize,
@@ -59,7 +59,8 @@ pub struct Arrival {
     pub live: Registers,
 }
 
-/// How often a statement grows as it does, and then to limits; after that its bounds are given up.
+/// A statement's bounds are exact for the first `EXACT_CHANGES` changes, then widened to limits up
+/// to `LIMITED_CHANGES`, and then given up.
 const EXACT_CHANGES: u32 = 3;
 
 const LIMITED_CHANGES: u32 = 40;
@@ -75,7 +76,7 @@ fn widening_after(changes: u32) -> Widening {
 }
 
 impl Draft {
-    /// No statements yet, of so many sites. Bounds that grow stop at these limits.
+    /// A draft without statements, for `size` sites. Bounds that grow are widened to these limits.
     pub fn new(memory: &Memory, size: usize, limits: Vec<u64>) -> Draft {
         Draft {
             purpose: Purpose::Rise,
@@ -93,7 +94,7 @@ impl Draft {
         }
     }
 
-    /// What is stated at the site so far.
+    /// The statement at the site so far.
     fn statement(&self, site: usize) -> Option<Statement> {
         element_or(&self.stated, site, None)
     }
@@ -109,8 +110,8 @@ impl Draft {
         self.has_changed = false;
     }
 
-    /// Makes what a falling pass found the site's statement. One that nothing came to keeps its
-    /// own.
+    /// Makes what a narrowing pass found the site's statement. A site that no edge reached keeps
+    /// its own.
     fn settle_at(&mut self, site: usize) {
         let next = element_or(&self.found, site, None);
         if next.is_some() {
@@ -120,14 +121,14 @@ impl Draft {
         }
     }
 
-    /// Makes what a falling pass found the statements.
+    /// Makes what a narrowing pass found the statements.
     pub fn settle(&mut self) {
         for site in 0..self.stated.len() {
             self.settle_at(site)
         }
     }
 
-    /// Has all segments passed over again.
+    /// Marks all segments to be visited again.
     pub fn renew(&mut self) {
         self.is_new = true;
         for site in 0..self.waiting.len() {
@@ -135,26 +136,26 @@ impl Draft {
         }
     }
 
-    /// Whether only segments whose statements have changed are passed over.
+    /// Whether only segments whose statements have changed are visited.
     fn is_rising(&self) -> bool {
         matches!(self.purpose, Purpose::Rise)
     }
 
-    /// Whether the segment that begins at the entry is to be passed over now.
+    /// Whether the entry's segment is to be visited now.
     pub fn is_entry_due(&mut self) -> bool {
         let is_due = self.is_new | !self.is_rising();
         self.is_new = false;
         is_due
     }
 
-    /// What is stated at the site, if the segment that begins there is to be passed over now.
+    /// The statement at the site, if its segment is to be visited now.
     pub fn due(&mut self, site: usize) -> Option<Statement> {
         let is_due = element_or(&self.waiting, site, false) | !self.is_rising();
         put(&mut self.waiting, site, false);
         if is_due { self.statement(site) } else { None }
     }
 
-    /// States this at the site.
+    /// Replaces the statement at the site.
     pub fn assume(&mut self, site: usize, statement: Option<Statement>) {
         let changes = element_or(&self.changes, site, 0);
         put(&mut self.changes, site, changes.saturating_add(1));
@@ -163,13 +164,13 @@ impl Draft {
         self.has_changed = true;
     }
 
-    /// Keeps this at the site, whatever comes there.
+    /// Fixes the statement at the site, whatever reaches it.
     pub fn keep(&mut self, site: usize, statement: Statement) {
         self.assume(site, Some(statement));
         put(&mut self.kept, site, true)
     }
 
-    /// How the bounds at the edge's site grow.
+    /// How the bounds at the edge's target are widened.
     fn widening_at(&self, arrival: &Arrival) -> Widening {
         if arrival.is_head & self.is_rising() {
             widening_after(element_or(&self.changes, arrival.site, 0))
@@ -178,7 +179,7 @@ impl Draft {
         }
     }
 
-    /// What the pass goes on from at the site.
+    /// The statement that the pass extends at the site.
     fn last(&self, site: usize) -> Option<Statement> {
         if self.is_rising() {
             self.statement(site)
@@ -187,7 +188,7 @@ impl Draft {
         }
     }
 
-    /// What is stated at the edge's site, once this one admits what is known at the edge.
+    /// The statement at the edge's target, extended by what is known at the edge.
     fn grown(
         &self,
         old: Option<Statement>,
@@ -204,8 +205,8 @@ impl Draft {
         }
     }
 
-    /// Lets the statement at the edge's site, or what a falling pass found, admit what is known at
-    /// the edge.
+    /// Extends the statement at the edge's target, or what a narrowing pass found there, by what is
+    /// known at the edge.
     fn grow(&mut self, arrival: &Arrival, state: &State<Value>) {
         let old = self.last(arrival.site);
         let next = self.grown(old, arrival, state);
@@ -226,7 +227,7 @@ impl Draft {
         memory.push(&mut self.edges, edge)
     }
 
-    /// Takes an edge, at which this is known.
+    /// Takes an edge with this state.
     pub fn take(&mut self, memory: &Memory, arrival: &Arrival, state: &State<Value>) {
         match self.purpose {
             Purpose::Gather => self.gather(memory, arrival, state),
@@ -242,12 +243,12 @@ impl Draft {
         }
     }
 
-    /// Whether something has come to the site that isn't followed yet.
+    /// Whether the site has been reached and isn't followed yet.
     pub fn is_pending(&self, site: usize) -> bool {
         element_or(&self.found, site, None).is_some()
     }
 
-    /// What has come to the site, which is followed from there now.
+    /// The statement of what has reached the site, which the caller follows from there.
     pub fn take_pending(&mut self, site: usize) -> Option<Statement> {
         let pending = element_or(&self.found, site, None);
         put(&mut self.found, site, None);

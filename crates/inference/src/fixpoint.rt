@@ -1,4 +1,4 @@
-//! Passes over the code until the statements stay as they are.
+//! Passes over the code until the statements don't change any more.
 
 use crate::draft::{Draft, Purpose};
 use crate::edges::Edge;
@@ -11,8 +11,8 @@ use isa::{Code, Hook};
 use object::Statement;
 use std::alloc::{AllocError, Global};
 
-/// The statements that were found for code, without ranks: a place for each site, and the edges
-/// between them, with what is known there.
+/// The statements that were found for code, without ranks, with an element for each site, and the
+/// edges between them, with what is known there.
 #[derive(Drop)]
 pub struct Inference {
     pub sites: Sites,
@@ -20,10 +20,10 @@ pub struct Inference {
     pub edges: Vec<Edge>,
 }
 
-/// How often the statements are narrowed at most.
+/// The maximum number of narrowing passes.
 const MOST_FALLS: usize = 12;
 
-/// How often a statement can change, at most, before its bounds are given up, and after.
+/// An upper bound of the changes of one statement, before and after its bounds are given up.
 const MOST_CHANGES: usize = 64;
 
 /// Passes over the code once.
@@ -33,7 +33,7 @@ fn pass(passes: &mut Passes<'_>, purpose: Purpose) {
     passes.draft.settle()
 }
 
-/// Passes over the code until another pass would find nothing more, so often at most.
+/// Passes over the code until another pass would find nothing more, at most `most` times.
 fn repeat(passes: &mut Passes<'_>, purpose: Purpose, most: usize) {
     for _ in 0..most {
         pass(passes, purpose);
@@ -43,8 +43,8 @@ fn repeat(passes: &mut Passes<'_>, purpose: Purpose, most: usize) {
     }
 }
 
-/// Widens the statements until no edge leads out of them, also for edges that no run takes if that
-/// is so, and narrows them to what comes along their edges.
+/// Widens the statements until each edge stays within them, if lenient even those that no run
+/// takes, and then narrows them to what reaches them.
 fn widen_and_narrow(passes: &mut Passes<'_>, is_lenient: bool) {
     let most = passes.program.sites.len().saturating_mul(MOST_CHANGES);
     passes.draft.renew();
@@ -54,7 +54,7 @@ fn widen_and_narrow(passes: &mut Passes<'_>, is_lenient: bool) {
     repeat(passes, Purpose::Fall, MOST_FALLS)
 }
 
-/// Keeps these statements as they are.
+/// Fixes these statements.
 fn keep(passes: &mut Passes<'_>, kept: &[Statement]) {
     for statement in kept {
         if let Some(site) = passes.program.sites.at(statement.slot() as usize) {
@@ -87,8 +87,8 @@ pub fn program_of<'a>(
     }
 }
 
-/// What passes over the program find, as far as memory goes. The statements of these that are kept
-/// stay as they are.
+/// What passes over the program find, unless an allocation is refused. If `are_kept`, the given
+/// statements are fixed.
 fn inferred(program: Program<'_>, given: &[Statement], are_kept: bool) -> Inference {
     let limits = limits_of(program.memory, program.code, given);
     let draft = Draft::new(program.memory, program.sites.len(), limits);
@@ -105,9 +105,9 @@ fn inferred(program: Program<'_>, given: &[Statement], are_kept: bool) -> Infere
     }
 }
 
-/// Finds statements for the code at the hook: at each slot that a jump goes to, and behind each
-/// instruction that never goes on, and where one is given. Those that are given stay as they are,
-/// or they lend their numbers alone.
+/// Finds statements for the code at the hook: at each target of a jump, after each instruction that
+/// never falls through, and where one is given. Given statements are fixed if `are_kept`; otherwise
+/// only their numbers are used, as limits.
 pub fn infer_statements(
     alloc: Global,
     code: &Code,

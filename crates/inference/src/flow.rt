@@ -1,5 +1,4 @@
-//! A pass over the code, in the order of its slots, by what each instruction makes of what is
-//! known.
+//! A pass over the code, in the order of its slots, by the verifier's transfer functions.
 ghost use Rattle.std.specs.Prelude.{◌<◌};
 
 use crate::draft::{Arrival, Draft};
@@ -16,7 +15,7 @@ use transfer::branch::{Edges, tested};
 use transfer::load::any_loaded;
 use transfer::straight::straight;
 
-/// A program, and what doesn't change from pass to pass.
+/// A program, and what is the same in all passes.
 #[derive(Drop)]
 pub struct Program<'a> {
     pub memory: &'a Memory,
@@ -24,24 +23,25 @@ pub struct Program<'a> {
     pub hook: Hook,
     pub sites: Sites,
     pub live: Vec<Registers>,
-    /// Of how many bytes of the stack something may be known: all 512, or none of a program that
-    /// never reaches it.
+    /// The number of stack bytes that are tracked: all 512, or none for a program that never
+    /// accesses the stack.
     pub depth: usize,
 }
 
-/// What is known at a slot: in the segment that begins at the site, or at the entry, which has the
-/// number behind the last site's.
+/// What is known at a slot, in the segment that begins at site `begun`; the number of sites stands
+/// for the entry.
 #[derive(Drop)]
 struct Here {
     begun: usize,
     state: State<Value>,
     is_live: bool,
-    /// Whether no run comes here, and it only serves to state what has no statement.
+    /// Whether no run reaches the slot, which is followed only to find statements for sites that
+    /// have none.
     is_idle: bool,
 }
 
-/// Passes over a program: the statements so far, and what is known at the slot that the last one
-/// has come to.
+/// Passes over a program: the statements so far, and what is known at the slot that the current one
+/// has reached.
 #[derive(Drop)]
 pub struct Passes<'a> {
     pub program: Program<'a>,
@@ -59,8 +59,8 @@ struct Branch {
     to: usize,
 }
 
-/// What is known where a run begins: r1 points to the context, and of so many bytes of the stack
-/// something may be known.
+/// What is known at the start of a run: r1 points to the context. `depth` bytes of the stack are
+/// tracked.
 pub fn entry_state(memory: &Memory, depth: usize) -> State<Value> {
     let mut kinds = memory.filled(Kind::Empty, 10);
     put(&mut kinds, 1, Kind::Pointer(Place::Context(0)));
@@ -71,7 +71,7 @@ pub fn entry_state(memory: &Memory, depth: usize) -> State<Value> {
     }
 }
 
-/// Puts what the operands are.
+/// Sets the kinds of the operands.
 fn put_operands(kinds: &mut Vec<Kind<Value>>, branch: &Branch, left: Value, right: Value) {
     put(kinds, branch.left.index(), Kind::Number(left));
     if let Source::Register(register) = branch.right {
@@ -79,8 +79,8 @@ fn put_operands(kinds: &mut Vec<Kind<Value>>, branch: &Branch, left: Value, righ
     }
 }
 
-/// Narrows what is known to where the operands have these values. Where that can't be, no run comes
-/// there.
+/// Narrows what is known to the operands having these values. If that is impossible, no run takes
+/// the edge.
 fn narrow(here: &mut Here, branch: &Branch, values: Option<(Value, Value)>) {
     match values {
         Some((left, right)) => put_operands(&mut here.state.kinds, branch, left, right),
@@ -99,7 +99,7 @@ fn entry(program: &Program<'_>, is_live: bool) -> Here {
 }
 
 impl<'a> Passes<'a> {
-    /// No pass yet.
+    /// No pass has been made yet.
     pub fn new(program: Program<'a>, draft: Draft) -> Passes<'a> {
         let here = entry(&program, false);
         Passes {
@@ -136,14 +136,15 @@ impl<'a> Passes<'a> {
         }
     }
 
-    /// Goes on to the next slot. Where that has a statement, it is entered, and begins with that.
+    /// Moves on to the next slot. If that has a statement, the edge to it is taken, and the segment
+    /// ends.
     fn go_on(&mut self, next: usize) {
         self.enter(next, false);
         let is_followed = !self.here.is_idle | self.draft.is_lenient;
         self.here.is_live = is_followed & self.program.sites.at(next).is_none();
     }
 
-    /// Goes to the target of a jump, if the instruction is one.
+    /// Takes the edge to the target of a jump, if the instruction is one.
     fn leave(&mut self, slot: usize, to: Option<usize>) {
         if let Some(to) = to {
             self.enter(to, to <= slot);
@@ -151,7 +152,7 @@ impl<'a> Passes<'a> {
         self.here.is_live = false;
     }
 
-    /// Goes both ways from a conditional jump.
+    /// Takes both edges of a conditional jump.
     fn branch(&mut self, slot: usize, branch: &Branch)
         requires { slot < 4096 }
     {
@@ -162,7 +163,7 @@ impl<'a> Passes<'a> {
             branch.left,
             branch.right,
         );
-        // Where the verifier refuses it, both ways go on with what is known.
+        // If the verifier refuses the test, both edges get what is known before it.
         if let Ok(edges) = tested {
             self.part(slot, branch, edges)
         } else {
@@ -171,7 +172,7 @@ impl<'a> Passes<'a> {
         }
     }
 
-    /// Goes each of the two ways that a run may go.
+    /// Takes each edge that a run may take.
     fn part(&mut self, slot: usize, branch: &Branch, edges: Edges<Value>)
         requires { slot < 4096 }
     {
@@ -183,7 +184,7 @@ impl<'a> Passes<'a> {
         self.go_on(slot + 1)
     }
 
-    /// Goes on behind an instruction that is no jump.
+    /// Moves on past an instruction that is no jump.
     fn straight(&mut self, slot: usize, instruction: Instruction)
         requires { slot < 4096 }
     {
@@ -193,7 +194,7 @@ impl<'a> Passes<'a> {
         self.go_on(next)
     }
 
-    /// States a site that nothing came to, so that the verifier has something to say of it.
+    /// States a site that no edge reaches, so that the verifier has a statement to check.
     fn fill(&mut self, site: usize, slot: usize) {
         if self.draft.lacks(site) {
             let statement = idle_statement(slot, self.live_at(slot));
@@ -201,7 +202,7 @@ impl<'a> Passes<'a> {
         }
     }
 
-    /// Begins a segment at the site of which this is stated.
+    /// Begins a segment at the site, with this statement.
     pub fn begin(&mut self, site: usize, statement: &Statement) {
         let memory = self.program.memory;
         match target_of(memory.alloc, statement) {
@@ -217,7 +218,7 @@ impl<'a> Passes<'a> {
         }
     }
 
-    /// Comes to the slot. A statement there begins a segment, if that is to be passed over now.
+    /// Reaches the slot. A statement there begins a segment, if that is to be visited now.
     fn arrive(&mut self, slot: usize) {
         if let Some(site) = self.program.sites.at(slot) {
             self.here.is_live = false;
@@ -228,7 +229,7 @@ impl<'a> Passes<'a> {
         }
     }
 
-    /// Goes on by the instruction at the slot.
+    /// Moves on by the instruction at the slot.
     fn step(&mut self, slot: usize, instruction: Instruction)
         requires { slot < 4096 }
     {
@@ -256,14 +257,14 @@ impl<'a> Passes<'a> {
         }
     }
 
-    /// Begins at the entry of the program: at slot 0, where that has no statement.
+    /// Begins at the entry of the program: at slot 0, unless that has a statement.
     pub fn begin_at_entry(&mut self) {
         let is_live = self.program.sites.at(0).is_none();
         self.here = entry(&self.program, is_live);
         self.enter(0, false)
     }
 
-    /// Follows the segment from the slot on, where it begins. How many instructions it has.
+    /// Follows the segment that begins at the slot. Returns the number of its instructions.
     pub fn follow_segment(&mut self, first: usize) -> usize {
         let code = self.program.code;
         let mut steps = 0usize;
@@ -279,7 +280,7 @@ impl<'a> Passes<'a> {
         steps
     }
 
-    /// Comes to the instruction at the slot, and goes on by it.
+    /// Reaches the instruction at the slot, and moves on by it.
     fn visit(&mut self, slot: usize, instruction: Instruction)
         requires { slot < 4096 }
     {
@@ -289,8 +290,8 @@ impl<'a> Passes<'a> {
         }
     }
 
-    /// Passes over the code once. Where slot 0 has a statement, that is entered, by no jump back:
-    /// the edge comes from before the first slot.
+    /// Passes over the code once. If slot 0 has a statement, the edge from the entry leads there,
+    /// which is no backward jump: it comes from before the first slot.
     pub fn pass(&mut self) {
         let is_due = self.draft.is_entry_due();
         self.here = entry(&self.program, is_due);
@@ -304,7 +305,7 @@ impl<'a> Passes<'a> {
     }
 }
 
-/// Goes on behind the instruction, of which the same was known before.
+/// Moves on past the instruction, from what was known before it.
 fn follow(here: &mut Here, before: State<Value>, hook: Hook, instruction: Instruction) {
     match straight(before, hook, instruction) {
         Ok(after) => here.state = after,
@@ -312,7 +313,7 @@ fn follow(here: &mut Here, before: State<Value>, hook: Hook, instruction: Instru
     }
 }
 
-/// What an instruction fills its target with at most.
+/// The kind that includes whatever an instruction fills its target with.
 fn filled(instruction: &Instruction) -> Kind<Value> {
     match *instruction {
         Instruction::Load { size, .. } => Kind::Number(any_loaded(size)),
@@ -320,13 +321,13 @@ fn filled(instruction: &Instruction) -> Kind<Value> {
     }
 }
 
-/// Puts what is known of a register, without how it follows from the start of the segment.
+/// Sets what is known of a register, without a relation to the start of the segment.
 fn put_known(state: &mut State<Value>, register: usize, kind: Kind<Value>) {
     put(&mut state.kinds, register, kind);
     put(&mut state.facts, register, None)
 }
 
-/// Empties what a call empties, and fills r0 with any number.
+/// Empties the registers that a call empties, and fills r0 with any number.
 fn call(state: &mut State<Value>) {
     for register in 0..6usize {
         put_known(state, register, Kind::Empty)
@@ -334,8 +335,8 @@ fn call(state: &mut State<Value>) {
     put_known(state, 0, any_number())
 }
 
-/// Goes on behind an instruction that the verifier refuses: it fills its target with any number,
-/// and a call does what calls do.
+/// Moves on past an instruction that the verifier refuses: it fills its target with any number, and
+/// a call has the effect of any call.
 fn excuse(state: &mut State<Value>, instruction: &Instruction) {
     if let Some(target) = liveness::target_of(instruction) {
         put_known(state, target.index(), filled(instruction))

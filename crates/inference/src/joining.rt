@@ -1,4 +1,4 @@
-//! Statements that admit what two others admit.
+//! Joins of statements.
 ghost use Rattle.std.specs.Prelude.{◌<◌};
 
 use crate::liveness::{Registers, has};
@@ -11,17 +11,17 @@ use kinds::{Kind as Known, Place, State, are_bytes};
 use knownbits::KnownBits;
 use object::{ContextOffset, Kind, Rank, StackBytes, StackOffset, StatedNumber, Statement};
 
-/// The values that the verifier of object files works with.
+/// The abstract values that the verifier of object files uses.
 pub type Value = Pair<Interval, KnownBits>;
 
-/// A rank that says nothing.
+/// The rank of statements that have none yet.
 pub const NO_RANK: Rank = Rank {
     constant: 0,
     first: None,
     second: None,
 };
 
-/// How a join treats what goes on growing.
+/// How a join widens bounds that keep growing.
 #[derive(Clone, Copy)]
 pub struct Growth<'a> {
     pub widening: Widening,
@@ -41,7 +41,7 @@ fn stated_of(value: Value) -> Option<StatedNumber> {
     number(low, high, value.second.mask, value.second.value)
 }
 
-/// One of these numbers, if there are any.
+/// The kind of one of these numbers, if there are any.
 fn numbered(numbers: Option<StatedNumber>) -> Kind {
     match numbers {
         Some(numbers) => Kind::Number(numbers),
@@ -49,7 +49,7 @@ fn numbered(numbers: Option<StatedNumber>) -> Kind {
     }
 }
 
-/// A place of the map, if there are any.
+/// The kind of a pointer into the map at one of these offsets, if there are any.
 fn placed(map: Map, numbers: Option<StatedNumber>) -> Kind {
     match numbers {
         Some(numbers) => Kind::MapValue(map, numbers),
@@ -77,7 +77,7 @@ fn stack_of(at: u64) -> Kind {
     }
 }
 
-/// A statement of what is known of a register: nothing where an object can't say it.
+/// The statement of what is known of a register: `Empty` if an object can't express it.
 fn told(known: Known<Value>) -> Kind {
     match known {
         Known::Empty => Kind::Empty,
@@ -88,8 +88,8 @@ fn told(known: Known<Value>) -> Kind {
     }
 }
 
-/// Which bits are known of the numbers, and which of those are set: of a single number all of them
-/// are known.
+/// The known bits of the numbers, and which of those are set; all bits of a single number are
+/// known.
 fn known_bits(numbers: StatedNumber) -> (u64, u64) {
     if numbers.low() == numbers.high() {
         (u64::MAX, numbers.low())
@@ -116,8 +116,8 @@ fn joined_high(growth: Growth<'_>, old: u64, new: u64) -> u64 {
     }
 }
 
-/// Which bits are known to be the same in both: of numbers that go on growing the lowest ones.
-/// Higher ones would give the old bounds back.
+/// The bits with the same known value in both; of numbers that keep growing only the lowest ones,
+/// since higher ones would give the old bounds back.
 fn joined_mask(growth: Growth<'_>, old: StatedNumber, new: StatedNumber) -> u64 {
     let (old_mask, old_bits) = known_bits(old);
     let (new_mask, new_bits) = known_bits(new);
@@ -130,7 +130,7 @@ fn joined_mask(growth: Growth<'_>, old: StatedNumber, new: StatedNumber) -> u64 
     }
 }
 
-/// The numbers of both.
+/// The join of both sets of numbers.
 fn joined_numbers(
     growth: Growth<'_>,
     old: StatedNumber,
@@ -144,7 +144,7 @@ fn joined_numbers(
     )
 }
 
-/// What both say of a register.
+/// The join of what both say of a register.
 fn joined_kind(growth: Growth<'_>, old: &Kind, new: &Kind) -> Kind {
     if *old == *new {
         return *old;
@@ -162,7 +162,7 @@ fn joined_kind(growth: Growth<'_>, old: &Kind, new: &Kind) -> Kind {
     }
 }
 
-/// What is known of the registers that are live, of all of which this is known.
+/// What is known of the live registers, as statements say it.
 fn kinds_of(live: Registers, known: &[Known<Value>]) -> [Kind; 10] {
     let mut kinds = [Kind::Empty; 10];
     for register in 0..10 {
@@ -173,7 +173,7 @@ fn kinds_of(live: Registers, known: &[Known<Value>]) -> [Kind; 10] {
     kinds
 }
 
-/// The bytes among these of the stack that are known to be bytes.
+/// Those of these stack bytes that are known to be bytes of numbers.
 fn bytes_of(state: &State<Value>, others: &StackBytes) -> StackBytes {
     let mut bytes = StackBytes::new();
     for place in 0..state.entries.len().min(512) {
@@ -198,13 +198,13 @@ fn statement_at(slot: usize, kinds: [Kind; 10], bytes: StackBytes) -> Option<Sta
     }
 }
 
-/// A statement of what is known.
+/// The statement of what is known.
 pub fn first_statement(slot: usize, live: Registers, state: &State<Value>) -> Option<Statement> {
     let bytes = bytes_of(state, &all_bytes());
     statement_at(slot, kinds_of(live, &state.kinds), bytes)
 }
 
-/// What both say of the registers.
+/// The join of what both say of the registers.
 fn joined_kinds(
     growth: Growth<'_>,
     old: &[Kind],
@@ -220,7 +220,7 @@ fn joined_kinds(
     kinds
 }
 
-/// A statement that admits what the old one does, and what is known.
+/// The join of the old statement and what is known.
 pub fn joined_statement(
     growth: Growth<'_>,
     old: &Statement,
@@ -237,7 +237,7 @@ pub fn any_number() -> Known<Value> {
     Known::Number(Value::top())
 }
 
-/// A statement for a slot that nothing comes to: what is read is any number.
+/// A statement for a slot that no edge reaches: registers that are read hold any number.
 pub fn idle_statement(slot: usize, live: Registers) -> Option<Statement> {
     let mut kinds = [Kind::Empty; 10];
     for register in 0..10 {

@@ -1,5 +1,5 @@
-//! Statements for code that has none, found by passing over it until nothing changes. What comes
-//! out is a guess: an object counts only once the verifier accepts it.
+//! Finds statements for code that has none, by passing over it until nothing changes. The result is
+//! a guess: an object counts only once the verifier accepts it.
 #![tactic(auto)]
 
 mod draft;

@@ -1,4 +1,4 @@
-//! Which registers may still be read.
+//! Live registers: those that may still be read before they are written.
 
 ghost use Rattle.std.specs.Prelude.{◌<◌};
 
@@ -74,7 +74,7 @@ pub fn reads(hook: Hook, instruction: &Instruction) -> Registers {
     }
 }
 
-/// Whether an instruction of the code reads r10, without which none reaches the stack.
+/// Whether an instruction of the code reads r10; without that, none accesses the stack.
 pub fn reads_frame(code: &Code, hook: Hook) -> bool {
     for slot in code.slots() {
         if let Slot::Start(instruction) = slot {
@@ -86,7 +86,7 @@ pub fn reads_frame(code: &Code, hook: Hook) -> bool {
     false
 }
 
-/// The register that the instruction fills, other than a call.
+/// The register that the instruction writes, other than a call.
 pub fn target_of(instruction: &Instruction) -> Option<Register> {
     match *instruction {
         Instruction::Arithmetic { target, .. }
@@ -109,7 +109,7 @@ pub fn writes(instruction: &Instruction) -> Registers {
     }
 }
 
-/// What may be read from the instruction on.
+/// The registers that may be read from the instruction on.
 fn live_before(live: &[Registers], hook: Hook, slot: usize, instruction: &Instruction) -> Registers
     requires { slot < 4096 }
 {
@@ -123,7 +123,7 @@ fn live_before(live: &[Registers], hook: Hook, slot: usize, instruction: &Instru
     after & !writes(instruction) | reads(hook, instruction)
 }
 
-/// What may be read from the slot on. What it was before where no instruction begins there.
+/// The registers that may be read from the slot on; unchanged if no instruction begins there.
 fn live_from(code: &Code, hook: Hook, live: &[Registers], slot: usize) -> Registers {
     match code.at(slot as u64) {
         Some(Slot::Start(instruction)) => live_before(live, hook, slot, &instruction),

@@ -1,14 +1,14 @@
-//! The lists that are made while statements and ranks are sought.
+//! The lists that are built while statements and ranks are searched for.
 
 use std::alloc::{AllocError, Global};
 use std::cell::Cell;
 
-/// Makes lists. Where memory is refused for one, that is shorter, and what is found is of no use:
-/// that is told once, at the end.
+/// Makes lists. If an allocation is refused, a list is shorter and the result is useless; this is
+/// reported once, at the end.
 #[derive(Drop)]
 pub struct Memory {
     pub alloc: Global,
-    /// Whether memory was refused for a list.
+    /// Whether an allocation was refused.
     is_refused: Cell<bool>,
 }
 
@@ -20,17 +20,17 @@ impl Memory {
         }
     }
 
-    /// Notes whether memory was refused.
+    /// Records whether an allocation was refused.
     pub fn note(&self, is_refused: bool) {
         self.is_refused.set(is_refused | self.is_refused.get())
     }
 
-    /// Whether memory was refused for a list.
+    /// Whether an allocation was refused.
     pub fn is_refused(&self) -> bool {
         self.is_refused.get()
     }
 
-    /// The list, if memory wasn't refused for it.
+    /// The list; an empty one if its allocation was refused.
     pub fn list<T: Drop>(&self, made: Result<Vec<T>, AllocError>) -> Vec<T> {
         match made {
             Ok(list) => list,
@@ -41,7 +41,7 @@ impl Memory {
         }
     }
 
-    /// A list that has the element so often.
+    /// A list of `size` copies of the element.
     pub fn filled<T: Copy>(&self, element: T, size: usize) -> Vec<T> {
         self.list(vec![in self.alloc; element; size])
     }
@@ -61,7 +61,7 @@ impl Memory {
         self.note(list.extend_from_slice(elements).is_err())
     }
 
-    /// What was made, if memory was refused for no list.
+    /// The result; errors with `AllocError` if any allocation was refused.
     pub fn enough<T: Drop>(&self, made: T) -> Result<T, AllocError> {
         if self.is_refused() {
             Err(AllocError)
@@ -71,7 +71,7 @@ impl Memory {
     }
 }
 
-/// The element at the place of the list, or the other one where it has none there.
+/// The element at this place of the list; `other` past its end.
 pub fn element_or<T: Copy>(list: &[T], place: usize, other: T) -> T {
     list.get(place).copied().unwrap_or(other)
 }

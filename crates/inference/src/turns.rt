@@ -1,23 +1,23 @@
-//! How often runs have jumped back.
+//! Counts of backward jumps.
 
 use crate::memory::{Memory, element_or};
 use kinds::put;
 
-/// How many jumps back to some heads were made on the ways to each site, at most.
+/// The maximum number of backward jumps to some heads on the paths to each site.
 #[derive(Drop)]
 pub struct Turns {
-    /// Which sites count the jumps back to them.
+    /// The sites to which backward jumps count.
     counted: Vec<bool>,
-    /// Of what has come to each site and isn't followed yet.
+    /// The counts of what has reached each site and isn't followed yet.
     pending: Vec<u32>,
-    /// Where the segment begins that is followed now.
+    /// The count at the start of the segment that is being followed.
     now: u32,
-    /// Of all that has come anywhere.
+    /// The maximum of all counts.
     pub most: u32,
 }
 
 impl Turns {
-    /// No jump yet, and none that counts.
+    /// No backward jumps so far, and none that count.
     pub fn new(memory: &Memory, size: usize) -> Turns {
         Turns {
             counted: memory.filled(false, size),
@@ -27,7 +27,7 @@ impl Turns {
         }
     }
 
-    /// From here on jumps back to the site count.
+    /// From now on backward jumps to the site count.
     pub fn count(&mut self, site: usize) {
         put(&mut self.counted, site, true)
     }
@@ -41,7 +41,7 @@ impl Turns {
         self.most = self.most.max(turns);
     }
 
-    /// Goes on from the site.
+    /// Moves on from the site.
     pub fn leave(&mut self, site: usize) {
         self.now = element_or(&self.pending, site, 0);
         put(&mut self.pending, site, 0)

@@ -1,4 +1,4 @@
-//! How often loops turn at most, found by following them turn by turn.
+//! The maximum number of iterations of loops, found by following them one iteration at a time.
 
 use crate::draft::{Draft, Purpose};
 use crate::fixpoint::program_of;
@@ -9,18 +9,18 @@ use kinds::put;
 use segments::places::jump_of;
 use std::alloc::{AllocError, Global};
 
-/// So many instructions are followed at most.
+/// The maximum number of instructions that are followed.
 const MOST_STEPS: usize = 400_000;
 
-/// Loops that are followed turn by turn, and the last site of each: where a jump back goes to the
-/// site, the last one before the jump, else the site itself.
+/// Loops that are followed iteration by iteration, and for each site the last one of its loop: the
+/// last before a backward jump to it; the site itself if it begins no loop.
 #[derive(Drop)]
 struct Unrolling<'a> {
     passes: Passes<'a>,
     lasts: Vec<usize>,
 }
 
-/// The last site at the slot or before it. The first one where there is none.
+/// The last site at the slot or before it; the first one if there is none.
 fn last_before(program: &Program<'_>, slot: usize) -> usize {
     let mut last = 0;
     for site in 0..program.sites.len() {
@@ -31,7 +31,7 @@ fn last_before(program: &Program<'_>, slot: usize) -> usize {
     last
 }
 
-/// Notes the jump at the slot, if it goes back to a site.
+/// Records the jump at the slot, if it is a backward jump to a site.
 fn note_jump(program: &Program<'_>, lasts: &mut Vec<usize>, slot: usize, to: usize) {
     if to <= slot {
         if let Some(head) = program.sites.at(to) {
@@ -41,7 +41,7 @@ fn note_jump(program: &Program<'_>, lasts: &mut Vec<usize>, slot: usize, to: usi
     }
 }
 
-/// The last site of the loop that each site begins: itself where it begins none.
+/// For each site the last one of the loop that it begins; the site itself if it begins none.
 fn lasts_of(program: &Program<'_>) -> Vec<usize> {
     let mut lasts = program.memory.filled(0, program.sites.len());
     for site in 0..program.sites.len() {
@@ -58,7 +58,7 @@ fn lasts_of(program: &Program<'_>) -> Vec<usize> {
 }
 
 impl<'a> Unrolling<'a> {
-    /// The first site from one up to another that something has come to.
+    /// The first reached site from `from` on and before `to`.
     fn first_pending(&self, from: usize, to: usize) -> Option<usize> {
         for site in from..to {
             if self.passes.draft.is_pending(site) {
@@ -68,8 +68,8 @@ impl<'a> Unrolling<'a> {
         None
     }
 
-    /// The site to go on from: the first one that something has come to, but none at which a loop
-    /// begins before all that is still within that loop.
+    /// The site to follow next: the first reached one, but the head of a loop only after all that
+    /// is left within the loop.
     fn next(&self) -> Option<usize> {
         let sites = self.passes.program.sites.len();
         let mut next = self.first_pending(0, sites)?;
@@ -83,7 +83,7 @@ impl<'a> Unrolling<'a> {
         Some(next)
     }
 
-    /// Follows the segment that begins at the site. How many instructions it has.
+    /// Follows the segment that begins at the site. Returns the number of its instructions.
     fn follow(&mut self, site: usize) -> usize {
         match self.passes.draft.take_pending(site) {
             Some(statement) => {
@@ -95,8 +95,8 @@ impl<'a> Unrolling<'a> {
         }
     }
 
-    /// Follows what has come to sites until nothing has, with so many jumps back that count at
-    /// most. Whether nothing has.
+    /// Follows the reached sites until there is none, with at most `most` backward jumps that
+    /// count. Returns whether there is none.
     fn ends(&mut self, most: u32) -> bool {
         let mut steps = 0usize;
         for _ in 0..MOST_STEPS {
@@ -113,7 +113,7 @@ impl<'a> Unrolling<'a> {
     }
 }
 
-/// The loops of the program, at its entry. Jumps back to these slots count.
+/// The loops of the program, at its entry. Backward jumps to these slots count.
 fn loops_of<'a>(memory: &'a Memory, code: &'a Code, hook: Hook, heads: &[usize]) -> Unrolling<'a> {
     let program = program_of(memory, code, hook, &[]);
     let mut draft = Draft::new(memory, program.sites.len(), Vec::new(memory.alloc));
@@ -130,9 +130,9 @@ fn loops_of<'a>(memory: &'a Memory, code: &'a Code, hook: Hook, heads: &[usize])
     }
 }
 
-/// How often a run of the code at the hook jumps back to these slots at most, in all, by what is
-/// known turn by turn. None where that may be more than `most` times, or isn't found: its loops are
-/// long, or nothing that is known ends them.
+/// The maximum number of backward jumps to these slots in a run of the code at the hook, by what is
+/// known iteration by iteration. `None` if it may exceed `most`, or isn't found because the loops
+/// are too long or nothing that is known ends them.
 pub fn most_turns(
     alloc: Global,
     code: &Code,

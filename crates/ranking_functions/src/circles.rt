@@ -1,4 +1,4 @@
-//! Loops among the sites, and how a number is carried round one.
+//! Loops among the sites, and how a number is carried around one.
 
 use crate::loops::{Circle, Ways, is_marked, is_straight};
 use crate::weights::Bounds;
@@ -6,24 +6,24 @@ use inference::memory::{Memory, element_or};
 use inference::{Edge, Sites};
 use kinds::{Fact, put};
 
-/// The edges between the sites, and what they start with.
+/// The edges between the sites, and the bounds of the numbers at their starts.
 #[derive(Clone, Copy)]
 pub struct Graph<'a> {
     pub memory: &'a Memory,
     pub sites: &'a Sites,
     pub edges: &'a [Edge],
-    /// All of the edges, as a loop may take them.
+    /// All of the edges, indexed for the search for loops.
     pub ways: &'a Ways,
-    /// All of the edges, and all sites with the entry.
+    /// All of the edges, all sites and the entry, as one loop.
     pub all: &'a Circle,
-    /// A place for each site, and the last one for the entry.
+    /// An element for each site, and the last one for the entry.
     pub bounds: &'a [Bounds],
-    /// The greatest constant that leaves the program within its budget.
+    /// The greatest constant that keeps the program within its budget.
     pub most: u64,
 }
 
-/// How a number is carried round a loop: in which register at each site, and on which of its edges
-/// it doesn't fall. One that an edge of the loop loses neither falls nor rises.
+/// How a number is carried around a loop: in which register at each site, and on which of its edges
+/// it doesn't fall. A number that is lost on an edge of the loop neither falls nor rises.
 #[derive(Drop)]
 pub struct Carried {
     pub registers: Vec<Option<u8>>,
@@ -38,7 +38,7 @@ pub fn register_at(registers: &[Option<u8>], node: usize) -> Option<u8> {
     element_or(registers, node, None)
 }
 
-/// How the number that is in these registers gets to where the edge leads.
+/// The fact of the register that holds the number at the edge's target.
 fn fact_at(registers: &[Option<u8>], edge: &Edge) -> Option<Fact> {
     match register_at(registers, edge.to) {
         Some(register) => edge.fact(register),
@@ -47,7 +47,8 @@ fn fact_at(registers: &[Option<u8>], edge: &Edge) -> Option<Fact> {
 }
 
 impl Carried {
-    /// Notes how the number goes on at the edge in this place, from this site.
+    /// Records how the number changes on the edge with this place in the loop, which starts at this
+    /// site.
     fn note(&mut self, place: usize, from: usize, fact: Option<Fact>) {
         match fact {
             Some(fact) => {
@@ -62,12 +63,12 @@ impl Carried {
 }
 
 impl<'a> Graph<'a> {
-    /// The sites and the entry.
+    /// The number of sites, plus 1 for the entry.
     pub fn nodes(&self) -> usize {
         self.bounds.len()
     }
 
-    /// The greatest number of the register at the site.
+    /// The greatest value of the register at the site.
     pub fn high(&self, node: usize, register: u8) -> Option<u64> {
         match self.bounds.get(node) {
             Some(bounds) => bounds.high(register),
@@ -75,17 +76,17 @@ impl<'a> Graph<'a> {
         }
     }
 
-    /// The loop whose first site is this one, by all edges. It has no sites where there is none.
+    /// The loop whose first site is this one, by all edges. Without sites if there is none.
     pub fn circle(&self, head: usize) -> Circle {
         self.ways.circle(self.memory, self.edges, head)
     }
 
-    /// These edges, as a loop may take them.
+    /// These edges, indexed for the search for loops.
     pub fn ways(&self, numbers: Vec<usize>) -> Ways {
         Ways::new(self.memory, self.edges, numbers, self.nodes())
     }
 
-    /// Whether these edges have no loop among them.
+    /// Whether there is no loop among these edges.
     pub fn is_straight(&self, kept: &[usize]) -> bool {
         is_straight(self.memory, self.edges, kept, self.nodes())
     }
@@ -97,19 +98,20 @@ impl<'a> Graph<'a> {
         }
     }
 
-    /// Whether a loop may begin at the site, and the site isn't done.
+    /// Whether the site is the target of a backward jump and isn't done.
     pub fn is_open(&self, head: usize, done: &[bool]) -> bool {
         self.sites.is_head(head) && !is_marked(done, head)
     }
 
-    /// The loop whose first site is this one, by these edges. Its sites are done then.
+    /// The loop whose first site is this one, by these edges. Marks its sites as done.
     pub fn next_circle(&self, ways: &Ways, head: usize, done: &mut Vec<bool>) -> Circle {
         let circle = ways.circle(self.memory, self.edges, head);
         self.mark(&circle, done);
         circle
     }
 
-    /// Follows the registers back along the edge, if that is new.
+    /// Follows the number back along the edge, from the register at its end. Returns whether that
+    /// is new.
     fn trace_by(&self, edge: &Edge, registers: &mut Vec<Option<u8>>) -> bool {
         if register_at(registers, edge.from).is_some() {
             return false;
@@ -123,8 +125,8 @@ impl<'a> Graph<'a> {
         }
     }
 
-    /// Follows the registers one edge back, those of the last edges first. Whether anything was
-    /// new.
+    /// Follows the number back along each edge of the loop once, the last edges first. Returns
+    /// whether anything was new.
     fn trace(&self, circle: &Circle, registers: &mut Vec<Option<u8>>) -> bool {
         let mut has_changed = false;
         for passed in 0..circle.within.len() {
@@ -136,7 +138,7 @@ impl<'a> Graph<'a> {
         has_changed
     }
 
-    /// Notes in which register the number is at each site that is in this one at the head.
+    /// Finds the register that holds, at each site, the number that this one holds at the head.
     fn trace_all(
         &self,
         circle: &Circle,
@@ -152,7 +154,7 @@ impl<'a> Graph<'a> {
         }
     }
 
-    /// Notes on which edges of the loop the number falls, and whether it rises on any.
+    /// Records on which edges of the loop the number falls, and whether it rises on any.
     fn follow(&self, circle: &Circle, carried: &mut Carried) {
         for place in 0..circle.within.len() {
             if let Some(edge) = self.edges.get(circle.within[place]) {
@@ -164,7 +166,7 @@ impl<'a> Graph<'a> {
         carried.has_rise &= !carried.is_lost;
     }
 
-    /// How the number that the register has at the head is carried round the loop.
+    /// How the number that the register holds at the head is carried around the loop.
     pub fn carried(&self, circle: &Circle, head: usize, register: u8) -> Carried {
         let mut carried = Carried {
             registers: self.memory.filled(None, self.nodes()),

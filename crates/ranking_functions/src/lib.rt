@@ -1,5 +1,6 @@
-//! Ranks for statements that have none: for each loop a register that falls in each turn, with the
-//! least weight and constants that do. What comes out is a guess, which the verifier judges.
+//! Finds ranks for statements that have none: for each loop a register that falls with each
+//! iteration, with the least sufficient weight and constants. The result is a guess, which the
+//! verifier judges.
 #![tactic(auto)]
 
 mod circles;

@@ -8,9 +8,9 @@ use kinds::put;
 #[derive(Drop)]
 pub struct Ways {
     pub numbers: Vec<usize>,
-    /// For each site the place of the first one that starts there or behind it.
+    /// For each site the place of the first edge that starts there or at a later site.
     starts: Vec<usize>,
-    /// For each site the last one from which one leads back to it.
+    /// For each site the last one with an edge back to it.
     lasts: Vec<usize>,
 }
 
@@ -22,12 +22,12 @@ pub struct Circle {
     pub within: Vec<usize>,
 }
 
-/// Whether the place is marked.
+/// Whether this place is marked.
 pub fn is_marked(marks: &[bool], place: usize) -> bool {
     element_or(marks, place, false)
 }
 
-/// The numbers from 0 on, as many as these.
+/// The numbers from 0 up to but excluding `count`.
 pub fn numbers_below(memory: &Memory, count: usize) -> Vec<usize> {
     let mut numbers = memory.filled(0, count);
     for number in 0..count {
@@ -37,7 +37,7 @@ pub fn numbers_below(memory: &Memory, count: usize) -> Vec<usize> {
 }
 
 impl Ways {
-    /// These edges, between so many sites and the entry.
+    /// These edges, between `nodes` sites, the entry included.
     pub fn new(memory: &Memory, edges: &[Edge], numbers: Vec<usize>, nodes: usize) -> Ways {
         let mut ways = Ways {
             starts: memory.filled(numbers.len(), nodes),
@@ -49,8 +49,8 @@ impl Ways {
         ways
     }
 
-    /// Notes of each edge where it starts and leads back to. The entry, the last of all, comes
-    /// first among the edges, and no edge leads back to it.
+    /// Records for each edge where it starts and leads back to. The entry, which has the last
+    /// number, comes first among the edges, and no edge leads back to it.
     fn note(&mut self, edges: &[Edge]) {
         for passed in 0..self.numbers.len() {
             let place = self.numbers.len().saturating_sub(1).saturating_sub(passed);
@@ -64,7 +64,7 @@ impl Ways {
         }
     }
 
-    /// Lets each site at which no edge starts have the place of the next one's.
+    /// Gives each site at which no edge starts the place of the next one's first edge.
     fn close(&mut self) {
         let mut next = self.numbers.len();
         for passed in 0..self.starts.len() {
@@ -74,8 +74,8 @@ impl Ways {
         }
     }
 
-    /// The last site of the stretch that begins at this one: edges lead back into it from there at
-    /// most.
+    /// The last site of the stretch that begins at this one: no edge leads back into the stretch
+    /// from a later site.
     fn last_from(&self, head: usize) -> usize {
         let mut last = head;
         for site in head..self.lasts.len() {
@@ -87,8 +87,8 @@ impl Ways {
         last
     }
 
-    /// Those of the edges that lie in the stretch that begins at the site. A loop that begins there
-    /// has no others.
+    /// The edges within the stretch that begins at the site, which include all edges of a loop that
+    /// begins there.
     fn stretch(&self, memory: &Memory, edges: &[Edge], head: usize) -> Vec<usize> {
         let last = self.last_from(head);
         let mut kept = Vec::new(memory.alloc);
@@ -106,7 +106,7 @@ impl Ways {
         kept
     }
 
-    /// The loop whose first site is this one. It has no sites where there is none.
+    /// The loop whose first site is this one. Without sites if there is none.
     pub fn circle(&self, memory: &Memory, edges: &[Edge], head: usize) -> Circle {
         let kept = self.stretch(memory, edges, head);
         let nodes = self.starts.len();
@@ -130,7 +130,7 @@ impl Ways {
 }
 
 impl Circle {
-    /// Adds an edge that starts at the site.
+    /// Adds an edge, with the site at which it starts.
     fn add(&mut self, memory: &Memory, from: usize, number: usize) {
         memory.push(&mut self.within, number);
         if !self.has(from) {
@@ -139,7 +139,7 @@ impl Circle {
         }
     }
 
-    /// Whether there is a loop, and the site is one of its own.
+    /// Whether there is a loop and the site belongs to it.
     pub fn has(&self, site: usize) -> bool {
         is_marked(&self.members, site)
     }
@@ -154,7 +154,7 @@ impl Circle {
     }
 }
 
-/// Where the edge leads from and to, or back.
+/// The start and the end of the edge, swapped for the backward direction.
 fn ends(edge: &Edge, is_forward: bool) -> (usize, usize) {
     if is_forward {
         (edge.from, edge.to)
@@ -163,7 +163,7 @@ fn ends(edge: &Edge, is_forward: bool) -> (usize, usize) {
     }
 }
 
-/// Marks where the edge leads to, if it starts at what is marked or at the head. Whether that is
+/// Marks the end of the edge, if it starts at a marked site or at the head. Returns whether that is
 /// new.
 fn spread_by(edge: &Edge, head: usize, is_forward: bool, marks: &mut Vec<bool>) -> bool {
     let (here, there) = ends(edge, is_forward);
@@ -174,7 +174,7 @@ fn spread_by(edge: &Edge, head: usize, is_forward: bool, marks: &mut Vec<bool>) 
     is_new
 }
 
-/// Marks where each of these edges leads to, in the order in which most of them lie. Whether
+/// Marks the end of each of these edges, in the order in which most of them lead. Returns whether
 /// anything was new.
 fn spread(
     edges: &[Edge],
@@ -194,7 +194,7 @@ fn spread(
     has_changed
 }
 
-/// The sites that one of these edges or more lead to from the head, as they lead or back.
+/// The sites that are reached from the head by one or more of these edges, forward or backward.
 fn marked_from(
     memory: &Memory,
     edges: &[Edge],
@@ -212,7 +212,7 @@ fn marked_from(
     marks
 }
 
-/// How many of these edges lead to each site.
+/// The number of these edges that lead to each site.
 fn entries_of(memory: &Memory, edges: &[Edge], kept: &[usize], nodes: usize) -> Vec<u32> {
     let mut entries = memory.filled(0u32, nodes);
     for number in kept {
@@ -224,7 +224,7 @@ fn entries_of(memory: &Memory, edges: &[Edge], kept: &[usize], nodes: usize) -> 
     entries
 }
 
-/// Takes out each edge that starts where none is left that leads there. Whether there was one.
+/// Removes each edge whose start no remaining edge leads to. Returns whether there was one.
 fn take_out(edges: &[Edge], kept: &[usize], entries: &mut Vec<u32>, gone: &mut Vec<bool>) -> bool {
     let mut has_changed = false;
     for place in 0..kept.len() {
@@ -240,7 +240,7 @@ fn take_out(edges: &[Edge], kept: &[usize], entries: &mut Vec<u32>, gone: &mut V
     has_changed
 }
 
-/// Whether there is no loop among these edges: all can be taken out, one after the other.
+/// Whether there is no loop among these edges, so that all can be removed one after the other.
 pub fn is_straight(memory: &Memory, edges: &[Edge], kept: &[usize], nodes: usize) -> bool {
     let mut entries = entries_of(memory, edges, kept, nodes);
     let mut gone = memory.filled(false, kept.len());

@@ -1,4 +1,4 @@
-//! Ranks as they are being made: at each site the terms, and the constant that they need.
+//! Ranks under construction: at each site the terms, and the constant that they need.
 
 use crate::trouble::Endless;
 use inference::memory::{Memory, element_or};
@@ -12,13 +12,13 @@ pub enum Term {
     Second,
 }
 
-/// Ranks, a place for each site and the last one for the entry.
+/// Ranks: an element for each site, and the last one for the entry.
 #[derive(Drop)]
 pub struct Plan {
     places: Vec<Place>,
 }
 
-/// The terms and the constant of a rank, and what the constant begins with when it is raised.
+/// The terms and the constant of a rank, and the value from which the constant is raised.
 #[derive(Clone, Copy)]
 pub struct Place {
     pub first: Option<RankTerm>,
@@ -34,7 +34,7 @@ const NO_RANK: Place = Place {
     least: 0,
 };
 
-/// Ranks; where a loop has none, which one and why.
+/// Ranks; if a loop has none, which loop and why.
 #[derive(Drop)]
 pub struct Ranking {
     pub plan: Plan,
@@ -42,17 +42,17 @@ pub struct Ranking {
     pub unranked: Unranked,
 }
 
-/// At which slots the loops begin that lack a rank.
+/// The slots at which loops without a rank begin.
 #[derive(Drop)]
 pub enum Unranked {
-    /// Each of these has none on its own, though the loops within it have one.
+    /// Each of these loops has none on its own, though the loops within it have.
     Alone(Vec<usize>),
-    /// Each of these has one on its own, and they have none together. The outermost comes first.
+    /// Each of these has one on its own, but they have none together. The outermost comes first.
     Together(Vec<usize>),
 }
 
 impl Plan {
-    /// Ranks that are 0.
+    /// Ranks that are all 0.
     pub fn new(memory: &Memory, nodes: usize) -> Plan {
         Plan {
             places: memory.filled(NO_RANK, nodes),
@@ -84,7 +84,7 @@ impl Plan {
         }
     }
 
-    /// Makes the rank this one, whose constant is what it begins with.
+    /// Sets the rank. Its constant is the value from which it is raised.
     pub fn give(&mut self, node: usize, rank: Rank) {
         let place = Place {
             first: rank.first,
@@ -95,7 +95,7 @@ impl Plan {
         put(&mut self.places, node, place)
     }
 
-    /// Puts one of the terms.
+    /// Sets one of the terms.
     pub fn set_term(&mut self, node: usize, which: Term, term: Option<RankTerm>) {
         let mut place = self.at(node);
         match which {
@@ -105,7 +105,7 @@ impl Plan {
         put(&mut self.places, node, place)
     }
 
-    /// Takes both terms away.
+    /// Removes both terms.
     pub fn clear(&mut self, node: usize) {
         let mut place = self.at(node);
         place.first = None;
@@ -113,14 +113,14 @@ impl Plan {
         put(&mut self.places, node, place)
     }
 
-    /// Makes a constant this one.
+    /// Sets the constant.
     pub fn set_constant(&mut self, node: usize, constant: u64) {
         let mut place = self.at(node);
         place.now = constant;
         put(&mut self.places, node, place)
     }
 
-    /// Makes the constants at these places what they begin with.
+    /// Resets the constants at these sites to the values from which they are raised.
     pub fn flatten(&mut self, nodes: &[usize]) {
         for node in nodes {
             let least = self.at(*node).least;

@@ -10,7 +10,7 @@ use inference::memory::Memory;
 use object::Statement;
 use std::alloc::{AllocError, Global};
 
-/// The ranks of the statements that are given.
+/// The ranks of the given statements.
 fn given_ranks(graph: &Graph<'_>, given: &[Statement]) -> Plan {
     let mut plan = Plan::new(graph.memory, graph.nodes());
     for statement in given {
@@ -21,7 +21,8 @@ fn given_ranks(graph: &Graph<'_>, given: &[Statement]) -> Plan {
     plan
 }
 
-/// Whether the plan's terms do for all of the program: then it has the constants that they need.
+/// Whether the plan's terms are enough for the whole program; it then has the constants that they
+/// need.
 fn is_settled(graph: &Graph<'_>, plan: &mut Plan) -> bool {
     let ending = settle(
         graph.memory,
@@ -34,7 +35,7 @@ fn is_settled(graph: &Graph<'_>, plan: &mut Plan) -> bool {
     matches!(ending, Ending::Settled)
 }
 
-/// Takes the ranks that are given, if they do. Whether they do.
+/// Adopts the given ranks, if they are enough. Returns whether they are.
 fn by_given(graph: &Graph<'_>, given: &[Statement], plan: &mut Plan) -> bool {
     let mut ranks = given_ranks(graph, given);
     if is_settled(graph, &mut ranks) {
@@ -45,8 +46,8 @@ fn by_given(graph: &Graph<'_>, given: &[Statement], plan: &mut Plan) -> bool {
     }
 }
 
-/// Ranks the program by its loops, or by the hints where those don't do. Otherwise says what is
-/// wrong with those by loops.
+/// Ranks the program by its loops, or by the hints if that fails. Otherwise says why the loops have
+/// no ranks.
 fn by_loops(graph: &Graph<'_>, hints: &[Statement], are_hints: bool, ranking: &mut Ranking) {
     let failed = graph.rank_loops(&mut ranking.plan);
     let is_ranked = is_settled(graph, &mut ranking.plan)
@@ -58,7 +59,7 @@ fn by_loops(graph: &Graph<'_>, hints: &[Statement], are_hints: bool, ranking: &m
     }
 }
 
-/// Ranks for the program, by the terms that are given or by its loops.
+/// Ranks for the program, by the given terms or by its loops.
 fn planned(graph: &Graph<'_>, given: &[Statement], are_kept: bool) -> Ranking {
     let mut ranking = Ranking {
         plan: Plan::new(graph.memory, graph.nodes()),
@@ -71,7 +72,7 @@ fn planned(graph: &Graph<'_>, given: &[Statement], are_kept: bool) -> Ranking {
     ranking
 }
 
-/// Ranks for the statements, as far as memory goes.
+/// Ranks for the statements, unless an allocation is refused.
 fn ranked(
     memory: &Memory,
     found: &Inference,
@@ -95,8 +96,8 @@ fn ranked(
     planned(&graph, given, are_kept)
 }
 
-/// Finds ranks for the statements. The ranks of those that are given come first where they are
-/// kept, else where none are found. `most` is the greatest constant that leaves the code within its
+/// Finds ranks for the statements. The ranks of given statements are tried first if `are_kept`,
+/// otherwise only if none are found. `most` is the greatest constant that keeps the code within its
 /// budget.
 pub fn rank_statements(
     alloc: Global,

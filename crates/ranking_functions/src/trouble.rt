@@ -7,24 +7,24 @@ use crate::plan::Plan;
 /// Why a loop has no rank.
 #[derive(Clone, Copy)]
 pub enum Trouble {
-    /// The register rises with each turn, and none falls.
+    /// The register rises with each iteration, and none falls.
     Rises { register: u8 },
-    /// The register falls with each turn, but from a number that is too great.
+    /// The register falls with each iteration, but from too great a number.
     TooHigh { register: u8, from: u64 },
-    /// No register falls by a single number on each way round.
+    /// No register falls on each path around the loop.
     NoneFalls,
 }
 
-/// A loop without a rank: the first of its slots that a jump back goes to.
+/// A loop without a rank: the first of its slots that a backward jump leads to.
 #[derive(Clone, Copy)]
 pub struct Endless {
     pub slot: usize,
     pub trouble: Trouble,
-    /// Its turns are bounded, but no register is left to count them.
+    /// The number of its iterations is bounded, but no register is left to count them.
     pub lacks_register: bool,
 }
 
-/// Why the register is none that bounds the loop's turns.
+/// Why the register doesn't bound the loop's iterations.
 fn trouble_with(graph: &Graph<'_>, circle: &Circle, head: usize, register: u8) -> Trouble {
     let carried = graph.carried(circle, head, register);
     if carried.has_rise {
@@ -37,12 +37,11 @@ fn trouble_with(graph: &Graph<'_>, circle: &Circle, head: usize, register: u8) -
     }
 }
 
-/// Of loops with more sites it isn't sought how they would end without a budget: that takes as many
-/// rounds as there are sites.
+/// Larger loops aren't tried without a budget, since that takes as many rounds as there are sites.
 const MOST_SITES: usize = 32;
 
-/// The loop as it is if any number of turns is within the budget: the register that falls with each
-/// turn then, perhaps with a second one for loops within it.
+/// The loop if any number of iterations were within the budget: the register that then falls with
+/// each iteration, possibly with a second one for loops within it.
 fn too_long(graph: &Graph<'_>, circle: &Circle, head: usize) -> Option<Trouble> {
     if circle.sites.len() > MOST_SITES {
         return None;
@@ -66,7 +65,8 @@ fn too_long(graph: &Graph<'_>, circle: &Circle, head: usize) -> Option<Trouble> 
     }
 }
 
-/// Why no register does: that one falls from too great a number tells more than that one rises.
+/// Why no register bounds the loop. One that falls from too great a number says more than one that
+/// rises.
 fn trouble_at(graph: &Graph<'_>, circle: &Circle, head: usize) -> Trouble {
     let mut told = Trouble::NoneFalls;
     for register in 0..10u8 {
@@ -101,7 +101,7 @@ fn endless_at(graph: &Graph<'_>, head: usize) -> Option<Endless> {
     }
 }
 
-/// What is wrong with the loop through the site, or with the first one.
+/// What is wrong with the loop through the site, or with the first one that has trouble.
 pub fn unranked_loop(graph: &Graph<'_>, failed: Option<usize>) -> Option<Endless> {
     if let Some(head) = failed {
         return endless_at(graph, head);

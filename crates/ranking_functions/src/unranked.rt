@@ -16,8 +16,7 @@ impl<'a> Graph<'a> {
         false
     }
 
-    /// Whether a loop begins at the site that has no rank on its own, though those within it have
-    /// one.
+    /// Whether a loop begins at the site that has no rank on its own, though those within it have.
     fn is_unranked(&self, plan: &mut Plan, unranked: &[bool], head: usize) -> bool {
         let circle = self.circle(head);
         circle.has(head)
@@ -58,7 +57,7 @@ impl<'a> Graph<'a> {
         slots
     }
 
-    /// The slots of the heads of the loop that begins at this site, of all where there is none.
+    /// The slots of the heads of the loop that begins at this site; of all if there is none.
     fn slots_together(&self, failed: Option<usize>) -> Vec<usize> {
         match failed {
             Some(head) => self.slots_among(&self.circle(head)),
@@ -66,14 +65,14 @@ impl<'a> Graph<'a> {
         }
     }
 
-    /// The heads of loops that have no rank on their own, though those within them have one.
+    /// The heads of loops that have no rank on their own, though those within them have.
     fn unranked(&self, plan: &mut Plan) -> Vec<bool> {
         let mut unranked = self.memory.filled(false, self.nodes());
         self.mark_unranked(plan, &mut unranked);
         unranked
     }
 
-    /// At which slots the loops begin that lack a rank. Where each has one on its own, those that
+    /// The slots at which loops without a rank begin. If each loop has one on its own, those that
     /// have none together.
     pub fn unranked_loops(&self, plan: &mut Plan, failed: Option<usize>) -> Unranked {
         let unranked = self.unranked(plan);

@@ -1,5 +1,5 @@
-//! The constants that ranks need: at the start of each edge as much as its end has, and more by
-//! what the edge raises.
+//! The constants that ranks need: at the start of each edge as much as at its end, plus what the
+//! edge adds.
 
 use crate::loops::Circle;
 use crate::plan::Plan;
@@ -10,7 +10,7 @@ use kinds::{Kind, kind_of, put};
 use object::{Kind as Stated, RankTerm, Statement};
 use ranks::{Line, bound_of};
 
-/// The least and the greatest number of each register where a segment starts.
+/// The least and the greatest value of each register at the start of a segment.
 #[derive(Clone, Copy)]
 pub struct Bounds {
     lows: [u64; 10],
@@ -22,8 +22,8 @@ const NO_BOUNDS: Bounds = Bounds {
     highs: [None; 10],
 };
 
-/// Sums of multiples of numbers that differ: the first plus `saved` is at most the second plus
-/// `needed`, if they don't differ by more of a number without a bound.
+/// By how much two sums of multiples may differ: the first plus `saved` is at most the second plus
+/// `needed`. Not bounded if they differ by a multiple of a number without a bound.
 #[derive(Clone, Copy)]
 struct Gap {
     saved: u128,
@@ -56,7 +56,7 @@ pub fn bounds_of(memory: &Memory, stated: &[Option<Statement>]) -> Vec<Bounds> {
 }
 
 impl Bounds {
-    /// The greatest number of the register.
+    /// The greatest value of the register.
     pub fn high(&self, register: u8) -> Option<u64> {
         element_or(&self.highs, usize::from(register), None)
     }
@@ -86,7 +86,7 @@ pub fn multiple(factor: u64, number: u64) -> u128 {
 }
 
 impl Gap {
-    /// Adds the multiples of a number, whose bounds are these.
+    /// Adds the multiples of a number with these bounds.
     fn add(&mut self, left: u64, right: u64, low: u64, high: Option<u64>) {
         if left <= right {
             self.saved = self.saved.saturating_add(multiple(right - left, low));
@@ -115,8 +115,7 @@ fn gap_of(lefts: [u64; 10], rights: [u64; 10], bounds: &Bounds) -> Gap {
     gap
 }
 
-/// What the constant at the start of an edge has to be at least: that at its end, more by one
-/// number and less by another.
+/// The least constant at the start of an edge: that at its end, plus `more`, minus `less`.
 #[derive(Clone, Copy)]
 struct Need {
     from: usize,
@@ -125,7 +124,7 @@ struct Need {
     less: u128,
 }
 
-/// What the edge needs, where this line bounds the rank at its end without the constant there.
+/// What the edge needs. `line` bounds the rank at its end without the constant there.
 fn need_by(plan: &Plan, bounds: &[Bounds], edge: &Edge, line: &Line) -> Option<Need> {
     let from = element_or(bounds, edge.from, NO_BOUNDS);
     let gap = gap_of(line.coefficients, coefficients_at(plan, edge.from), &from);
@@ -145,7 +144,7 @@ fn need_by(plan: &Plan, bounds: &[Bounds], edge: &Edge, line: &Line) -> Option<N
     })
 }
 
-/// What the edge needs, if any constant does.
+/// What the edge needs; `None` if no constant is enough.
 fn need_of(plan: &Plan, bounds: &[Bounds], edge: &Edge) -> Option<Need> {
     match bound_of(plan.slope_at(edge.to), &edge.state) {
         Some(line) => need_by(plan, bounds, edge, &line),
@@ -153,7 +152,7 @@ fn need_of(plan: &Plan, bounds: &[Bounds], edge: &Edge) -> Option<Need> {
     }
 }
 
-/// What these edges need, if any constants do.
+/// What these edges need; `None` if no constants are enough.
 fn needs_of(
     memory: &Memory,
     plan: &Plan,
@@ -171,18 +170,18 @@ fn needs_of(
     Some(needs)
 }
 
-/// How raising the constants ended.
+/// The outcome of raising the constants.
 #[derive(Clone, Copy)]
 pub enum Ending {
     /// Each edge has what it needs.
     Settled,
-    /// A constant is above the greatest that may be.
+    /// A constant exceeds the maximum.
     TooHigh,
-    /// They go on rising.
+    /// They keep rising.
     Endless,
 }
 
-/// What one round over the edges came to.
+/// The outcome of one round over the edges.
 #[derive(Clone, Copy)]
 enum Round {
     Still,
@@ -207,7 +206,7 @@ fn raise_by(plan: &mut Plan, need: &Need, most: u64) -> Round {
 /// Raises the constants at the starts of edges once.
 fn raise_once(plan: &mut Plan, needs: &[Need], most: u64) -> Round {
     let mut round = Round::Still;
-    // What an edge raises is its start, so that the last ones come first.
+    // An edge raises the constant at its start, so the last edges come first.
     for passed in 0..needs.len() {
         match raise_by(plan, &needs[needs.len() - 1 - passed], most) {
             Round::Still => {}
@@ -218,7 +217,7 @@ fn raise_once(plan: &mut Plan, needs: &[Need], most: u64) -> Round {
     round
 }
 
-/// Raises the constants until each edge has what it needs, in so many rounds at most.
+/// Raises the constants until each edge has what it needs, in at most `rounds` rounds.
 fn raise(plan: &mut Plan, needs: &[Need], rounds: usize, most: u64) -> Ending {
     for _ in 0..rounds {
         match raise_once(plan, needs, most) {
@@ -230,7 +229,7 @@ fn raise(plan: &mut Plan, needs: &[Need], rounds: usize, most: u64) -> Ending {
     Ending::Endless
 }
 
-/// Raises the constants from 0 until each edge of the loop has what it needs.
+/// Raises the constants from their starting values until each edge of the loop has what it needs.
 pub fn settle(
     memory: &Memory,
     plan: &mut Plan,

@@ -7,9 +7,9 @@ use std::test::Fail;
 /// The bits of a byte.
 const BITS: [u8; 8] = [1, 2, 4, 8, 16, 32, 64, 128];
 
-/// The hook may be `count` or `tag` in place of `price`. The entry rank 10 may have one more of its
-/// bits below 2^18, of which there are 16: with one of its own two less, or one that is higher, it
-/// is refused.
+/// The hook may be `count` or `tag` in place of `price`. The entry rank 10 may gain one of its
+/// other bits below 2^18, of which there are 16; with one of its own two bits cleared, or a higher
+/// one set, the object is refused.
 const SURELY_ACCEPTED: usize = 18;
 
 fn flip(bytes: &mut [u8], at: usize, bit: u8) {
@@ -18,7 +18,7 @@ fn flip(bytes: &mut [u8], at: usize, bit: u8) {
     }
 }
 
-// Whether its runs are right, where it is accepted.
+// Whether its runs are correct; `None` if it is refused.
 fn tried(alloc: Global, bytes: &[u8]) -> Result<Option<bool>, Fail> {
     let Ok(accepted) = verdict_on(alloc, bytes) else {
         return Ok(None);
@@ -28,7 +28,8 @@ fn tried(alloc: Global, bytes: &[u8]) -> Result<Option<bool>, Fail> {
     Ok(Some(runs_agree(alloc, &accepted, &code)?))
 }
 
-// How many of the objects with one flipped bit are accepted. The runs of each are right.
+// The number of objects with one flipped bit that are accepted. The runs of each have to be
+// correct.
 fn tried_all(alloc: Global, bytes: &mut [u8]) -> Result<usize, Fail> {
     let mut accepted = 0_usize;
     for at in 0..bytes.len() {

@@ -82,7 +82,7 @@ fn intervals_within_others_and_what_they_are_multiples_of(rt: HostRuntime) {
     assert!(rt; multiples == (64, 0), "{multiples:?}");
 }
 
-/// What a test of 64 bits against the number leaves of the value.
+/// The numbers of the value that meet a test of 64 bits against the number.
 fn left_by<D: Domain>(test: Test, value: D, number: u64) -> Option<D> {
     let (left, _) = D::assume(test, Width::Bits64, value, D::constant(number))?;
     Some(left)
@@ -103,8 +103,7 @@ fn range_left(test: Test, value: Interval, number: u64) -> Option<Range> {
     Some(left.range())
 }
 
-// At most 63, and of these those that aren't negative, those that are positive, and those that are
-// negative.
+// At most 63, and of these the nonnegative, the positive and the negative ones.
 fn trimmed() -> Option<[Option<Range>; 4]> {
     let at_most = left_by(Test::SignedLessOrEqual, Interval::top(), 63)?;
     Some([
@@ -115,7 +114,7 @@ fn trimmed() -> Option<[Option<Range>; 4]> {
     ])
 }
 
-// Of -8 to 7: above 7, equal to 8, and at most 100 as numbers without a sign.
+// Of -8 to 7: those above 7, those equal to 8, and those at most 100 as unsigned numbers.
 fn left_around_zero() -> Option<[Option<Range>; 3]> {
     let around = around_zero()?;
     Some([
@@ -139,7 +138,7 @@ fn signed_orders_trim_signed_bounds(rt: HostRuntime) {
     assert!(rt; around == Some([None, None, Some((0, 7))]), "{around:?}");
 }
 
-// A test of the lower halves leaves -8 to 7 as they are.
+// A test of the lower halves leaves -8 to 7 unchanged.
 fn stays_by_halves() -> Option<bool> {
     let (around, zero) = (around_zero()?, Interval::constant(0));
     let half = Interval::assume(Test::SignedLess, Width::Bits32, around, zero);
@@ -151,7 +150,7 @@ fn a_signed_test_of_halves_leaves_whole_numbers(rt: HostRuntime) {
     assert!(rt; stays_by_halves() == Some(true));
 }
 
-// Of -8 to 7: 8 more, 8 more by a difference, the bits of 8 turned, and 8 more in the lower halves.
+// Of -8 to 7: 8 added, -8 subtracted, the bits of 8 flipped, and 8 added in the lower halves.
 fn of_moves_sums_and_differences() -> Option<[Range; 4]> {
     let around = around_zero()?;
     let eight = Interval::constant(8);
@@ -170,7 +169,7 @@ fn is_moved() -> Option<bool> {
     Some(Interval::alu(Operation::Move, Width::Bits64, eight, around) == around)
 }
 
-// -8 to 7 within all numbers, and the other way round; 0 to 7, and 0 to 8, within -8 to 7.
+// -8 to 7 within all numbers, and vice versa; 0 to 7, and 0 to 8, within -8 to 7.
 fn are_within_signed_bounds() -> Option<[bool; 4]> {
     let around = around_zero()?;
     Some([
@@ -214,7 +213,8 @@ fn narrowed() -> [Range; 5] {
     ]
 }
 
-// At least 0xf8 and above it, of the eights up to there; and other than 0, of no number.
+// Of the multiples of eight below 256, those that are at least 0xf8 and those above it; and of no
+// number those other than 0.
 fn left_of_pairs() -> [Option<Known>; 3] {
     [
         left_by(Test::GreaterOrEqual, eights(), 0xf8),
@@ -244,7 +244,7 @@ fn range_of<D: Domain>(value: D) -> Range {
     value.range()
 }
 
-// 1, 1 as stated, 1 to 2 and 1 more by each part, and 1 negated.
+// 1, 1 as stated, 1 to 2 plus 1 in each part, and 1 negated.
 fn of_pairs() -> [Range; 5] {
     let one = Intervals::constant(1);
     let sum = Intervals::alu(Operation::Add, Width::Bits64, both(1, 2), one);

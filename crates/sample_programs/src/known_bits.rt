@@ -2,7 +2,7 @@ use absdom::{Domain, UnaryOperation};
 use isa::{ByteOrder, Operation, SwapWidth, Test, Width};
 use knownbits::KnownBits;
 
-// Generic code sees the domain alone.
+// Generic code sees only the domain.
 fn applied<D: Domain>(operation: Operation, width: Width, left: D, right: D) -> D {
     D::alu(operation, width, left, right)
 }
@@ -30,7 +30,8 @@ fn eighth() -> KnownBits {
 #[test]
 fn bit_operations_know_their_bits(rt: HostRuntime) {
     let low = KnownBits::stated(0, u64::MAX, 0xff, 0x0f);
-    // A byte, eight times it, the low half of a byte turned and with more bits, and the byte back.
+    // A byte, eight times it, the low half of a byte flipped and with more bits, and the byte
+    // again.
     let found = [
         byte(),
         eighth(),
@@ -130,8 +131,8 @@ fn swaps_and_negations_give_their_result(rt: HostRuntime) {
     assert!(rt; found == wanted);
 }
 
-// 5 is 9; an odd number is one with an upper byte; a number's lower half is that of 2^32; 9 is less
-// than 5.
+// 5 is 9; an odd number is one with a given upper byte; a number's lower half is that of 2^32; 9 is
+// less than 5.
 #[test]
 fn equal_numbers_share_what_is_known(rt: HostRuntime) {
     let (five, nine) = (KnownBits::constant(5), KnownBits::constant(9));
@@ -161,7 +162,7 @@ fn what_is_known_has_a_range_and_a_place(rt: HostRuntime) {
         found == ((7, 7), (0x30, 0xffff_ffff_ffff_ff3f)),
         "{found:?}"
     );
-    // 7 within odd numbers, and the other way round; even numbers within all.
+    // 7 within odd numbers, and vice versa; even numbers within all.
     let within = [
         seven.within(known(1, 1)),
         known(1, 1).within(seven),

@@ -1,8 +1,8 @@
 //! Programs that are verified and run, by both interpreters: worked ones, sums, and an object with
 //! each of its bits flipped. trials/programs.rows has many more, played by the built programs. Each
-//! is a text of assembly on few lines: a semicolon ends a line of it, a label's colon too, and `any`
-//! stands for the set of all numbers. `intervals` and `known_bits` are tests of the abstract
-//! domains, and `questions` those of programs at hooks.
+//! is a text of assembly in few lines, in which a semicolon or a label's colon ends a line, and
+//! `any` stands for the set of all numbers. `intervals` and `known_bits` test the abstract domains,
+//! and `questions` programs at hooks.
 #![tactic(auto)]
 
 #[cfg(test)]

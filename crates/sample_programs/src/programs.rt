@@ -1,4 +1,4 @@
-//! Programs that the verifier itself accepts, and the regions that it keeps of them.
+//! Programs that the verifier itself accepts, and the regions that it records for them.
 use absdom::Pair;
 use asm::{AsmError, assemble};
 use interval::Interval;
@@ -11,8 +11,7 @@ use std::process::Abort;
 use std::test::Fail;
 use verifier::{Accepted, Refusal, Rule, verify};
 
-// Objects are made once more where they aren't made, since an allocation may be refused once, in a
-// run of the tests with a refusal.
+// An object is made once more if the first try fails, since a test run may refuse one allocation.
 
 /// The object of the text.
 pub(crate) fn object_of(alloc: Global, text: &str) -> Result<Object, AsmError> {
@@ -22,8 +21,8 @@ pub(crate) fn object_of(alloc: Global, text: &str) -> Result<Object, AsmError> {
     }
 }
 
-/// What the verifier says of the program of an object. An allocation may be refused once, as a run
-/// of the tests with a refusal makes it, which is told at slot 0.
+/// The verifier's answer about an object. A refused allocation, which is reported at slot 0, is
+/// retried once, since a test run may refuse one.
 pub(crate) fn verified(
     rt: &impl Abort,
     alloc: Global,
@@ -91,8 +90,7 @@ fn the_region_of_each_load_and_store_is_kept(rt: HostRuntime) -> Result<(), Fail
     Ok(())
 }
 
-/// The counter of the moment's number, if the moment is from 0 to 63 by two signed tests, and else
-/// 0.
+/// The counter with the moment's number, if the moment is from 0 to 63 by two signed tests, else 0.
 pub(crate) const COUNTER_OF_THE_MOMENT: &str =
     "hook price\nrank 0\nr1 = *u64 r1 24\nif r1 s> 63 goto L\nif r1 s< 0 goto L\nr1 <<= 3\n\
         r2 = map 0 0\nr2 += r1\nr0 = *u64 r2 0\nexit\nL:\nr0 = 0\nexit\nstate L rank 0\n";

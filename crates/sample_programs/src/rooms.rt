@@ -1,4 +1,4 @@
-//! Rooms for accepted programs, and copies in them.
+//! Accepted programs with capacity for any other, and copies into them.
 ghost use Rattle.std.specs.Prelude.{◌≡◌, IfOk};
 ghost use Rattle.verifier.specs.Programs.{idle, HasRoom};
 
@@ -9,7 +9,7 @@ use std::process::Abort;
 use std::test::Fail;
 use verifier::Accepted;
 
-/// A room. The second try is for a test whose first allocation is refused.
+/// A program with capacity for any other. Retries once: a test run may refuse one allocation.
 fn room_of(alloc: Global) -> Result<Accepted, AllocError>
     ensures { IfOk result (λ accepted. accepted ≡ idle) }
 {
@@ -19,7 +19,7 @@ fn room_of(alloc: Global) -> Result<Accepted, AllocError>
     }
 }
 
-/// Both are the same program, with this bound and at this hook.
+/// Whether both are the same program, with this bound and at this hook.
 fn are_the_same(one: &Accepted, other: &Accepted, bound: u64, hook: Hook) -> bool {
     one.bound() == bound
         && one.hook() == hook
@@ -37,8 +37,8 @@ fn a_room_answers_nothing(rt: HostRuntime) -> Result<(), Fail> {
     Ok(())
 }
 
-// The bound and the hook of a program of three instructions with the rank 5, and of one of two with
-// the rank 0.
+// The bound and the hook of a program of three instructions with rank 5, and of one of two with
+// rank 0.
 fn are_copied(rt: &impl Abort, target: &mut Accepted, long: &Accepted, short: &Accepted)
     requires { HasRoom target.old }
 {

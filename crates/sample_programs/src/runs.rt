@@ -1,4 +1,4 @@
-//! Runs of programs that were accepted.
+//! Runs of accepted programs.
 ghost use Rattle.std.specs.Prelude.{◌≡◌};
 ghost use Rattle.std.specs.List.{slice_range};
 ghost use Rattle.isa.specs.Hooks.{hook_number};
@@ -29,8 +29,7 @@ fn context_of(hook: Hook, moment: u8) -> [u8; 64]
     context
 }
 
-/// What the program answers at this moment where counter 5 has 77, and the instructions that it
-/// takes.
+/// The program's answer at this moment, with 77 in counter 5, and the number of instructions.
 fn ended(alloc: Global, accepted: &Accepted, moment: u8) -> Result<(u64, u64), Fail> {
     let input = Input {
         context: context_of(accepted.hook(), moment),
@@ -43,7 +42,7 @@ fn ended(alloc: Global, accepted: &Accepted, moment: u8) -> Result<(u64, u64), F
     Ok((ended.answer, ended.used))
 }
 
-// Counter 5, and none for a moment that is too late.
+// Asserts that it reads counter 5, and none for a moment that is too late.
 fn reads_the_counter(rt: &impl Abort, alloc: Global, accepted: &Accepted) -> Result<(), Fail> {
     let early = ended(alloc, accepted, 5)?;
     let late = ended(alloc, accepted, 64)?;

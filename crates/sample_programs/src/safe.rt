@@ -1,4 +1,4 @@
-//! Programs that are accepted: `run` gives what `run_checked` gives, on a hundred inputs.
+//! Accepted programs: `run` gives what `run_checked` gives, on a hundred inputs.
 //! trials/programs.rows has their bounds and answers.
 use crate::trials::{runs_agree, tried};
 use std::alloc::Global;
@@ -17,7 +17,7 @@ const SAFE: &[&str] = &[
         r0 = r7; exit; \
         state L rank 0 r6 * 1; with r6 number 1 16 0 0; with r7 any; \
         state NEXT rank 0 r6 * 1; with r6 number 1 16 0 0; with r7 any",
-    // how long the packet is, up to 32: one register counts up and another one down
+    // the length of the packet, up to 32: one register counts up and another one down
     "hook count; rank 32; r6 = 32; r7 = 0; \
         L: r1 = r7; call 3; if r0 > 255 goto END; r7 += 1; r6 += -1; if r6 != 0 goto L; \
         END: r0 = r7; exit; \
@@ -30,7 +30,7 @@ const SAFE: &[&str] = &[
         r1 = 1; call 2; exit; \
         state L rank 0 r6 * 1; with r6 number 1 4 0 0; \
         state NEXT rank 0 r6 * 1; with r6 number 1 4 0 0",
-    // the last of the first 20 offsets whose byte isn't zero, from the end
+    // the last of the first 20 offsets whose byte isn't zero, searched from the end
     "hook count; rank 20; r6 = 20; \
         L: r6 += -1; r1 = r6; call 3; if r0 != 0 goto FOUND; if r6 != 0 goto L; \
         r0 = 0; exit; \
@@ -66,13 +66,13 @@ const SAFE: &[&str] = &[
         END: exit; \
         state L rank 0 r6 * 1; with r0 any; with r6 number 0 6 0 0; \
         state END rank 0; with r0 any",
-    // how many bits of a number of the context are set: it ends early where none is left
+    // the number of bits that are set in a number of the context; ends early if none is left
     "hook price; rank 32; r2 = *u32 r1 16; r6 = 32; r0 = 0; \
         L: r3 = r2; r3 &= 1; r0 += r3; r2 >>= 1; if r2 == 0 goto END; r6 += -1; if r6 != 0 goto L; \
         END: exit; \
         state L rank 0 r6 * 1; with r0 any; with r2 any; with r6 number 1 32 0 0; \
         state END rank 0; with r0 any",
-    // as many turns as a byte of the context says, at most 255
+    // as many iterations as a byte of the context says, at most 255
     "hook price; rank 255; r6 = *u8 r1 16; r0 = 0; if r6 == 0 goto END; \
         L: r0 += 2; r6 += -1; if r6 != 0 goto L; \
         END: exit; \
@@ -88,7 +88,7 @@ const SAFE: &[&str] = &[
         state OUTER rank 4 r6 * 5; with r6 number 1 3 0 0; with r8 any; \
         state INNER rank 0 r6 * 5 r7 * 1; with r6 number 1 3 0 0; with r7 number 1 4 0 0; \
         with r8 any",
-    // the inner loop takes as many turns as are left of the outer one
+    // the inner loop has as many iterations as are left of the outer one
     "hook price; rank 35; r6 = 5; r0 = 0; \
         OUTER: r7 = r6; \
         INNER: r0 += 1; r7 += -1; if r7 != 0 goto INNER; \
@@ -97,7 +97,8 @@ const SAFE: &[&str] = &[
         state OUTER rank 0 r6 * 7; with r0 any; with r6 number 1 5 0 0; \
         state INNER rank 0 r6 * 6 r7 * 1; with r0 any; with r6 number 1 5 0 0; \
         with r7 number 1 5 0 0",
-    // either count falls, by a bit of the context: the answer is what is left of the other
+    // one of two counts falls, depending on a bit of the context; the answer is what is left of the
+    // other
     "hook price; rank 14; r8 = *u32 r1 16; r6 = 7; r7 = 7; \
         L: if r8 & 1 goto ODD; \
         r8 >>= 1; r6 += -1; if r6 != 0 goto L; \
@@ -107,7 +108,7 @@ const SAFE: &[&str] = &[
         state L rank 0 r6 * 1 r7 * 1; with r6 number 1 7 0 0; with r7 number 1 7 0 0; with r8 any; \
         state ODD rank 0 r6 * 1 r7 * 1; with r6 number 1 7 0 0; with r7 number 1 7 0 0; \
         with r8 any",
-    // two loops, one behind the other: the second is ranked by its own register
+    // two loops, one after the other: the second is ranked by its own register
     "hook price; rank 9; r6 = 4; r7 = 5; r0 = 0; \
         A: r0 += 10; r6 += -1; if r6 != 0 goto A; \
         B: r0 += 1; r7 += -1; if r7 != 0 goto B; \
@@ -117,33 +118,33 @@ const SAFE: &[&str] = &[
     "hook price; rank 0; *u8 r10 -2 = 1; *u8 r10 -1 = 2; r0 = *u16 r10 -2; exit",
     // another register points to the stack
     "hook price; rank 0; r6 = r10; r6 += -16; *u64 r6 8 = 41; r0 = *u64 r10 -8; r0 += 1; exit",
-    // a number takes the place of a pointer
+    // a number replaces a pointer
     "hook price; rank 0; *u64 r10 -8 = r1; *u64 r10 -8 = 3; r0 = *u64 r10 -8; exit",
-    // a sum that is kept on the stack through a loop
+    // a sum that stays on the stack through a loop
     "hook count; rank 5; *u64 r10 -8 = 0; r6 = 5; \
         L: r1 = r6; call 3; r2 = *u64 r10 -8; r2 += r0; *u64 r10 -8 = r2; r6 += -1; \
         if r6 != 0 goto L; \
         r0 = *u64 r10 -8; exit; \
         state L rank 0 r6 * 1; with r6 number 1 5 0 0; bytes 504 512",
-    // the context's pointer, kept through a call, which empties r1
+    // the context's pointer, saved across a call, which empties r1
     "hook count; rank 0; *u64 r10 -8 = r1; r1 = 0; call 3; r1 = *u64 r10 -8; r2 = *u32 r1 16; \
             r0 += r2; exit",
     // a map's pointer at an unknown distance
     "hook price; rank 0; r2 = *u8 r1 16; r2 &= 63; r2 <<= 3; r3 = map 1 0; r3 += r2; \
         *u64 r10 -8 = r3; r3 = 0; r4 = *u64 r10 -8; *u64 r4 0 = 8; r0 = *u64 r4 0; exit",
-    // two pointers, exchanged
+    // two pointers, swapped
     "hook price; rank 0; r2 = map 1 16; *u64 r10 -8 = r1; *u64 r10 -16 = r2; \
         r1 = *u64 r10 -16; r2 = *u64 r10 -8; r3 = *u32 r2 4; *u64 r1 0 = r3; r0 = *u64 r1 0; exit",
     // a pointer to the stack itself
     "hook price; rank 0; r6 = r10; r6 += -8; *u64 r10 -16 = r6; r7 = *u64 r10 -16; \
             *u64 r7 0 = 5; \
         r0 = *u64 r10 -8; exit",
-    // a store beside a stored pointer leaves it
+    // a store next to a stored pointer leaves it intact
     "hook price; rank 0; *u64 r10 -16 = r1; *u64 r10 -8 = 1; r2 = *u64 r10 -16; r0 = *u32 r2 \
             4; exit",
-    // to and fro within the context
+    // forward and backward within the context
     "hook price; rank 0; r1 += 60; r0 = *u32 r1 -44; exit",
-    // a counter, read where it was counted
+    // a counter, read after it was counted
     "hook price; rank 0; r6 = *u64 r1 8; r6 &= 255; r1 = r6; r2 = 5; call 1; \
         r6 <<= 3; r3 = map 0 0; r3 += r6; r0 = *u64 r3 0; exit",
     "hook price; rank 0; r2 = *u32 r1 16; r2 &= 63; r2 <<= 3; r3 = map 1 0; r3 += r2; \
@@ -164,27 +165,27 @@ const SAFE: &[&str] = &[
         r2 <<= 3; r3 = map 1 0; r3 += r2; *u64 r3 0 = 1; r0 = *u64 r3 0; exit; \
         NONE: r0 = 7; exit; \
         state NONE rank 0",
-    // a pointer that is back by eight from where it points
+    // a pointer to eight bytes before the one that it is based on
     "hook price; rank 0; r2 = *u32 r1 16; r2 &= 31; r2 <<= 3; r3 = map 1 8; r3 += r2; \
         *u64 r3 -8 = 6; r0 = *u64 r3 -8; exit",
-    // each cell is written and read, and all are added
+    // each cell is written and read, and all are summed
     "hook veto; rank 64; r6 = 64; r7 = 0; \
         L: r2 = r6; r2 += -1; r2 <<= 3; r3 = map 1 0; r3 += r2; *u64 r3 0 = r6; r4 = *u64 r3 0; \
         r7 += r4; \
         r6 += -1; if r6 != 0 goto L; \
         r0 = r7; exit; \
         state L rank 0 r6 * 1; with r6 number 1 64 0 0; with r7 any",
-    // two ways come to one statement with two pointers
+    // two edges lead to one statement with two pointers
     "hook tag; rank 0; r2 = *u32 r1 4; r3 = map 1 0; if r2 == 0 goto USE; r3 = map 1 8; \
         USE: *u64 r3 0 = r2; r0 = *u64 r3 0; exit; \
         state USE rank 0; with r2 number 0 4294967295 0 0; with r3 map 1 0 8 7 0",
-    // twice the cost of a route, where there is one
+    // twice the cost of a route, if there is one
     "hook tag; rank 0; r1 = wide 3221225984; r2 = 24; call 4; r1 = wide 4294967296; \
             if r0 == r1 goto NONE; \
         r0 *= 2; exit; \
         NONE: r0 = 0; exit; \
         state NONE rank 0",
-    // an amount that is masked
+    // a masked amount
     "hook price; rank 0; r2 = *u32 r1 16; r2 &= 16777215; r1 = 3; call 1; r1 = 3; call 2; exit",
     // another byte order
     "hook veto; rank 0; r0 = *u32 r1 16; r0 = be32; exit",
@@ -194,15 +195,15 @@ const SAFE: &[&str] = &[
     "hook veto; rank 0; r2 = *u64 r1 8; if w2 > 4000 goto BIG; r0 = 1; exit; \
         BIG: r0 = 2; exit; \
         state BIG rank 0",
-    // what no run comes to isn't looked at
+    // code that no run reaches isn't checked
     "hook veto; rank 0; r2 = 5; if r2 == 5 goto L; r0 = *u64 r9 0; \
         L: r0 = 1; exit; \
         state L rank 0",
-    // a division by what may be zero is none to be stuck at: it gives 0
+    // a division by zero isn't stuck: it gives 0
     "hook veto; rank 0; r2 = *u8 r1 4; r0 = 49; r0 /= r2; exit",
 ];
 
-// Whether the program of the text is accepted, and its runs are the same by both interpreters.
+// Whether the program of the text is accepted, and both interpreters run it alike.
 fn runs_the_same(alloc: Global, text: &str) -> Result<bool, Fail> {
     let tried = tried(alloc, text)?;
     match &tried.verdict {

@@ -1,4 +1,4 @@
-//! How a program is tried: verified, and run on two inputs.
+//! How a program is tried: verified, and run on many inputs.
 ghost use Rattle.std.specs.Prelude.{◌≡◌, length, map, IfOk};
 ghost use Rattle.std.specs.List.{range_with_len, slice_range};
 ghost use Rattle.isa.specs.Hooks.{hook_number};
@@ -18,16 +18,15 @@ use std::test::Fail;
 use verifier::{Accepted, Rule};
 use words::{Address, Prefix, TableRow};
 
-// Each of these is done once more where it isn't done, since an allocation may be refused once, in
-// a run of the tests with a refusal.
+// Each of these is retried once, since a test run may refuse one allocation.
 
-// The text with a line feed behind each semicolon and each label.
+// The text with a line feed after each semicolon and each label.
 fn lines_of(alloc: Global, text: &str) -> Option<String> {
     let lines = text.replace(alloc, "; ", "\n").ok()?;
     lines.replace(alloc, ": ", ":\n").ok()
 }
 
-// The same with the set of all numbers in the place of `any`.
+// The same with the set of all numbers in place of `any`.
 fn stated(alloc: Global, text: &str) -> Option<String> {
     let lines = lines_of(alloc, text)?;
     lines
@@ -76,7 +75,7 @@ pub fn code_of(alloc: Global, object: &Object) -> Result<Code, DecodeError> {
     }
 }
 
-/// What the verifier says of the object file.
+/// The verifier's answer about the object file.
 pub fn verdict_on(alloc: Global, bytes: &[u8]) -> Result<Accepted, VerifyError> {
     match verify_object(alloc, bytes) {
         Err(error) if is_of_memory(error) => verify_object(alloc, bytes),
@@ -84,7 +83,7 @@ pub fn verdict_on(alloc: Global, bytes: &[u8]) -> Result<Accepted, VerifyError> 
     }
 }
 
-// Whether memory ran out, which the verifier tells at slot 0.
+// Whether memory ran out, which the verifier reports at slot 0.
 fn is_of_memory(error: VerifyError) -> bool {
     match error {
         VerifyError::Object(fault) => fault == ReadError::Memory,
@@ -93,13 +92,13 @@ fn is_of_memory(error: VerifyError) -> bool {
     }
 }
 
-/// What the verifier says of the object.
+/// The verifier's answer about the object.
 pub fn verdict_of(alloc: Global, object: &Object) -> Result<Result<Accepted, VerifyError>, Fail> {
     let bytes = file_of(alloc, object)?;
     Ok(verdict_on(alloc, &bytes))
 }
 
-/// A table of so many seats.
+/// A table with `count` seats.
 pub fn table(alloc: Global, count: usize) -> Result<(Shared, Vec<Seat>), MapsError>
     ensures { IfOk result (λ r. r.1.items ≡ map (fresh r.0.table) (range_with_len 0 count)) }
 {
@@ -109,7 +108,7 @@ pub fn table(alloc: Global, count: usize) -> Result<(Shared, Vec<Seat>), MapsErr
     }
 }
 
-/// A context of zeros but for its hook.
+/// A context of zeros except for its hook.
 fn bare_context(hook: Hook) -> [u8; 64]
     ensures { number_of (slice_range result 0 4) ≡ hook_number hook }
 {
@@ -137,7 +136,7 @@ pub fn rich_context(hook: Hook) -> [u8; 64]
     context
 }
 
-/// A context in which some bytes are made of this number.
+/// A context in which some bytes are computed from this number.
 fn varied_context(hook: Hook, number: u8) -> [u8; 64]
     ensures { number_of (slice_range result 0 4) ≡ hook_number hook }
 {
@@ -172,7 +171,7 @@ fn rows(alloc: Global) -> Result<Vec<TableRow>, AllocError> {
     }
 }
 
-/// A table of one seat, and its seat.
+/// A table with one seat, and its seat.
 pub fn one_seat(alloc: Global) -> Result<(Shared, Seat), Fail>
     ensures { IfOk result (λ r. IsOf r.0 r.1) }
 {
@@ -181,7 +180,7 @@ pub fn one_seat(alloc: Global) -> Result<(Shared, Seat), Fail>
     Ok((words, seat))
 }
 
-/// What the run of an accepted program comes to, on a table of its own.
+/// The outcome of a run of an accepted program, on a table of its own.
 fn ended_of(alloc: Global, accepted: &Accepted, input: &Input) -> Result<Run, Fail>
     requires { number_of (slice_range input.now.context 0 4) ≡ hook_number accepted.now.hook }
 {
@@ -189,7 +188,7 @@ fn ended_of(alloc: Global, accepted: &Accepted, input: &Input) -> Result<Run, Fa
     Ok(run(accepted, input, &words, &mut seat))
 }
 
-/// What the checked run of code comes to, within this limit and on a table of its own.
+/// The outcome of a checked run of code, within this limit and on a table of its own.
 fn checked_of(
     alloc: Global,
     code: &Code,
@@ -201,8 +200,8 @@ fn checked_of(
     Ok(run_checked(code, hook, limit, input, &words, &mut seat))
 }
 
-/// What the run and the checked run of an accepted program come to, each on a table of its own. The
-/// checked run is given its bound.
+/// The outcomes of the run and the checked run of an accepted program, each on a table of its own.
+/// The checked run has its bound as the limit.
 fn both_runs(
     alloc: Global,
     accepted: &Accepted,
@@ -216,14 +215,14 @@ fn both_runs(
     Ok((ended, checked))
 }
 
-/// Whether the accepted program gives by `run` what it gives by `run_checked`, within its bound, on
-/// a hundred inputs: a packet of up to 20 bytes, one row or none, and contexts that differ.
+/// Whether `run` and `run_checked` agree on the accepted program, within its bound, on a hundred
+/// inputs: a packet of up to 20 bytes, one row or none, and different contexts.
 pub fn runs_agree(alloc: Global, accepted: &Accepted, code: &Code) -> Result<bool, Fail> {
     let rows = rows(alloc)?;
     runs_agree_beside(alloc, accepted, code, &rows)
 }
 
-// The same with these rows, where there are some.
+// The same with these rows, or none.
 fn runs_agree_beside(
     alloc: Global,
     accepted: &Accepted,
@@ -245,14 +244,14 @@ fn runs_agree_beside(
     Ok(true)
 }
 
-/// A program with its code, and what the verifier says of it.
+/// A program's code, and the verifier's answer about it.
 #[derive(Drop)]
 pub struct Trial {
     pub code: Code,
     pub verdict: Result<Accepted, VerifyError>,
 }
 
-/// The program of a text, tried.
+/// The program of a text, verified.
 pub fn tried(alloc: Global, text: &str) -> Result<Trial, Fail> {
     let object = object_of(alloc, text)?;
     let code = code_of(alloc, &object)?;
@@ -260,7 +259,7 @@ pub fn tried(alloc: Global, text: &str) -> Result<Trial, Fail> {
     Ok(Trial { code, verdict })
 }
 
-/// The program is accepted with this bound.
+/// Asserts that the program is accepted with this bound.
 fn is_accepted(rt: &impl Abort, tried: &Trial, text: &str, bound: u64) {
     match &tried.verdict {
         Ok(accepted) => assert!(rt; accepted.bound() == bound, "{text}"),
@@ -268,7 +267,7 @@ fn is_accepted(rt: &impl Abort, tried: &Trial, text: &str, bound: u64) {
     }
 }
 
-// What its run and its checked run on the other input come to.
+// The outcomes of its run and its checked run on the rich context.
 fn rich_runs(alloc: Global, tried: &Trial) -> Result<Option<(Run, Result<Run, Trap>)>, Fail> {
     let Ok(accepted) = &tried.verdict else {
         return Ok(None);
@@ -295,8 +294,8 @@ fn ends_so(
     Ok(())
 }
 
-/// The program is accepted with this bound, and its run on the other input, by `run` and by
-/// `run_checked`, comes to this.
+/// Asserts that the program is accepted with this bound, and that its run on the rich context, by
+/// `run` and by `run_checked`, has this outcome.
 pub fn ends(
     rt: &impl Abort,
     alloc: Global,

@@ -1,5 +1,5 @@
-//! The worked programs of the documents: their bounds, their answers and how many instructions they
-//! take.
+//! The worked programs of the documents: their bounds, their answers and the number of instructions
+//! that they execute.
 ghost use Rattle.std.specs.Prelude.{◌≡◌, ◌≤◌};
 ghost use Rattle.std.specs.List.{slice_range};
 ghost use Rattle.isa.specs.Hooks.{hook_number};
@@ -15,7 +15,7 @@ use std::process::Abort;
 use std::test::Fail;
 use verifier::Accepted;
 
-/// A program, its bound, its answer and how many instructions its run takes.
+/// A program, its bound, its answer and the number of instructions that its run executes.
 const WORKED: &[(&str, u64, u64, u64)] = &[
     ("hook price; rank 0; r0 = 7; exit", 2, 7, 2),
     // the hook's number, by a pointer that was stored
@@ -25,7 +25,7 @@ const WORKED: &[(&str, u64, u64, u64)] = &[
         1,
         4,
     ),
-    // slots that no run comes to
+    // slots that no run reaches
     (
         "hook veto; rank 0; r0 = 0; if r0 == 0 goto +2; r5 = r6; exit; exit; \
         state 4 rank 0; with r0 any",
@@ -82,7 +82,8 @@ fn sum_from(alloc: Global, n: u64) -> Result<String, AllocError> {
     )
 }
 
-/// The sum of the numbers from n down to 1. An allocation may be refused once.
+/// The text of the sum of the numbers from n down to 1. Retries once: a test run may refuse one
+/// allocation.
 pub fn sum_down_from(alloc: Global, n: u64) -> Result<String, AllocError> {
     match sum_from(alloc, n) {
         Err(_) => sum_from(alloc, n),
@@ -90,7 +91,8 @@ pub fn sum_down_from(alloc: Global, n: u64) -> Result<String, AllocError> {
     }
 }
 
-/// The sum of the numbers from n down to 1, for each of these n, takes 3 * n + 3 instructions.
+/// Asserts that the sum of the numbers from n down to 1, for each of these n, takes 3 * n + 3
+/// instructions.
 fn sums(rt: &impl Abort, alloc: Global, least: u64, most: u64) -> Result<(), Fail>
     requires { most ≤ 1000 }
 {
@@ -125,11 +127,11 @@ fn sums_of_up_to_1000_numbers_end_within_their_bound(rt: HostRuntime) -> Result<
     sums(&rt, rt.alloc(), 751, 1_000)
 }
 
-/// It answers how often its seat ran it.
+/// Answers how often its seat has run it.
 const COUNTS: &str =
     "hook price; rank 0; r6 = map 1 8; r0 = *u64 r6 0; r0 += 1; *u64 r6 0 = r0; exit";
 
-// Three runs at the first seat, and one at the second.
+// Three runs with the first seat, and one with the second.
 fn four_runs(
     accepted: &Accepted,
     input: &Input,
@@ -149,7 +151,7 @@ fn four_runs(
     ]
 }
 
-// The same at the seats of a new table.
+// The same with the seats of a new table.
 fn runs_at_two_seats(alloc: Global, accepted: &Accepted) -> Result<[Run; 4], Fail> {
     let input = Input {
         context: rich_context(accepted.hook()),

@@ -1,4 +1,4 @@
-//! Code made instruction by instruction.
+//! Code built instruction by instruction.
 use super::*;
 
 fn wide() -> Instruction {
@@ -9,8 +9,7 @@ fn wide() -> Instruction {
     }
 }
 
-// What is refused an allocation is done once more, since one may be refused in a run of the tests
-// with a refusal.
+// What fails for a refused allocation is retried once: a test run may refuse one allocation.
 
 #[test]
 fn a_builder_has_the_slots_of_what_was_put_in(rt: HostRuntime) {
@@ -20,7 +19,7 @@ fn a_builder_has_the_slots_of_what_was_put_in(rt: HostRuntime) {
     assert!(rt; is_put && !builder.is_empty() && builder.len() == 2);
 }
 
-// Puts in a wide instruction, and exits up to 4,095 slots in all. Whether each was put in.
+// Appends a wide instruction, and exits up to 4,095 slots in all. Whether each was appended.
 fn fill(builder: &mut CodeBuilder) -> bool {
     let mut is_full = builder.push(wide()).is_ok() || builder.push(wide()).is_ok();
     for _slot in 2..4095u32 {
@@ -30,8 +29,8 @@ fn fill(builder: &mut CodeBuilder) -> bool {
     is_full
 }
 
-// The answers to a wide instruction, an exit and another exit, each with the slots afterwards: of
-// 4,095 slots it has room for one.
+// The answers to a wide instruction, an exit and another exit, each with the slots afterwards: at
+// 4,095 slots there is room for one more.
 const AT_THE_END: [(Result<(), BuildError>, usize); 3] = [
     (Err(BuildError::TooLong), 4095),
     (Ok(()), 4096),
@@ -64,7 +63,7 @@ fn is_full(code: &Code) -> bool {
         && code.at(4096) == None
 }
 
-// Whether the code is encoded to 32,768 bytes that are decoded to it.
+// Whether the code is encoded to 32,768 bytes that decode to it.
 fn spelt_and_read_once(alloc: Global, code: &Code) -> Option<bool> {
     let bytes = encode(alloc, code).ok()?;
     Some(bytes.len() == 32_768 && is_decoded(alloc, code, &bytes)?)

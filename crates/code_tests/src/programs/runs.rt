@@ -21,7 +21,7 @@ const COUNTING: &[u64] = &[
     EXIT,
 ];
 
-// The runs of two seats of a new table, and what these read: counter 5 and counter 4.
+// The runs of two seats of a new table, and what they read: counter 5 and counter 4.
 fn both_add(alloc: Global, code: &Code, input: &Input) -> Option<[(u64, u64); 3]> {
     let (words, mut first, mut second) = two_seats(alloc)?;
     let one = run_checked(code, Hook::Count, 1000, input, &words, &mut first);
@@ -75,10 +75,10 @@ const SUMMING: &[u64] = &[
     EXIT,
 ];
 
-// r0 = 7, and where this leads there is no instruction.
+// r0 = 7, with no instruction after it.
 const ENDLESS: &[u64] = &[0x0000_0007_0000_00b7];
 
-// A limit, a program, and what this comes to.
+// A limit, a program, and the outcome.
 const LIMITS: &[(u64, &[u64], (u64, u64))] = &[
     (33, SUMMING, (55, 33)),
     (u64::MAX, SUMMING, (55, 33)),

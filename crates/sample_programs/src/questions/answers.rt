@@ -1,4 +1,4 @@
-//! What questions are answered.
+//! The answers to questions.
 ghost use Rattle.maps.specs.Words.{IsOf};
 
 use crate::questions::samples::{SEVEN, accepted, external, moment, route};
@@ -20,7 +20,7 @@ const HELLO: &[u8] = &[
     0xff, 0, 0, 10, 2, 1, 0, 0, 0, 40, 0, 0, 0, 0, 0, 0, 0, 0,
 ];
 
-// What is done with a trial, and what it answers.
+// A step of a trial, and its expected answer.
 #[derive(Clone, Copy)]
 enum Step<'a> {
     Attach(&'a str),
@@ -32,13 +32,13 @@ enum Step<'a> {
     Tag(Option<(u64, u32)>),
     Price(Option<u64>),
     Veto(Option<u64>),
-    // The words of `tag` and `price` where no program stands at either.
+    // The words of `tag` and `price`, if neither hook has a program.
     Configured(Option<(u64, u64)>),
-    // How many of two routes are let in where no program stands at `veto`.
+    // How many of two routes are accepted, if `veto` has no program.
     LetIn(Option<usize>),
 }
 
-// Whether the step's answer comes.
+// Whether the step has its answer.
 fn takes<R: Wait + Drop>(
     trial: &mut Trial<R>,
     alloc: Global,
@@ -58,7 +58,7 @@ fn takes<R: Wait + Drop>(
     Ok(true)
 }
 
-// How many of the steps went as they say, up to the first that didn't.
+// The number of steps that had their answers, up to the first that didn't.
 fn take<R: Wait + Drop>(
     trial: &mut Trial<R>,
     alloc: Global,
@@ -72,7 +72,7 @@ fn take<R: Wait + Drop>(
     Ok(steps.len())
 }
 
-// Plays the steps from nothing on.
+// Plays the steps in a new trial.
 fn play<R: Wait + Drop + Copy>(alloc: Global, rt: R, steps: &[Step<'_>]) -> Result<usize, Fail> {
     let mut trial = Trial::new(alloc, rt)?;
     take(&mut trial, alloc, steps)
@@ -193,7 +193,7 @@ fn veto_holds<R: Wait + Drop>(trial: &mut Trial<R>, route: &Route) -> bool {
     }
 }
 
-// Whether the answers of `tag`, `price` and `veto` hold their questions.
+// Whether the answers of `tag`, `price` and `veto` contain their questions.
 fn hold<R: Wait + Drop>(trial: &mut Trial<R>) -> Result<[bool; 3], Fail> {
     let (external, route) = (external()?, route()?);
     Ok([
@@ -203,7 +203,7 @@ fn hold<R: Wait + Drop>(trial: &mut Trial<R>) -> Result<[bool; 3], Fail> {
     ])
 }
 
-// Of a new trial.
+// The same for a new trial.
 fn hold_from_nothing<R: Wait + Drop + Copy>(alloc: Global, rt: R) -> Result<[bool; 3], Fail> {
     let mut trial = Trial::new(alloc, rt)?;
     hold(&mut trial)
@@ -218,7 +218,7 @@ fn answers_hold_their_questions(rt: HostRuntime) -> Result<(), Fail> {
 const COUNTING: &str =
     "hook price\nrank 0\nr6 = map 1 8\nr0 = *u64 r6 0\nr0 += 1\n*u64 r6 0 = r0\nexit\n";
 
-// The word of `price` on a seat of the table.
+// The word of `price`, with a seat of the table.
 fn price_of(asker: &mut Asker, external: &External, shared: &Shared, seat: &mut Seat) -> Option<u64>
     requires { IsOf shared.now seat.old }
     ensures { IsOf shared.now seat.new }
@@ -227,7 +227,7 @@ fn price_of(asker: &mut Asker, external: &External, shared: &Shared, seat: &mut 
     Some(answer.word())
 }
 
-// The words of three questions at the first seat, and of one at the second.
+// The words of three questions with the first seat, and of one with the second.
 fn words_at(
     asker: &mut Asker,
     external: &External,
@@ -246,7 +246,7 @@ fn words_at(
     ]
 }
 
-// The same at the seats of a new table.
+// The same with the seats of a new table.
 fn words(alloc: Global, asker: &mut Asker) -> Result<[Option<u64>; 4], Fail> {
     let external = external()?;
     let (shared, mut seats) = table(alloc, 2)?;
@@ -255,7 +255,7 @@ fn words(alloc: Global, asker: &mut Asker) -> Result<[Option<u64>; 4], Fail> {
     Ok(words_at(asker, &external, &shared, &mut first, &mut second))
 }
 
-// Of these, once the program that counts is attached.
+// The same after the program that counts is attached.
 fn words_of_counting<R: Wait + Drop + Copy>(
     alloc: Global,
     rt: R,

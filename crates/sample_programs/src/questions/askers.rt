@@ -1,4 +1,4 @@
-//! Who asks, and what it knows.
+//! Askers, and what they know.
 use crate::questions::samples::{SEVEN, external, moment};
 use crate::questions::trial::{Trial, loader_and_askers};
 use hooks::{HookError, programs};
@@ -28,7 +28,7 @@ fn a_loader_has_1_to_64_askers(rt: HostRuntime) -> Result<(), Fail> {
     are_made(&rt, 64)
 }
 
-// Whether the asker gives no reading once its loader is gone.
+// Whether the asker gives no answer after its loader is dropped.
 fn is_without_reading<R: Wait + Drop>(trial: Trial<R>, external: &External) -> bool {
     let Trial {
         loader,
@@ -51,8 +51,8 @@ fn there_is_no_reading_without_a_loader(rt: HostRuntime) -> Result<(), Fail> {
     Ok(())
 }
 
-// The words of `price` before a program is attached, then, after the earlier notice, and after the
-// later one and one more.
+// The words of `price`: before a program is attached; afterwards; after the earlier notice; and
+// after the later one, learned twice.
 fn words<R: Wait + Drop>(alloc: Global, trial: &mut Trial<R>) -> Result<[Option<u64>; 4], Fail> {
     let early = trial.loader.notice();
     let before = trial.price_word()?;
@@ -66,7 +66,7 @@ fn words<R: Wait + Drop>(alloc: Global, trial: &mut Trial<R>) -> Result<[Option<
     Ok([before, after, after_early, trial.price_word()?])
 }
 
-// Of a new trial.
+// The same for a new trial.
 fn words_from_nothing<R: Wait + Drop + Copy>(
     alloc: Global,
     rt: R,
@@ -75,7 +75,7 @@ fn words_from_nothing<R: Wait + Drop + Copy>(
     words(alloc, &mut trial)
 }
 
-// A notice that is older than what was seen takes nothing back, and one that is learnt twice adds
+// A notice that is older than what was seen takes nothing back, and one that is learned twice adds
 // nothing.
 #[test]
 fn notices_are_learnt_late_and_twice(rt: HostRuntime) -> Result<(), Fail> {

@@ -4,7 +4,7 @@ use std::process::Abort;
 use std::test::Fail;
 use words::{Address, External, ExternalType, Hops, Prefix, Route, RouteKind, Second};
 
-/// The context begins with these bytes, and has zeros behind them.
+/// Asserts that the context begins with these bytes and has zeros after them.
 fn begins(rt: &impl Abort, context: &Context, bytes: &[u8]) {
     for (place, byte) in context.iter().enumerate() {
         let wanted = match bytes.get(place) {
@@ -31,7 +31,7 @@ fn count_tells_of_the_packet(rt: HostRuntime) {
     begins(&rt, &context, &bytes);
 }
 
-// How many bytes the packet has, and what the context tells of them behind the moment.
+// The size of a packet in bytes, and what the context says of it after the moment.
 const SHORT: &[(usize, [u8; 12])] = &[
     (0, [0, 0, 0, 0, 0, 0, 0, 0, 0, 0, 0, 0]),
     (1, [1, 0, 0, 0, 0, 0, 0, 0, 0, 0, 0, 0]),
@@ -103,7 +103,7 @@ fn route(kind: RouteKind, hops: Hops) -> Result<Route, Fail> {
     })
 }
 
-// A kind, its number, and the distance that is told: only a type 2 route has one.
+// A kind, its number, and its distance in the context: only a type 2 route has one.
 const KINDS: &[(RouteKind, u8, u8)] = &[
     (RouteKind::Intra, 1, 0),
     (RouteKind::Inter, 2, 0),
@@ -129,7 +129,7 @@ fn veto_tells_of_the_route(rt: HostRuntime) -> Result<(), Fail> {
     Ok(())
 }
 
-// The context tells how many next hops there are, and the first of them.
+// Asserts that the context has the number of next hops, and the first of them.
 fn is_told_of(rt: &impl Abort, hops: Hops, number: u8, first: u8) -> Result<(), Fail> {
     let context = veto_context(route(RouteKind::Intra, hops)?, Second::new(5));
     assert!(rt; (context[36], context[40]) == (number, first));

@@ -1,4 +1,4 @@
-//! Where memory is refused: once in a run of the tests, at any allocation.
+//! Refused allocations: one in a test run, at any point.
 use crate::questions::samples::{SEVEN, accepted};
 use crate::questions::trial::loader_and_askers;
 use hooks::Loader;
@@ -13,7 +13,7 @@ fn attach_and_detach<R: Wait + Drop>(loader: &mut Loader<R>, program: Accepted) 
     loader.attach(program).is_ok() && loader.detach(Hook::Price).is_ok()
 }
 
-// Whether it is by a new loader of three askers.
+// The same for a new loader with three askers.
 fn is_attached_and_detached<R: Wait + Drop + Copy>(
     alloc: Global,
     rt: R,
@@ -24,7 +24,7 @@ fn is_attached_and_detached<R: Wait + Drop + Copy>(
     Ok(done && askers.len() == 3)
 }
 
-// The call that was refused memory answers in full the next time.
+// A call after a refused allocation answers in full.
 #[test]
 fn programs_are_made_after_a_refusal(rt: HostRuntime) -> Result<(), Fail> {
     let program = accepted(rt.alloc(), SEVEN).ok_or("refused")?;
@@ -56,7 +56,7 @@ fn are_attached_and_detached<R: Wait + Drop + Copy>(
     Ok(attach_both_and_detach(&mut loader, first, second))
 }
 
-// All memory that attaching and detaching ever need is taken at the start.
+// All memory that attaching and detaching will ever need is allocated at the start.
 #[test]
 fn attaching_and_detaching_take_no_memory(rt: HostRuntime) -> Result<(), Fail> {
     let first = accepted(rt.alloc(), SEVEN).ok_or("refused")?;

@@ -1,4 +1,4 @@
-//! What the tests ask with.
+//! What the tests ask questions with.
 use asm::assemble;
 use object_verdicts::verify_object;
 use std::alloc::Global;
@@ -6,7 +6,7 @@ use std::test::Fail;
 use verifier::Accepted;
 use words::{Address, External, ExternalType, Hops, Prefix, Route, RouteKind, Second, TableRow};
 
-/// When every question is asked.
+/// The moment of every question.
 pub fn moment() -> Second {
     Second::new(5)
 }
@@ -20,8 +20,7 @@ fn verified(alloc: Global, text: &str) -> Option<Accepted> {
     verify_object(alloc, &bytes).ok()
 }
 
-/// The program of the text. One allocation may be refused, as a run of the tests with a refusal
-/// makes it.
+/// The program of the text. Retries once: a test run may refuse one allocation.
 pub fn accepted(alloc: Global, text: &str) -> Option<Accepted> {
     match verified(alloc, text) {
         None => verified(alloc, text),
@@ -40,7 +39,7 @@ pub fn external() -> Result<External, Fail> {
     })
 }
 
-/// 192.0.2.0/24 within the area, of cost 20 by the interface 1.
+/// 192.0.2.0/24 within the area, with cost 20 by interface 1.
 pub fn route() -> Result<Route, Fail> {
     let prefix = Prefix::new(Address::new(0xc000_0200), 24).ok_or("prefix")?;
     Ok(Route {
@@ -53,7 +52,7 @@ pub fn route() -> Result<Route, Fail> {
     })
 }
 
-/// The row 192.0.2.0/24 of cost 20.
+/// The row for 192.0.2.0/24 with cost 20.
 pub fn row() -> Result<TableRow, Fail> {
     let prefix = Prefix::new(Address::new(0xc000_0200), 24).ok_or("prefix")?;
     Ok(TableRow { prefix, cost: 20 })

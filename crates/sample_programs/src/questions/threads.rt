@@ -1,4 +1,4 @@
-//! An asker beside a loader on another thread.
+//! An asker, with its loader on another thread.
 ghost use Rattle.std.specs.Prelude.{◌≡◌};
 ghost use Rattle.maps.specs.Words.{IsOf};
 ghost use Rattle.hooks.specs.Known.{asks_of, history_of};
@@ -33,7 +33,7 @@ impl Worker {
         Some(answer.word())
     }
 
-    // Asks until the program answers, but not forever.
+    // Asks until the program answers, up to a limit.
     fn ask_until_seven(&mut self, external: &External, shared: &Shared)
         requires { IsOf shared.now self.old.seat }
         ensures history { asks_of self.new.asker ≡ asks_of self.old.asker }
@@ -63,7 +63,7 @@ impl Worker {
     }
 }
 
-// Attaches and detaches so often, and detaches at last. Whether each was done.
+// Attaches and detaches many times, and detaches at the end. Whether each succeeded.
 fn load<R: Wait + Drop>(alloc: Global, loader: Loader<R>) -> (Loader<R>, bool)
     ensures { history_of result.0 ≡ history_of loader }
 {
@@ -80,8 +80,8 @@ fn load<R: Wait + Drop>(alloc: Global, loader: Loader<R>) -> (Loader<R>, bool)
     (loader, done)
 }
 
-// Asks while the loader attaches and detaches. Whether all was done, how many words were others
-// than 7 and 20, and the word after learning of the last detach.
+// Asks while the loader attaches and detaches. Whether all of that succeeded, how many words were
+// other than 7 and 20, and the word after learning of the last detach.
 fn race<R: Threads + Wait + Sync>(
     rt: &R,
     alloc: Global,

@@ -13,7 +13,7 @@ use std::sync::Wait;
 use std::test::Fail;
 use words::{External, Route};
 
-/// The asker is the loader's, and the seat the table's.
+/// The asker belongs to the loader, and the seat to the table.
 #[derive(Drop)]
 pub struct Trial<R: Wait + Drop> {
     pub loader: Loader<R>,
@@ -24,7 +24,7 @@ pub struct Trial<R: Wait + Drop> {
     ghost table: { IsOf shared seat },
 }
 
-/// A loader with so many askers. One allocation may be refused.
+/// A loader with `askers` askers. Retries once: a test run may refuse one allocation.
 pub fn loader_and_askers<R: Wait + Drop + Copy>(
     alloc: Global,
     rt: R,
@@ -53,7 +53,7 @@ pub fn loader_and_asker<R: Wait + Drop + Copy>(
 }
 
 impl<R: Wait + Drop + Copy> Trial<R> {
-    /// Nothing is attached.
+    /// A trial with no program attached.
     pub fn new(alloc: Global, rt: R) -> Result<Trial<R>, Fail> {
         let (loader, asker) = loader_and_asker(alloc, rt)?;
         let (shared, seat) = one_seat(alloc)?;
@@ -110,7 +110,7 @@ impl<R: Wait + Drop> Trial<R> {
             .veto(route, moment(), &[], &self.shared, &mut self.seat)
     }
 
-    /// The word of `tag` on a table of one row, and the tag of it.
+    /// The word of `tag` with a table of one row, and the tag in it.
     pub fn tag_words(&mut self) -> Result<Option<(u64, u32)>, Fail> {
         let (external, row) = (external()?, row()?);
         let found = self.tag(&external, &[row]);
@@ -131,14 +131,14 @@ impl<R: Wait + Drop> Trial<R> {
         Ok(self.veto(&route).map(|answer| answer.word()))
     }
 
-    /// The words of `tag` and `price` where no program stands at either.
+    /// The words of `tag` and `price`, if neither hook has a program.
     pub fn configured_words(&mut self) -> Result<Option<(u64, u64)>, Fail> {
         let external = external()?;
         let found = self.asker.configured(&external, moment());
         Ok(found.map(|(tag, price)| (tag.word(), price.word())))
     }
 
-    /// How many of two routes are let in where no program stands at `veto`.
+    /// How many of two routes are accepted, if `veto` has no program.
     pub fn let_in(&mut self, alloc: Global) -> Result<Option<usize>, Fail> {
         let routes = two_routes(alloc)?;
         let found = self.asker.all_let_in(alloc, &routes, moment())?;

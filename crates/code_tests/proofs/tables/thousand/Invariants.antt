@@ -1,6 +1,6 @@
 use Rattle.std.proofs.Common.{◌≡◌}
 use Rattle.code_tests.proofs.tables.thousand.Given as goal
 
--- the seat stays one of its table
+-- the seat remains one of its table
 abbrev pub invariant-loop-turn : goal.invariant-loop-turn
 invariant-loop-turn l = l.seat.table ≡ l.fn.seat.table

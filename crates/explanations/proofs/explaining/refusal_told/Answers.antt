@@ -4,7 +4,7 @@ use Rattle.explanations.specs.Told.{refused_words}
 use Rattle.explanations.proofs.Refusals.{refused_text}
 use Rattle.explanations.proofs.explaining.refusal_told.Goals as goal
 
--- src/explaining.rt: the parts of the text, one behind the other
+-- src/explaining.rt: the parts of the text, one after the other
 pub returns : goal.returns
 returns c =
     let more = c.args.more.now in
