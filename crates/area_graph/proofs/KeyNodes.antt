@@ -1,4 +1,4 @@
--- What the LSAs of a database say gives its nodes, in order.
+-- What the LSAs of a database say determines its nodes, in order.
 use Rattle.std.proofs.Common.{◌≡◌, ℕ, zero, suc, ◌+◌, ◌<◌, ◌≤◌, ◌++◌, get_or, slice_get, Bool, true, false, ◌&&◌, ◌==◌, cond, List, [], ◌∷◌, length, take, Option, None, Some, inl, inr, refl, sym, ◌∙◌, ap, subst, arith, eqb-true, eq-eqb, Ordering}
 use Rattle.std.proofs.lemmas.Bool.{cases_lt, false≢true}
 use Rattle.std.proofs.lemmas.List.{take_all, take_more}
@@ -96,7 +96,7 @@ is_node said one node says e =
           ] refl p
     ] refl e
 
--- what the node's LSA says, of which it is made
+-- what the node's LSA says, which makes it a node
 record IsSaidOf (said : Said) (node : Node) : Type 0 where
   says : Body
   its : said (key_of node) ≡ Some says
@@ -138,7 +138,7 @@ lt_true Greater e = absurd (false≢true e)
 pub lt_false : (r : Ordering) → is_lt r ≡ false → r ≡ Less → ⊥
 lt_false r e is = false≢true (sym e ∙ ap is_lt is)
 
--- ---- the search for a place
+-- ---- the search for an index
 
 pub in_places : (nodes : List Node) (ascend : Ascend nodes) (i j : ℕ) (a b : Node) → slice_get nodes i ≡ Some a → slice_get nodes j ≡ Some b → i < j → node_cmp a b ≡ Less
 in_places nodes ascend i j a b here there lt =

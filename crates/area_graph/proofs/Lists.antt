@@ -1,4 +1,4 @@
--- Lists that keep what passes, and lists in a strict order.
+-- Lists of what passes a test, and strictly sorted lists.
 use Rattle.std.proofs.Common.{◌≡◌, ℕ, zero, suc, ◌+◌, ◌<◌, ◌≤◌, ◌⊎◌, ◌↔◌, inl, inr, List, [], ◌∷◌, ◌++◌, length, take, get_or, Option, None, Some, refl, sym, ◌∙◌, ap, subst, arith}
 use Rattle.std.proofs.lemmas.List.Elements.{All-contains, Contains-append_left, Contains-get_or, Contains-push, Contains-push_cases}
 use Rattle.std.proofs.lemmas.List.{take_all, take_more}
@@ -59,13 +59,13 @@ module _ {X : Type 0} (R : X → X → Type 0) where
       first (get_or xs j d) (Contains-get_or xs j d (omega (arith, within)))
   more_pairs x xs first rest (suc i) (suc j) d before within = rest i j d (omega (arith, before)) (omega (arith, within))
 
--- ---- elements are added
+-- ---- elements that are added
 
 module _ {X : Type 0} where
   pub adds_none : (P : X → Type 0) (xs : List X) → ((x : X) → P x → ⊥) → Adds P xs xs
   adds_none P xs never x = ((λ p. inl p), (λ s. elim s [ inl p ↦ p | inr q ↦ absurd (never x q) ]))
 
-  -- two additions, and what they are together
+  -- two additions, and both together
   pub adds_both : (P Q R : X → Type 0) (xs ys zs : List X) → Adds P xs ys → Adds Q ys zs → ((x : X) → R x → P x ⊎ Q x) → ((x : X) → P x → R x) → ((x : X) → Q x → R x) → Adds R xs zs
   adds_both P Q R xs ys zs left right split p q x = (
     (λ among. elim ((right x).0 among) [
@@ -78,7 +78,7 @@ module _ {X : Type 0} where
     ]),
   )
 
-  -- the list afterwards in another order
+  -- the new list in another order
   pub adds_reordered : (P : X → Type 0) (xs ys zs : List X) → ((x : X) → Contains zs x ↔ Contains ys x) → Adds P xs ys → Adds P xs zs
   adds_reordered P xs ys zs same a x = ((λ among. (a x).0 ((same x).0 among)), (λ s. (same x).1 ((a x).1 s)))
 
@@ -97,14 +97,14 @@ module _ {X : Type 0} where
     (λ s. elim s [ inl old ↦ (a x).1 (inl old) | inr new ↦ (a x).1 (inr (q x new)) ]),
   )
 
-  -- they were added to an empty list first, and then from that one
+  -- elements that were added to an empty list first, and then from that one
   pub adds_moved : (P : X → Type 0) (own xs ys : List X) → Adds P [] own → Adds (λ x. Contains own x) xs ys → Adds P xs ys
   adds_moved P own xs ys first a =
       adds_same (λ x. Contains own x) P xs ys
       (λ x among. elim ((first x).0 among) [ inl none ↦ absurd (of_empty x none) | inr p ↦ p ])
       (λ x p. (first x).1 (inr p)) a
 
-  -- what holds of all old ones and of the added ones holds of all
+  -- what holds of all old elements and of the added ones holds of all
   pub adds_all : (P Q : X → Type 0) (xs ys : List X) → Adds P xs ys → ((x : X) → P x → Q x) → All Q xs → All Q ys
   adds_all P Q xs ys a more all k d lt =
       elim ((a (get_or ys k d)).0 (Contains-get_or ys k d lt)) [ inl old ↦ All-contains Q xs (get_or ys k d) all old | inr new ↦ more (get_or ys k d) new ]
@@ -126,7 +126,7 @@ module _ {X : Type 0} where
       let Q : X → Type 0 = λ z. Contains (take i xs ++ z ∷ []) x in
       subst P (sym (take_more xs i x lt)) (subst Q is (Contains-push (take i xs) x))
 
-  -- one element more, of which the addition consists
+  -- one more element, and with it the whole addition
   pub adds_more : (P R : X → Type 0) (xs ys : List X) (y : X) → Adds P xs ys → R y → ((x : X) → R x → P x ⊎ (x ≡ y)) → ((x : X) → P x → R x) → Adds R xs (ys ++ y ∷ [])
   adds_more P R xs ys y a is split p =
       let Q : X → Type 0 = λ x. x ≡ y in

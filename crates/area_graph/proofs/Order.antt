@@ -1,4 +1,4 @@
--- The order of entries is a total one, and entries of one router, kind and ID stand together.
+-- The order of entries is total, and entries with one router, kind and ID are contiguous.
 use Rattle.std.proofs.Common.{◌≡◌, ℕ, zero, suc, ◌+◌, ◌<◌, ◌≤◌, ◌⊎◌, inl, inr, true, false, List, length, get_or, None, Some, slice_get, Ordering, refl, sym, ◌∙◌, ap, subst, arith}
 use Rattle.std.proofs.lemmas.Bool.{cases_lt, false≢true}
 use Rattle.std.proofs.lemmas.Cmp.{on_total, ranked, then_total}
@@ -33,7 +33,7 @@ in_order entries sorted i j a b here there le less =
     let Q : Entry → Type 0 = λ x. is_lt (entry_cmp b x) ≡ false in
     lt_false (entry_cmp b a) (subst Q (get_or_from_slice_get entries i a a here) (subst P (get_or_from_slice_get entries j b a there) far)) less
 
--- ---- a search by halving
+-- ---- binary search
 
 low_index : (r s : Ordering) → ordering_index r ≤ ordering_index s → is_lt s ≡ true → is_lt r ≡ true
 low_index Less s le t = refl
@@ -61,7 +61,7 @@ beyond entries entry at point k other here high =
     let P : Entry → Type 0 = λ y. is_lt (entry_cmp y entry) ≡ false in
     lt_false (entry_cmp other entry) (subst P (get_or_from_slice_get entries k other other here) (point.1 k other high (slice_get_within entries k other here)))
 
--- ---- a place that is looked at first
+-- ---- an index that is tried first
 
 before_at : (entries : List Entry) (entry : Entry) → IsSorted entry_cmp entries → (i j : ℕ) (a b : Entry) → slice_get entries i ≡ Some a → slice_get entries j ≡ Some b → i ≤ j → entry_cmp b entry ≡ Less → entry_cmp a entry ≡ Less
 before_at entries entry sorted i j a b here there le less =
@@ -69,17 +69,17 @@ before_at entries entry sorted i j a b here there le less =
     let later = subst P (sym (get_or_from_slice_get entries j b a there)) (ap is_lt less) in
     lt_true (entry_cmp a entry) (subst P (get_or_from_slice_get entries i a a here) (parted entries entry sorted i j a le (slice_get_within entries j b there) later))
 
--- all below a place are before the entry if the last of them is
+-- all below an index are before the entry if the last of them is
 pub lower_ones : (entries : List Entry) (entry : Entry) → IsSorted entry_cmp entries → (at : ℕ) (last : Entry) → slice_get entries at ≡ Some last → entry_cmp last entry ≡ Less
     → (k : ℕ) (other : Entry) → slice_get entries k ≡ Some other → k < at + 1 → entry_cmp other entry ≡ Less
 lower_ones entries entry sorted at last there less k other here low = before_at entries entry sorted k at other last here there (omega (arith, low)) less
 
--- none from a place on is before the entry if the first of them isn't
+-- none from an index on is before the entry if the first of them isn't
 pub higher_ones : (entries : List Entry) (entry : Entry) → IsSorted entry_cmp entries → (at : ℕ) (first : Entry) → slice_get entries at ≡ Some first → (entry_cmp first entry ≡ Less → ⊥)
     → (k : ℕ) (other : Entry) → slice_get entries k ≡ Some other → at ≤ k → entry_cmp other entry ≡ Less → ⊥
 higher_ones entries entry sorted at first here never k other there le less = never (before_at entries entry sorted at k first other here there le less)
 
--- an entry at some place is one of its router, kind and ID
+-- the entry at some index has the router, kind and ID
 pub has_found : (entries : List Entry) (at : ℕ) (found : Entry) (router : ℕ) (kind : EntryKind) (id : ℕ) → slice_get entries at ≡ Some found → found.router ≡ router → found.kind ≡ kind → found.id ≡ id → HasEntry entries router kind id
 has_found entries at found router kind id here same_router same_kind same_id =
     let P : Entry → Type 0 = λ e. Contains entries e in
@@ -87,7 +87,7 @@ has_found entries at found router kind id here same_router same_kind same_id =
     λ i. record { router = same_router i; kind = same_kind i; id = same_id i; metric = found.metric; place = found.place } in
     (found.metric, (found.place, subst P same (contained entries at found here)))
 
--- ---- what is between entries of one router, kind and ID
+-- ---- what is between entries with one router, kind and ID
 
 not_less : (a b : ℕ) (r : Ordering) → (ordering_then (nat_cmp a b) r ≡ Less → ⊥) → (b < a) ⊎ ((a ≡ b) × (r ≡ Less → ⊥))
 not_less a b r never =
@@ -174,7 +174,7 @@ tied a b r le less =
 no_less : (a b : ℕ) → b ≤ a → nat_cmp a b ≡ Less → ⊥
 no_less a b le less = omega (arith, ranked a b Less (sym less), le)
 
--- nothing of its router and kind with no lower ID and metric is before an entry of place 0
+-- no entry with its router and kind and no lower ID and metric is before an entry with place 0
 pub not_before : (low x : Entry) → x.router ≡ low.router → x.kind ≡ low.kind → low.id ≤ x.id → low.metric ≤ x.metric → low.place ≤ x.place → entry_cmp x low ≡ Less → ⊥
 not_before low x router kind id metric place less =
     let first : by_kind x low ≡ Less = tied x.router low.router (by_kind x low) (omega (arith, router)) less in

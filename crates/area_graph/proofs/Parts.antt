@@ -30,7 +30,7 @@ no_dearer : (link : Link) → IsNoDearer link link
 no_dearer link = record { same_end = refl; same_exit = refl; costs = omega arith }
 
 module _ (said : Said) (root : Root) (nodes : List Node) where
-  -- a node without an LSA has none
+  -- a node without an LSA has no links
   pub no_links : (from : Node) → (HasLsa said from → ⊥) → (links : List Link) → links ≡ [] → AreLinksFrom said root nodes from links
   no_links from never links none =
       let P : List Link → Type 0 = λ ls. AreLinksFrom said root nodes from ls in

@@ -30,7 +30,7 @@ on_ok (Err e) P Q f p = p
 pub pushed_fits : (xs : List Link) (link : Link) → link.cost < 65536 → All CostFits xs → All CostFits (xs ++ link ∷ [])
 pushed_fits xs link fits = adds_all (λ (x : Link). x ≡ link) CostFits xs (xs ++ link ∷ []) (adds_one (λ (x : Link). x ≡ link) xs link refl (λ x e. e)) (λ x e. omega (arith, ap (λ (y : Link). y.cost) e, fits))
 
--- ---- a link by each own interface of the address
+-- ---- a link by each own interface with the address
 
 module _ (root : Root) (to cost address : ℕ) where
   abbrev pub OwnBelow : ℕ → Link → Type 0
@@ -71,7 +71,7 @@ module _ (root : Root) (to cost address : ℕ) where
   pub own_fits : cost < 65536 → (xs ys : List Link) → Adds (IsOwnTo root to cost address) xs ys → All CostFits xs → All CostFits ys
   own_fits fits xs ys a = adds_all (IsOwnTo root to cost address) CostFits xs ys a (λ x o. omega (arith, o.1, fits))
 
-  -- ---- of the root, or of another router
+  -- ---- of the root, or of any other router
 
   module _ (router : ℕ) where
     pub exits_at_root : (xs ys : List Link) → router ≡ root.router → Adds (IsOwnTo root to cost address) xs ys → Adds (IsExitTo root router to cost address) xs ys
@@ -107,7 +107,7 @@ module _ (root : Root) (nodes : List Node) (entries : List Entry) (router : ℕ)
   pub no_neighbor : (xs : List Link) → IsNeighborAt nodes entries told.link_id PointToPoint router None → Adds (IsToRouter root nodes entries router told) xs xs
   no_neighbor xs none = adds_none (IsToRouter root nodes entries router told) xs (λ x t. none t.back)
 
-  -- there is one place of it
+  -- it has one index
   pub to_neighbor : (to : ℕ) (xs ys : List Link) → Ascend nodes → told.kind ≡ kinds.PointToPoint → 0 < told.metric → IsNeighborAt nodes entries told.link_id PointToPoint router (Some to)
       → Adds (IsExitTo root router to told.metric told.link_data) xs ys → Adds (IsToRouter root nodes entries router told) xs ys
   to_neighbor to xs ys ascend kind counts at a =

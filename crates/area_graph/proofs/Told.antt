@@ -1,4 +1,4 @@
--- The entries of all nodes are just what their LSAs tell.
+-- The entries of all nodes are exactly what their LSAs advertise.
 use Rattle.std.proofs.Common.{◌≡◌, ℕ, ◌+◌, ◌<◌, ◌≤◌, inl, inr, List, [], length, ◌↔◌, Some, slice_get, refl, sym, ◌∙◌, ap, subst, arith}
 use Rattle.std.proofs.lemmas.Bool.{cases_lt}
 use Rattle.std.proofs.lemmas.Option.{none-some, same_Some, slice_get_within}
@@ -24,7 +24,7 @@ use Rattle.area_graph.proofs.KeyNodes.{network_said, router_said}
 use Rattle.area_graph.proofs.Lists.{adds_both, adds_none, adds_same}
 use Rattle.area_graph.proofs.Whole.{placed}
 
--- ---- what one LSA tells
+-- ---- what one LSA advertises
 
 module _ (said : Said) (place : ℕ) where
   pub router_tells : (router : ℕ) (lsa : RouterLsa) (xs ys : List Entry) → router_lsa said router ≡ Some lsa → Adds (OfEach (λ (link : Link) (entry : Entry). entry_of router link ≡ Some entry) lsa.links) xs ys
@@ -51,7 +51,7 @@ module _ (said : Said) (place : ℕ) where
       let same : t.0.lsa ≡ lsa = same_Some t.0.lsa lsa (sym (ap network_in t.0.its) ∙ is) in
       (x.router, subst L same t.0.among, t.1)) a
 
--- ---- what the LSAs of the first nodes tell
+-- ---- what the LSAs of the first nodes advertise
 
 module _ (said : Said) (nodes : List Node) where
   abbrev pub FromBelow : ℕ → Entry → Type 0
@@ -76,7 +76,7 @@ module _ (said : Said) (nodes : List Node) where
       (λ x o. (o.0, o.1, o.2, omega (arith, o.3), o.4))
       (λ x t. (i, node, here, omega arith, t))
 
-  -- ---- and what entries say by themselves
+  -- ---- and what entries say on their own
 
   told_link : (router : ℕ) (link : Link) → HasLink said router link → (kind : LinkKind) → link.kind ≡ kind → (entry : Entry) → link_entry kind router link ≡ Some entry → IsToldAs said nodes entry.kind entry
   told_link router link has kinds.PointToPoint is entry e =
@@ -137,7 +137,7 @@ module _ (said : Said) (nodes : List Node) where
       sorted = sorted;
     }
 
--- ---- what entries tell of links back
+-- ---- what entries say of links back
 
 module _ (said : Said) (nodes : List Node) (entries : List Entry) (told : AreEntries said nodes entries) where
   pub transit_of : (router id metric : ℕ) → HasMetric entries router Transit id metric → HasLinkOf said router kinds.Transit id metric

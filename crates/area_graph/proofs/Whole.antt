@@ -1,4 +1,5 @@
--- Vertices that stand for all nodes are a graph of the database's links, and one as the search for least walks asks.
+-- The vertices of all nodes are a graph of the database's links, and meet the requirements of the
+-- search.
 use Rattle.std.proofs.Common.{◌≡◌, ℕ, zero, suc, ◌+◌, ◌<◌, ◌≤◌, ◌⊎◌, inl, inr, List, [], ◌∷◌, ◌++◌, length, get_or, Some, slice_get, refl, sym, ◌∙◌, ap, subst, arith}
 use Rattle.std.proofs.lemmas.Bool.{cases_eq, cases_lt}
 use Rattle.std.proofs.lemmas.List.Elements.{All-contains}
@@ -60,7 +61,7 @@ one_place nodes ascend node i j p q =
           ]
     ]
 
--- the first place of a node that is no less than one of the list is the place of that one
+-- the index of the first node that is no less than one of the list is the index of that one
 pub at_its_place : (nodes : List Node) → Ascend nodes → (node : Node) (at : ℕ) → Contains nodes node → ((k : ℕ) (other : Node) → slice_get nodes k ≡ Some other → k < at → node_cmp other node ≡ Less)
     → ((k : ℕ) (other : Node) → slice_get nodes k ≡ Some other → at ≤ k → node_cmp other node ≡ Less → ⊥) → StandsAt nodes node at
 at_its_place nodes ascend node at among before beyond =
@@ -77,7 +78,7 @@ at_its_place nodes ascend node at among before beyond =
           ]
     ]
 
--- ---- vertices that stand for the nodes
+-- ---- the vertices of the nodes
 
 pub pushed : {X : Type 0} (xs : List X) (y : X) (k : ℕ) (z : X) → slice_get (xs ++ y ∷ []) k ≡ Some z → (slice_get xs k ≡ Some z) ⊎ ((k ≡ length xs) × (y ≡ z))
 pushed [] y zero z e = inr (refl, same_Some y z e)
@@ -100,7 +101,7 @@ one_more said root nodes g i node vertex count here each is at other its stands 
           subst N (same_Some node other (sym here ∙ subst P e stands)) (subst V new.1 is)
     ]
 
--- by whatever interface the root sends, it is one of its own
+-- whatever interface the root sends by, it is one of its own
 counted_exit : (root : Root) (router address exit : ℕ) → length root.addresses ≤ 63 → (router ≡ root.router → (n : ℕ) × (exit ≡ n + 1) × (slice_get root.addresses n ≡ Some address)) → (¬ (router ≡ root.router) → exit ≡ 0) → exit < 64
 counted_exit root router address exit few own elsewhere =
     elim (cases_eq router root.router) [
@@ -135,7 +136,7 @@ module _ (said : Said) (root : Root) (nodes : List Node) (g : Graph) (are : AreN
     one_place = λ v i j p q. one_place nodes are.ascend v i j p q;
   }
 
-  -- ---- as the search asks
+  -- ---- the requirements of the search
 
   below_64 : (v target : Node) (price exit : ℕ) → length root.addresses ≤ 63 → LeadsTo said root v target price exit → exit < 64
   below_64 (ARouter r) (ARouter b) price exit few l = counted_exit root r l.0.link.link_data exit few l.0.by_interface l.0.elsewhere

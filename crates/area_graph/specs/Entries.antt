@@ -1,4 +1,4 @@
--- What LSAs tell of each router, as a list in an order in which it can be looked up.
+-- What LSAs advertise about each router, as a sorted list that can be searched.
 use Rattle.std.specs.Prelude.{◌≡◌, ℕ, ◌<◌, ◌≤◌, ◌↔◌, List, Option, None, Some}
 use Rattle.std.specs.List.{Contains}
 use Rattle.std.specs.List.Sorted.{IsSorted}
@@ -36,7 +36,7 @@ entry_cmp a b =
     (ordering_then (nat_cmp a.id b.id)
     (ordering_then (nat_cmp a.metric b.metric) (nat_cmp a.place b.place))))
 
--- ---- what an entry tells
+-- ---- what an entry says
 
 abbrev pub with_kind : (router : ℕ) → EntryKind → Link → Entry
 with_kind router kind link =
@@ -58,12 +58,12 @@ link_entry kinds.Virtual router link = None
 abbrev pub entry_of : (router : ℕ) → Link → Option Entry
 entry_of router link = link_entry link.kind router link
 
--- the entry of a router that the network at the place lists
+-- the entry of a router that the network at this index lists
 abbrev pub attached_entry : (id place router : ℕ) → Entry
 attached_entry id place router =
     record { router = router; kind = Attached; id = id; metric = 0; place = place }
 
--- the LSA of the node at the place tells of the entry's router
+-- the entry is from the LSA of the node at this index
 abbrev pub TellsOf : Said → Node → (place : ℕ) → Entry → Type 0
 TellsOf said (ARouter router) place entry =
     (link : Link) × HasLink said router link × (entry_of router link ≡ Some entry)
@@ -76,7 +76,7 @@ HasLinkOf said router kind id metric =
     (link : Link) × HasLink said router link × (link.kind ≡ kind) × (link.link_id ≡ id)
     × (link.metric ≡ metric)
 
--- the network of this Link State ID that stands at the place lists the router
+-- the network with this Link State ID, at this index, lists the router
 abbrev pub IsListedAt : Said → List Node → (router id place : ℕ) → Type 0
 IsListedAt said nodes router id place =
     (by : ℕ) × StandsAt nodes (ANetwork id by) place × ListsRouter said id by router
@@ -89,19 +89,19 @@ IsToldAs said nodes Transit entry =
 IsToldAs said nodes Attached entry =
     IsListedAt said nodes entry.router entry.id entry.place × (entry.metric ≡ 0)
 
--- just what LSAs tell, in order
+-- exactly what LSAs advertise, sorted
 pub record AreEntries (said : Said) (nodes : List Node) (entries : List Entry) : Type 0 where
   pub each : (entry : Entry) → Contains entries entry ↔ IsToldAs said nodes entry.kind entry
   pub sorted : IsSorted entry_cmp entries
 
--- what is known of an area: the bodies that its LSAs have, its nodes, and what LSAs tell of them
+-- what is known of an area: the bodies of its LSAs, its nodes, and what LSAs advertise about them
 pub record IsArea (said : Said) (bodies : List (Key × Body)) (nodes : List Node)
     (entries : List Entry) : Type 0 where
   pub are_bodies : AreBodies (Some 2) said bodies
   pub are_nodes : AreNodes said nodes
   pub are_entries : AreEntries said nodes entries
 
--- nodes and entries are in order, and each router that has an entry for a link is a node
+-- nodes and entries are sorted, and each router that has an entry for a link is a node
 pub record AreOrdered (nodes : List Node) (entries : List Entry) : Type 0 where
   pub ascend : Ascend nodes
   pub sorted : IsSorted entry_cmp entries
@@ -110,7 +110,7 @@ pub record AreOrdered (nodes : List Node) (entries : List Entry) : Type 0 where
 
 -- ---- looking up
 
--- both tell of one router, and by the same kind of link or list with the same ID
+-- both are about one router, from the same kind of link or list with the same ID
 pub record IsBeside (entry other : Entry) : Type 0 where
   pub router : entry.router ≡ other.router
   pub kind : entry.kind ≡ other.kind
@@ -126,7 +126,7 @@ HasMetric entries router kind id metric =
 abbrev pub HasEntry : List Entry → (router : ℕ) → EntryKind → (id : ℕ) → Type 0
 HasEntry entries router kind id = (metric : ℕ) × HasMetric entries router kind id metric
 
--- the least metric, not below the given one, of the entries of the router, kind and ID
+-- the least metric, at least `from`, of the entries with this router, kind and ID
 abbrev pub IsLeastMetric : List Entry → (router : ℕ) → EntryKind → (id : ℕ) → (from : ℕ)
     → Option ℕ → Type 0
 IsLeastMetric entries router kind id from None =

@@ -1,4 +1,4 @@
--- The vertices that stand for the nodes of a database, at the places of the nodes.
+-- The vertices of the nodes of a database, at the indices of the nodes.
 use Rattle.std.specs.Prelude.{◌≡◌, ℕ, ◌<◌, ◌≤◌, ◌^◌, List, Some, length, slice_get, ◌↔◌, ◌⊎◌}
 use Rattle.std.specs.List.{All, Contains}
 use Rattle.routes.specs.Graphs.{Graph}
@@ -16,7 +16,7 @@ abbrev pub kind_of : Node → Kind
 kind_of (ARouter router) = Router
 kind_of (ANetwork id by) = Network
 
--- a node stands at its place in the list
+-- the node is at its index in the list
 abbrev pub StandsAt : List Node → Node → ℕ → Type 0
 StandsAt nodes node at = slice_get nodes at ≡ Some node
 
@@ -27,24 +27,24 @@ pub record IsLinkFrom (said : Said) (root : Root) (nodes : List Node) (from : No
   pub stands : StandsAt nodes target link.to
   pub leads : LeadsTo said root from target link.cost link.interface
 
--- the other link leads to the same place, by the same exit, and costs no more
+-- the other link leads to the same node, by the same interface, and costs no more
 pub record IsNoDearer (link other : Link) : Type 0 where
   pub same_end : other.to ≡ link.to
   pub same_exit : other.interface ≡ link.interface
   pub costs : other.cost ≤ link.cost
 
--- each stands for a link that counts, and for each such link there is one that is no dearer
+-- each stands for a link that counts, and for each such link there is one that costs no more
 pub record AreLinksFrom (said : Said) (root : Root) (nodes : List Node) (from : Node)
     (links : List Link) : Type 0 where
   pub only : (link : Link) → Contains links link → IsLinkFrom said root nodes from link
   pub each : (link : Link) → IsLinkFrom said root nodes from link
       → (other : Link) × Contains links other × IsNoDearer link other
 
--- the list after elements were added: just those
+-- the list after exactly these elements were added
 abbrev pub Adds : {X : Type 0} → (X → Type 0) → (old : List X) → (new : List X) → Type 0
 Adds {X} P old new = (x : X) → Contains new x ↔ (Contains old x ⊎ P x)
 
--- some element of the list is what it is made from
+-- the element comes from some element of the list
 abbrev pub OfEach : {X Y : Type 0} → (Y → X → Type 0) → List Y → X → Type 0
 OfEach {X} {Y} P ys x = (y : Y) × Contains ys y × P y x
 
@@ -58,7 +58,7 @@ pub record IsVertexOf (said : Said) (root : Root) (nodes : List Node) (node : No
   pub links : AreLinksFrom said root nodes node vertex.links.items
   pub fits : All CostFits vertex.links.items
 
--- at the place of each node its vertex
+-- at the index of each node, its vertex
 pub record AreVertices (said : Said) (root : Root) (nodes : List Node)
     (graph : Graph) : Type 0 where
   pub count : length graph ≡ length nodes

@@ -1,4 +1,4 @@
--- The links of the graph as they are added, each from what one link or one list tells.
+-- The links of the graph as they are added, each from one link or one list of an LSA.
 use Rattle.std.specs.Prelude.{◌≡◌, ℕ, ◌+◌, ◌<◌, List, Option, None, Some, slice_get}
 use Rattle.std.specs.List.{Contains}
 use Rattle.lsa.specs.declared.body.Link.{Link as Told}
@@ -13,29 +13,29 @@ use Rattle.area_graph.specs.declared.entry.Entry.{Entry}
 use Rattle.area_graph.specs.declared.entry.EntryKind.{EntryKind}
 use Rattle.area_graph.specs.declared.entry.EntryKind.TheVariants.{Attached, PointToPoint, Transit}
 
--- the place of a router that has an entry of this kind and ID, if it has one
+-- the index of a router with an entry of this kind and ID, if it has one
 abbrev pub IsNeighborAt : List Node → List Entry → (router : ℕ) → EntryKind → (id : ℕ)
     → Option ℕ → Type 0
 IsNeighborAt nodes entries router kind id None = HasEntry entries router kind id → ⊥
 IsNeighborAt nodes entries router kind id (Some at) =
     StandsAt nodes (ARouter router) at × HasEntry entries router kind id
 
--- by an own interface of this address
+-- by an own interface with this address
 abbrev pub IsOwnExit : Root → (address exit : ℕ) → Type 0
 IsOwnExit root address exit =
     (n : ℕ) × (exit ≡ n + 1) × (slice_get root.addresses n ≡ Some address)
 
--- the root sends by an own interface whose address the link has as its data; elsewhere it is 0
+-- the root sends by an own interface whose address is the link's data; for other routers it is 0
 pub record IsExit (root : Root) (router : ℕ) (address exit : ℕ) : Type 0 where
   pub by_interface : router ≡ root.router → IsOwnExit root address exit
   pub elsewhere : ¬ (router ≡ root.router) → exit ≡ 0
 
--- the root's links to the place by an own interface of this address
+-- the root's links to the node by an own interface with this address
 abbrev pub IsOwnTo : Root → (to cost address : ℕ) → Link → Type 0
 IsOwnTo root to cost address link =
     (link.to ≡ to) × (link.cost ≡ cost) × IsOwnExit root address link.interface
 
--- the router's links to the place by an interface of this address
+-- the router's links to the node by an interface with this address
 abbrev pub IsExitTo : Root → (router : ℕ) → (to cost address : ℕ) → Link → Type 0
 IsExitTo root router to cost address link =
     (link.to ≡ to) × (link.cost ≡ cost) × IsExit root router address link.interface
@@ -49,22 +49,22 @@ pub record IsToRouter (root : Root) (nodes : List Node) (entries : List Entry) (
   pub back : HasEntry entries told.link_id PointToPoint router
   pub leads : IsExitTo root router link.to told.metric told.link_data link
 
--- the root's to a network of this Link State ID at the place, for a transit link of its LSA
+-- the root's link to a network with this Link State ID, for a transit link of its LSA
 pub record IsOwnTransit (root : Root) (id to : ℕ) (told : Told) (link : Link) : Type 0 where
   pub is_kind : told.kind ≡ kinds.Transit
   pub is_id : told.link_id ≡ id
   pub counts : 0 < told.metric
   pub leads : IsOwnTo root to told.metric told.link_data link
 
--- another router's to the network whose list the entry tells of, by the cheapest of its transit
--- links to that Link State ID whose metric isn't 0
+-- another router's link to the network of the entry, by the cheapest of its transit links to that
+-- Link State ID whose metric isn't 0
 pub record IsCheapest (entries : List Entry) (router : ℕ) (entry : Entry)
     (link : Link) : Type 0 where
   pub same_end : link.to ≡ entry.place
   pub least : IsLeastMetric entries router Transit entry.id 1 (Some link.cost)
   pub exit : link.interface ≡ 0
 
--- to the network whose list the entry tells of
+-- to the network of the entry
 pub record IsToNetwork (root : Root) (entries : List Entry) (router : ℕ) (told_links : List Told)
     (entry : Entry) (link : Link) : Type 0 where
   pub own : router ≡ root.router → OfEach (IsOwnTransit root entry.id entry.place) told_links link
@@ -79,7 +79,7 @@ pub record IsToSomeNetwork (root : Root) (entries : List Entry) (router : ℕ)
   pub is_kind : entry.kind ≡ Attached
   pub leads : IsToNetwork root entries router told_links entry link
 
--- from a network of this Link State ID to a router that it lists and that has a link back, at
+-- from a network with this Link State ID to a router that it lists and that has a link back, at
 -- cost 0
 pub record IsToListed (nodes : List Node) (entries : List Entry) (id router : ℕ)
     (link : Link) : Type 0 where

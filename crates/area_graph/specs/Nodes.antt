@@ -1,4 +1,4 @@
--- The nodes of an area's graph: the routers and transit networks whose LSAs stand in the database
+-- The nodes of an area's graph: the routers and transit networks whose LSAs are in the database
 -- (RFC 2328, section 16.1).
 use Rattle.std.specs.Prelude.{◌≡◌, ◌==◌, ◌&&◌, ℕ, ◌↔◌, List, Option, None, Some, if◌then◌else◌}
 use Rattle.std.specs.List.{AllPairs, Contains}
@@ -15,7 +15,7 @@ use Rattle.routes.specs.Said.{Said}
 use Rattle.routes.specs.declared.node.Node.{Node}
 use Rattle.routes.specs.declared.node.Node.TheVariants.{ANetwork, ARouter}
 
--- the node's LSA says something: it is there, and not at MaxAge
+-- the node's LSA says something: it is in the database, and not at MaxAge
 abbrev pub HasLsa : Said → Node → Type 0
 HasLsa said (ARouter router) = (lsa : RouterLsa) × IsRouterLsa said router lsa
 HasLsa said (ANetwork id by) = (lsa : NetworkLsa) × IsNetworkLsa said id by lsa
@@ -31,12 +31,12 @@ node_cmp (ANetwork id by) (ANetwork other its) = ordering_then (nat_cmp id other
 abbrev pub Ascend : List Node → Type 0
 Ascend nodes = AllPairs (λ (a : Node) (b : Node). node_cmp a b ≡ Less) nodes
 
--- just the nodes with an LSA, each once, in their order
+-- exactly the nodes with an LSA, each once, sorted
 pub record AreNodes (said : Said) (nodes : List Node) : Type 0 where
   pub each : (node : Node) → Contains nodes node ↔ HasLsa said node
   pub ascend : Ascend nodes
 
--- ---- what is read of a database
+-- ---- what is read from a database
 
 abbrev pub router_in : Option Body → Option RouterLsa
 router_in None = None
@@ -68,7 +68,7 @@ abbrev pub if_network : ℕ → ℕ → Option NetworkLsa → Option Node
 if_network id by None = None
 if_network id by (Some lsa) = Some (ANetwork id by)
 
--- the node whose LSA has this key and says this, if there is one
+-- the node of the LSA with this key and body, if there is one
 abbrev pub node_of : Key × Body → Option Node
 node_of one =
     if (one.0.ls_type == 1) && (one.0.link_state_id == one.0.advertising_router)

@@ -9,12 +9,13 @@ use lsa::{Body, NetworkLsa, RouterLsa};
 use lsdb::{KeyedBody, Lsdb};
 use words::{Key, LinkStateId, RouterId, Second};
 
-/// The type of network-LSAs: router-LSAs and these make nodes (RFC 2328, section A.4.1).
+/// The greatest LS type that makes nodes: router-LSAs and network-LSAs do (RFC 2328, section
+/// A.4.1).
 pub const NETWORK_LSA: u32 = 2;
 
 /// A database at a moment, with what its router-LSAs and network-LSAs say then, in the order of
-/// their keys: that of the nodes, so that each is found at the place of its node, or a little
-/// beyond it.
+/// their keys. That is the order of the nodes too, so that each LSA is found at the index of its
+/// node, or shortly after.
 #[derive(Drop)]
 pub struct Advertised<'a> {
     pub db: &'a Lsdb,
@@ -22,7 +23,7 @@ pub struct Advertised<'a> {
     pub bodies: &'a [KeyedBody<'a>],
 }
 
-// What the LSA of this key says, unless it is at MaxAge. It is looked for at the place first.
+// What the LSA with this key says, unless it is at MaxAge. The search begins at index `place`.
 fn body_near<'a>(told: &Advertised<'a>, place: usize, key: &Key) -> Option<&'a Body>
     requires { AreBodies (Some 2) (said_at told.now.moment told.now.db.now.present)
         told.now.bodies.now }
@@ -45,7 +46,7 @@ fn is_same_key(a: &Key, b: &Key) -> bool
     *a == *b
 }
 
-/// The router-LSA of a router, whose node is expected at the place.
+/// The router-LSA of a router, whose node is expected at index `place`.
 pub fn router_lsa<'a>(
     told: &Advertised<'a>,
     place: usize,
@@ -67,8 +68,8 @@ pub fn router_lsa<'a>(
     }
 }
 
-/// The network-LSA of this Link State ID and Advertising Router, whose node is expected at the
-/// place.
+/// The network-LSA with this Link State ID and Advertising Router, whose node is expected at index
+/// `place`.
 pub fn network_lsa<'a>(
     told: &Advertised<'a>,
     place: usize,

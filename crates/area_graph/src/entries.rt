@@ -1,5 +1,5 @@
-//! All that LSAs tell of routers, in order. It is made once for a graph, so that no link or list is
-//! looked through for each link or network.
+//! All that LSAs advertise about routers, sorted. It is built once for a graph, so that no list of
+//! links or routers is scanned for each link or network.
 ghost use Rattle.std.specs.Prelude.{◌≡◌, ◌↔◌, ℕ, IfOk, OnOk, Some};
 ghost use Rattle.std.specs.List.{Contains};
 ghost use Rattle.std.specs.List.Sorted.{IsSorted};
@@ -19,11 +19,11 @@ use routes::Node;
 use std::alloc::{AllocError, Global};
 use words::{LinkStateId, RouterId};
 
-/// What the LSAs of the nodes tell of each router, in order: an entry for each point-to-point and
-/// transit link of a router-LSA, and for each router that a network-LSA lists.
+/// What the LSAs of the nodes advertise about each router, sorted: an entry for each point-to-point
+/// and transit link of a router-LSA, and for each router that a network-LSA lists.
 ///
 /// # Errors
-/// Where memory for them is refused.
+/// `AllocError` if an allocation is refused.
 pub fn entries_of(
     alloc: Global,
     told: &Advertised<'_>,
@@ -44,8 +44,8 @@ pub fn entries_of(
     Ok(entries)
 }
 
-// Adds what the LSA of the node at the place tells, in order, so that the whole is in order but for
-// the lists of networks. What was in the list beside the entries goes.
+// Appends the sorted entries of the LSA of the node at this index, so that the whole is sorted
+// except for the lists of networks. `own` is scratch space.
 fn add_in_order(
     told: &Advertised<'_>,
     node: &Node,
@@ -65,7 +65,7 @@ fn add_in_order(
     Ok(())
 }
 
-// Adds what the LSA of the node at the place tells.
+// Adds the entries of the LSA of the node at this index.
 fn add_node(
     told: &Advertised<'_>,
     node: &Node,
@@ -135,7 +135,7 @@ fn sort_own(own: &mut Vec<Entry>)
     own.sort_unstable_by(|a, b| compare(a, b));
 }
 
-// Merges the runs that are in order.
+// Merges the runs that are sorted.
 fn sort(entries: &mut Vec<Entry>) -> Result<(), AllocError>
     ensures sorted { OnOk result (IsSorted entry_cmp entries.new.items) }
     ensures same { OnOk result ((entry : EntryValue) → Contains entries.new.items entry

@@ -1,4 +1,5 @@
-//! What one link or one list tells of a router, and the order in which such entries are looked up.
+//! What one link or one list advertises about a router, and the order in which such entries are
+//! searched.
 ghost use Rattle.std.specs.Prelude.{◌≡◌, ◌↔◌, IsTrue, Some};
 ghost use Rattle.std.specs.Ordering.{is_lt};
 ghost use Rattle.area_graph.specs.Entries.{IsBeside, attached_entry, entry_cmp, entry_of, rank};
@@ -8,7 +9,7 @@ use lsa::{Link, LinkKind};
 use std::cmp::Ordering;
 use words::{LinkStateId, RouterId};
 
-/// Which LSA tells of the router.
+/// The kind of advertisement that the entry comes from.
 #[derive(Clone, Copy, Debug, PartialEq, Eq)]
 pub enum EntryKind {
     /// Its router-LSA has a link to another router.
@@ -19,16 +20,16 @@ pub enum EntryKind {
     Attached,
 }
 
-/// What one link of its router-LSA, or the list of a network-LSA, tells of a router.
+/// What one link of its router-LSA, or the list of a network-LSA, advertises about a router.
 #[derive(Clone, Copy, Debug)]
 pub struct Entry {
     pub router: RouterId,
     pub kind: EntryKind,
     /// The Link ID, or the Link State ID of the network-LSA.
     pub id: u32,
-    /// That of the link; 0 for `Attached`.
+    /// The metric of the link; 0 for `Attached`.
     pub metric: u16,
-    /// That of the network among the nodes; 0 for links.
+    /// The index of the network among the nodes; 0 for links.
     pub place: usize,
 }
 
@@ -55,14 +56,14 @@ pub fn compare(a: &Entry, b: &Entry) -> Ordering
         .then(a.place.cmp(&b.place))
 }
 
-/// Tells whether the first comes before the other in that order.
+/// Whether the first comes before the second in that order.
 pub fn is_before(a: &Entry, b: &Entry) -> bool
     ensures { result ≡ is_lt (entry_cmp a.now b.now) }
 {
     compare(a, b) == Ordering::Less
 }
 
-/// Tells whether both are of one router, kind and ID.
+/// Whether both have the same router, kind and ID.
 pub fn is_beside(entry: &Entry, other: &Entry) -> bool
     ensures { IsTrue result ↔ IsBeside entry.now other.now }
 {
@@ -71,7 +72,7 @@ pub fn is_beside(entry: &Entry, other: &Entry) -> bool
         && entry.id == other.id
 }
 
-/// Tells whether the entry is of this router, kind and ID.
+/// Whether the entry has this router, kind and ID.
 pub fn is_of(entry: &Entry, router: RouterId, kind: EntryKind, id: u32) -> bool
     ensures { IsTrue result ↔ ((entry.now.id ≡ id) × (entry.now.router ≡ router)
         × (entry.now.kind ≡ kind)) }
@@ -103,8 +104,8 @@ fn with_kind(router: RouterId, kind: EntryKind, link: &Link) -> Entry
     }
 }
 
-/// The entry of a router that the network-LSA of this Link State ID lists, whose node stands at the
-/// place.
+/// The entry of a router that the network-LSA with this Link State ID lists. The network's node is
+/// at index `place`.
 pub fn of_list(id: LinkStateId, place: usize, router: RouterId) -> Entry
     ensures { result ≡ attached_entry id place router }
 {

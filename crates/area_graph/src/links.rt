@@ -1,4 +1,4 @@
-//! The links of the graph that lead from a node.
+//! The links of the graph from a node.
 ghost use Rattle.std.specs.Prelude.{◌≡◌, ◌<◌, ◌≤◌, ◌↔◌, length, IfOk, IsTrue, OnOk};
 ghost use Rattle.std.specs.List.{All};
 ghost use Rattle.std.specs.List.Sorted.{IsSorted};
@@ -18,8 +18,8 @@ use routes::{Link, Node, Root};
 use std::alloc::{AllocError, Global};
 use words::{LinkStateId, RouterId};
 
-/// The nodes of an area, with their slots, what LSAs tell of its routers, and where that begins for
-/// each of these.
+/// The nodes of an area with their slots, what LSAs advertise about its routers, and where that
+/// begins for each of these.
 #[derive(Drop)]
 pub struct Area<'a> {
     pub nodes: &'a [Node],
@@ -28,8 +28,8 @@ pub struct Area<'a> {
     pub starts: &'a [Start],
 }
 
-/// The links of the graph from a node, to the places of the nodes in their list. Of a router's
-/// links to one network only a cheapest is among them, but of the root's one for each interface.
+/// The links of the graph from a node, to the indices of their nodes. Of a router's links to one
+/// network only a cheapest one is included, but of the root's one for each interface.
 pub fn links_from(
     alloc: Global,
     told: &Advertised<'_>,
@@ -95,7 +95,7 @@ fn add_routers(
     Ok(())
 }
 
-// Tells whether it is a point-to-point link that may count.
+// Whether it is a point-to-point link that may count.
 fn is_to_router(told: &ToldLink) -> bool
     ensures { IsTrue result ↔ ((told.now.kind ≡ LinkKind.PointToPoint) × (0 < told.now.metric)) }
 {
@@ -126,7 +126,7 @@ fn add_router(
     }
 }
 
-// The place of a router, if its LSA has a link of this kind to this ID.
+// The index of a router, if its LSA has a link of this kind to this ID.
 fn neighbor_at(area: &Area<'_>, router: RouterId, kind: EntryKind, id: u32) -> Option<usize>
     requires ordered { AreOrdered area.now.nodes.now area.now.entries.now }
     requires of_link { rank kind < 2 }
@@ -141,10 +141,11 @@ fn neighbor_at(area: &Area<'_>, router: RouterId, kind: EntryKind, id: u32) -> O
     }
 }
 
-/// Adds the links of a router to one place: at the root one for each own interface of this address.
+/// Adds the links of a router to one node: for the root one for each own interface with this
+/// address.
 ///
 /// # Errors
-/// Where memory for them is refused.
+/// `AllocError` if an allocation is refused.
 pub fn add_exits(
     root: &Root,
     router: RouterId,
@@ -175,7 +176,7 @@ fn is_root(root: &Root, router: RouterId) -> bool
     router.number() == root.router.number()
 }
 
-// Adds a link for each own interface of this address.
+// Adds a link for each own interface with this address.
 fn add_own(
     root: &Root,
     address: u32,
@@ -204,7 +205,7 @@ fn add_own(
 // ---- to networks
 
 // Adds the links to the networks that list the router. The entries of their lists are expected at
-// the place.
+// index `start`.
 fn add_networks(
     root: &Root,
     entries: &[Entry],
@@ -238,7 +239,7 @@ fn is_listed(entry: &Entry, router: RouterId) -> bool
     entry.router.number() == router.number() && entry.kind == EntryKind::Attached
 }
 
-// Adds the links to the network whose list the entry tells of.
+// Adds the links to the network whose list the entry is from.
 fn add_network(
     root: &Root,
     entries: &[Entry],
@@ -259,8 +260,8 @@ fn add_network(
     add_cheapest(entries, router, entry, links)
 }
 
-// Adds the root's links to one network: for each of its transit links one for each own interface of
-// that link.
+// Adds the root's links to one network: for each of its transit links, one for each own interface
+// of that link.
 fn add_own_transits(
     root: &Root,
     lsa: &RouterLsa,
@@ -281,7 +282,7 @@ fn add_own_transits(
     Ok(())
 }
 
-// Tells whether it is a transit link to this ID that may count.
+// Whether it is a transit link to this ID that may count.
 fn is_transit_to(told: &ToldLink, id: u32) -> bool
     ensures { IsTrue result ↔ ((told.now.kind ≡ LinkKind.Transit) × (told.now.link_id ≡ id)
         × (0 < told.now.metric)) }
@@ -290,7 +291,7 @@ fn is_transit_to(told: &ToldLink, id: u32) -> bool
 }
 
 // Adds one link to a network: of several transit links to its Link State ID only the cheapest can
-// be on a least walk.
+// be on a least-cost walk.
 fn add_cheapest(
     entries: &[Entry],
     router: RouterId,
@@ -314,7 +315,7 @@ fn add_cheapest(
 
 // ---- from networks
 
-// Adds the links of the network of this Link State ID to the routers that its LSA lists and that
+// Adds the links of the network with this Link State ID to the routers that its LSA lists and that
 // have a link back.
 fn add_listed(
     area: &Area<'_>,

@@ -1,4 +1,4 @@
-//! Looking up what LSAs tell of a router, by halving.
+//! Binary searches in what LSAs advertise about a router.
 ghost use Rattle.std.specs.Prelude.{◌≡◌, ◌<◌, ◌≤◌, ◌↔◌, ℕ, IsTrue, Some, length, slice_get};
 ghost use Rattle.std.specs.List.Sorted.{IsSorted};
 ghost use Rattle.std.specs.declared.cmp.Ordering.TheVariants.{Less};
@@ -8,10 +8,10 @@ ghost use Rattle.area_graph.specs.declared.entry.Entry.{Entry as EntryValue};
 use crate::entry::{Entry, EntryKind, compare, is_before, is_beside, is_of};
 use words::RouterId;
 
-// At so many places something is looked for before it is looked up.
+// The number of indices that are tried before a binary search.
 const FEW: usize = 8;
 
-/// Where the few places from this one on end, in a list of this length.
+/// The end of the few indices from this one on, in a list of this length.
 pub fn few_from(place: usize, length: usize) -> usize
     ensures { result ≤ length }
 {
@@ -22,7 +22,7 @@ pub fn few_from(place: usize, length: usize) -> usize
     length
 }
 
-/// The first place of an entry that isn't before this one, or their count where all are.
+/// The index of the first entry that isn't before this one; their number if all are.
 pub fn first_at(entries: &[Entry], entry: &Entry) -> usize
     requires { IsSorted entry_cmp entries.now }
     ensures within { result ≤ length entries.now }
@@ -34,7 +34,7 @@ pub fn first_at(entries: &[Entry], entry: &Entry) -> usize
     entries.partition_point(|other| compare(other, entry).is_lt())
 }
 
-/// The same, where it is mostly this place.
+/// The same, tried at this index first, which is usually right.
 pub fn first_at_near(entries: &[Entry], place: usize, entry: &Entry) -> usize
     requires { IsSorted entry_cmp entries.now }
     ensures within { result ≤ length entries.now }
@@ -49,7 +49,7 @@ pub fn first_at_near(entries: &[Entry], place: usize, entry: &Entry) -> usize
     first_at(entries, entry)
 }
 
-// Tells that the entries below the place are before this one, and no others are.
+// Whether exactly the entries below this index are before this one.
 fn is_first(entries: &[Entry], place: usize, entry: &Entry) -> bool
     requires sorted { IsSorted entry_cmp entries.now }
     requires within { place ≤ length entries.now }
@@ -65,7 +65,7 @@ fn is_first(entries: &[Entry], place: usize, entry: &Entry) -> bool
     false
 }
 
-// Tells that the entries below the place are before this one.
+// Whether the entries below this index are before this one.
 fn are_before(entries: &[Entry], place: usize, entry: &Entry) -> bool
     requires sorted { IsSorted entry_cmp entries.now }
     requires within { place ≤ length entries.now }
@@ -79,7 +79,7 @@ fn are_before(entries: &[Entry], place: usize, entry: &Entry) -> bool
     true
 }
 
-// Tells that none from the place on is before this one.
+// Whether no entry from this index on is before this one.
 fn are_not_before(entries: &[Entry], place: usize, entry: &Entry) -> bool
     requires sorted { IsSorted entry_cmp entries.now }
     requires within { place ≤ length entries.now }
@@ -96,7 +96,7 @@ fn are_not_before(entries: &[Entry], place: usize, entry: &Entry) -> bool
     true
 }
 
-/// The least metric, not below `from`, of the entries of a router with this kind and ID.
+/// The least metric, at least `from`, of the entries with this router, kind and ID.
 pub fn least_metric(
     entries: &[Entry],
     router: RouterId,
@@ -126,8 +126,8 @@ pub fn least_metric(
     }
 }
 
-/// Tells whether a router has an entry of this kind and ID. It is looked for first at the place
-/// where its entries begin, if this is that place, and a little beyond it.
+/// Whether a router has an entry of this kind and ID. The search begins at `place`, the index at
+/// which the router's entries are expected to begin.
 pub fn has_entry_near(
     entries: &[Entry],
     place: usize,
@@ -147,7 +147,7 @@ pub fn has_entry_near(
     has_entry(entries, router, kind, id)
 }
 
-// Tells whether a router has an entry of this kind and ID.
+// Whether a router has an entry of this kind and ID.
 fn has_entry(entries: &[Entry], router: RouterId, kind: EntryKind, id: u32) -> bool
     requires { IsSorted entry_cmp entries.now }
     ensures { IsTrue result ↔ HasEntry entries.now router kind id }

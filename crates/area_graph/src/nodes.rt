@@ -1,4 +1,4 @@
-//! The nodes of the graph, each at its place.
+//! The nodes of the graph, each at its index.
 ghost use Rattle.std.specs.Prelude.{◌≡◌, ◌<◌, ◌≤◌, ◌↔◌, ℕ, length, IfOk, IsTrue, Some, slice_get};
 ghost use Rattle.std.specs.FinMap as finite;
 ghost use Rattle.std.specs.Ordering.{is_lt};
@@ -15,11 +15,11 @@ use std::alloc::{AllocError, Global};
 use std::cmp::Ordering;
 use words::{Key, Second};
 
-/// The routers and transit networks whose LSAs stand in the database and aren't at MaxAge, routers
-/// first, by their numbers: the order of the keys (RFC 2328, section 16.1).
+/// The routers and transit networks whose LSAs are in the database and not at MaxAge, routers
+/// first, in the order of their keys (RFC 2328, section 16.1).
 ///
 /// # Errors
-/// Where memory for them or for what LSAs say is refused.
+/// `AllocError` if an allocation is refused.
 pub fn nodes_of(alloc: Global, db: &Lsdb, moment: Second) -> Result<Vec<Node>, AllocError>
     ensures nodes { IfOk result (λ nodes. AreNodes (said_at moment db.now.present) nodes.items) }
     ensures few { IfOk result (λ nodes. length nodes.items ≤ finite.len db.now.present) }
@@ -34,7 +34,7 @@ pub fn nodes_of(alloc: Global, db: &Lsdb, moment: Second) -> Result<Vec<Node>, A
     Ok(nodes)
 }
 
-// The node whose LSA has this key and says this, if there is one.
+// The node of the LSA with this key and body; `None` if it has none.
 fn node_of(key: &Key, body: &Body) -> Option<Node>
     ensures { result ≡ node_of (key.now, body.now) }
 {
@@ -54,7 +54,7 @@ fn node_of(key: &Key, body: &Body) -> Option<Node>
     None
 }
 
-/// The first place of a node that isn't before this one, or their count where all are.
+/// The index of the first node that isn't before this one; their number if all are.
 pub fn place_of(nodes: &[Node], node: &Node) -> usize
     requires { Ascend nodes.now }
     ensures within { result ≤ length nodes.now }
@@ -76,7 +76,7 @@ pub fn place_of(nodes: &[Node], node: &Node) -> usize
     low
 }
 
-/// The same, where it is mostly this place.
+/// The same, tried at this index first, which is usually right.
 pub fn place_near(nodes: &[Node], place: usize, node: &Node) -> usize
     requires { Ascend nodes.now }
     ensures within { result ≤ length nodes.now }
@@ -115,7 +115,7 @@ fn compare(a: &Node, b: &Node) -> Ordering
     }
 }
 
-/// Tells whether the first comes before the other: routers by Router ID, then networks by Link
+/// Whether the first node comes before the second: routers by Router ID, then networks by Link
 /// State ID and Advertising Router.
 pub fn is_before(a: &Node, b: &Node) -> bool
     ensures { result ≡ is_lt (node_cmp a.now b.now) }

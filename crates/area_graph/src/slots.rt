@@ -1,4 +1,4 @@
-//! Where the routers among the nodes are expected.
+//! The expected indices of the routers among the nodes.
 ghost use Rattle.std.specs.Prelude.{◌≡◌, ◌<◌, ◌≤◌, ℕ, Some, length, slice_get};
 ghost use Rattle.std.specs.declared.cmp.Ordering.TheVariants.{Less};
 ghost use Rattle.area_graph.specs.Nodes.{Ascend, node_cmp};
@@ -9,41 +9,41 @@ use routes::Node;
 use std::alloc::{AllocError, Global};
 use words::RouterId;
 
-/// Where the routers among some nodes are, each in a slot that its Router ID gives. Of two routers
-/// in one slot the later one is expected. Only the time that a look-up takes rests on the slots:
-/// those of other nodes serve as well, but seldom tell the place.
+/// The indices of the routers among some nodes, each in a slot that its Router ID gives. If two
+/// routers share a slot, it has the later one. Only the time of a lookup depends on the slots:
+/// those of other nodes give the same results, but seldom the right index.
 #[derive(Debug, Drop)]
 pub struct Slots {
     places: Vec<u16>,
 }
 
 impl Slots {
-    /// Those of these nodes.
+    /// The slots of these nodes.
     ///
     /// # Errors
-    /// Where memory for them is refused.
+    /// `AllocError` if an allocation is refused.
     pub fn of_nodes(alloc: Global, nodes: &[Node]) -> Result<Self, AllocError> {
         let places = places_of(alloc, nodes)?;
         Ok(Slots { places })
     }
 
-    /// None, where each node is expected at the first place. They want no memory.
+    /// No slots, so that each node is expected at index 0. Allocates nothing.
     pub fn none(alloc: Global) -> Self {
         let places = Vec::new(alloc);
         Slots { places }
     }
 
-    /// The same slots once more.
+    /// A copy of the slots.
     ///
     /// # Errors
-    /// Where memory for them is refused.
+    /// `AllocError` if an allocation is refused.
     pub fn copy(&self, alloc: Global) -> Result<Self, AllocError> {
         let places = Vec::from_slice(alloc, &self.places)?;
         Ok(Slots { places })
     }
 
-    /// The first place of a node that isn't before this one, or their count where all are. It is
-    /// looked for where the node is expected, and then by halving.
+    /// The index of the first node that isn't before this one; their number if all are. It is
+    /// searched for at its expected index, and then by binary search.
     pub fn place_of(&self, nodes: &[Node], node: &Node) -> usize
         requires { Ascend nodes.now }
         ensures within { result ≤ length nodes.now }
@@ -66,17 +66,17 @@ fn expected_at(places: &[u16], node: &Node) -> usize {
     }
 }
 
-// 2^32 divided by the golden ratio: the products of numbers that follow one another with it lie far
-// apart, so that few routers share a slot.
+// 2^32 divided by the golden ratio: its products with consecutive numbers lie far apart, so that
+// few routers share a slot.
 const SPREAD: u32 = 2_654_435_769;
 
-// The slot of a router among so many.
+// The slot of a router among `slots` slots.
 fn slot_of(router: RouterId, slots: usize) -> usize {
     let mixed = router.number().wrapping_mul(SPREAD) as usize;
     mixed.wrapping_mul(slots) / 4_294_967_296
 }
 
-// The places of the routers, in four slots for each node.
+// The indices of the routers, with four slots for each node.
 fn places_of(alloc: Global, nodes: &[Node]) -> Result<Vec<u16>, AllocError> {
     let mut places = Vec::new(alloc);
     places.resize(nodes.len().saturating_mul(4), 0)?;

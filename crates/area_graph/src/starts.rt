@@ -1,5 +1,5 @@
-//! Where the entries of each router begin: places at which to look first. Only the time that a
-//! look-up takes rests on them.
+//! Where the entries of each router begin, as hints for searches. Only the time of a search depends
+//! on them.
 
 use crate::entry::{Entry, EntryKind, compare, of_list};
 use routes::Node;
@@ -13,10 +13,10 @@ pub struct Start {
     pub lists: usize,
 }
 
-/// Where the entries of the router at each place begin; nodes and entries are in their orders.
+/// Where the entries of the router at each index begin. Nodes and entries are sorted.
 ///
 /// # Errors
-/// Where memory for it is refused.
+/// `AllocError` if an allocation is refused.
 pub fn starts_of(
     alloc: Global,
     nodes: &[Node],
@@ -34,7 +34,7 @@ pub fn starts_of(
     Ok(starts)
 }
 
-/// Where the entries of the router at the place begin.
+/// Where the entries of the router at this index begin.
 pub fn start_at(starts: &[Start], place: usize) -> Start {
     match starts.get(place) {
         None => Start { links: 0, lists: 0 },
@@ -55,7 +55,7 @@ fn start_from(entries: &[Entry], from: usize, router: RouterId) -> Start {
     Start { links, lists }
 }
 
-// The first place, from this one on, of an entry that isn't before this one.
+// The index of the first entry, from `from` on, that isn't before this one.
 fn first_from(entries: &[Entry], from: usize, entry: &Entry) -> usize {
     for at in from..entries.len() {
         if !compare(&entries[at], entry).is_lt() {

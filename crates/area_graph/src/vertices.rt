@@ -1,4 +1,4 @@
-//! The graph of a database: its nodes as vertices, each at its place, with their links.
+//! The graph of a database: its nodes as vertices, each at its index, with their links.
 ghost use Rattle.std.specs.Prelude.{◌≡◌, ◌≤◌, ℕ, length, IfOk};
 ghost use Rattle.routes.specs.Graphs.{IsGraph, IsGraphOf};
 ghost use Rattle.routes.specs.Links.{Leads};
@@ -18,16 +18,16 @@ use std::alloc::{AllocError, Global};
 use words::Second;
 
 /// The graph of the database: each of its links is one that counts (RFC 2328, section 16.1), for
-/// each that counts there is one to the same node by the same interface that is no dearer, and each
-/// node stands at its place in the list. The nodes are those of `nodes_of` at that moment; the root
-/// has at most 63 interfaces. The slots are those of the nodes, so that each is soon found.
+/// each that counts there is one to the same node by the same interface that costs no more, and
+/// each node is at its index in the list. The nodes are those of `nodes_of` at that moment; the
+/// root has at most 63 interfaces. The slots are those of the nodes, so that each is found fast.
 ///
-/// The time is that of one walk over the LSAs of routers and networks, of a look-up for each link,
-/// and of sorting the lists of networks; for the root it is one step more for each of its links at
-/// each network that lists it.
+/// It takes the time of one pass over the LSAs of routers and networks, of a lookup for each link,
+/// and of sorting the lists of networks; for the root it takes one more step for each of its links
+/// at each network that lists it.
 ///
 /// # Errors
-/// Where memory for the graph is refused.
+/// `AllocError` if an allocation is refused.
 pub fn graph_of(
     alloc: Global,
     db: &Lsdb,
@@ -63,7 +63,7 @@ pub fn graph_of(
     Ok(graph)
 }
 
-// The vertices that stand for all nodes, each at the place of its node.
+// The vertices of all nodes, each at the index of its node.
 fn vertices_of(
     alloc: Global,
     told: &Advertised<'_>,
@@ -85,7 +85,7 @@ fn vertices_of(
     Ok(graph)
 }
 
-// The vertex that stands for the node at the place.
+// The vertex of the node at this index.
 fn vertex_of(
     alloc: Global,
     told: &Advertised<'_>,

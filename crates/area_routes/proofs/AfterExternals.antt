@@ -13,7 +13,7 @@ use Rattle.area_routes.proofs.Candidates.{carried, inner_carried}
 use Rattle.external_updates.specs.Laws.{InnerRoutesAreKept}
 use Rattle.kept_routes.specs.Sameness.{SayTheSame}
 
--- nothing is known of answers where none are known to be there
+-- nothing is known of answers if none are known to exist
 pub unanswered : (said : Said) (root : Root) (answers : Answers) (kept : KeptRoutes) → kept.answered ≡ false → KnowsAnswered said root answers kept
 unanswered said root answers kept is on = absurd (false≢true (sym is ∙ on))
 
@@ -21,23 +21,23 @@ module _ (old new : Said) (was is : Root) (kept : KeptRoutes) (serves : kept.beh
   same_root : was ≡ is
   same_root = sym (knew.root serves) ∙ begins
 
-  -- a walk that still is one
+  -- a walk that is still valid
   pub still_walks : (IsWalkOf old kept.walk → IsWalkOf new kept.walk) → KnowsWalk new is kept
   still_walks goes_on = record { walk = λ on. goes_on (knew.walk serves); root = λ on. begins }
 
-  -- candidates that still are
+  -- candidates that are still valid
   pub still_offers : ((routes : List Route) → AreCandidates old was routes → AreCandidates new was routes) → KnowsCandidates old was kept
       → KnowsCandidates new is kept
   still_offers goes_on knows =
       subst (λ root. KnowsCandidates new root kept) same_root
       (carried (λ routes. AreCandidates old was routes) (λ routes. AreCandidates new was routes) goes_on kept.candidates knows)
 
-  -- what the LSAs of types 1 to 4 give, where they say the same
+  -- the results from the LSAs of types 1 to 4, if these say the same
   pub still_inner : InnerRoutesAreKept → SayTheSame (Some 4) old new → KnowsInner old was kept → KnowsInner new is kept
   still_inner law same knows =
       subst (λ root. KnowsInner new root kept) same_root (inner_carried law old new was kept.walk same kept.inner knows)
 
-  -- answers that still are
+  -- answers that are still complete
   pub still_answered : (answers : Answers) → (IsStale new was answers → IsStale old was answers) → KnowsAnswered old was answers kept
       → KnowsAnswered new is answers kept
   still_answered answers back knows =

@@ -1,4 +1,4 @@
--- What AS-external-LSAs tell, kept over an event.
+-- What AS-external-LSAs advertise, kept over an event.
 use Rattle.std.proofs.Common.{◌≡◌, ◌∙◌, Bool, true, false, List, Option, None, Some, ap, refl, sym, subst}
 use Rattle.std.specs.Prelude.{IfSome, IsTrue}
 use Rattle.std.specs.Global.{Vec}
@@ -10,7 +10,7 @@ use Rattle.routes.specs.Said.{Said}
 use Rattle.candidates.specs.declared.graph.AreaGraph.{AreaGraph}
 use Rattle.area_routes.specs.Kept.{AreOffersOf, ExternalsSayTheSame, KeptRoutes, KnowsExternals}
 
--- it stays while they say the same
+-- it is unchanged while they say the same
 externals_stay : (old new : Said) (told : List External) → ExternalsSayTheSame old new → AreExternals old told → AreExternals new told
 externals_stay old new told same are e = (
   (λ t. let p = (are e).0 t in (p.0, sym (same p.0.0 p.2.is_type) ∙ p.1, p.2)),
@@ -30,7 +30,7 @@ externals_after old new true kept next last same followed stays forgotten knows 
 externals_after old new false kept next last same followed stays forgotten knows =
     subst (λ (o : Option (Vec External)). IfSome o (λ told. AreExternals new told.items)) (sym (forgotten refl)) tt
 
--- candidates and walk don't rest on what is kept of them, nor on the graph
+-- candidates and walk don't depend on what is kept of them, nor on the graph
 pub same_but : (router : RouterNumber) (area : Area) (moment : Moment) (kept : KeptRoutes) (externals : Option (Vec External)) (graph : Option AreaGraph)
     → AreOffersOf router area moment kept → AreOffersOf router area moment (record kept { externals = externals; graph = graph })
 same_but router area moment kept externals graph are = record {
@@ -39,7 +39,7 @@ same_but router area moment kept externals graph are = record {
   inner = are.inner;
 }
 
--- what changes one of both and then the other leaves all else
+-- changing one of both and then the other leaves the rest unchanged
 pub both_else : (kept next last : KeptRoutes) → next ≡ record kept { externals = next.externals } → last ≡ record next { graph = last.graph }
     → last ≡ record kept { externals = last.externals; graph = last.graph }
 both_else kept next last one other =

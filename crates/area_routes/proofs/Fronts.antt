@@ -1,11 +1,11 @@
--- What holds of the elements of a list, as these are met one after the other.
+-- What holds of the elements of a list, as they are visited one after the other.
 use Rattle.std.proofs.Common.{◌≡◌, ◌<◌, ◌≤◌, ◌+◌, ℕ, List, ◌∷◌, [], ◌++◌, inl, inr, length, get_or, take, sym, subst, ◌∙◌, ap}
 use Rattle.std.specs.List.{Contains}
 use Rattle.std.proofs.lemmas.List.{take_all, take_more}
 use Rattle.std.proofs.lemmas.List.Elements.{Contains-push_cases}
 use Rattle.routes.proofs.Lists.{of_empty}
 
--- each of the first so many elements has it
+-- it holds of each of the first i elements
 abbrev pub OfFront : {X : Type 0} → (X → Type 0) → List X → ℕ → Type 0
 OfFront {X} P xs i = (x : X) → Contains (take i xs) x → P x
 

@@ -1,4 +1,4 @@
--- Keys are equal or not, and stand in a list or don't.
+-- Equality of keys, and their membership in lists, are decidable.
 use Rattle.std.proofs.Common.{◌≡◌, ◌⊎◌, inl, inr, List, [], ◌∷◌, ap, subst}
 use Rattle.std.specs.List.{Contains}
 use Rattle.std.proofs.lemmas.Bool.{cases_eq}

@@ -1,4 +1,4 @@
--- A database that passes no limit has at most 16,384 LSAs.
+-- A database within its limits has at most 16,384 LSAs.
 use Rattle.std.proofs.Common.{◌≡◌, ℕ, ◌≤◌, Bool, true, false, ◌||◌, ltb-false, refl}
 use Rattle.std.specs.FinMap as finite
 use Rattle.routes.specs.lsdb.Copies.{Database}

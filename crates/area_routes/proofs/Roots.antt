@@ -12,7 +12,7 @@ module _ {A B : Type 0} (f : A → B) where
   map_push [] y = refl
   map_push (x ∷ xs) y = ap (λ rest. f x ∷ rest) (map_push xs y)
 
-  -- one more element of the first so many
+  -- one more of the first elements
   pub mapped_more : (xs : List A) (n : ℕ) (x : A) → n < length xs → x ≡ get_or xs n x → map f (take (n + 1) xs) ≡ map f (take n xs) ++ f x ∷ []
   mapped_more xs n x within is =
       ap (map f) (take_more xs n x within ∙ ap (λ y. take n xs ++ y ∷ []) (sym is)) ∙ map_push (take n xs) x
@@ -27,7 +27,7 @@ root_is router kept links addresses shown is =
     let same = is ∙ addresses_are kept ∙ ap (map (λ (l : Link). l.interface.address)) shown in
     λ i. record { router = router; addresses = same i }
 
--- and the other way round
+-- and in the other direction
 pub root_was : (router : ℕ) (kept : List (Kept Link)) (links : List Link) (root : Root) → map present kept ≡ links → root ≡ root_by router links
     → root.addresses ≡ map (λ (l : Kept Link). (present l).interface.address) kept
 root_was router kept links root shown is =

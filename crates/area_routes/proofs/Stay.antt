@@ -1,4 +1,5 @@
--- Nodes stay where router-LSAs alone that were noted say something else, and so does each vertex whose place wasn't noted.
+-- Nodes are unchanged if only recorded router-LSAs say something else, and so is each vertex whose
+-- index wasn't recorded.
 use Rattle.std.proofs.Common.{◌≡◌, ◌≤◌, ◌⊎◌, ◌↔◌, ℕ, inl, inr, List, [], ◌∷◌, ◌++◌, Option, Some, length, slice_get, sym, subst, ◌∙◌, ap, arith}
 use Rattle.std.proofs.lemmas.Bool.{cases_eq}
 use Rattle.std.proofs.lemmas.List.Elements.{Contains-push_cases}
@@ -29,7 +30,7 @@ use Rattle.words.specs.declared.key.Key.{Key}
 same_lsa : (a b : RouterLsa) → ◌≡◌ {A = Option Body} (Some (body.Router a)) (Some (body.Router b)) → a ≡ b
 same_lsa a b e = cc
 
--- each vertex is one of what LSAs say now, or, where its place isn't among these, of what they said
+-- each vertex is one of what LSAs say now, or, if its index isn't among these, of what they said
 pub record AreEither (old : Said) (new : Said) (root : Root) (nodes : List Node)
     (places : List ℕ) (graph : Graph) : Type 0 where
   pub count : length graph ≡ length nodes
@@ -42,7 +43,7 @@ pub record AreEither (old : Said) (new : Said) (root : Root) (nodes : List Node)
 abbrev pub AllCovered : Said → Said → List Node → List ℕ → Type 0
 AllCovered old new nodes places = (key : Key) → key.ls_type ≤ 2 → IsCovered old new nodes places key
 
--- what is noted is so in both directions
+-- what is recorded is so in both directions
 noted_back : (old new : Said) (nodes : List Node) (places : List ℕ) (router : ℕ) → IsNoted old new nodes places router → IsNoted new old nodes places router
 noted_back old new nodes places router n = record {
   was = n.is;
@@ -60,7 +61,7 @@ covered_back old new nodes places covered key few =
     ]
 
 module _ (old new : Said) (nodes : List Node) (places : List ℕ) (covered : AllCovered old new nodes places) where
-  -- a router's LSA says what it said, or was noted
+  -- a router-LSA says what it said, or was recorded
   of_router : (router : ℕ) → (old (router_key router) ≡ new (router_key router)) ⊎ IsNoted old new nodes places router
   of_router router =
       elim (covered (router_key router) (omega arith)) [
@@ -103,11 +104,11 @@ module _ (old new : Said) (nodes : List Node) (places : List ℕ) (covered : All
   lists : (id by router : ℕ) → ListsRouter old id by router → ListsRouter new id by router
   lists id by router l = record { lsa = l.lsa; its = sym (of_network id by) ∙ l.its; among = l.among }
 
-  -- a link of the LSA that was noted is one of what it said
+  -- a link of the LSA that was recorded is one of what it said
   of_was : (router : ℕ) (n : IsNoted old new nodes places router) (link : Told) → HasLink old router link → Contains n.was.links link
   of_was router n link has = subst (λ (l : RouterLsa). Contains l.links link) (same_lsa has.lsa n.was (sym has.its ∙ n.said)) has.among
 
-  -- a router whose place isn't noted says what it said, and is named by no LSA that was noted
+  -- a router whose index isn't recorded says what it said, and is named by no recorded LSA
   module _ (at : ℕ) (none : Contains places at → ⊥) where
     unnoted : (router : ℕ) → StandsAt nodes (ARouter router) at → old (router_key router) ≡ new (router_key router)
     unnoted router here =
@@ -164,7 +165,7 @@ module _ (old new : Said) (nodes : List Node) (places : List ℕ) (covered : All
     fits = is.fits;
   }
 
--- where all say what they said, a graph stays one of the area
+-- if all say what they said, the graph is still that of the area
 pub same_covered : (old new : Said) (nodes : List Node) → SayTheSame (Some 2) old new → AllCovered old new nodes []
 same_covered old new nodes same key few = inl (same key few)
 
@@ -174,7 +175,7 @@ all_stay old new root nodes graph same are = record {
   each = λ at node vertex here got. vertices_stay old new nodes [] (same_covered old new nodes same) root at node vertex here (of_empty at) (are.each at node vertex here got);
 }
 
--- what all others say stayed
+-- all others say what they said
 pub all_covered : (old new : Said) (nodes : List Node) (places : List ℕ) (keys : List Key) → ((key : Key) → (Contains keys key → ⊥) → old key ≡ new key) → AreCovered old new nodes places keys → AllCovered old new nodes places
 all_covered old new nodes places keys others covered key few =
     elim (among_or_not keys key) [
@@ -182,7 +183,7 @@ all_covered old new nodes places keys others covered key few =
       | inr none ↦ inl (others key none)
     ]
 
--- what is noted stays so where more places are
+-- what is recorded is still so with more indices
 pub covered_more : (old new : Said) (nodes : List Node) (few more : List ℕ) (key : Key) → ((place : ℕ) → Contains few place → Contains more place) → IsCovered old new nodes few key → IsCovered old new nodes more key
 covered_more old new nodes few more key kept covered =
     elim covered [
@@ -208,7 +209,7 @@ covered_more old new nodes few more key kept covered =
           )
     ]
 
--- ---- vertices made anew
+-- ---- recalculated vertices
 
 module _ (old new : Said) (root : Root) (nodes : List Node) where
   pub none_renewed : (graph : Graph) → AreVertices old root nodes graph → AreEither old new root nodes [] graph

@@ -1,5 +1,5 @@
--- Router-LSAs that say something else, and the nodes whose links that may change (RFC 2328,
--- section 16.1): those of the routers themselves, and of the routers that their LSAs name, or named.
+-- Router-LSAs that say something else, and the nodes whose links that may change (RFC 2328, section
+-- 16.1): those of the routers themselves, and of the routers that their LSAs name or named.
 use Rattle.std.specs.Prelude.{◌≡◌, ◌≤◌, ◌⊎◌, ℕ, List}
 use Rattle.std.specs.List.{Contains}
 use Rattle.lsa.specs.declared.body.RouterLsa.{RouterLsa}
@@ -12,17 +12,17 @@ use Rattle.routes.specs.declared.node.Node.TheVariants.{ARouter}
 use Rattle.words.specs.Numbers.{RouterNumber}
 use Rattle.words.specs.declared.key.Key.{Key}
 
--- the router's place is among these
+-- the router's index is among these
 abbrev pub IsAmong : List Node → (places : List ℕ) → RouterNumber → Type 0
 IsAmong nodes places router = (at : ℕ) → StandsAt nodes (ARouter router) at → Contains places at
 
--- the places of all routers that the LSA names are among these
+-- the indices of all routers that the LSA names are among these
 abbrev pub AreNamedAmong : List Node → (places : List ℕ) → RouterLsa → Type 0
 AreNamedAmong nodes places lsa =
     (router : RouterNumber) → Names lsa router → IsAmong nodes places router
 
--- the router's LSA had no transit link and has none, and the places of the router and of all that
--- its LSA named or names are among these
+-- the router's LSA had and has no transit link, and the indices of the router and of all that its
+-- LSA named or names are among these
 pub record IsChange (nodes : List Node) (places : List ℕ) (router : RouterNumber)
     (was : RouterLsa) (is : RouterLsa) : Type 0 where
   pub plain_before : HasNoTransit was
@@ -31,7 +31,7 @@ pub record IsChange (nodes : List Node) (places : List ℕ) (router : RouterNumb
   pub named_before : AreNamedAmong nodes places was
   pub named : AreNamedAmong nodes places is
 
--- what the router's LSA said and says is noted
+-- what the router's LSA said and says is recorded
 pub record IsNoted (old : Said) (new : Said) (nodes : List Node) (places : List ℕ)
     (router : RouterNumber) : Type 0 where
   pub was : RouterLsa
@@ -40,13 +40,13 @@ pub record IsNoted (old : Said) (new : Said) (nodes : List Node) (places : List 
   pub says : IsRouterLsa new router is
   pub change : IsChange nodes places router was is
 
--- the LSA says what it said, or is a router's that was noted
+-- the LSA says what it said, or is a router-LSA that was recorded
 abbrev pub IsCovered : (old : Said) → (new : Said) → List Node → (places : List ℕ) → Key → Type 0
 IsCovered old new nodes places key =
     (old key ≡ new key)
     ⊎ ((router : RouterNumber) × (key ≡ router_key router) × IsNoted old new nodes places router)
 
--- each of these keys that is of a router-LSA or network-LSA is
+-- the same for each of these keys that is of a router-LSA or network-LSA
 abbrev pub AreCovered : (old : Said) → (new : Said) → List Node → (places : List ℕ) → List Key
     → Type 0
 AreCovered old new nodes places keys =

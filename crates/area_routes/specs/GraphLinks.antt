@@ -1,4 +1,4 @@
--- The links of a router that has no transit link (RFC 2328, section 16.1).
+-- The links of a router without transit links (RFC 2328, section 16.1).
 use Rattle.std.specs.Prelude.{◌≡◌, ◌<◌, ℕ, List, Option, None, Some}
 use Rattle.std.specs.List.{Contains}
 use Rattle.lsa.specs.declared.body.Link.{Link as Told}
@@ -23,7 +23,7 @@ abbrev pub Names : RouterLsa → RouterNumber → Type 0
 Names lsa router =
     (link : Told) × Contains lsa.links link × (link.kind ≡ PointToPoint) × (link.link_id ≡ router)
 
--- the place of the router at the far end, if that has a point-to-point link back
+-- the index of the router at the far end, if that has a point-to-point link back
 abbrev pub IsNeighbor : Said → List Node → (far : RouterNumber) → (router : RouterNumber)
     → Option ℕ → Type 0
 IsNeighbor said nodes far router None = LinksBack said far PointToPoint router → ⊥

@@ -26,18 +26,18 @@ use Rattle.candidates.specs.declared.graph.AreaGraph.{AreaGraph}
 pub record KeptRoutes : Type 0 where
   -- the walk
   pub walk : KeptWalk
-  -- whether the walk may be that of an earlier event: it is made again before anything rests on it
+  -- whether the walk may be that of an earlier event; if so, it is made again before it is used
   pub behind : Bool
-  -- the graph of the area, where one was made and each event since could be followed
+  -- the graph of the area, if one was built and has followed each event since
   pub graph : Option AreaGraph
-  -- the candidates, where they were calculated since an LSA that they rest on said something else
+  -- the candidates, if calculated since an LSA that they depend on said something else
   pub candidates : Option (Vec Route)
-  -- what the LSAs of types 1 to 4 give, where candidates were calculated since one of them said
-  -- something else
+  -- the results from the LSAs of types 1 to 4, if candidates were calculated since one of those
+  -- said something else
   pub inner : Option InnerRoutes
-  -- what AS-external-LSAs tell, where it was looked at since one of them said something else
+  -- what AS-external-LSAs advertise, if read since one of them said something else
   pub externals : Option (Vec External)
-  -- whether each candidate is known to stand among the answers
+  -- whether each candidate is known to be among the answers
   pub answered : Bool
 
 -- unless it is behind, the walk is that of what the LSAs say, from this root
@@ -50,30 +50,30 @@ pub record IsGraphFrom (said : Said) (start : Root) (graph : AreaGraph) : Type 0
   pub is : IsAreaGraph said graph
   pub starts : graph.root ≡ start
 
--- where a graph is kept, it is that of what the LSAs say, also while the walk is behind
+-- the graph that is kept, if any, is that of what the LSAs say, even while the walk is behind
 abbrev pub KnowsGraph : Said → Root → KeptRoutes → Type 0
 KnowsGraph said start kept = IfSome kept.graph (IsGraphFrom said start)
 
--- where candidates are kept, they are those of what the LSAs say
+-- the candidates that are kept, if any, are those of what the LSAs say
 abbrev pub KnowsCandidates : Said → Root → KeptRoutes → Type 0
 KnowsCandidates said root kept =
     IfSome kept.candidates (λ candidates. AreCandidates said root candidates.items)
 
--- it is what the LSAs of types 1 to 4 give by this walk, and can be searched
+-- it is the result from the LSAs of types 1 to 4 by this walk, and can be searched
 pub record AreInnerBy (said : Said) (root : Root) (walk : KeptWalk) (inner : InnerRoutes) : Type 0
   where
     pub are_inner : AreInner said root (way_in walk.reached) inner
     pub searchable : AreSearchable inner
 
--- where it is kept, it is that of what the LSAs say
+-- what is kept of it, if anything, is that of what the LSAs say
 abbrev pub KnowsInner : Said → Root → KeptRoutes → Type 0
 KnowsInner said root kept = IfSome kept.inner (AreInnerBy said root kept.walk)
 
--- where it is kept, it is that of what the LSAs say
+-- what is kept of it, if anything, is that of what the LSAs say
 abbrev pub KnowsExternals : Said → KeptRoutes → Type 0
 KnowsExternals said kept = IfSome kept.externals (λ told. AreExternals said told.items)
 
--- what AS-external-LSAs say has stayed
+-- AS-external-LSAs say the same
 abbrev pub ExternalsSayTheSame : (old : Said) → (new : Said) → Type 0
 ExternalsSayTheSame old new = (key : Key) → key.ls_type ≡ 5 → old key ≡ new key
 
@@ -81,16 +81,16 @@ ExternalsSayTheSame old new = (key : Key) → key.ls_type ≡ 5 → old key ≡ 
 abbrev pub AreOfOthers : List Key → Type 0
 AreOfOthers keys = (key : Key) → Contains keys key → key.ls_type ≢ 5
 
--- where each candidate is known to stand among the answers, each does
+-- if each candidate is known to be among the answers, each is
 abbrev pub KnowsAnswered : Said → Root → Answers → KeptRoutes → Type 0
 KnowsAnswered said root answers kept = kept.answered ≡ true → IsStale said root answers → ⊥
 
--- from what the LSAs said to what they say, no candidate comes that may lack an answer
+-- from what the LSAs said to what they say, no candidate appears that may lack an answer
 abbrev pub StayAnswered : (old : Said) → (new : Said) → Root → Type 0
 StayAnswered old new root =
     (answers : Answers) → IsStale new root answers → IsStale old root answers
 
--- where candidates were kept, one of these was none of them
+-- if candidates were kept, one of these wasn't among them
 abbrev pub HaveAnother : (kept : Option (Vec Route)) → (now : List Route) → Type 0
 HaveAnother kept now = IfSome kept (λ before. HasAnother before.items now)
 
@@ -102,24 +102,24 @@ pub record BringsNoneNew (old : KeptRoutes) (new : KeptRoutes) : Type 0 where
   pub are : new.candidates ≡ Some now
   pub among : AreAllAmong before.items now.items
 
--- All that a walk rests on has stayed since the moment before: it begins where it began, and of
--- the LSAs of the types up to this one, of all types where there is none, none came, left or has
--- come to MaxAge, and none says something else (section 13.2).
+-- All that a walk depends on is unchanged since the moment `before`: it has the same root, and of
+-- the LSAs of the types up to this one, or of all types if there is none, none came, left or
+-- reached MaxAge, and none says something else (section 13.2).
 pub record HasStayed (last_type : Option ℕ) (before : Moment) (moment : Moment)
     (router : RouterNumber) (old : Area) (new : Area) (walk : KeptWalk) : Type 0 where
   pub root : walk.root ≡ root_by router new.links
   pub lsas : AreLeft last_type before moment old.database new.database
 
--- All that the candidates rest on has stayed since the moment before: the walk begins where it
--- began, and LSAs came, left, came to MaxAge or say something else only if they are
--- AS-external-LSAs that offer nothing, whatever they say (section 16.4).
+-- All that the candidates depend on is unchanged since the moment `before`: the walk has the same
+-- root, and LSAs came, left, reached MaxAge or say something else only if they are AS-external-LSAs
+-- that offer nothing, whatever they say (section 16.4).
 pub record HaveStayed (before : Moment) (moment : Moment) (router : RouterNumber)
     (old : Area) (new : Area) (walk : KeptWalk) : Type 0 where
   pub root : walk.root ≡ root_by router new.links
   pub lsas : LeaveCandidates before moment old.database new.database walk
 
--- over an event nothing is walked, and a walk serves on exactly where all that it rests on has
--- stayed
+-- no walk is made over an event, and a walk remains valid if and only if all that it depends on is
+-- unchanged
 pub record ServesOnlyThen (before : Moment) (moment : Moment) (router : RouterNumber)
     (old : Area) (new : Area) (kept : KeptRoutes) (next : KeptRoutes) : Type 0 where
   pub walk : next.walk ≡ kept.walk
@@ -128,14 +128,14 @@ pub record ServesOnlyThen (before : Moment) (moment : Moment) (router : RouterNu
   pub falls : (HasStayed (Some 2) before moment router old new kept.walk → ⊥) → next.behind ≡ true
   pub lags : kept.behind ≡ true → next.behind ≡ true
 
--- walk, candidates and what the LSAs of types 1 to 4 give are the router's at the moment
+-- walk, candidates and the results from the LSAs of types 1 to 4 are the router's at the moment
 pub record AreOffersOf (router : RouterNumber) (area : Area) (moment : Moment)
     (kept : KeptRoutes) : Type 0 where
   pub walk : KnowsWalk (said_at moment area.database) (root_by router area.links) kept
   pub candidates : KnowsCandidates (said_at moment area.database) (root_by router area.links) kept
   pub inner : KnowsInner (said_at moment area.database) (root_by router area.links) kept
 
--- walk, graph, candidates and what these rest on are
+-- walk, graph, candidates and what these depend on are
 pub record AreRoutesOf (router : RouterNumber) (area : Area) (moment : Moment)
     (kept : KeptRoutes) : Type 0 where
   pub walk : KnowsWalk (said_at moment area.database) (root_by router area.links) kept

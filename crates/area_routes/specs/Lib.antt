@@ -3,6 +3,6 @@ pub mod GraphLinks
 pub mod Vertices
 pub mod Offers
 pub mod Kept
--- what crates above name of those below
+-- re-exported for the crates above
 pub use Rattle.flooding.specs as flooding
 pub use Rattle.routes.specs as routes

@@ -1,4 +1,5 @@
--- What the links and the database of a router offer at a moment: candidates, and rows of its table.
+-- What the links and the database of a router offer at a moment: candidates, and the rows of its
+-- table.
 use Rattle.std.specs.Prelude.{◌≡◌, List, map}
 use Rattle.words.specs.Numbers.{Moment, RouterNumber}
 use Rattle.words.specs.declared.route.Route.{Route}
@@ -10,7 +11,7 @@ use Rattle.routes.specs.Tables.{Answers, IsStale, IsTable}
 use Rattle.routes.specs.declared.root.Root.{Root}
 use Rattle.tables.specs.Rows.{rows_of}
 
--- where the router's walks begin
+-- the root of the router's walks
 abbrev pub root_by : RouterNumber → List Link → Root
 root_by router links = record {
   router = router;
@@ -22,12 +23,12 @@ abbrev pub AreCandidatesOf : RouterNumber → Area → Moment → List Route →
 AreCandidatesOf router area moment candidates =
     AreCandidates (said_at moment area.database) (root_by router area.links) candidates
 
--- its table, of these answers
+-- its table, given these answers
 abbrev pub IsTableOf : RouterNumber → Area → Moment → Answers → List Route → Type 0
 IsTableOf router area moment answers table =
     IsTable (said_at moment area.database) (root_by router area.links) answers table
 
--- candidates, and beside them the rows of the table
+-- candidates, and with them the rows of the table
 pub record AreOfferedBy (said : Said) (root : Root) (answers : Answers)
     (candidates : List Route) (rows : List TableRow) : Type 0 where
   pub are_candidates : AreCandidates said root candidates
@@ -35,13 +36,13 @@ pub record AreOfferedBy (said : Said) (root : Root) (answers : Answers)
   pub is_table : IsTable said root answers table
   pub are_rows : rows ≡ rows_of table
 
--- its candidates, and beside them the rows of its table
+-- its candidates, and with them the rows of its table
 abbrev pub AreOffered : RouterNumber → Area → Moment → Answers → List Route → List TableRow
     → Type 0
 AreOffered router area moment answers candidates rows =
     AreOfferedBy (said_at moment area.database) (root_by router area.links) answers candidates rows
 
--- some candidate stands in none of the answers
+-- some candidate isn't among the answers
 abbrev pub IsStaleOf : RouterNumber → Area → Moment → Answers → Type 0
 IsStaleOf router area moment answers =
     IsStale (said_at moment area.database) (root_by router area.links) answers

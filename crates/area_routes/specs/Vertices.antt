@@ -1,4 +1,4 @@
--- Vertices that are made anew, one after the other.
+-- Vertices that are recalculated, one after the other.
 use Rattle.std.specs.Prelude.{◌≡◌, ◌≢◌, ℕ, List, Some, length, slice_get}
 use Rattle.std.specs.List.{Contains}
 use Rattle.area_graph.specs.Graphs.{IsVertexOf, StandsAt}
@@ -8,7 +8,7 @@ use Rattle.routes.specs.declared.graph.Vertex.{Vertex}
 use Rattle.routes.specs.declared.node.Node.{Node}
 use Rattle.routes.specs.declared.root.Root.{Root}
 
--- the vertex at the place was made anew, and all others stayed
+-- the vertex at this index was recalculated, and all others are unchanged
 pub record IsRenewed (said : Said) (root : Root) (nodes : List Node) (at : ℕ) (old : Graph)
     (new : Graph) : Type 0 where
   pub count : length new ≡ length old
@@ -16,7 +16,7 @@ pub record IsRenewed (said : Said) (root : Root) (nodes : List Node) (at : ℕ) 
   pub own : (node : Node) (vertex : Vertex) → StandsAt nodes node at
       → slice_get new at ≡ Some vertex → IsVertexOf said root nodes node vertex
 
--- what stands at a place that isn't among these is a vertex still
+-- a vertex at an index that isn't among these is still correct
 abbrev pub StayUnlessAmong : (old : Said) → (new : Said) → Root → List Node → (places : List ℕ)
     → Type 0
 StayUnlessAmong old new root nodes places =

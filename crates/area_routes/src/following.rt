@@ -14,15 +14,15 @@ use kept_routes::Routes;
 use std::alloc::Global;
 use words::{Route, Second};
 
-/// Candidates that followed an event, and whether each of them was one before.
+/// Candidates after an event, and whether each of them was one before.
 #[derive(Drop)]
 pub struct Next {
     pub candidates: Vec<Route>,
     pub none_new: bool,
 }
 
-// The candidates of this moment, from those before an event over which AS-external-LSAs alone say
-// something else; None where these are many, or memory is refused.
+// The candidates of this moment, from those before an event after which only AS-external-LSAs say
+// something else. `None` if these are many, or an allocation is refused.
 fn follow_from(
     alloc: Global,
     area: &Area,
@@ -67,7 +67,7 @@ fn follow_from(
     }
 }
 
-// The same where there may be none.
+// The same if there may be none.
 fn follow_some(
     alloc: Global,
     area: &Area,
@@ -99,7 +99,7 @@ fn follow_some(
     }
 }
 
-/// The same where there may be none, and it may not be known what the LSAs of types 1 to 4 give.
+/// The same if there may be none, and the results from the LSAs of types 1 to 4 may be unknown.
 pub fn followed(
     alloc: Global,
     area: &Area,

@@ -18,7 +18,7 @@ use routes::Node;
 use std::alloc::{AllocError, Global};
 use words::{Key, RouterId, Second};
 
-// Notes the place of a router, if it is a node.
+// Records the index of a router, if it is a node.
 fn note_router(
     at: &Surroundings<'_>,
     router: RouterId,
@@ -35,7 +35,7 @@ fn note_router(
     Ok(())
 }
 
-// Notes the places of the routers that the LSA names.
+// Records the indices of the routers that the LSA names.
 fn note_named(
     at: &Surroundings<'_>,
     lsa: &RouterLsa,
@@ -54,7 +54,7 @@ fn note_named(
     Ok(())
 }
 
-// The router-LSA's body, if it is one.
+// The router-LSA in the body, if it is one.
 fn router_of(says: Option<&Body>) -> Option<&RouterLsa>
     ensures { MatchOption result ((lsa : RouterValue)
         → option_copied says.entry ≡ Some (body.Router lsa) → ⊥) (λ lsa.
@@ -66,7 +66,8 @@ fn router_of(says: Option<&Body>) -> Option<&RouterLsa>
     }
 }
 
-// Notes a router, and those that its LSA named and names, unless it had or has a transit link.
+// Records a router, and those that its LSA named or names. Returns false if it had or has a transit
+// link.
 fn note_change(
     at: &Surroundings<'_>,
     router: RouterId,
@@ -89,15 +90,15 @@ fn note_change(
     Ok(true)
 }
 
-// Tells whether it is the key of a router's LSA.
+// Whether it is the key of a router-LSA.
 fn is_of_router(key: &Key) -> bool
     ensures { IsTrue result → key.now ≡ router_key key.now.advertising_router }
 {
     key.ls_type == 1 && key.link_state_id.number() == key.advertising_router.number()
 }
 
-// Notes the nodes whose links what is said of this key may change, or tells that these can't be
-// told: where it isn't a router's, or is said by one that came or left, or with a transit link.
+// Records the nodes whose links this LSA's change may affect. Returns false if these are unknown:
+// if it isn't a router-LSA, came or left, or had or has a transit link.
 fn note_key(
     at: &Surroundings<'_>,
     before: Second,
@@ -128,12 +129,12 @@ fn note_key(
     note_change(at, key.advertising_router, was, is, places)
 }
 
-/// The places of the nodes whose links may not be what they were at the moment before, where the
-/// LSAs of these keys may say something else. None where these can't be told: where a router or
-/// network came or left, or an LSA of a network or with a transit link changed.
+/// The indices of the nodes whose links may have changed since the moment `before`, if only the
+/// LSAs with these keys may say something else. `None` if these are unknown: a router or network
+/// came or left, or a network-LSA or a router-LSA with a transit link changed.
 ///
 /// # Errors
-/// Where memory for the places is refused.
+/// `AllocError` if an allocation is refused.
 pub fn places_to_renew(
     alloc: Global,
     at: &Surroundings<'_>,

@@ -1,4 +1,4 @@
-//! The links of a router that has no transit link.
+//! The links of a router without transit links.
 ghost use Rattle.std.specs.Prelude.{◌≡◌, ◌<◌, ◌≤◌, ◌↔◌, false, length, IfOk, IfSome, IsTrue, OnOk};
 ghost use Rattle.std.specs.Prelude.{option_copied};
 ghost use Rattle.std.specs.List.{All};
@@ -46,7 +46,7 @@ fn is_transit(link: &ToldLink) -> bool
     link.kind == LinkKind::Transit
 }
 
-/// Tells whether the LSA has a link to a transit network.
+/// Whether the LSA has a link to a transit network.
 pub fn has_transit(lsa: &RouterLsa) -> bool
     ensures { result ≡ false → HasNoTransit lsa.now }
 {
@@ -58,14 +58,14 @@ pub fn has_transit(lsa: &RouterLsa) -> bool
     false
 }
 
-/// Tells whether it is a point-to-point link.
+/// Whether it is a point-to-point link.
 pub fn is_point_to_point(link: &ToldLink) -> bool
     ensures { IsTrue result ↔ (link.now.kind ≡ LinkKind.PointToPoint) }
 {
     link.kind == LinkKind::PointToPoint
 }
 
-// Tells whether the LSA has a point-to-point link to the router.
+// Whether the LSA has a point-to-point link to the router.
 fn names(lsa: &RouterLsa, router: RouterId) -> bool
     ensures { IsTrue result ↔ Names lsa.now router }
 {
@@ -84,7 +84,7 @@ fn is_to(link: &ToldLink, router: RouterId) -> bool
     link.kind == LinkKind::PointToPoint && link.link_id == router.number()
 }
 
-// The place of the router at the far end, if that has a point-to-point link back.
+// The index of the router at the far end, if that has a point-to-point link back.
 fn neighbor_at(at: &Surroundings<'_>, far: RouterId, router: RouterId) -> Option<usize>
     requires { AreNodes (said_at at.now.moment at.now.db.now.present) at.now.nodes.now }
     ensures { IsNeighbor (said_at at.now.moment at.now.db.now.present) at.now.nodes.now far router
@@ -126,7 +126,7 @@ fn add_neighbor(
     }
 }
 
-// Tells whether it is a point-to-point link that may count.
+// Whether it is a point-to-point link that may count.
 fn may_count(told: &ToldLink) -> bool
     ensures { IsTrue result ↔ ((told.now.kind ≡ LinkKind.PointToPoint) × (0 < told.now.metric)) }
 {
@@ -156,11 +156,11 @@ fn add_neighbors(
     Ok(())
 }
 
-/// The links of the graph from a router, or None where it has no LSA below MaxAge, or a transit
-/// link. The time is that of two look-ups for each of its links.
+/// The links of the graph from a router; `None` if it has no LSA below MaxAge, or has a transit
+/// link. It takes the time of two lookups for each of its links.
 ///
 /// # Errors
-/// Where memory for the links is refused.
+/// `AllocError` if an allocation is refused.
 pub fn links_of(
     alloc: Global,
     at: &Surroundings<'_>,

@@ -15,10 +15,12 @@ use routes::{Kind, Lsdb, Node, Root, Vertex};
 use std::alloc::{AllocError, Global};
 use words::Second;
 
-// Where the links of more than one node in so many may have changed, the graph is made anew.
+// The graph is rebuilt if this many times the number of changed nodes exceeds the number of all
+// nodes plus 64.
 const NODES_TO_A_PLACE: usize = 4;
 
-// Makes the vertex at the place anew. False where it isn't that of a router without transit links.
+// Recalculates the vertex at this index. Returns false unless it is that of a router without
+// transit links.
 fn renew(
     alloc: Global,
     at: &Surroundings<'_>,
@@ -48,7 +50,7 @@ fn renew(
     Ok(true)
 }
 
-// Makes the vertices at these places anew.
+// Recalculates the vertices at these indices.
 fn renewed(
     alloc: Global,
     db: &Lsdb,
@@ -90,19 +92,19 @@ fn renewed(
     }))
 }
 
-// Tells whether it is cheaper to make the graph anew than to renew so many vertices of it.
+// Whether rebuilding the graph is cheaper than recalculating this many vertices of it.
 fn are_many(places: usize, nodes: usize) -> bool {
     places.saturating_mul(NODES_TO_A_PLACE) > nodes.saturating_add(64)
 }
 
 /// The graph of a database after an event, from the graph before it: from what the settled database
-/// said at the moment before to what the database says at this moment. None where it has to be made
-/// anew: where a router or network came or left, where the LSA of a network or of a router with a
-/// transit link changed, and where many LSAs did. The time is that of two look-ups for each link of
-/// the routers whose LSAs changed and of their neighbors.
+/// said at the moment `before` to what the database says at this moment. `None` if it has to be
+/// rebuilt: if a router or network came or left, if a network-LSA or a router-LSA with a transit
+/// link changed, or if many LSAs did. It takes the time of two lookups for each link of the routers
+/// whose LSAs changed and of their neighbors.
 ///
 /// # Errors
-/// Where memory for keys of LSAs, places of nodes or links, or to compare texts, is refused.
+/// `AllocError` if an allocation is refused.
 pub fn follow_graph(
     alloc: Global,
     db: &Lsdb,

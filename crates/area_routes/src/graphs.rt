@@ -16,10 +16,11 @@ use routes::Root;
 use std::alloc::{AllocError, Global};
 use words::{RouterId, Second};
 
-/// The graph of the area at a moment, from this root. None where the root has no way out, and is
-/// reached alone.
+/// The graph of the area at a moment, from this root; `None` if the root has no way out, so that it
+/// is reached alone.
 ///
 /// # Errors
+/// `AllocError` if an allocation is refused.
 /// Where memory for the graph is refused.
 pub fn graph_at(
     alloc: Global,
@@ -40,10 +41,10 @@ pub fn graph_at(
     Ok(Some(graph))
 }
 
-/// The ways from this root at a moment: where the graph is kept, by a search in it alone.
+/// The ways from this root at a moment; just a search in the graph if that is kept.
 ///
 /// # Errors
-/// Where memory for the ways, or for a graph where none is kept, is refused.
+/// `AllocError` if an allocation is refused.
 pub fn walk_by(
     alloc: Global,
     area: &Area,
@@ -72,8 +73,8 @@ pub fn walk_by(
     }
 }
 
-// The graph after an event, from the one before it; None where it has to be made anew, or memory
-// is refused.
+// The graph after an event, from the one before it; `None` if it has to be rebuilt, or an
+// allocation is refused.
 fn followed(
     alloc: Global,
     area: &Area,
@@ -93,7 +94,7 @@ fn followed(
     }
 }
 
-/// The graph after an event where there may be none, and where it may be that of another root.
+/// The graph after an event, if there may be none, and if it may be that of another root.
 pub fn graph_after(
     alloc: Global,
     router: RouterId,

@@ -31,40 +31,42 @@ use std::marker::Model;
 use tables::{is_stale, rows_of, table};
 use words::{Key, Route, RouterId, Second, TableRow};
 
-/// The candidates of a router, and the rows of its table, of one moment.
+/// The candidates of a router, and the rows of its table, at one moment.
 #[derive(Debug, Drop)]
 pub struct Offered {
     pub candidates: Vec<Route>,
     pub rows: Vec<TableRow>,
 }
 
-/// The routes of a router from one event to the next. The walk of its database stays for as long as
-/// the LSAs of types 1 and 2 say the same (RFC 2328, section 16.1); candidates that were looked at,
-/// and that all of them stand among the answers, for as long as all LSAs do, or others don't than
-/// AS-external-LSAs that offer nothing (section 16.4). Where other AS-external-LSAs alone say
-/// something else, and few of them, those candidates alone are calculated anew of whose
-/// destinations these tell (section 16.6), and where none of these is another route, as where an
-/// AS-external-LSA leaves, all stand among the answers if they did. An event makes no walk: where
-/// it leaves none that serves, one is made once candidates are asked for. The graph of the area is
-/// kept too, for as long as it can follow what the LSAs say: such a walk is then a search for
-/// shortest paths alone (section 16.1).
+/// The routes of a router, kept from one event to the next.
 ///
-/// Links, database and answers aren't part of it. Each call is handed them, and a clause says of
-/// which moment they are.
+/// The walk of its database is valid while the LSAs of types 1 and 2 say the same (RFC 2328,
+/// section 16.1). The candidates that were calculated, and the knowledge that each has an answer,
+/// are valid while all LSAs say the same, apart from AS-external-LSAs that offer nothing (section
+/// 16.4). If only a few other AS-external-LSAs say something else, only the candidates for the
+/// destinations that these advertise are recalculated (section 16.6); and if none of these is a new
+/// route, as when an AS-external-LSA leaves, all candidates have answers if they had before. An
+/// event makes no walk: if it leaves no valid one, one is made when candidates are requested. The
+/// graph of the area is also kept while it can follow what the LSAs say; such a walk is then only a
+/// search for shortest paths (section 16.1).
+///
+/// Links, database and answers aren't part of it. They are passed to each call, whose contract says
+/// which moment they are of.
 #[derive(Drop)]
 pub struct AreaRoutes {
     walk: Routes,
     // the walk may be that of an earlier event
     behind: bool,
-    // the graph of the area, where one was made and each event since could be followed
+    // the graph of the area, if one was built and has followed each event since
     graph: Option<AreaGraph>,
-    // the candidates, where they were looked at since an LSA that they rest on said something else
+    // the candidates, if they were calculated since an LSA that they depend on said something else
     candidates: Option<Vec<Route>>,
-    // what the LSAs of types 1 to 4 give, where it was calculated since one said something else
+    // the results from the LSAs of types 1 to 4, if calculated since one of these said something
+    // else
     inner: Option<InnerRoutes>,
-    // what AS-external-LSAs tell, where it was looked at since one said something else
+    // what AS-external-LSAs advertise, if read since one of these said something else
     externals: Option<Vec<External>>,
-    // each candidate stands among the answers
+    // each candidate is known to be among the answers
     answered: bool,
 }
 
@@ -84,7 +86,7 @@ impl Model for AreaRoutes {
     } };
 }
 
-// Whether the candidates by this walk are left as they were before the event.
+// Whether the event leaves the candidates by this walk unchanged.
 fn leaves_candidates(
     alloc: Global,
     area: &Area,
@@ -105,8 +107,8 @@ fn leaves_candidates(
     Ok(same)
 }
 
-// Whether the LSAs of the types up to this one, or of all, say at the moment what they said before
-// the event.
+// Whether the LSAs of the types up to this one, or of all types, say what they said before the
+// event.
 fn says_the_same(
     alloc: Global,
     area: &Area,
@@ -125,8 +127,8 @@ fn says_the_same(
     Ok(same)
 }
 
-// Whether all AS-external-LSAs say at the moment what they said before the event. Where memory is
-// refused, it isn't known.
+// Whether all AS-external-LSAs say what they said before the event; false if an allocation is
+// refused.
 fn externals_stay(alloc: Global, area: &Area, before: Second, moment: Second) -> bool
     requires { before ≤ moment }
     ensures { IsTrue result → ExternalsSayTheSame
@@ -151,7 +153,7 @@ fn are_of_others(keys: &[Key]) -> bool
     true
 }
 
-// What the AS-external-LSAs tell at the moment.
+// What the AS-external-LSAs advertise at the moment.
 fn externals_now(alloc: Global, area: &Area, moment: Second) -> Result<Vec<External>, AllocError>
     ensures { IfOk result (λ told. AreExternals
         (said_at moment area.now.present.database) told.items) }
@@ -161,7 +163,7 @@ fn externals_now(alloc: Global, area: &Area, moment: Second) -> Result<Vec<Exter
     Ok(told)
 }
 
-// The candidates by this walk, where it is known what AS-external-LSAs tell.
+// The candidates by this walk, given what AS-external-LSAs advertise.
 fn calculate_by(
     alloc: Global,
     area: &Area,
@@ -181,14 +183,14 @@ fn calculate_by(
     Ok(made)
 }
 
-// Candidates, with what AS-external-LSAs tell if that wasn't kept.
+// Candidates, with what AS-external-LSAs advertise unless that was kept.
 #[derive(Drop)]
 struct Made {
     calculated: Calculated,
     told: Option<Vec<External>>,
 }
 
-// The candidates by this walk, where it may be kept what AS-external-LSAs tell.
+// The candidates by this walk. `kept` is what AS-external-LSAs advertise, if that is known.
 fn calculated(
     alloc: Global,
     area: &Area,
@@ -225,7 +227,7 @@ fn calculated(
     }
 }
 
-// What was kept of what AS-external-LSAs tell, or else this.
+// What was kept of what AS-external-LSAs advertise, or else the new list.
 fn kept_or(kept: Option<Vec<External>>, made: Option<Vec<External>>) -> Option<Vec<External>>
     ensures { (said : Said) → IfSome kept (λ told. AreExternals said told.items)
         → IfSome made (λ told. AreExternals said told.items)
@@ -241,7 +243,7 @@ impl AreaRoutes {
     /// The first walk of a router, at a moment. There are at most 63 links and 16,384 LSAs.
     ///
     /// # Errors
-    /// Where memory for the walk is refused.
+    /// `AllocError` if an allocation is refused.
     pub fn new(
         alloc: Global,
         router: RouterId,
@@ -273,15 +275,14 @@ impl AreaRoutes {
         })
     }
 
-    /// Follows a router over an event, from what its area was when it was last settled, at the
-    /// moment before, to what it is at this moment. It doesn't walk: the walk serves on where the
-    /// router's addresses are the same and no LSA of type 1 or 2 came, left, has come to MaxAge or
-    /// says something else; another instance below MaxAge that says the same doesn't count (RFC
-    /// 2328, section 13.2).
+    /// Follows a router over an event, from its area when it was last settled, at the moment
+    /// `before`, to its area at this moment. No walk is made: the old one remains valid if the
+    /// router's addresses are the same and no LSA of type 1 or 2 came, left, reached MaxAge or says
+    /// something else; another instance below MaxAge that says the same doesn't count (RFC 2328,
+    /// section 13.2).
     ///
     /// # Errors
-    /// Where memory for keys of LSAs, or to compare texts, is refused; the routes stay as they were
-    /// then.
+    /// `AllocError` if an allocation is refused; the routes are then unchanged.
     pub fn follow(
         &mut self,
         alloc: Global,
@@ -293,24 +294,24 @@ impl AreaRoutes {
         requires order { before ≤ moment }
         requires routes { AreRoutesOf router area.now.settled before self.old }
         ensures routes { OnOk result (AreRoutesOf router area.now.present moment self.new) }
-        // What was known of the answers before is known still, or not known any more.
+        // What was known of the answers is still known, or not known any more.
         ensures answered { OnOk result ((answers : Answers)
             → AreKept router area.now.settled before answers self.old
             → AreKept router area.now.present moment answers self.new) }
-        // It walks again later only where the router's addresses are others, or an LSA of type 1 or
-        // 2 came, left, has come to MaxAge or says something else.
+        // It walks again later only if the router's addresses differ, or an LSA of type 1 or 2
+        // came, left, reached MaxAge or says something else.
         ensures walks { OnOk result (ServesOnlyThen before moment router
             area.now.settled area.now.present self.old self.new) }
-        // Where of LSAs of all types only external ones did that which offer nothing, what is known
-        // of the candidates and of the answers stays too.
+        // If among LSAs of all types only external ones that offer nothing did so, what is known of
+        // the candidates and of the answers is unchanged too.
         ensures candidates { OnOk result (self.old.behind ≡ false
             → HaveStayed before moment router area.now.settled area.now.present self.old.walk
             → self.new ≡ record self.old {
               externals = self.new.externals;
               graph = self.new.graph;
             }) }
-        // Where candidates are kept over the event, and each was one before, what is known of the
-        // answers stays: they needn't be looked at where AS-external-LSAs leave.
+        // If candidates are kept over the event, and each was one before, what is known of the
+        // answers is unchanged: they needn't be searched when AS-external-LSAs leave.
         ensures none_new { OnOk result (BringsNoneNew self.old self.new
             → self.new.answered ≡ self.old.answered) }
         ensures err { OnErr result (self.new ≡ self.old) }
@@ -322,7 +323,7 @@ impl AreaRoutes {
         Ok(())
     }
 
-    // Whether what is kept of what AS-external-LSAs tell is what they tell after the event.
+    // Whether what is kept of what AS-external-LSAs advertise is still correct after the event.
     fn externals_stay(&self, alloc: Global, area: &Area, before: Second, moment: Second) -> bool
         requires { before ≤ moment }
         ensures { IsTrue result → ExternalsSayTheSame
@@ -334,7 +335,7 @@ impl AreaRoutes {
         externals_stay(alloc, area, before, moment)
     }
 
-    // What AS-external-LSAs tell is kept, or no more.
+    // Keeps what AS-external-LSAs advertise, or forgets it.
     fn keep_externals(&mut self, stay: bool)
         ensures others { self.new ≡ record self.old { externals = self.new.externals } }
         ensures kept { IsTrue stay → self.new.externals ≡ self.old.externals }
@@ -345,7 +346,7 @@ impl AreaRoutes {
         }
     }
 
-    // The graph follows the event, or is kept no more.
+    // Updates the graph, or forgets it.
     fn follow_graph(
         &mut self,
         alloc: Global,
@@ -365,7 +366,7 @@ impl AreaRoutes {
         self.graph = graph_after(alloc, router, area, before, moment, kept);
     }
 
-    // The same for all but what AS-external-LSAs tell, and the graph.
+    // The same except for what AS-external-LSAs advertise, and the graph.
     fn follow_routes(
         &mut self,
         alloc: Global,
@@ -418,10 +419,10 @@ impl AreaRoutes {
         Ok(())
     }
 
-    // Follows what LSAs of types 3 to 5 say over an event over which the walk serves on. Where
-    // AS-external-LSAs alone say something else, candidates that are kept follow these, if those
-    // that changed are few: if none is new, and each was known to be answered, so is each now.
-    // Where it is refused memory, nothing more is known of candidates.
+    // Follows LSAs of types 3 to 5 over an event that leaves the walk valid. If only
+    // AS-external-LSAs say something else, and few of them, candidates that are kept follow these:
+    // if none is new, and each was known to have an answer, each still has. If an allocation is
+    // refused, nothing is known of candidates any more.
     fn follow_offers(&mut self, alloc: Global, area: &Area, before: Second, moment: Second)
         requires order { before ≤ moment }
         requires walk { IsWalkOf (said_at moment area.now.present.database) self.old.walk }
@@ -457,7 +458,7 @@ impl AreaRoutes {
         self.answered = false;
     }
 
-    // The same where AS-external-LSAs alone say something else.
+    // The same if only AS-external-LSAs say something else.
     fn follow_externals(&mut self, alloc: Global, area: &Area, before: Second, moment: Second)
         requires order { before ≤ moment }
         requires same { SayTheSame (Some 4) (said_at before area.now.settled.database)
@@ -493,7 +494,7 @@ impl AreaRoutes {
         self.candidates = Some(next.candidates);
     }
 
-    // Makes the graph from this root, unless one is kept or the root has no way out.
+    // Builds the graph from this root, unless one is kept or the root has no way out.
     fn make_graph(
         &mut self,
         alloc: Global,
@@ -513,8 +514,8 @@ impl AreaRoutes {
         Ok(())
     }
 
-    // Walks again from this root, by the graph if one is kept or can be made. A graph that was made
-    // is kept even where memory for the ways is refused.
+    // Walks again from this root, by the graph if one is kept or can be built. A graph that was
+    // built is kept even if an allocation for the ways is refused.
     fn walk_again(
         &mut self,
         alloc: Global,
@@ -543,7 +544,7 @@ impl AreaRoutes {
         Ok(())
     }
 
-    // Makes the walk that serves now, where the one that is kept doesn't.
+    // Makes a new walk, unless the one that is kept is valid.
     fn catch_up(
         &mut self,
         alloc: Global,
@@ -583,8 +584,8 @@ impl AreaRoutes {
         Ok(())
     }
 
-    /// Takes note of other answers: looks whether each candidate stands among them. The candidates
-    /// are kept. Where the walk doesn't serve, or memory for that is refused, it isn't known.
+    /// Takes other answers: searches them for each candidate. The candidates are kept. If the walk
+    /// isn't valid, or an allocation is refused, the outcome is unknown.
     pub fn take_answers(
         &mut self,
         alloc: Global,
@@ -608,13 +609,13 @@ impl AreaRoutes {
         };
     }
 
-    /// The candidates at a moment: for each prefix that anything in the database offers one route,
-    /// in the order of the prefixes (RFC 2328, section 16). Where they are kept, it is a copy of
-    /// them. Where no walk serves, one is made for them alone. There are at most 63 links and
+    /// The candidates at a moment: one route for each prefix that anything in the database offers,
+    /// in the order of the prefixes (RFC 2328, section 16). If they are kept, a copy of them. If
+    /// there is no valid walk, one is made for this call alone. There are at most 63 links and
     /// 16,384 LSAs.
     ///
     /// # Errors
-    /// Where memory for the walk, the offers or the routes is refused.
+    /// `AllocError` if an allocation is refused.
     pub fn candidates(
         &self,
         alloc: Global,
@@ -647,7 +648,7 @@ impl AreaRoutes {
     /// order of the prefixes.
     ///
     /// # Errors
-    /// Where memory for the candidates or the table is refused.
+    /// `AllocError` if an allocation is refused.
     pub fn table(
         &self,
         alloc: Global,
@@ -670,7 +671,7 @@ impl AreaRoutes {
     /// The candidates, and the rows of the table.
     ///
     /// # Errors
-    /// Where memory for the candidates, the table or the rows is refused.
+    /// `AllocError` if an allocation is refused.
     pub fn offered(
         &self,
         alloc: Global,
@@ -691,7 +692,7 @@ impl AreaRoutes {
         Ok(Offered { candidates, rows })
     }
 
-    // Whether some candidate stands in none of the answers, by a look at each. The candidates are
+    // Whether some candidate isn't among the answers, by searching for each. The candidates are
     // kept.
     fn lacks_answers(
         &mut self,
@@ -732,14 +733,14 @@ impl AreaRoutes {
         Ok(lacks)
     }
 
-    /// Tells whether some candidate stands in none of the answers, so that they are to be asked for
-    /// again. Where it is known that none does, no candidate is looked at. That none does is
-    /// remembered, and so are the candidates that it looked at, until an LSA says something else.
-    /// Where no walk serves, one is made. There are at most 63 links and 16,384 LSAs.
+    /// Whether some candidate isn't among the answers, so that they are to be requested again. If
+    /// it is known that each is, no candidate is looked at. That each is, and the candidates that
+    /// were calculated, are remembered until an LSA says something else. If there is no valid walk,
+    /// one is made. There are at most 63 links and 16,384 LSAs.
     ///
     /// # Errors
-    /// Where memory for the walk, the candidates, or answers in order is refused; what is known of
-    /// candidates and answers stays as it was then.
+    /// `AllocError` if an allocation is refused; what is known of candidates and answers is then
+    /// unchanged.
     pub fn is_stale(
         &mut self,
         alloc: Global,
@@ -767,7 +768,7 @@ impl AreaRoutes {
         Ok(lacks)
     }
 
-    /// How many walks were made and kept; it stays at its greatest value.
+    /// The number of walks that were made and kept, which saturates.
     pub fn walks(&self) -> u64
         ensures { result ≡ self.now.walk.walks }
     {

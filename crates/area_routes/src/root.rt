@@ -1,4 +1,4 @@
-//! Where the walks of a router begin.
+//! The root of a router's walks.
 ghost use Rattle.std.specs.Prelude.{◌≡◌, ◌↔◌, IfOk, IsTrue, map};
 ghost use Rattle.flooding.specs.Links.{present};
 ghost use Rattle.area_routes.specs.Offers.{root_by};
@@ -25,7 +25,7 @@ fn addresses_of(alloc: Global, links: &[Link]) -> Result<Vec<Address>, AllocErro
     Ok(addresses)
 }
 
-/// Where the router's walks begin.
+/// The root of the router's walks.
 pub fn root_of(alloc: Global, router: RouterId, area: &Area) -> Result<Root, AllocError>
     ensures { IfOk result (λ root. root ≡ root_by router area.now.present.links) }
 {
@@ -52,7 +52,7 @@ fn are_addresses(addresses: &[Address], links: &[Link]) -> bool
     true
 }
 
-/// Tells whether the router's walks begin here.
+/// Whether this is the root of the router's walks.
 pub fn is_root_of(root: &Root, router: RouterId, area: &Area) -> bool
     ensures { IsTrue result ↔ (root.now ≡ root_by router area.now.present.links) }
 {

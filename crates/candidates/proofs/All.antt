@@ -28,7 +28,7 @@ use Rattle.candidates.proofs.Told.{of_told_one, told_of}
 use Rattle.candidates.proofs.Each.{inner_up_to, of_each, of_said, told_up_to}
 
 module _ (said : Said) (root : Root) (ways : Ways) (are : AreWays said root ways) (routers : List Flagged) (flagged : AreFlagged said ways routers) where
-  -- ---- what the LSAs of types 1 to 4 give
+  -- ---- the results from the LSAs of types 1 to 4
 
   module _ (bodies : List (Key × Body)) (have : HaveAll 4 said bodies) where
     pub of_inside : (first : List Offer) → Adds [] first (OfEach (IsInner root ways routers) bodies) → (o : Offer) → Contains first o ↔ OffersInside said root o

@@ -1,4 +1,5 @@
--- Without an LSA of the root's, or with one that has no link to a node, no link leads on from it, so that it alone is reached.
+-- If the root has no LSA, or one without a link to a node, no link leads on from it, so that it
+-- alone is reached.
 use Rattle.std.proofs.Common.{◌≡◌, ◌<◌, get_or, ℕ, zero, suc, Bool, true, inl, inr, List, [], ◌∷◌, slice_get, Option, None, Some, arith, refl, sym, ap, subst}
 use Rattle.std.proofs.lemmas.Bool.{false≢true}
 use Rattle.std.proofs.lemmas.List.Elements.{All-contains}
@@ -28,7 +29,7 @@ use Rattle.candidates.specs.Reached.{alone, way_in}
 pub alone_ascends : (root : Root) → Ascend (alone root).nodes
 alone_ascends root = λ i j d before within. absurd (omega (arith, before, within))
 
--- what leads on from a router is told of by its LSA
+-- a router's LSA advertises each link from it
 by_lsa : (said : Said) (root : Root) (router : ℕ) (step : Step Node) → Leads said root (ARouter router) step → HasLsa said (ARouter router)
 by_lsa said root router step leads = near_end said root (ARouter router) step.target step.price step.exit leads
 
@@ -66,7 +67,7 @@ module _ (said : Said) (root : Root) (still : (step : Step Node) → Leads said 
 pub without_lsa : (said : Said) (root : Root) → (HasLsa said (ARouter root.router) → ⊥) → (step : Step Node) → Leads said root (ARouter root.router) step → ⊥
 without_lsa said root none step leads = none (by_lsa said root root.router step leads)
 
--- a link among these isn't of a kind that leads on
+-- none of these links is of a kind that leads on
 passes : (links : List Link) (link : Link) (kind : LinkKind) → list_all (λ (l : Link). leads_nowhere l.kind) links ≡ true → Contains links link → link.kind ≡ kind → leads_nowhere kind ≡ true
 passes links link kind all among is =
     let P : LinkKind → Type 0 = λ k. leads_nowhere k ≡ true in

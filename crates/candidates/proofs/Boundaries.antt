@@ -1,4 +1,4 @@
--- The way to an AS boundary router, from what was found of it.
+-- The way to an AS boundary router, from what was found about it.
 use Rattle.std.proofs.Common.{◌≡◌, ℕ, ◌+◌, ◌<◌, List, arith, Some, None, refl, sym, ◌∙◌, ap, subst}
 use Rattle.words.specs.Prefixes.{Network}
 use Rattle.words.specs.declared.route.Route.{Route}
@@ -42,7 +42,7 @@ module _ (routers : List Flagged) (told : List Route) (router : ℕ) where
         by_case x (Inside k) = absurd (none x k)
         by_case x (Outside others other f e) = e ∙ ap way_by ((just other).0 (subst (λ p. IsFound told p other) (sym is_host) f)) ∙ sym is
 
--- ---- what is told costs little
+-- ---- what is advertised costs little
 
 pub told_below : (root : Root) (routers : List Flagged) (bodies : List (Key × Body)) (routes : List Route) → AreCloseBy routers → AreRoutesAmong (OfEach (Tells root routers) bodies) routes → AreBelow routes
 told_below root routers bodies routes close all route among =

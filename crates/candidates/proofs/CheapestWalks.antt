@@ -29,7 +29,7 @@ use Rattle.candidates.proofs.LeastWalks as least
 use Rattle.routes.specs.Said.{Said}
 use Rattle.routes.specs.Routes.{IsNoWorse, rank}
 
--- ---- offers side by side
+-- ---- offers in parallel
 
 no_worse_kind : (a b : Offer) → IsNoWorse a b → rank a.kind ≤ rank b.kind
 no_worse_kind a b (ByKind p) = omega (arith, p)
@@ -95,7 +95,7 @@ module _ (said : Said) (root : Root) where
   elsewhere node w is other [] i p e f = absurd (other (sym p))
   elsewhere node w is other (step ∷ rest) i p e f = (is.hops i).1 (step, rest, least_is node w is (step ∷ rest) p e, sym f)
 
-  -- an offer no dearer than the walk, and with its interface where it is as dear
+  -- an offer that costs no more than the walk, and with its interface if it costs the same
   record Stands (prefix : Network) (cost interface : ℕ) : Type 0 where
     offer : Offer
     offered : OffersWithin said root offer

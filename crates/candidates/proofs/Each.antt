@@ -1,4 +1,5 @@
--- What the LSAs of a list offer is what those of the database offer, if the list has all of their types.
+-- What the LSAs of a list offer is what those of the database offer, if the list has all of their
+-- types.
 use Rattle.std.proofs.Common.{◌≤◌, ℕ, List, None, Some, arith}
 use Rattle.words.specs.declared.key.Key.{Key}
 use Rattle.lsa.specs.declared.body.Body.{Body}
@@ -18,7 +19,7 @@ use Rattle.candidates.specs.declared.flagged.Flagged.{Flagged}
 
 -- ---- which types offer
 
--- only LSAs of the types up to this one offer
+-- only LSAs of the types up to this one offer something
 abbrev pub AreUpTo : ℕ → (Key × Body → Offer → Type 0) → Type 0
 AreUpTo last Q = (one : Key × Body) (o : Offer) → Q one o → one.0.ls_type ≤ last
 
@@ -30,7 +31,7 @@ inner_up_to root ways routers one o (BySummary k) = omega (arith, k.is_type)
 pub told_up_to : (root : Root) (routers : List Flagged) → AreUpTo 4 (Tells root routers)
 told_up_to root routers one o k = omega (arith, k.is_type)
 
--- ---- there and back
+-- ---- in both directions
 
 module _ (last : ℕ) (said : Said) (bodies : List (Key × Body)) (have : HaveAll last said bodies) (Q : Key × Body → Offer → Type 0) where
   pub of_said : (o : Offer) → OfEach Q bodies o → OfSaid Q said o
@@ -45,7 +46,8 @@ up_to_bodies last said bodies are = record {
   all = λ key says up is. (are.each key says).1 (up, is);
 }
 
--- what the LSAs of a list tell of external destinations is what those of the database tell
+-- what the LSAs of a list advertise about external destinations is what those of the database
+-- advertise
 pub all_external : (said : Said) (bodies : List (Key × Body)) (told : List External) → AreBodies None said bodies → AreToldBy bodies told → AreExternals said told
 all_external said bodies told are by e = (
   (λ t. let p = (by e).0 t in ((p.0.0, p.0.1), ((are.each p.0.0 p.0.1).0 p.1).1, p.2)),

@@ -1,4 +1,4 @@
--- Area border routers and AS boundary routers in a list, in the order of their Router IDs.
+-- Area border routers and AS boundary routers in a list that is sorted by their Router IDs.
 use Rattle.std.proofs.Common.{◌≡◌, ℕ, zero, suc, ◌+◌, ◌<◌, ◌≤◌, ◌⊎◌, inl, inr, false, List, [], ◌∷◌, ◌++◌, length, get_or, take, Some, None, refl, sym, ◌∙◌, ap, subst, arith}
 use Rattle.std.specs.Prelude.{◌↔◌, bit_and}
 use Rattle.std.specs.Cmp.{nat_cmp_is, nat_cmp_total}
@@ -30,11 +30,11 @@ use Rattle.candidates.specs.declared.flagged.Flagged.{Flagged}
 
 -- ---- one after another
 
--- one of them tells of it
+-- one of them describes it
 abbrev pub IsTold : {X : Type 0} → (X → Flagged → Type 0) → List X → Flagged → Type 0
 IsTold {X} Q xs r = (x : X) × Contains xs x × Q x r
 
--- just those that are told of, in order
+-- exactly those that are described, sorted
 pub record AreTold {X : Type 0} (Q : X → Flagged → Type 0) (xs : List X) (routers : List Flagged) : Type 0 where
   pub each : (r : Flagged) → Contains routers r ↔ IsTold Q xs r
   pub ascend : AscendByRouter routers
@@ -177,7 +177,7 @@ module _ (ways : Ways) where
         }),
   )
 
--- ---- found by halving
+-- ---- found by binary search
 
 not_less : (a b : ℕ) → a < b → is_lt (nat_cmp b a) ≡ false
 not_less a b less = let e : Greater ≡ nat_cmp b a = nat_cmp_is b a Greater less in ap (λ r. is_lt r) (sym e)

@@ -1,4 +1,5 @@
--- The way to an external destination, from what was found of its originator and of its forwarding address.
+-- The way to an external destination, from what was found about its originator and its forwarding
+-- address.
 use Rattle.std.proofs.Common.{◌≡◌, ◌≢◌, ℕ, List, Some, None, refl, sym, ◌∙◌, ap}
 use Rattle.words.specs.declared.route.Route.{Route}
 use Rattle.routes.specs.declared.graph.Way.{Way}

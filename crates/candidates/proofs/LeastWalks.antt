@@ -1,4 +1,5 @@
--- Where a walk is, the way can't be missing: some walk is least, and the interfaces of finitely many first links are a set.
+-- If there is a walk, there is a way: some walk has the least cost, and the interfaces of finitely
+-- many first links are a set.
 use Rattle.std.proofs.Common.{◌≡◌, ℕ, zero, suc, ◌+◌, ◌-◌, ◌*◌, ◌^◌, ◌<◌, ◌≤◌, ◌↔◌, inl, inr, IsTrue, List, ◌∷◌, arith, refl, sym, ◌∙◌, ap, subst, pow-suc}
 use Rattle.std.specs.Int.{bit_at}
 use Rattle.std.proofs.lemmas.Bool.{cases_lt}
@@ -66,7 +67,7 @@ pub chosen : (P : ℕ → Type 0) (n : ℕ) → (Chosen P n → ⊥) → ⊥
 chosen P zero none = none (record { hops = 0; below = omega arith; members = λ i within. absurd (omega (arith, within)) })
 chosen P (suc n) none = chosen P n (λ c. none (last_not P n c (λ p. none (last_is P n c p))))
 
--- where the first links leave by finitely many interfaces
+-- if the first links leave by finitely many interfaces
 pub way : {V : Type 0} (leads : V → Step V → Type 0) (from to : V) (n : ℕ) → ((s : Step V) → leads from s → s.exit < n) → (walk : List (Step V)) → IsWalk leads from walk to
     → (((w : Way) × IsWay leads from to w) → ⊥) → ⊥
 way {V} leads from to n bounded walk is none =

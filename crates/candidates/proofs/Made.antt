@@ -1,4 +1,4 @@
--- What the LSA of a key offers, from what was found of it.
+-- What the LSA with a key offers, from what was found about it.
 use Rattle.std.proofs.Common.{◌≡◌, ◌+◌, ◌⊎◌, inl, inr, List, Some, None, refl, sym, ◌∙◌, subst}
 use Rattle.words.specs.Prefixes.{Network}
 use Rattle.words.specs.declared.key.Key.{Key}

@@ -1,4 +1,4 @@
--- The way that stands beside a node.
+-- The way at a node's index.
 use Rattle.std.proofs.Common.{◌≡◌, ℕ, zero, suc, ◌<◌, ◌⊎◌, inl, inr, List, [], ◌∷◌, length, get_or, slice_get, Option, None, Some, cond, arith, refl, sym, ◌∙◌, ap, subst}
 use Rattle.std.proofs.lemmas.Bool.{cases_lt}
 use Rattle.std.proofs.lemmas.Map.Lookups.{exact_pairs, exact_unsigned}
@@ -26,7 +26,7 @@ differ e = cc
 pub never_before : (a : Node) → node_cmp a a ≡ Less → ⊥
 never_before a e = differ (sym (itself a) ∙ e)
 
--- numbers, neither of them less
+-- numbers of which neither is less
 neither : (m n : ℕ) → (nat_cmp m n ≡ Less → ⊥) → (nat_cmp n m ≡ Less → ⊥) → m ≡ n
 neither m n left right =
     elim (cases_lt m n) [
@@ -94,7 +94,7 @@ seek (first ∷ nodes) node =
       | Greater ↦ λ is. later (λ e. let no : Equal ≡ Greater = sym (subst P e (itself first)) ∙ is in cc)
     ] refl
 
--- ---- the way beside a node
+-- ---- the way at a node's index
 
 abbrev at_place : List (Option Way) → ℕ → Option Way
 at_place ways at = get_or ways at None
@@ -121,7 +121,7 @@ beside_none (first ∷ nodes) (way ∷ ways) node none =
       | Greater ↦ λ is. rest
     ] refl
 
--- what holds of all ways holds of the one beside a node
+-- what holds of all ways holds of that of a node
 pub of_beside : (P : Way → Type 0) (nodes : List Node) (ways : List (Option Way)) → ((at : ℕ) (way : Way) → at_place ways at ≡ Some way → P way) → (node : Node) (way : Way) → way_beside nodes ways node ≡ Some way → P way
 of_beside P [] ways all node way is = cc
 of_beside P (first ∷ nodes) [] all node way is = cc
@@ -133,13 +133,13 @@ of_beside P (first ∷ nodes) (one ∷ ways) all node way is =
       | Greater ↦ rest
     ] is
 
--- ---- the search by halving
+-- ---- binary search
 
--- the node isn't before the one at this place, nor after it
+-- the node at this index is neither before the node nor after it
 pub at_its_place : (nodes : List Node) (node other : Node) (at : ℕ) → slice_get nodes at ≡ Some other → (node_cmp other node ≡ Less → ⊥) → (node_cmp node other ≡ Less → ⊥) → slice_get nodes at ≡ Some node
 at_its_place nodes node other at here low high = here ∙ ap (λ n. Some n) (same_node other node low high)
 
--- those before its place are before it, and the one at its place is after it
+-- those before this index are before it, and the one at this index is after it
 pub nowhere : (nodes : List Node) → Ascend nodes → (node other : Node) (at : ℕ) → slice_get nodes at ≡ Some other → node_cmp node other ≡ Less
     → ((k : ℕ) (n : Node) → slice_get nodes k ≡ Some n → k < at → node_cmp n node ≡ Less) → (k : ℕ) → slice_get nodes k ≡ Some node → ⊥
 nowhere nodes ascend node other at there after before k here =

@@ -1,4 +1,5 @@
--- Every prefix that is offered has a candidate: of its offers some stand first, and their hops are a set.
+-- Every prefix that is offered has a candidate: one of its offers comes first, and their hops are a
+-- set.
 use Rattle.std.proofs.Common.{◌≡◌, ℕ, zero, suc, ◌+◌, ◌<◌, ◌≤◌, ◌⊎◌, inl, inr, IsTrue, List, [], ◌∷◌, length, get_or, arith, refl, sym, ◌∙◌, ap, subst}
 use Rattle.std.specs.Int.{bit_at}
 use Rattle.std.specs.List.{Contains}
@@ -30,7 +31,7 @@ use Rattle.routes.specs.Routes.{IsForwarded, IsNoLater, IsNoWorse, rank}
 use Rattle.routes.specs.Summaries.IsBoundaryWay.{Inside, Outside}
 use Rattle.routes.specs.Summaries.{IsBoundaryWay, OffersBetween, OffersInside}
 
--- of what has a number, something has the least
+-- of elements with a number, one has the least
 least_by : {X : Type 0} (P : X → Type 0) (f : X → ℕ) (n : ℕ) (x : X) → P x → f x ≤ n → (((y : X) × P y × ((z : X) → P z → f y ≤ f z)) → ⊥) → ⊥
 least_by P f zero x p within none = none (x, p, λ z q. omega (arith, within))
 least_by P f (suc n) x p within none =

@@ -1,4 +1,4 @@
--- A list of routes that ascends by prefix can be searched by halving.
+-- A list of routes that is sorted by prefix allows binary search.
 use Rattle.std.proofs.Common.{◌≡◌, ℕ, ◌+◌, ◌<◌, ◌≤◌, inl, inr, Bool, true, false, List, [], ◌∷◌, ◌++◌, take, set, Some, None, length, get_or, arith, refl, sym, ◌∙◌, ap, subst}
 use Rattle.std.specs.Cmp.{IsTotalOrder, nat_cmp_is, nat_cmp_total}
 use Rattle.std.specs.List.{Contains, HoldsAt}
@@ -118,7 +118,7 @@ one_match routes address length prefix found is just = λ route. (
       subst (IsMatch routes address length) (sym e) (record { among = f.among; under = under; is_long = long }),
 )
 
--- no network of this length or longer has the address
+-- no network of this length or longer contains the address
 abbrev pub AreShorter : List Route → ℕ → ℕ → Type 0
 AreShorter routes address length = (route : Route) → Contains routes route → IsUnder address route.prefix → route.prefix.length < length
 

@@ -1,4 +1,5 @@
--- What is told of AS boundary routers, forwarding addresses and external destinations, where the ways are those of the database's links.
+-- What is advertised about AS boundary routers, forwarding addresses and external destinations,
+-- given the ways by the database's links.
 use Rattle.std.proofs.Common.{◌≡◌, ℕ, ◌+◌, ◌≤◌, inl, inr, IsTrue, List, Some, arith, refl, sym, ◌∙◌, ap, subst}
 use Rattle.std.proofs.lemmas.Bool.{cases_lt}
 use Rattle.words.specs.Interfaces.{has_interface}
@@ -38,7 +39,7 @@ cheaper a b e (ByCost same less) = omega (arith, less)
 cheaper a b e (ByDistance same cost less) = omega (arith, cost)
 
 module _ (said : Said) (root : Root) (ways : Ways) (are : AreWays said root ways) (routers : List Flagged) (flagged : AreFlagged said ways routers) where
-  -- ---- what is told of AS boundary routers
+  -- ---- what is advertised about AS boundary routers
 
   abbrev Told : Offer → Type 0
   Told o = OfSaid (Tells root routers) said o

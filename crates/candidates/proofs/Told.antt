@@ -1,4 +1,4 @@
--- What AS-external-LSAs tell of external destinations, apart from their keys.
+-- What AS-external-LSAs advertise about external destinations, apart from their keys.
 use Rattle.std.proofs.Common.{◌≡◌, ◌≢◌, ℕ, ◌+◌, ◌<◌, ◌≤◌, ◌⊎◌, inl, inr, List, [], ◌∷◌, ◌++◌, length, get_or, take, Option, Some, None, refl, sym, ◌∙◌, ap, subst}
 use Rattle.std.specs.List.{Contains}
 use Rattle.std.proofs.lemmas.List.{take_all, take_more}
@@ -25,7 +25,7 @@ use Rattle.candidates.specs.Sources.{OfExternal}
 use Rattle.candidates.specs.declared.externals.External.{External}
 use Rattle.candidates.specs.declared.flagged.Flagged.{Flagged}
 
--- ---- what one LSA tells
+-- ---- what one LSA advertises
 
 module _ (one : Key × Body) (lsa : ExternalLsa) (its : one.1 ≡ body.External lsa) where
   pub no_network : IsJust (IsPrefix one.0.link_state_id lsa.mask) None → IsJust (TellsExternal one) None
@@ -60,7 +60,7 @@ module _ (one : Key × Body) (lsa : ExternalLsa) (its : one.1 ≡ body.External 
     }),
   )
 
--- ---- what is offered by it
+-- ---- its offer
 
 alike : (t : ExternalType) (p : Network) (a b : ExternalLsa) (by : ℕ) (w : WalkWay) → a.metric ≡ b.metric → a.tag ≡ b.tag → external_offer t p a by w ≡ external_offer t p b by w
 alike Type1 p a b by w m g = λ i. record { prefix = p; kind = External1; cost = w.distance + m i; distance = 0; hops = w.hops; tag = g i; originator = by }
@@ -146,7 +146,7 @@ module _ (root : Root) (routers : List Flagged) (told inner : List Route) where
       λ same. of_told_one e ((just e).1 refl) o ((its o).1 same),
     )
 
--- ---- what LSAs tell one after another
+-- ---- what LSAs advertise one after another
 
 abbrev IsTold : List (Key × Body) → External → Type 0
 IsTold bodies e = (one : Key × Body) × Contains bodies one × TellsExternal one e

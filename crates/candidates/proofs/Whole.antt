@@ -1,4 +1,5 @@
--- The answers of a graph of the database, at the places of its nodes, are the ways of the database.
+-- The answers of a graph of the database, at the indices of its nodes, are the ways of the
+-- database.
 use Rattle.std.proofs.Common.{ℕ, inl, inr, List, [], ◌∷◌, get_or, Option, None, Some, sym, subst}
 use Rattle.area_graph.proofs.Leads.{far_end}
 use Rattle.area_graph.proofs.Whole.{contained, placed}

@@ -6,8 +6,8 @@ use Rattle.routes.specs.Graphs.{IsGraph}
 use Rattle.routes.specs.Said.{Said}
 use Rattle.candidates.specs.declared.graph.AreaGraph.{AreaGraph}
 
--- shortest paths can be searched for: the nodes stand in their order, each with a vertex, there are
--- at most 16,384 of them, and each link leads to one
+-- the requirements of the search: the nodes are sorted, each with a vertex, there are at most
+-- 16,384 of them, and each link leads to one
 pub record IsWalkable (graph : AreaGraph) : Type 0 where
   pub interfaces : length graph.root.addresses ≤ 63
   pub ascend : Ascend graph.nodes.items
@@ -15,7 +15,7 @@ pub record IsWalkable (graph : AreaGraph) : Type 0 where
   pub few : length graph.vertices.items ≤ 16384
   pub lawful : IsGraph graph.vertices.items
 
--- the nodes of a database, and the links between them that count from the graph's root
+-- the nodes of a database, and the links between them that count, seen from the graph's root
 pub record IsAreaGraph (said : Said) (graph : AreaGraph) : Type 0 where
   pub nodes : AreNodes said graph.nodes.items
   pub vertices : AreVertices said graph.root graph.nodes.items graph.vertices.items

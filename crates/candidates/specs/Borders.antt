@@ -1,4 +1,4 @@
--- Routers with a flag that ways lead to, and what area border routers tell (RFC 2328, sections 16.2
+-- Reachable routers with a flag, and what area border routers advertise (RFC 2328, sections 16.2
 -- and 16.4).
 use Rattle.std.specs.Prelude.{◌≡◌, ◌≢◌, ◌↔◌, ◌⊎◌, ℕ, ◌+◌, ◌<◌, ◌≤◌, Bool, false, true, List, Some}
 use Rattle.std.specs.Prelude.{bit_and}
@@ -44,22 +44,22 @@ pub record IsListed (routers : List Flagged) (router flag : ℕ) (way : Way) : T
   pub has_flag : bit_and listed.flags flag ≡ flag
   pub its_way : way ≡ listed.way
 
--- just the routers with one of these flags that ways lead to, each with its flags and its way
+-- exactly the reachable routers with one of these flags, each with its flags and its way
 abbrev pub AreFlagged : Said → Ways → List Flagged → Type 0
 AreFlagged said ways routers =
     (router flag : ℕ) (way : Way) → IsBorderFlag flag
     → IsFlagged said ways router flag way ↔ IsListed routers router flag way
 
--- in the order of their Router IDs, each once
+-- sorted by their Router IDs, each once
 abbrev pub AscendByRouter : List Flagged → Type 0
 AscendByRouter routers = AllPairs (λ (a : Flagged) (b : Flagged). a.router < b.router) routers
 
--- so that sums of a way and a metric fit 32 bits
+-- so that the sum of a way and a metric fits in 32 bits
 abbrev pub AreCloseBy : List Flagged → Type 0
 AreCloseBy routers =
     (router : Flagged) → Contains routers router → router.way.distance < 1073741824
 
--- what the LSA of a key tells of its router, where a way leads to that and it has a flag
+-- what the LSA with this key says of its router, if that is reachable and has a flag
 pub record TellsFlags (ways : Ways) (one : Key × Body) (router : Flagged) : Type 0 where
   pub is_type : one.0.ls_type ≡ 1
   pub own : one.0.link_state_id ≡ one.0.advertising_router
@@ -70,7 +70,7 @@ pub record TellsFlags (ways : Ways) (one : Key × Body) (router : Flagged) : Typ
   pub its_router : router.router ≡ one.0.advertising_router
   pub its_flags : router.flags ≡ lsa.flags
 
--- the summary counts: it is of another router, an area border router that this way leads to
+-- the summary counts: it is of another router, a reachable area border router
 pub record IsCounted (root : Root) (routers : List Flagged) (originator : ℕ) (lsa : SummaryLsa)
     (border : Way) : Type 0 where
   pub reachable : lsa.metric < 16777215
@@ -79,12 +79,11 @@ pub record IsCounted (root : Root) (routers : List Flagged) (originator : ℕ) (
 
 -- ---- AS boundary routers
 
--- the address of a router's name as a network of its own, by which routers stand in a list of
--- routes
+-- a router's host prefix, by which it appears in a list of routes
 abbrev pub host : ℕ → Network
 host router = record { address = network_address 32 router; length = 32 }
 
--- the summary of the key tells of an AS boundary router
+-- the summary-LSA with this key advertises an AS boundary router
 pub record Tells (root : Root) (routers : List Flagged) (one : Key × Body)
     (o : Offer) : Type 0 where
   pub is_type : one.0.ls_type ≡ 4
@@ -97,11 +96,11 @@ pub record Tells (root : Root) (routers : List Flagged) (one : Key × Body)
 abbrev pub way_by : Route → Way
 way_by r = record { distance = r.cost; hops = r.hops }
 
--- in the order of their prefixes
+-- sorted by their prefixes
 abbrev pub Ascend : List Route → Type 0
 Ascend routes = AllPairs (λ (a : Route) (b : Route). IsBefore a.prefix b.prefix) routes
 
--- with a metric more, their costs fit 32 bits
+-- so that their costs plus a metric fit in 32 bits
 abbrev pub AreBelow : List Route → Type 0
 AreBelow routes = (route : Route) → Contains routes route → route.cost < 2147483648
 
@@ -110,7 +109,7 @@ pub record IsFound (routes : List Route) (prefix : Network) (route : Route) : Ty
   pub among : Contains routes route
   pub is_for : route.prefix ≡ prefix
 
--- within the area where there is such a way, else what is told
+-- within the area if there is such a way, else as summary-LSAs advertise
 pub data IsBoundary (routers : List Flagged) (told : List Route) (router : ℕ)
     (way : Way) : Type 0 where
   Inside : IsListed routers router 2 way → IsBoundary routers told router way
@@ -119,7 +118,7 @@ pub data IsBoundary (routers : List Flagged) (told : List Route) (router : ℕ)
 
 -- ---- forwarding addresses
 
--- a route of this length whose network has the address
+-- a route of this length whose network contains the address
 pub record IsMatch (routes : List Route) (address length : ℕ) (route : Route) : Type 0 where
   pub among : Contains routes route
   pub under : IsUnder address route.prefix
@@ -131,7 +130,7 @@ HasLengths routes lengths =
     (route : Route) → Contains routes route
     → slice_index_or lengths route.prefix.length false ≡ true
 
--- the route of the longest prefix that the address lies in
+-- the route with the longest prefix that contains the address
 pub record IsLongest (routes : List Route) (address : ℕ) (route : Route) : Type 0 where
   pub among : Contains routes route
   pub under : IsUnder address route.prefix
@@ -147,7 +146,7 @@ pub record IsOutwardBy (routers : List Flagged) (told inner : List Route) (origi
   pub forwarded : forwarding ≢ 0
       → (route : Route) × IsLongest inner forwarding route × (way ≡ way_by route)
 
--- the same by what an LSA says
+-- the same for what an LSA says
 abbrev pub IsOutward : List Flagged → (told inner : List Route) → ℕ → ExternalLsa → Way → Type 0
 IsOutward routers told inner originator lsa way =
     IsOutwardBy routers told inner originator lsa.forwarding way

@@ -1,5 +1,5 @@
--- What AS-external-LSAs tell of external destinations, apart from their keys (RFC 2328, sections
--- 16.4 and A.4.5).
+-- What AS-external-LSAs advertise about external destinations, apart from their keys (RFC 2328,
+-- sections 16.4 and A.4.5).
 use Rattle.std.specs.Prelude.{◌≡◌, ◌≢◌, ◌↔◌, ◌<◌, List, [], Some}
 use Rattle.std.specs.List.{Contains}
 use Rattle.words.specs.declared.key.Key.{Key}
@@ -17,7 +17,7 @@ use Rattle.candidates.specs.Borders.{IsOutwardBy}
 use Rattle.candidates.specs.declared.externals.External.{External}
 use Rattle.candidates.specs.declared.flagged.Flagged.{Flagged}
 
--- the AS-external-LSA of this key tells it
+-- the AS-external-LSA with this key advertises it
 pub record TellsExternal (one : Key × Body) (e : External) : Type 0 where
   pub is_type : one.0.ls_type ≡ 5
   pub lsa : ExternalLsa
@@ -29,19 +29,19 @@ pub record TellsExternal (one : Key × Body) (e : External) : Type 0 where
   pub forwarding : e.forwarding ≡ lsa.forwarding
   pub tag : e.tag ≡ lsa.tag
 
--- just what these LSAs tell
+-- exactly what these LSAs advertise
 abbrev pub AreToldBy : List (Key × Body) → List External → Type 0
 AreToldBy bodies told =
     (e : External) → Contains told e
     ↔ ((one : Key × Body) × Contains bodies one × TellsExternal one e)
 
--- just what the LSAs that say something tell
+-- exactly what the LSAs of the database advertise
 abbrev pub AreExternals : Said → List External → Type 0
 AreExternals said told =
     (e : External) → Contains told e
     ↔ ((one : Key × Body) × (said one.0 ≡ Some one.1) × TellsExternal one e)
 
--- what is offered where this way leads out
+-- the offer with this way to the originator or forwarding address
 abbrev pub offer_by : External → Way → Offer
 offer_by e way =
     external_offer e.kind e.prefix
@@ -55,7 +55,7 @@ offer_by e way =
     })
     e.originator (record { distance = way.distance; hops = way.hops })
 
--- what is offered by what is told: by another router, of a metric below LSInfinity
+-- the offer of an external destination: of another router, with a metric below LSInfinity
 pub record OfTold (root : Root) (routers : List Flagged) (told inner : List Route) (e : External)
     (o : Offer) : Type 0 where
   pub reachable : e.metric < 16777215

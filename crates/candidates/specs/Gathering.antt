@@ -3,12 +3,12 @@ use Rattle.std.specs.Prelude.{◌≡◌, ◌<◌, ◌↔◌, ◌⊎◌, List, Op
 use Rattle.std.specs.List.{Contains}
 use Rattle.routes.specs.declared.offer.Offer.{Offer}
 
--- the one thing of which P holds, or none
+-- the only one of which P holds, or None if there is none
 abbrev pub IsJust : {X : Type 0} → (X → Type 0) → Option X → Type 0
 IsJust {X} P None = (x : X) → P x → ⊥
 IsJust {X} P (Some it) = (x : X) → P x ↔ (x ≡ it)
 
--- the new list has what the old one has, and what P holds of
+-- the new list has exactly the elements of the old one and those of which P holds
 abbrev pub Adds : List Offer → List Offer → (Offer → Type 0) → Type 0
 Adds old new P = (o : Offer) → Contains new o ↔ (Contains old o ⊎ P o)
 
@@ -16,6 +16,6 @@ Adds old new P = (o : Offer) → Contains new o ↔ (Contains old o ⊎ P o)
 abbrev pub OfEach : {X : Type 0} → (X → Offer → Type 0) → List X → Offer → Type 0
 OfEach {X} Q xs o = (x : X) × Contains xs x × Q x o
 
--- with a metric more, their costs fit 32 bits
+-- so that their costs plus a metric fit in 32 bits
 abbrev pub AreCheap : List Offer → Type 0
 AreCheap offers = (o : Offer) → Contains offers o → o.cost < 2147483648

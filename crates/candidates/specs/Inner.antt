@@ -1,5 +1,5 @@
--- What the LSAs of types 1 to 4 give (RFC 2328, sections 16.1 to 16.3), on which external
--- destinations rest (section 16.4).
+-- The results from the LSAs of types 1 to 4 (RFC 2328, sections 16.1 to 16.3), on which external
+-- destinations depend (section 16.4).
 use Rattle.std.specs.Prelude.{◌↔◌}
 use Rattle.std.specs.List.{Contains}
 use Rattle.candidates.specs.declared.inner.InnerRoutes.{InnerRoutes}
@@ -13,14 +13,14 @@ use Rattle.routes.specs.Summaries.{OffersInside}
 use Rattle.routes.specs.declared.offer.Offer.{Offer}
 use Rattle.routes.specs.declared.root.Root.{Root}
 
--- each is in its order, and with a metric more no cost passes 32 bits
+-- each list is sorted, and no cost plus a metric exceeds 32 bits
 pub record AreSearchable (inner : InnerRoutes) : Type 0 where
   pub flagged : AscendByRouter inner.flagged.items × AreCloseBy inner.flagged.items
   pub told : Ascend inner.told.items × AreBelow inner.told.items
   pub networks : Ascend inner.networks.items × AreBelow inner.networks.items
   pub lengths : HasLengths inner.networks.items inner.lengths
 
--- they are those of what the LSAs say, where these are the ways of their links
+-- the results from what the LSAs say, given the ways by their links
 pub record AreInner (said : Said) (root : Root) (ways : Ways) (inner : InnerRoutes) : Type 0 where
   pub flagged : AreFlagged said ways inner.flagged.items
   pub told : AreRoutesAmong (OfSaid (Tells root inner.flagged.items) said) inner.told.items

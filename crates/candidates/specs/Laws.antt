@@ -1,4 +1,4 @@
--- What candidates have to do with offers and with walks (RFC 2328, sections 16.1 and 16.4).
+-- How candidates relate to offers and to walks (RFC 2328, sections 16.1 and 16.4).
 use Rattle.std.specs.Prelude.{◌≡◌, ℕ, ◌+◌, ◌≤◌, ◌↔◌, IsTrue, List, [], ◌∷◌}
 use Rattle.std.specs.List.{Contains}
 use Rattle.words.specs.Interfaces.{has_interface}
@@ -24,14 +24,14 @@ EveryOfferHasACandidate =
     → Offers said root o
     → (r : Route) × Contains routes r × (r.prefix ≡ o.prefix)
 
--- ---- routes within the area in words of walks alone
+-- ---- routes within the area, in terms of walks alone
 
--- the interface of the first link; 0 where there is none, since the walk ends at the root
+-- the interface of the first link; 0 if there is none, since the walk ends at the root
 abbrev pub first_exit : List (Step Node) → ℕ
 first_exit [] = 0
 first_exit (step ∷ rest) = step.exit
 
--- a walk to a node that attaches the network costs this much in all, and leaves by this interface
+-- a walk to a node that attaches the network has this total cost, and leaves by this interface
 pub record IsReached (said : Said) (root : Root) (prefix : Network) (cost interface : ℕ) : Type 0
   where
     pub node : Node
@@ -42,19 +42,19 @@ pub record IsReached (said : Said) (root : Root) (prefix : Network) (cost interf
     pub costs : cost ≡ price_of walk + more
     pub leaves_by : interface ≡ first_exit walk
 
--- what candidates have to do with walks: those within the area are the cheapest walks, with all
--- their interfaces
+-- how candidates relate to walks: those within the area are the cheapest walks, with all their
+-- interfaces
 pub record CandidatesAreCheapestWalks : Type 0 where
-  -- where a walk reaches the network, its candidate is one within the area, and costs no more than
-  -- the walk
+  -- if a walk reaches the network, its candidate is one within the area, and costs no more than the
+  -- walk
   pub preferred : (said : Said) (root : Root) (r : Route) (cost interface : ℕ)
       → IsCandidate said root r → IsReached said root r.prefix cost interface → r.kind ≡ Intra
   pub cheapest : (said : Said) (root : Root) (r : Route) (cost interface : ℕ)
       → IsCandidate said root r → IsReached said root r.prefix cost interface → r.cost ≤ cost
-  -- some walk costs what a candidate within the area does
+  -- some walk has the cost of a candidate within the area
   pub reached : (said : Said) (root : Root) (r : Route) → IsCandidate said root r → r.kind ≡ Intra
       → (interface : ℕ) × IsReached said root r.prefix r.cost interface
-  -- the next hops are the interfaces of all walks of its cost, and no others
+  -- the next hops are exactly the interfaces of all walks with its cost
   pub hops : (said : Said) (root : Root) (r : Route) → IsCandidate said root r → r.kind ≡ Intra
       → (interface : ℕ)
       → IsTrue (has_interface r.hops interface) ↔ IsReached said root r.prefix r.cost interface

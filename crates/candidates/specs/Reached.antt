@@ -7,24 +7,24 @@ use Rattle.routes.specs.declared.node.Node.{Node}
 use Rattle.routes.specs.declared.node.Node.TheVariants.{ARouter}
 use Rattle.routes.specs.declared.root.Root.{Root}
 
--- nodes, and at the place of each the way to it
+-- nodes, and at the index of each the way to it
 pub record NodeWays : Type 0 where
   pub nodes : List Node
   pub ways : List (Option Way)
 
--- the nodes stand in their order, each with a way or none beside it
+-- the nodes are sorted, each with a way or None
 pub record AreBeside (reached : NodeWays) : Type 0 where
   pub ascend : Ascend reached.nodes
   pub count : length reached.ways ≡ length reached.nodes
 
--- the way that stands beside the node
+-- the way at the node's index
 abbrev pub way_beside : List Node → List (Option Way) → Node → Option Way
 way_beside [] ways node = None
 way_beside (first ∷ nodes) [] node = None
 way_beside (first ∷ nodes) (way ∷ ways) node =
     if is_eq (node_cmp first node) then way else way_beside nodes ways node
 
--- the way to a node, or none where it isn't among them or has none
+-- the way to a node; None if it isn't among them or has none
 abbrev pub way_in : NodeWays → Node → Option Way
 way_in reached node = way_beside reached.nodes reached.ways node
 

@@ -1,5 +1,5 @@
--- What the LSA of a key offers, where these are the ways to all nodes (RFC 2328, sections 16.1,
--- 16.2 and 16.4).
+-- What the LSA with a key offers, given the ways to all nodes (RFC 2328, sections 16.1, 16.2 and
+-- 16.4).
 use Rattle.std.specs.Prelude.{◌≡◌, ◌≢◌, ℕ, ◌+◌, ◌<◌, List, Some, nat_eq, if◌then◌else◌}
 use Rattle.words.specs.Prefixes.{Network}
 use Rattle.words.specs.declared.key.Key.{Key}
@@ -26,14 +26,14 @@ use Rattle.candidates.specs.declared.flagged.Flagged.{Flagged}
 
 -- ---- within the area (section 16.1)
 
--- what a stub link offers, where this way leads to its router
+-- the offer of a stub link, given the way to its router
 pub record IsStub (way : Way) (link : Link) (o : Offer) : Type 0 where
   pub is_stub : link.kind ≡ Stub
   pub prefix : Network
   pub is_prefix : IsPrefix link.link_id link.link_data prefix
   pub is : o ≡ intra prefix (way.distance + link.metric) way.hops
 
--- the root's own networks are offered by no other hop than 0
+-- the root's own networks have only hop 0
 abbrev pub leaving : Root → ℕ → Way → Way
 leaving root router way = if nat_eq router root.router then record way { hops = 1 } else way
 
@@ -69,7 +69,7 @@ pub record OfSummary (root : Root) (routers : List Flagged) (one : Key × Body)
   pub is_prefix : IsPrefix one.0.link_state_id lsa.mask prefix
   pub is : o ≡ inter prefix (border.distance + lsa.metric) border.hops
 
--- what a key's LSA offers within the area and between areas
+-- what the LSA with a key offers within the area and between areas
 pub data IsInner (root : Root) (ways : Ways) (routers : List Flagged) (one : Key × Body)
     (o : Offer) : Type 0 where
   ByRouter : OfRouter root ways one o → IsInner root ways routers one o

@@ -40,7 +40,7 @@ fn push_stubs(links: &[Link], way: Way, offers: &mut Vec<Offer>) -> Result<(), A
     Ok(())
 }
 
-// The root's own networks are offered by no other hop than 0.
+// The root's own networks have only hop 0.
 fn leaving(root: &Root, router: RouterId, way: Way) -> Way
     ensures value { result ≡ leaving root.now router way }
     ensures near { result.distance ≡ way.distance }
@@ -119,7 +119,7 @@ fn summary_offer(root: &Root, routers: &[Flagged], key: &Key, body: &Body) -> Op
 /// Adds what this LSA offers within the area and between areas.
 ///
 /// # Errors
-/// Where memory for the offers is refused.
+/// `AllocError` if an allocation is refused.
 pub fn push_inner<W: Ways>(
     root: &Root,
     ways: &W,

@@ -1,5 +1,5 @@
-//! Area border routers, AS boundary routers, and what summaries tell of these (RFC 2328, sections
-//! 16.2 and 16.4).
+//! Area border routers, AS boundary routers, and what summary-LSAs advertise about these (RFC 2328,
+//! sections 16.2 and 16.4).
 ghost use Rattle.std.specs.Prelude.{◌≡◌, ◌<◌, IfSome};
 ghost use Rattle.candidates.specs.Borders.{
   AreBelow,
@@ -19,10 +19,10 @@ use lsa::{Body, SummaryLsa};
 use routes::{Offer, Root, Way};
 use words::{Key, Route, RouterId};
 
-// LSInfinity (RFC 2328, appendix B): what has this metric can't be reached.
+// LSInfinity (RFC 2328, appendix B): a destination with this metric is unreachable.
 pub const LS_INFINITY: u32 = 0xff_ffff;
 
-/// The way to the area border router of a summary that counts.
+/// The way to the area border router of a summary-LSA, if that counts.
 pub fn counted_border(
     root: &Root,
     routers: &[Flagged],
@@ -41,8 +41,8 @@ pub fn counted_border(
     flagged_way(routers, 0, originator, BORDER)
 }
 
-/// What the summary of this key tells of an AS boundary router, as an offer of the router's name
-/// (RFC 2328, section 16.4).
+/// What the summary-LSA with this key advertises about an AS boundary router, as an offer for the
+/// router's host prefix (RFC 2328, section 16.4).
 pub fn told_offer(root: &Root, routers: &[Flagged], key: &Key, body: &Body) -> Option<Offer>
     requires ascend { AscendByRouter routers.now }
     requires close { AreCloseBy routers.now }
@@ -62,8 +62,8 @@ pub fn told_offer(root: &Root, routers: &[Flagged], key: &Key, body: &Body) -> O
     ))
 }
 
-/// The way to an AS boundary router: within the area where there is one, else what is told. Among
-/// the routers of the area it is looked for at this place first.
+/// The way to an AS boundary router: within the area if there is one, else as summary-LSAs
+/// advertise. The search among the routers of the area begins at index `place`.
 pub fn boundary_way(
     routers: &[Flagged],
     place: usize,

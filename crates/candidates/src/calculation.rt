@@ -1,4 +1,4 @@
-//! Of all that a database offers, the best for each prefix (RFC 2328, section 16).
+//! The best of all offers of a database for each prefix (RFC 2328, section 16).
 ghost use Rattle.std.specs.Prelude.{◌≡◌, ◌≤◌, IfOk, length};
 ghost use Rattle.std.specs.FinMap as finite;
 ghost use Rattle.std.specs.List.{Contains};
@@ -22,12 +22,12 @@ use routes::Root;
 use std::alloc::{AllocError, Global};
 use words::{Route, Second};
 
-/// The candidates of a database at a moment: for each prefix that anything offers one route, and no
-/// others, in the order of the prefixes (RFC 2328, section 16). The database has at most 16,384
+/// The candidates of a database at a moment: exactly one route for each prefix that anything
+/// offers, in the order of the prefixes (RFC 2328, section 16). The database has at most 16,384
 /// LSAs, the root at most 63 interfaces.
 ///
 /// # Errors
-/// Where memory for the walk, the offers or the routes is refused.
+/// `AllocError` if an allocation is refused.
 pub fn candidates(
     alloc: Global,
     db: &Lsdb,
@@ -48,13 +48,13 @@ pub fn candidates(
     Ok(routes)
 }
 
-/// The candidates of a database at a moment, where these are the ways of its links: for each prefix
-/// that anything offers one route, in the order of the prefixes (RFC 2328, section 16). The time is
-/// that of one walk over the LSAs, of a search by halving for each summary and external
-/// destination, and of two sorts of the offers.
+/// The candidates of a database at a moment, given the ways by its links: one route for each prefix
+/// that anything offers, in the order of the prefixes (RFC 2328, section 16). It takes the time of
+/// one pass over the LSAs, of a binary search for each summary and external destination, and of two
+/// sorts of the offers.
 ///
 /// # Errors
-/// Where memory for what LSAs say, the offers or the routes is refused.
+/// `AllocError` if an allocation is refused.
 pub fn routes_of<W: Ways>(
     alloc: Global,
     db: &Lsdb,
@@ -72,17 +72,18 @@ pub fn routes_of<W: Ways>(
     Ok(made.routes)
 }
 
-/// Candidates, with what the LSAs of types 1 to 4 give, on which external destinations rest.
+/// Candidates, with the results from the LSAs of types 1 to 4, on which external destinations
+/// depend.
 #[derive(Drop)]
 pub struct Calculated {
     pub inner: InnerRoutes,
     pub routes: Vec<Route>,
 }
 
-/// What the AS-external-LSAs of a database tell of external destinations at a moment.
+/// What the AS-external-LSAs of a database advertise about external destinations at a moment.
 ///
 /// # Errors
-/// Where memory for it, or for what LSAs say, is refused.
+/// `AllocError` if an allocation is refused.
 pub fn externals_at(alloc: Global, db: &Lsdb, moment: Second) -> Result<Vec<External>, AllocError>
     ensures { IfOk result (λ told. AreExternals (said_at moment db.now.present) told.items) }
 {
@@ -91,11 +92,11 @@ pub fn externals_at(alloc: Global, db: &Lsdb, moment: Second) -> Result<Vec<Exte
     Ok(told)
 }
 
-/// The candidates of a database at a moment as `routes_of` gives them, with what those to external
-/// destinations rest on, where it is known what AS-external-LSAs tell at the moment.
+/// The candidates of a database at a moment as `routes_of` gives them, with what external
+/// destinations depend on. `externals` is what AS-external-LSAs advertise at the moment.
 ///
 /// # Errors
-/// Where memory for what LSAs say, the offers or the routes is refused.
+/// `AllocError` if an allocation is refused.
 pub fn calculate<W: Ways>(
     alloc: Global,
     db: &Lsdb,
@@ -119,8 +120,8 @@ pub fn calculate<W: Ways>(
     Ok(Calculated { inner, routes })
 }
 
-// The routes of what these offer and of what is offered beside it by what AS-external-LSAs tell:
-// where these tell nothing, the networks.
+// The routes of the inner offers and of the offers of these AS-external-LSAs; only the networks if
+// there are none.
 fn with_externals(
     alloc: Global,
     root: &Root,

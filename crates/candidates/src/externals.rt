@@ -22,8 +22,9 @@ use lsa::Body;
 use routes::{Offer, Root, Way};
 use words::{Address, ExternalType, Key, Prefix, Route, RouterId};
 
-/// What external destinations are reached by: AS boundary routers that summaries tell of, by their
-/// names, and the networks within and between areas, both in the order of their prefixes.
+/// What external destinations are reached by: AS boundary routers that summary-LSAs advertise, by
+/// their host prefixes, and the networks within and between areas, both in the order of their
+/// prefixes.
 #[derive(Drop)]
 pub struct Inner<'a> {
     pub routers: &'a [Route],
@@ -31,24 +32,24 @@ pub struct Inner<'a> {
     /// IDs.
     pub flagged: &'a [Flagged],
     pub networks: &'a [Route],
-    /// Which lengths the networks' prefixes have.
+    /// The lengths that the networks' prefixes have.
     pub lengths: &'a [bool; 33],
 }
 
-/// What an AS-external-LSA tells of a destination (RFC 2328, section A.4.5).
+/// What an AS-external-LSA advertises about a destination (RFC 2328, section A.4.5).
 #[derive(Clone, Copy, Debug)]
 pub struct External {
     pub prefix: Prefix,
     pub originator: RouterId,
     pub kind: ExternalType,
-    /// At most 0xffffff (LSInfinity), which says that it can't be reached.
+    /// At most 0xffffff (LSInfinity), which means unreachable.
     pub metric: u32,
-    /// Where its traffic goes, or 0.0.0.0 for the originator.
+    /// Where its traffic is forwarded to; 0.0.0.0 for the originator.
     pub forwarding: Address,
     pub tag: u32,
 }
 
-/// What the AS-external-LSA of this key tells, if it is one whose mask gives a network.
+/// What the AS-external-LSA with this key advertises, if it is one and its mask gives a network.
 pub fn told_external(key: &Key, body: &Body) -> Option<External>
     ensures { IsJust (TellsExternal (key.now, body.now)) result }
 {
@@ -69,8 +70,8 @@ pub fn told_external(key: &Key, body: &Body) -> Option<External>
     })
 }
 
-// The way to an external destination: to its forwarding address, or to its originator where that is
-// 0.0.0.0. The originator is looked for at this place first.
+// The way to an external destination: to its forwarding address, or to its originator if that is
+// 0.0.0.0. The search for the originator begins at index `place`.
 fn outward_way(
     inner: &Inner<'_>,
     place: usize,
@@ -93,8 +94,8 @@ fn outward_way(
     Some(way_by(route))
 }
 
-/// What is offered by what an AS-external-LSA tells. These are the places where its originator is
-/// looked for first.
+/// The offer of an AS-external-LSA that advertises this. The search for its originator begins at
+/// its index in `places`.
 pub fn offer_told(root: &Root, inner: &Inner<'_>, places: &[u16], told: &External) -> Option<Offer>
     requires flagged { AscendByRouter inner.now.flagged.now × AreCloseBy inner.now.flagged.now }
     requires routers { Ascend inner.now.routers.now × AreBelow inner.now.routers.now }

@@ -23,7 +23,7 @@ use std::alloc::{AllocError, Global};
 use std::cmp::Ordering;
 use words::{Key, RouterId};
 
-/// A router that a way leads to, with the flags of its router-LSA.
+/// A reachable router, with the flags of its router-LSA.
 #[derive(Clone, Copy, Debug)]
 pub struct Flagged {
     pub router: RouterId,
@@ -36,7 +36,7 @@ pub const BORDER: u8 = 1;
 
 pub const BOUNDARY: u8 = 2;
 
-// The router whose LSA has this key, if it has a flag and a way leads there.
+// The router whose LSA has this key, if it has a flag and is reachable.
 fn flagged_at<W: Ways>(ways: &W, key: &Key, body: &Body) -> Option<Flagged>
     ensures { IsJust (TellsFlags (W.ways ways.now) (key.now, body.now)) result }
 {
@@ -57,11 +57,12 @@ fn flagged_at<W: Ways>(ways: &W, key: &Key, body: &Body) -> Option<Flagged>
     })
 }
 
-/// The area border routers and AS boundary routers that ways lead to, in the order of their Router
-/// IDs, so that none is looked up in the database for each LSA that it originated. The bodies are
-/// in the order of their keys, those of all router-LSAs among them.
+/// The reachable area border routers and AS boundary routers, in the order of their Router IDs, so
+/// that none is looked up in the database for each LSA that it originated. The bodies are in the
+/// order of their keys, and include those of all router-LSAs.
 ///
 /// # Errors
+/// `AllocError` if an allocation is refused.
 /// Where memory for them is refused.
 pub fn flagged_routers<W: Ways>(
     alloc: Global,
@@ -90,7 +91,7 @@ fn compare(listed: &Flagged, router: RouterId) -> Ordering
     listed.router.number().cmp(&router.number())
 }
 
-// What stands at the place, if it is this router.
+// The element at this index, if it is this router.
 fn at_place(routers: &[Flagged], place: usize, router: RouterId) -> Option<Flagged>
     ensures { IfSome result (λ listed. Contains routers.now listed × (listed.router ≡ router)) }
 {
@@ -104,7 +105,7 @@ fn at_place(routers: &[Flagged], place: usize, router: RouterId) -> Option<Flagg
     Some(listed)
 }
 
-// The router among them, found at the place where it is expected or by halving.
+// The router among them, found at its expected index or by binary search.
 fn find_router(routers: &[Flagged], place: usize, router: RouterId) -> Option<Flagged>
     requires { AscendByRouter routers.now }
     ensures { IsJust (λ listed. Contains routers.now listed × (listed.router ≡ router)) result }
@@ -118,7 +119,7 @@ fn find_router(routers: &[Flagged], place: usize, router: RouterId) -> Option<Fl
     }
 }
 
-/// The way to a router that has the flag. It is looked for at this place first.
+/// The way to a router with this flag. The search begins at index `place`.
 pub fn flagged_way(routers: &[Flagged], place: usize, router: RouterId, flag: u8) -> Option<Way>
     requires ascend { AscendByRouter routers.now }
     requires close { AreCloseBy routers.now }

@@ -17,8 +17,7 @@ pub fn push_offer(offers: &mut Vec<Offer>, offer: Option<Offer>) -> Result<(), A
     Ok(())
 }
 
-/// The network of an address under a mask, or None where a zero bit of the mask stands before a
-/// one.
+/// The network of an address under a mask; `None` if a zero bit of the mask is above a one.
 pub fn network_under(address: Address, mask: Address) -> Option<Prefix>
     ensures { IsJust (IsPrefix address mask) result }
 {

@@ -1,4 +1,4 @@
-//! The graph of an area, and the walk through it.
+//! The graph of an area, and the walk over it.
 ghost use Rattle.std.specs.Prelude.{◌≡◌, ◌≤◌, length, IfOk};
 ghost use Rattle.std.specs.FinMap as finite;
 ghost use Rattle.routes.specs.Said.{Said, said_at};
@@ -13,24 +13,24 @@ use routes::{Node, Root, Vertex, least_ways};
 use std::alloc::{AllocError, Global};
 use words::Second;
 
-/// The graph of an area at a moment, from a root: the routers and transit networks, and the links
-/// between them that count (RFC 2328, section 16.1).
+/// The graph of an area at a moment, seen from a root: the routers and transit networks, and the
+/// links between them that count (RFC 2328, section 16.1).
 #[derive(Drop)]
 pub struct AreaGraph {
-    /// The router from which it is walked, with its addresses.
+    /// The router from which walks begin, with its addresses.
     pub root: Root,
-    /// The nodes, in their order.
+    /// The nodes, sorted.
     pub nodes: Vec<Node>,
-    /// Where the routers among the nodes are expected.
+    /// The expected indices of the routers among the nodes.
     pub slots: Slots,
-    /// The vertex of each node, at the same place.
+    /// The vertex of each node, at the same index.
     pub vertices: Vec<Vertex>,
 }
 
-/// The same root once more.
+/// A copy of the root.
 ///
 /// # Errors
-/// Where memory for its addresses is refused.
+/// `AllocError` if an allocation is refused.
 pub fn copy_of(root: &Root) -> Result<Root, AllocError>
     ensures { IfOk result (λ copy. copy ≡ root.now) }
 {
@@ -43,11 +43,11 @@ pub fn copy_of(root: &Root) -> Result<Root, AllocError>
 
 impl AreaGraph {
     /// The graph of a database at a moment. The database has at most 16,384 LSAs, the root at most
-    /// 63 interfaces. The time is that of two walks over the LSAs of routers and networks, and of a
-    /// look-up for each link.
+    /// 63 interfaces. It takes the time of two passes over the LSAs of routers and networks, and of
+    /// a lookup for each link.
     ///
     /// # Errors
-    /// Where memory for it is refused.
+    /// `AllocError` if an allocation is refused.
     pub fn new(
         alloc: Global,
         db: &Lsdb,
@@ -71,11 +71,11 @@ impl AreaGraph {
         })
     }
 
-    /// The ways to all nodes that walks from the root lead to (RFC 2328, section 16.1). Where the
-    /// root isn't among the nodes, it alone is reached.
+    /// The ways to all nodes that walks from the root lead to (RFC 2328, section 16.1). If the root
+    /// isn't among the nodes, it alone is reached.
     ///
     /// # Errors
-    /// Where memory for the ways is refused.
+    /// `AllocError` if an allocation is refused.
     pub fn walk(&self, alloc: Global) -> Result<Reached, AllocError>
         requires { IsWalkable self.now }
         ensures ways { IfOk result (λ reached. (said : Said) → IsAreaGraph said self.now

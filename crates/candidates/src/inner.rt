@@ -1,5 +1,5 @@
-//! What the LSAs of types 1 to 4 give (RFC 2328, sections 16.1 to 16.3), on which external
-//! destinations rest (section 16.4).
+//! The results from the LSAs of types 1 to 4 (RFC 2328, sections 16.1 to 16.3), on which external
+//! destinations depend (section 16.4).
 ghost use Rattle.std.specs.Prelude.{◌≡◌, IfOk};
 ghost use Rattle.candidates.specs.Inner.{AreInner, AreSearchable};
 ghost use Rattle.lsdb.specs.Bodies.{InOrder};
@@ -17,27 +17,27 @@ use routes::{Offer, Root};
 use std::alloc::{AllocError, Global};
 use words::Route;
 
-/// What routers, networks and summaries give.
+/// The results from router-LSAs, network-LSAs and summary-LSAs.
 #[derive(Drop)]
 pub struct InnerRoutes {
-    /// The area border routers and AS boundary routers that ways lead to, in the order of their
-    /// Router IDs.
+    /// The reachable area border routers and AS boundary routers, in the order of their Router IDs.
     pub flagged: Vec<Flagged>,
-    /// What summaries tell of AS boundary routers, as routes to the routers' names.
+    /// What summary-LSAs advertise about AS boundary routers, as routes to the routers' host
+    /// prefixes.
     pub told: Vec<Route>,
     /// The networks within the area and between areas, in the order of their prefixes.
     pub networks: Vec<Route>,
-    /// Which lengths the networks' prefixes have.
+    /// The lengths that the networks' prefixes have.
     pub lengths: [bool; 33],
-    /// What is offered within the area and between areas.
+    /// The offers within the area and between areas.
     pub offers: Vec<Offer>,
 }
 
-/// What the LSAs of types 1 to 4 give. The bodies have those of these types, in the order of their
-/// keys; others among them make no difference.
+/// The results from the LSAs of types 1 to 4. The bodies include all of these types, in the order
+/// of their keys; others make no difference.
 ///
 /// # Errors
-/// Where memory for it is refused.
+/// `AllocError` if an allocation is refused.
 pub fn inner_of<W: Ways>(
     alloc: Global,
     root: &Root,

@@ -1,6 +1,6 @@
-//! The candidates for the routing table (RFC 2328, section 16): the least walks through a database
-//! (section 16.1), what its LSAs offer within the area, between areas and to external destinations
-//! (sections 16.1 to 16.4), and of all that is offered the best for each prefix.
+//! The candidates for the routing table (RFC 2328, section 16): the least-cost walks over a
+//! database (section 16.1), what its LSAs offer within the area, between areas and to external
+//! destinations (sections 16.1 to 16.4), and the best of all offers for each prefix.
 #![tactic(auto)]
 
 mod area;

@@ -1,4 +1,4 @@
-//! Offers of each kind, and routers as networks of their own.
+//! Offers of each kind, and routers as host prefixes.
 ghost use Rattle.std.specs.Prelude.{◌≡◌, ◌<◌};
 ghost use Rattle.routes.specs.Offers.{intra};
 ghost use Rattle.routes.specs.Summaries.{inter};
@@ -39,7 +39,7 @@ pub fn inter(prefix: Prefix, cost: u32, hops: u64) -> Offer
     }
 }
 
-/// An offer of an AS boundary router, where this way leads to it or to its forwarding address.
+/// An offer of an AS boundary router. The way leads to it or to the forwarding address.
 pub fn external(told: &External, way: Way) -> Offer
     requires near { way.distance < 2147483648 }
     requires metric { told.now.metric < 16777215 }
@@ -67,14 +67,14 @@ pub fn external(told: &External, way: Way) -> Offer
     }
 }
 
-/// The router's name as a network of one address, by which it stands in a list of routes.
+/// The host prefix by which the router appears in a list of routes.
 pub fn host(router: u32) -> Prefix
     ensures { result ≡ host router }
 {
     Prefix::under(Address::new(router), 32).unwrap()
 }
 
-/// The way that a route stands for.
+/// The way of a route.
 pub fn way_by(route: Route) -> Way
     ensures { result ≡ way_by route }
 {

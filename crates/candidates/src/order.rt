@@ -13,7 +13,7 @@ use std::alloc::{AllocError, Global};
 use std::cmp::Ordering;
 use words::Route;
 
-/// Orders offers by prefix, then the better first, then by originator, tag and hops.
+/// Orders offers by prefix, then better before worse, then by originator, tag and hops.
 pub fn compare(a: &Offer, b: &Offer) -> Ordering
     ensures { result ≡ offer_cmp a.now b.now }
 {
@@ -27,7 +27,7 @@ pub fn compare(a: &Offer, b: &Offer) -> Ordering
         .then(a.hops.bits().cmp(&b.hops.bits()))
 }
 
-/// Puts offers in their order.
+/// Sorts offers.
 pub fn sort(offers: &mut Vec<Offer>)
     ensures sorted { IsSorted offer_cmp offers.new.items }
     ensures same { (o : OfferValue) → Contains offers.new.items o ↔ Contains offers.old.items o }
@@ -35,10 +35,10 @@ pub fn sort(offers: &mut Vec<Offer>)
     offers.sort_unstable_by(|a, b| compare(a, b));
 }
 
-/// Puts offers in their order, and gives their routes in the order of the prefixes.
+/// Sorts offers, and returns their routes in the order of the prefixes.
 ///
 /// # Errors
-/// Where memory for the routes is refused.
+/// `AllocError` if an allocation is refused.
 pub fn routes_of_offers(alloc: Global, offers: &mut Vec<Offer>) -> Result<Vec<Route>, AllocError>
     ensures routes { IfOk result (λ routes. AreRoutesAmong
         (λ o. Contains offers.old.items o) routes.items) }

@@ -1,4 +1,4 @@
-//! Offers of all LSAs of a database.
+//! The offers of all LSAs of a database.
 ghost use Rattle.std.specs.Prelude.{◌≡◌, [], IfOk, OnOk};
 ghost use Rattle.routes.specs.Routes.{AreRoutesAmong};
 ghost use Rattle.candidates.specs.Borders.{
@@ -27,10 +27,10 @@ use routes::{Offer, Root};
 use std::alloc::{AllocError, Global};
 use words::Route;
 
-/// What summaries tell of AS boundary routers, as routes to the routers' names.
+/// What summary-LSAs advertise about AS boundary routers, as routes to the routers' host prefixes.
 ///
 /// # Errors
-/// Where memory for the offers or the routes is refused.
+/// `AllocError` if an allocation is refused.
 pub fn told_routes(
     alloc: Global,
     root: &Root,
@@ -58,7 +58,7 @@ pub fn told_routes(
 /// What the LSAs offer within the area and between areas.
 ///
 /// # Errors
-/// Where memory for the offers is refused.
+/// `AllocError` if an allocation is refused.
 pub fn inner_offers<W: Ways>(
     alloc: Global,
     root: &Root,
@@ -80,10 +80,11 @@ pub fn inner_offers<W: Ways>(
     Ok(offers)
 }
 
-/// What the AS-external-LSAs among these tell of external destinations, in the order of the bodies.
+/// What the AS-external-LSAs among these advertise about external destinations, in the order of the
+/// bodies.
 ///
 /// # Errors
-/// Where memory for it is refused.
+/// `AllocError` if an allocation is refused.
 pub fn externals_of(alloc: Global, bodies: &[KeyedBody<'_>]) -> Result<Vec<External>, AllocError>
     ensures { IfOk result (λ told. AreToldBy bodies.now told.items) }
 {
@@ -96,10 +97,10 @@ pub fn externals_of(alloc: Global, bodies: &[KeyedBody<'_>]) -> Result<Vec<Exter
     Ok(all)
 }
 
-/// Adds what is offered by what AS-external-LSAs tell.
+/// Adds the offers of these external destinations.
 ///
 /// # Errors
-/// Where memory for the offers is refused.
+/// `AllocError` if an allocation is refused.
 pub fn push_externals(
     alloc: Global,
     root: &Root,

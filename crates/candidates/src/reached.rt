@@ -9,14 +9,14 @@ use routes::{Node, Root, Way};
 use std::alloc::{AllocError, Global};
 use std::marker::Model;
 
-/// The nodes of a database and the ways to those that walks from the root lead to, as `walk` found
-/// them. It doesn't look at the database again, so it serves for as long as the LSAs of types 1 and
-/// 2 say the same. Clauses see the lists of both, the nodes in order.
+/// The nodes of a database, and the ways to those that walks from the root lead to, as `walk` found
+/// them. It doesn't refer to the database, so it is valid while the LSAs of types 1 and 2 say the
+/// same. Contracts see the lists of both, the nodes sorted.
 #[derive(Debug, Drop)]
 pub struct Reached {
     nodes: Vec<Node>,
     slots: Slots,
-    // the way to the node at the same place
+    // the way to the node at the same index
     ways: Vec<Option<Way>>,
 }
 
@@ -31,7 +31,7 @@ impl Model for Reached {
 }
 
 impl Reached {
-    // The nodes with their slots and the ways that stand beside them.
+    // The nodes with their slots, and their ways.
     pub(crate) fn new(nodes: Vec<Node>, slots: Slots, ways: Vec<Option<Way>>) -> Self
         requires ascend { Ascend nodes.items }
         requires count { length ways.items ≡ length nodes.items }
@@ -50,7 +50,7 @@ impl Ways for Reached {
     }
 }
 
-/// The place of a node, found where it is expected or by halving.
+/// The index of a node, found where it is expected or by binary search.
 pub fn find(nodes: &[Node], slots: &Slots, node: &Node) -> Option<usize>
     requires { Ascend nodes.now }
     ensures within { IfSome result (λ at. at < length nodes.now) }

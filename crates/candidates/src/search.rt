@@ -1,11 +1,11 @@
-//! Routes looked up in a list that ascends by prefix.
+//! Routes looked up in a list that is sorted by prefix.
 ghost use Rattle.std.specs.Prelude.{◌≡◌, ◌<◌, ◌≤◌};
 ghost use Rattle.candidates.specs.Borders.{Ascend, HasLengths, IsFound, IsLongest, IsMatch};
 ghost use Rattle.candidates.specs.Gathering.{IsJust};
 
 use words::{Address, Prefix, Route};
 
-/// The route for a prefix, found by halving.
+/// The route for a prefix, by binary search.
 pub fn find(routes: &[Route], prefix: Prefix) -> Option<Route>
     requires { Ascend routes.now }
     ensures { IsJust (IsFound routes.now prefix) result }
@@ -16,7 +16,7 @@ pub fn find(routes: &[Route], prefix: Prefix) -> Option<Route>
     }
 }
 
-/// Marks the lengths of the routes' prefixes, so that others need not be looked for.
+/// Marks the lengths of the routes' prefixes, so that other lengths need no search.
 pub fn lengths_of(routes: &[Route]) -> [bool; 33]
     ensures { HasLengths routes.now result }
 {
@@ -27,7 +27,7 @@ pub fn lengths_of(routes: &[Route]) -> [bool; 33]
     lengths
 }
 
-// The route of this length whose network has the address, where some route has the length.
+// The route of this length whose network contains the address; none if no route has the length.
 fn match_of_length(
     routes: &[Route],
     lengths: &[bool; 33],
@@ -46,8 +46,8 @@ fn match_of_length(
     Some(route)
 }
 
-/// The route of the longest prefix that the address lies in: the lengths that occur are tried, the
-/// longest first.
+/// The route with the longest prefix that contains the address. The lengths that occur are tried,
+/// the longest first.
 pub fn longest_match(routes: &[Route], lengths: &[bool; 33], address: Address) -> Option<Route>
     requires ascend { Ascend routes.now }
     requires lengths { HasLengths routes.now lengths.now }

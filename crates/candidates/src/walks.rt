@@ -14,16 +14,16 @@ use std::alloc::{AllocError, Global};
 use words::Second;
 
 /// The ways to all nodes that walks over the links of a database lead to: for each its least cost,
-/// and exactly the interfaces of the first links of all least walks (RFC 2328, section 16.1). Where
-/// the root's router-LSA isn't there, is at MaxAge or has no link to a router or a transit network,
-/// the root alone is reached.
+/// and exactly the interfaces of the first links of all walks with that cost (RFC 2328, section
+/// 16.1). If the root's router-LSA is missing, is at MaxAge or has no link to a router or a transit
+/// network, the root alone is reached.
 ///
-/// The database has at most 16,384 LSAs, the root at most 63 interfaces. The time is that of two
-/// walks over the LSAs of routers and networks, a look-up for each link and the search for least
-/// walks; where the root has no such link, that of one look-up.
+/// The database has at most 16,384 LSAs, the root at most 63 interfaces. It takes the time of two
+/// passes over the LSAs of routers and networks, a lookup for each link and the search; if the root
+/// has no such link, that of one lookup.
 ///
 /// # Errors
-/// Where memory for the nodes, the graph or the ways is refused.
+/// `AllocError` if an allocation is refused.
 pub fn walk(alloc: Global, db: &Lsdb, root: &Root, moment: Second) -> Result<Reached, AllocError>
     requires interfaces { length root.now.addresses ≤ 63 }
     requires size { finite.len db.now.present ≤ 16384 }

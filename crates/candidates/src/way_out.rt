@@ -9,7 +9,7 @@ use lsdb::Lsdb;
 use routes::Root;
 use words::{Key, LinkStateId, Second};
 
-// Tells whether the link is to no router and no transit network.
+// Whether the link leads to neither a router nor a transit network.
 fn leads_nowhere(link: &Link) -> bool
     ensures { result ≡ leads_nowhere link.now.kind }
 {
@@ -26,8 +26,8 @@ fn all_lead_nowhere(lsa: &RouterLsa) -> bool
     links.iter().all(|link| leads_nowhere(link))
 }
 
-/// Tells whether the root's router-LSA has stub links and virtual links alone, as before its first
-/// neighbor is Full. While a database is loaded, most walks are asked for then.
+/// Whether the root's router-LSA has only stub links and virtual links, as before its first
+/// neighbor is Full. Most walks that are requested while a database is loaded are of this kind.
 pub fn has_no_way_out(db: &Lsdb, root: &Root, moment: Second) -> bool
     ensures { IsTrue result → HasNoWayOut (said_at moment db.now.present) root.now.router }
 {

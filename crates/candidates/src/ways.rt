@@ -1,10 +1,10 @@
-//! Where the walks from the root lead, however that is kept.
+//! Where walks from the root lead, however that is stored.
 ghost use Rattle.std.specs.Prelude.{◌≡◌};
 
 use routes::{Node, Way};
 
-/// The ways to the nodes of a database, as the calculation of routes asks for them (RFC 2328,
-/// section 16.1).
+/// The ways to the nodes of a database, as the calculation of routes needs them (RFC 2328, section
+/// 16.1).
 pub trait Ways {
     ghost use Rattle.std.specs.Prelude.{Option};
     ghost use Rattle.routes.specs.declared.graph.Way.{Way as WayTo};
@@ -12,7 +12,7 @@ pub trait Ways {
 
     ghost ways: { Self → NodeAt → Option WayTo };
 
-    /// The way to a node, or None where no walk leads there.
+    /// The way to a node; `None` if no walk leads there.
     fn way_to(&self, node: &Node) -> Option<Way>
         ensures { result ≡ ways self.now node.now };
 }

@@ -30,7 +30,7 @@ has_copy : (moment : ℕ) (copy : Option DatabaseCopy) (says : Body) → said_by
 has_copy moment None says e = absurd (cc)
 has_copy moment (Some copy) says e = refl
 
--- what an LSA offers to the destination has its Link State ID in it
+-- the Link State ID of an LSA with an offer to the destination is in the destination
 pub lies : (root : Root) (inner : InnerRoutes) (prefix : Network) (one : Key × Body) (o : Offer) → SaysTo root inner prefix one o → LiesUnder prefix one.0
 lies root inner prefix one o (q, e) =
     let key = one.0 in
@@ -38,7 +38,7 @@ lies root inner prefix one o (q, e) =
     let Under : Network → Type 0 = λ n. LiesUnder n key in
     subst Under here (q.is_type, sym q.is_prefix.2)
 
--- the first of the routes, all of which are for one prefix
+-- the first of the routes, if all of them are for one prefix
 only_one : (routes : List Route) (prefix : Network) → ((r : Route) → Contains routes r → r.prefix ≡ prefix) → (r : Route) → Contains routes r
     → ((k : Route) (later : List Route) → routes ≡ k ∷ later → Contains later r → IsBefore k.prefix r.prefix) → slice_get routes 0 ≡ Some r
 only_one [] prefix all r among before = absurd (of_empty r among)
@@ -118,7 +118,7 @@ module _ (moment : ℕ) (db : Database) (root : Root) (inner : InnerRoutes) (pre
 
 -- ---- of one LSA
 
--- the one offer of which Q holds, where P holds of the same
+-- the only offer of which Q holds, if P holds of the same ones
 pub just_such : (P Q : Offer → Type 0) (o : Option Offer) → ((x : Offer) → P x → Q x) → ((x : Offer) → Q x → P x) → IsJust Q o → IsJust P o
 just_such P Q None forth back none = λ x p. none x (forth x p)
 just_such P Q (Some it) forth back just = λ x. ((λ p. (just x).0 (forth x p)), (λ e. back x ((just x).1 e)))

@@ -1,4 +1,4 @@
--- The candidates, of which those for the first so many destinations are calculated anew.
+-- The candidates after those for the first destinations are recalculated.
 use Rattle.std.proofs.Common.{◌≡◌, ◌⊎◌, inl, inr, List, [], ◌∷◌, ◌++◌, sym, subst}
 use Rattle.std.specs.List.{Contains}
 use Rattle.std.specs.Prelude.{Some, ◌↔◌}
@@ -16,7 +16,7 @@ use Rattle.external_updates.specs.Placing.{AreHalfway, HasAnother, HasAnotherTo,
 use Rattle.external_updates.proofs.Networks.{among_or_not, same_or_not}
 use Rattle.external_updates.proofs.Staying.{untouched_kept}
 
--- a candidate for one of these destinations is none of the routes of before
+-- a candidate for one of these destinations isn't among the old routes
 abbrev pub HasAnotherOf : Said → Root → (done : List Network) → (before : List Route) → Type 0
 HasAnotherOf said root done before = (r : Route) × IsCandidate said root r × Contains done r.prefix × (Contains before r → ⊥)
 
@@ -83,11 +83,12 @@ module _ (old new : Said) (root : Root) where
       ascending = renewed.ascending;
     }
 
-    -- one that is new so far is new
+    -- one that was new before is still new
     pub still_another : (before : List Route) → HasAnotherOf new root done before → HasAnotherOf new root more before
     still_another before (r, k, among, none) = (r, k, Contains-append_left done (prefix ∷ []) r.prefix among, none)
 
-    -- one that comes for this destination is new, since those for the destinations before it are candidates of now
+    -- a new one for this destination is new for all, since those for the destinations before it are
+    -- current
     pub first_another : (before routes : List Route) → AreCandidates old root before → AreHalfway old new root done routes → HasAnotherTo new root prefix routes → HasAnotherOf new root more before
     first_another before routes were half (r, k, its, none) = (
       r,

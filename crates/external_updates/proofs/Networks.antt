@@ -1,4 +1,4 @@
--- Networks are equal or not, and stand in a list or don't.
+-- Equality of networks, and their membership in lists, are decidable.
 use Rattle.std.proofs.Common.{◌≡◌, ◌⊎◌, inl, inr, ℕ, ◌<◌, ◌≤◌, length, get_or, Bool, true, false, ◌&&◌, ◌==◌, eqb-true, eq-eqb, List, [], ◌∷◌, arith, ap, sym, subst, ◌∙◌}
 use Rattle.std.specs.Cmp.{nat_cmp_is}
 use Rattle.std.specs.List.{Contains, HoldsAt}
@@ -26,7 +26,7 @@ same_or_not a b =
           ]
     ]
 
--- what `==` of two networks tells
+-- the result of `==` on two networks
 abbrev pub are_equal : Network → Network → Bool
 are_equal a b = (a.address == b.address) && (a.length == b.length)
 

@@ -1,4 +1,4 @@
--- Routes in the order of their prefixes stay so where one takes the place of the one for its prefix.
+-- Routes remain sorted by their prefixes when the one for a prefix is replaced.
 use Rattle.std.proofs.Common.{◌≡◌, ℕ, ◌+◌, ◌-◌, ◌<◌, ◌≤◌, ◌⊎◌, inl, inr, List, length, get_or, set, Option, Some, None, arith, refl, sym, ◌∙◌, ap, subst}
 use Rattle.std.specs.List.{Contains, insert, remove}
 use Rattle.std.specs.Prelude.{slice_get}
@@ -17,7 +17,7 @@ use Rattle.external_updates.specs.Placing.{IsGap, IsPlaced, IsThere}
 abbrev Before : Route → Route → Type 0
 Before a b = IsBefore a.prefix b.prefix
 
--- ---- in the place of the one for the prefix
+-- ---- at the index of the one for the prefix
 
 module _ (old : List Route) (prefix : Network) (up : Ascend old) (at : ℕ) (there : IsThere old prefix at) where
   within : at < length old
@@ -37,7 +37,7 @@ module _ (old : List Route) (prefix : Network) (up : Ascend old) (at : ℕ) (the
   other : (k : ℕ) (r : Route) → k < length old → (k ≡ at → ⊥) → get_or old k r ≡ r → r.prefix ≡ prefix → ⊥
   other k r inside apart is its = others k r inside apart (ap (λ (x : Route). x.prefix) is ∙ its)
 
-  -- the one that is for it stands there
+  -- the one that is for it is there
   pub stands_there : (r : Route) → Contains old r → r.prefix ≡ prefix → slice_get old at ≡ Some r
   stands_there r (k, inside, is) its =
       elim (cases_eq k at) [
@@ -48,7 +48,7 @@ module _ (old : List Route) (prefix : Network) (up : Ascend old) (at : ℕ) (the
   not_at : (k : ℕ) (r : Route) → get_or old k r ≡ r → (r.prefix ≡ prefix → ⊥) → k ≡ at → ⊥
   not_at k r is differs same = differs (ap (λ (x : Route). x.prefix) (sym is ∙ ap (λ n. get_or old n r) same) ∙ here r)
 
-  -- ---- taken out
+  -- ---- removed
 
   out_forth : (r : Route) → Contains (remove old at) r → Contains old r × (r.prefix ≡ prefix → ⊥)
   out_forth r (k, inside, is) =
@@ -83,7 +83,7 @@ module _ (old : List Route) (prefix : Network) (up : Ascend old) (at : ℕ) (the
     ascending = all_pairs_remove Before old at within up;
   }
 
-  -- ---- written over
+  -- ---- overwritten
 
   module _ (best : Route) (its : best.prefix ≡ prefix) where
     size : length (set old at best) ≡ length old
@@ -140,7 +140,7 @@ module _ (old : List Route) (prefix : Network) (up : Ascend old) (at : ℕ) (the
       ascending = in_order;
     }
 
--- ---- where there was none
+-- ---- if there was none
 
 module _ (old : List Route) (prefix : Network) (up : Ascend old) (at : ℕ) (gap : IsGap old prefix at) where
   within_ : at ≤ length old
@@ -199,7 +199,7 @@ module _ (old : List Route) (prefix : Network) (up : Ascend old) (at : ℕ) (gap
         let same : best ≡ r = cc in
         (at, omega (arith, within_, size_), get_or-insert_at old at best r within_ ∙ same)
 
-    -- its place is right
+    -- its index is right
     before_it : (k : ℕ) (d : Route) → k < at → IsBefore (get_or old k d).prefix best.prefix
     before_it k d low = subst (λ n. IsBefore (get_or old k d).prefix n) (sym its) (gap.before k d low)
 

@@ -1,4 +1,4 @@
--- What stays where AS-external-LSAs alone say something else.
+-- What is unchanged while only AS-external-LSAs say something else.
 use Rattle.std.proofs.Common.{◌≡◌, ℕ, inl, inr, List, refl, arith, sym, ap, subst, ◌∙◌}
 use Rattle.lsa.specs.declared.body.Body.TheVariants as body
 use Rattle.lsa.specs.declared.body.ExternalLsa.{ExternalLsa}
@@ -29,7 +29,7 @@ use Rattle.kept_routes.proofs.Inner.{AgreeInside, external_way, inside, turned}
 use Rattle.external_updates.specs.Changes.{IsUntouched, TellsOf}
 use Rattle.external_updates.specs.Laws.{InnerRoutesAreKept, UntouchedCandidatesAreKept}
 
--- ---- what the LSAs of types 1 to 4 give
+-- ---- the results from the LSAs of types 1 to 4
 
 module _ (old new : Said) (same : AgreeInside old new) where
   flagged : (ways : Ways) (router flag : ℕ) (way : Way) → IsFlagged old ways router flag way → IsFlagged new ways router flag way
@@ -60,7 +60,7 @@ inner_kept old new root ways inner same are =
       );
     }
 
--- ---- a destination of which the same AS-external-LSAs tell
+-- ---- a destination that the same AS-external-LSAs advertise
 
 pub its_prefix : (kind : ExternalType) (prefix : Network) (lsa : ExternalLsa) (originator : ℕ) (way : WalkWay) → (external_offer kind prefix lsa originator way).prefix ≡ prefix
 its_prefix Type1 prefix lsa originator way = refl

@@ -1,4 +1,4 @@
--- What an AS-external-LSA tells of.
+-- What an AS-external-LSA advertises.
 use Rattle.std.proofs.Common.{◌≡◌, Option, None, Some, ap, sym}
 use Rattle.lsa.specs.declared.body.Body.{Body}
 use Rattle.lsa.specs.declared.body.Body.TheVariants as body

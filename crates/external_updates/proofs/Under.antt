@@ -1,4 +1,4 @@
--- The keys of the AS-external-LSAs whose Link State IDs lie in a network follow one another.
+-- The keys of the AS-external-LSAs whose Link State IDs are in a network are contiguous.
 use Rattle.std.proofs.Common.{◌≡◌, ℕ, zero, suc, ◌+◌, ◌-◌, ◌*◌, ◌/◌, ◌%◌, ◌<◌, ◌≤◌, ◌⊎◌, inl, inr, Bool, true, false, cond, T, ◌&&◌, nat_lt, nat_eq, List, [], ◌∷◌, length, get_or, map, take, Some, None, ltb-true, ltb-false, eqb-true, arith, refl, sym, ap, subst, ◌∙◌}
 use mathlib.Core.Bool.{false≢true}
 use Rattle.std.specs.Prelude.{Option, slice_get}
@@ -28,7 +28,7 @@ use Rattle.external_updates.specs.Destinations.{HaveAllUnder, LiesUnder, first_k
 
 -- ---- addresses of one network
 
--- what lies between an address of the network and its first one lies in it
+-- an address between the network's first one and another of the network is in it
 pub between : (n first middle last : ℕ) → first ≤ middle → middle ≤ last → network_address n last ≡ first → network_address n middle ≡ first
 between n first middle last low high is =
     let b = block n in
@@ -52,7 +52,7 @@ between n first middle last low high is =
 
 -- ---- the order of keys
 
--- not more by a number and then something else
+-- not more by a number, then by something else
 not_more : (a b : ℕ) (r : Ordering) → is_le (ordering_then (nat_cmp a b) r) ≡ true → (a < b) ⊎ ((a ≡ b) × (is_le r ≡ true))
 not_more a b r is =
     elim (nat_lt a b) as (λ c. nat_lt a b ≡ c → is_le (ordering_then (cond c Less (cond (nat_eq a b) Equal Greater)) r) ≡ true → (a < b) ⊎ ((a ≡ b) × (is_le r ≡ true))) [
@@ -67,7 +67,7 @@ not_more a b r is =
 abbrev id_cmp : Key → Key → Ordering
 id_cmp a b = ordering_then (nat_cmp a.link_state_id b.link_state_id) (nat_cmp a.advertising_router b.advertising_router)
 
--- keys in order are of types in order, and of Link State IDs in order where the type is one
+-- sorted keys have sorted types, and sorted Link State IDs if they have one type
 types : (a b : Key) → is_le (key_cmp a b) ≡ true → a.ls_type ≤ b.ls_type
 types a b is =
     elim (not_more a.ls_type b.ls_type (id_cmp a b) is) [
@@ -86,7 +86,7 @@ ids a b is one =
           ]
     ]
 
--- a key between the first one and one that lies under the network lies under it
+-- a key between the first one and one in the network is in the network
 middle_lies : (prefix : Network) (middle last : Key) → is_le (key_cmp (first_key prefix) middle) ≡ true → is_le (key_cmp middle last) ≡ true → LiesUnder prefix last → LiesUnder prefix middle
 middle_lies prefix middle last low high lies =
     let five : middle.ls_type ≡ 5 = omega (arith, types (first_key prefix) middle low, types middle last high, lies.0) in
@@ -102,7 +102,7 @@ from_zero (suc n) = by (nat_lt 0 (suc n)) (nat_eq 0 (suc n)) refl
     by true c is = refl
     by false c is = absurd (let low : suc n ≤ 0 = ltb-false 0 (suc n) is in omega (arith, low))
 
--- no more by a number, and by what follows where the numbers are equal
+-- not more by a number, nor by what follows if the numbers are equal
 in_turn : (a b : ℕ) (r : Ordering) → a ≤ b → is_le r ≡ true → is_le (ordering_then (nat_cmp a b) r) ≡ true
 in_turn a b r low rest =
     elim (nat_lt a b) as (λ c. nat_lt a b ≡ c → is_le (ordering_then (cond c Less (cond (nat_eq a b) Equal Greater)) r) ≡ true) [
@@ -114,7 +114,7 @@ in_turn a b r low rest =
           ] refl
     ] refl
 
--- the address of a network is none greater than those that lie in it
+-- the address of a network is at most any address in it
 at_least : (n address first : ℕ) → network_address n address ≡ first → first ≤ address
 at_least n address first is = omega (arith, is)
 

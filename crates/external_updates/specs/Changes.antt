@@ -1,4 +1,4 @@
--- Which destinations the AS-external-LSAs tell of that say something else (RFC 2328, section 16.6).
+-- The destinations that changed AS-external-LSAs advertise (RFC 2328, section 16.6).
 use Rattle.std.specs.Prelude.{◌≡◌, ◌⊎◌, List, Some}
 use Rattle.std.specs.List.{Contains}
 use Rattle.lsa.specs.declared.body.Body.TheVariants as body
@@ -8,22 +8,22 @@ use Rattle.routes.specs.Said.{Said}
 use Rattle.words.specs.Prefixes.{Network}
 use Rattle.words.specs.declared.key.Key.{Key}
 
--- the LSAs of all other keys say what they said
+-- the LSAs with any other key say what they said
 abbrev pub OthersSayTheSame : List Key → Said → Said → Type 0
 OthersSayTheSame keys old new = (key : Key) → (Contains keys key → ⊥) → old key ≡ new key
 
--- the AS-external-LSA of the key told of this network, or it tells of it
+-- the AS-external-LSA with the key advertised this network, or advertises it
 pub record TellsOf (old : Said) (new : Said) (key : Key) (prefix : Network) : Type 0 where
   pub lsa : ExternalLsa
   pub says : (old key ≡ Some (body.External lsa)) ⊎ (new key ≡ Some (body.External lsa))
   pub is_prefix : IsPrefix key.link_state_id lsa.mask prefix
 
--- the networks that those of these keys tell or told of are among these
+-- the networks that these keys' AS-external-LSAs advertise or advertised are among these
 abbrev pub AreAllTold : (old : Said) → (new : Said) → List Key → List Network → Type 0
 AreAllTold old new keys prefixes =
     (key : Key) (prefix : Network) → Contains keys key → TellsOf old new key prefix
     → Contains prefixes prefix
 
--- what each that tells or told of the network says is what it said
+-- each LSA that advertises or advertised the network says what it said
 abbrev pub IsUntouched : (old : Said) → (new : Said) → Network → Type 0
 IsUntouched old new prefix = (key : Key) → TellsOf old new key prefix → old key ≡ new key

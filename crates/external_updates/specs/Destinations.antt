@@ -16,7 +16,7 @@ use Rattle.words.specs.Prefixes.{IsUnder, Network}
 use Rattle.words.specs.declared.key.Key.{Key}
 use Rattle.words.specs.declared.route.Route.{Route}
 
--- they are what the LSAs of types 1 to 4 give, and can be searched
+-- they are the results from the LSAs of types 1 to 4, and can be searched
 pub record Knows (said : Said) (root : Root) (inner : InnerRoutes) : Type 0 where
   pub ways : Ways
   pub are_ways : AreWays said root ways
@@ -25,33 +25,33 @@ pub record Knows (said : Said) (root : Root) (inner : InnerRoutes) : Type 0 wher
 
 -- ---- the keys of AS-external-LSAs
 
--- the key of an AS-external-LSA whose Link State ID lies in the network
+-- the key of an AS-external-LSA whose Link State ID is in the network
 abbrev pub LiesUnder : Network → Key → Type 0
 LiesUnder prefix key = (key.ls_type ≡ 5) × IsUnder key.link_state_id prefix
 
--- the least one
+-- the least such key
 abbrev pub first_key : Network → Key
 first_key prefix =
     record { ls_type = 5; link_state_id = prefix.address; advertising_router = 0 }
 
--- those of the database are among these
+-- those keys of the database are among these
 abbrev pub HaveAllUnder : Database → Network → List Key → Type 0
 HaveAllUnder db prefix keys =
     (key : Key) → finite.contains_key db key ≡ true → LiesUnder prefix key → Contains keys key
 
 -- ---- offers
 
--- one of these offers is to the destination
+-- the offer is this one, and is to the destination
 abbrev pub IsTo : Network → Offer → Offer → Type 0
 IsTo prefix one o = (o ≡ one) × (o.prefix ≡ prefix)
 
--- an AS-external-LSA that says this offers it to the destination
+-- an AS-external-LSA with this body makes the offer, to the destination
 abbrev pub SaysTo : Root → InnerRoutes → Network → Key × Body → Offer → Type 0
 SaysTo root inner prefix one o =
     OfExternal root inner.flagged.items inner.told.items inner.networks.items one o
     × (o.prefix ≡ prefix)
 
--- the AS-external-LSA of this key does
+-- the AS-external-LSA with this key does
 pub record OffersTo (said : Said) (root : Root) (inner : InnerRoutes) (prefix : Network)
     (key : Key) (o : Offer) : Type 0 where
   pub says : Body
@@ -60,7 +60,7 @@ pub record OffersTo (said : Said) (root : Root) (inner : InnerRoutes) (prefix : 
 
 -- ---- routes
 
--- the one candidate for the destination, or there is none
+-- the one candidate for the destination, or None
 abbrev pub IsBestTo : Said → Root → Network → Option Route → Type 0
 IsBestTo said root prefix best =
     (r : Route) → (best ≡ Some r) ↔ (IsCandidate said root r × (r.prefix ≡ prefix))

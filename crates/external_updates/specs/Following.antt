@@ -1,4 +1,4 @@
--- What became of candidates that were to follow an event (RFC 2328, section 16.6).
+-- The outcome for candidates that were to follow an event (RFC 2328, section 16.6).
 use Rattle.std.specs.Prelude.{List}
 use Rattle.external_updates.specs.Placing.{AreAllAmong, HasAnother}
 use Rattle.external_updates.specs.declared.follow.Followed.{Followed}
@@ -8,8 +8,8 @@ use Rattle.routes.specs.Said.{Said}
 use Rattle.routes.specs.declared.root.Root.{Root}
 use Rattle.words.specs.declared.route.Route.{Route}
 
--- unless they were too many, the new ones are the candidates: each is one of the old ones where it
--- is told that none is new, and else one is none of them
+-- unless they were too many, the new ones are the candidates: with `NoneNew` each is one of the old
+-- ones, with `SomeNew` at least one is not
 abbrev pub HaveFollowed : Said → Root → (old : List Route) → (new : List Route) → Followed → Type 0
 HaveFollowed said root old new followed.TooMany = Unit {0}
 HaveFollowed said root old new followed.NoneNew =

@@ -1,4 +1,4 @@
--- What stays where AS-external-LSAs alone say something else (RFC 2328, section 16.6).
+-- What is unchanged while only AS-external-LSAs say something else (RFC 2328, section 16.6).
 use Rattle.std.specs.Prelude.{◌≡◌, Some, ◌↔◌}
 use Rattle.candidates.specs.Inner.{AreInner}
 use Rattle.candidates.specs.declared.inner.InnerRoutes.{InnerRoutes}
@@ -10,14 +10,14 @@ use Rattle.routes.specs.Said.{Said}
 use Rattle.routes.specs.declared.root.Root.{Root}
 use Rattle.words.specs.declared.route.Route.{Route}
 
--- what the LSAs of types 1 to 4 give stays for as long as these say the same
+-- the results from the LSAs of types 1 to 4 remain valid while these say the same
 abbrev pub InnerRoutesAreKept : Type 0
 InnerRoutesAreKept =
     (old new : Said) (root : Root) (ways : Ways) (inner : InnerRoutes)
     → SayTheSame (Some 4) old new → AreInner old root ways inner → AreInner new root ways inner
 
--- and so does the candidate for each destination of which each AS-external-LSA tells that told of
--- it, and says what it said
+-- and so does the candidate for a destination, if each AS-external-LSA that advertises or
+-- advertised it says what it said
 abbrev pub UntouchedCandidatesAreKept : Type 0
 UntouchedCandidatesAreKept =
     (old new : Said) (root : Root) (r : Route) → SayTheSame (Some 4) old new

@@ -1,4 +1,4 @@
--- Routes in the order of their prefixes, of which one takes another one's place.
+-- Routes in the order of their prefixes, of which one is replaced.
 use Rattle.std.specs.Prelude.{◌≡◌, ◌↔◌, ◌⊎◌, ℕ, ◌<◌, ◌≤◌, List, Option, Some, length}
 use Rattle.std.specs.Prelude.{slice_index_or}
 use Rattle.std.specs.List.{Contains}
@@ -10,30 +10,30 @@ use Rattle.routes.specs.declared.root.Root.{Root}
 use Rattle.words.specs.Prefixes.{Network}
 use Rattle.words.specs.declared.route.Route.{Route}
 
--- the route at this place is for the prefix
+-- the route at this index is for the prefix
 pub record IsThere (routes : List Route) (prefix : Network) (at : ℕ) : Type 0 where
   pub within : at < length routes
   pub is_for : (d : Route) → (slice_index_or routes at d).prefix ≡ prefix
 
--- those in front of this place are for prefixes before it, and the others for prefixes behind it
+-- the routes before this index are for earlier prefixes, and the others for later ones
 pub record IsGap (routes : List Route) (prefix : Network) (at : ℕ) : Type 0 where
   pub within : at ≤ length routes
   pub before : (k : ℕ) (d : Route) → k < at → IsBefore (slice_index_or routes k d).prefix prefix
   pub behind : (k : ℕ) (d : Route) → at ≤ k → k < length routes
       → IsBefore prefix (slice_index_or routes k d).prefix
 
--- the route that there was for the prefix is out, and this one is in, if there is one
+-- the route for the prefix is removed, and this one inserted, if there is one
 pub record IsPlaced (old : List Route) (new : List Route) (prefix : Network)
     (best : Option Route) : Type 0 where
   pub each : (r : Route) → Contains new r
       ↔ ((Contains old r × (r.prefix ≡ prefix → ⊥)) ⊎ (best ≡ Some r))
   pub ascending : Ascend new
 
--- there is no such route, or it stood among these
+-- there is no such route, or it was among these
 abbrev pub HasStood : (old : List Route) → Option Route → Type 0
 HasStood old best = (r : Route) → best ≡ Some r → Contains old r
 
--- there is one, and it stood nowhere among these
+-- there is one, and it wasn't among these
 abbrev pub IsAnother : (old : List Route) → Option Route → Type 0
 IsAnother old best = (r : Route) × (best ≡ Some r) × (Contains old r → ⊥)
 
@@ -41,16 +41,16 @@ IsAnother old best = (r : Route) × (best ≡ Some r) × (Contains old r → ⊥
 abbrev pub AreAllAmong : (old : List Route) → (new : List Route) → Type 0
 AreAllAmong old new = (r : Route) → Contains new r → Contains old r
 
--- one of the new ones is none of the old ones
+-- at least one of the new ones isn't among the old ones
 abbrev pub HasAnother : (old : List Route) → (new : List Route) → Type 0
 HasAnother old new = (r : Route) × Contains new r × (Contains old r → ⊥)
 
--- the candidate for the destination is none of the old ones
+-- the candidate for the destination isn't among the old ones
 abbrev pub HasAnotherTo : Said → Root → Network → (old : List Route) → Type 0
 HasAnotherTo said root prefix old =
     (r : Route) × IsCandidate said root r × (r.prefix ≡ prefix) × (Contains old r → ⊥)
 
--- the route that there was for the prefix is out, and the candidate for it is in
+-- the route for the prefix is removed, and the current candidate for it inserted
 pub record IsRenewed (said : Said) (root : Root) (prefix : Network) (old : List Route)
     (new : List Route) : Type 0 where
   pub each : (r : Route) → Contains new r
@@ -58,13 +58,13 @@ pub record IsRenewed (said : Said) (root : Root) (prefix : Network) (old : List 
       × (r.prefix ≡ prefix)))
   pub ascending : Ascend new
 
--- to these destinations now, to the others before
+-- a current candidate for one of these destinations, or an old one for any other
 abbrev pub IsEither : (old : Said) → (new : Said) → Root → (done : List Network) → Route → Type 0
 IsEither old new root done r =
     (Contains done r.prefix × IsCandidate new root r)
     ⊎ ((Contains done r.prefix → ⊥) × IsCandidate old root r)
 
--- the candidates of before, but for those to these destinations, which are those of now
+-- the old candidates, except that those for these destinations are current
 pub record AreHalfway (old : Said) (new : Said) (root : Root) (done : List Network)
     (routes : List Route) : Type 0 where
   pub each : (r : Route) → Contains routes r ↔ IsEither old new root done r

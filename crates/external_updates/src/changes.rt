@@ -1,4 +1,4 @@
-//! Which LSAs may say something else after an event, and of which networks they tell.
+//! Which LSAs may say something else after an event, and which networks they advertise.
 ghost use Rattle.std.specs.Prelude.{◌≡◌, ◌↔◌, ◌≤◌, IfOk, IsTrue, MatchOption, OnOk, Some};
 ghost use Rattle.std.specs.Prelude.{option_copied};
 ghost use Rattle.std.specs.List.{Contains};
@@ -16,11 +16,11 @@ use std::alloc::{AllocError, Global};
 use words::{Key, Prefix, Second};
 
 /// The keys whose LSAs may say something else at the moment than those of the settled database did
-/// at the moment before: those that changed since, and those of the copies that have MaxAge. One
-/// may stand there more than once.
+/// at the moment `before`: those that changed since, and those of the copies that have MaxAge. A
+/// key may occur more than once.
 ///
 /// # Errors
-/// Where memory for the keys, or to compare texts, is refused.
+/// `AllocError` if an allocation is refused.
 pub fn changed_keys(
     alloc: Global,
     db: &Lsdb,
@@ -32,7 +32,7 @@ pub fn changed_keys(
         (said_at before db.now.settled) (said_at moment db.now.present)) }
 {
     let mut keys = db.changed_keys(alloc, moment)?;
-    // Within one moment nothing comes of age.
+    // Within one moment no LSA reaches MaxAge.
     if before.count() == moment.count() {
         return Ok(keys);
     }
@@ -64,7 +64,7 @@ fn external_of(says: Option<&Body>) -> Option<&ExternalLsa>
     }
 }
 
-// Notes the network, if there is one and it isn't noted yet.
+// Records the network, if there is one and it isn't recorded yet.
 fn note(prefixes: &mut Vec<Prefix>, told: Option<Prefix>) -> Result<(), AllocError>
     ensures kept { OnOk result ((prefix : Network) → Contains prefixes.old.items prefix
         → Contains prefixes.new.items prefix) }
@@ -83,7 +83,7 @@ fn note(prefixes: &mut Vec<Prefix>, told: Option<Prefix>) -> Result<(), AllocErr
     }
 }
 
-// Notes the network that this body of the key's AS-external-LSA tells of, if there is one.
+// Records the network that this body of the key's AS-external-LSA advertises, if there is one.
 fn note_network(
     prefixes: &mut Vec<Prefix>,
     key: &Key,
@@ -105,10 +105,11 @@ fn note_network(
     }
 }
 
-/// The networks of which the AS-external-LSAs of these keys told before the event, or tell now.
+/// The networks that the AS-external-LSAs with these keys advertised before the event, or advertise
+/// now.
 ///
 /// # Errors
-/// Where memory for them is refused.
+/// `AllocError` if an allocation is refused.
 pub fn networks_told(
     alloc: Global,
     db: &Lsdb,

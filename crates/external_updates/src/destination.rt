@@ -34,7 +34,7 @@ fn push_inner_to(inner: &[Offer], prefix: Prefix, offers: &mut Vec<Offer>) -> Re
     Ok(())
 }
 
-// What the AS-external-LSA of this key offers to the destination, where it says this.
+// The offer of the AS-external-LSA with this key and body, if it is to the destination.
 fn offer_to(
     root: &Root,
     inner: &InnerRoutes,
@@ -57,7 +57,7 @@ fn offer_to(
     }
 }
 
-// What the AS-external-LSA of this key offers to the destination.
+// The offer of the AS-external-LSA with this key, if it is to the destination.
 fn external_to(
     db: &Lsdb,
     root: &Root,
@@ -79,7 +79,7 @@ fn external_to(
     }
 }
 
-// Adds what the AS-external-LSAs of these keys offer to the destination.
+// Adds the offers of the AS-external-LSAs with these keys that are to the destination.
 fn push_externals_to(
     db: &Lsdb,
     root: &Root,
@@ -99,10 +99,11 @@ fn push_externals_to(
     Ok(())
 }
 
-/// The candidate for a destination, where the keys of all AS-external-LSAs are among these whose
-/// Link State IDs lie in it.
+/// The candidate for a destination. `keys` includes those of all AS-external-LSAs whose Link State
+/// IDs are in the destination.
 ///
 /// # Errors
+/// `AllocError` if an allocation is refused.
 /// Where memory for the offers is refused.
 pub fn best_to(
     alloc: Global,

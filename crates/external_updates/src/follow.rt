@@ -1,4 +1,4 @@
-//! All candidates after an event.
+//! The candidates after an event.
 ghost use Rattle.std.specs.Prelude.{◌≡◌, ◌≤◌, ◌&&◌, IfOk, IsSome, IsTrue, OnOk, Some, false, true};
 ghost use Rattle.external_updates.specs.Destinations.{HaveAllUnder, Knows};
 ghost use Rattle.external_updates.specs.Following.{HaveFollowed};
@@ -18,25 +18,27 @@ use routes::{Lsdb, Root};
 use std::alloc::{AllocError, Global};
 use words::{Key, Prefix, Route, Second};
 
-// So many keys of changed LSAs are followed, or one for each 32 candidates if that is more: beyond
-// that all calculated anew may cost less. The key of an LSA that came or left counts twice. At
-// 10,000 candidates all of them cost some 2.8 milliseconds, the route to one destination 6
-// microseconds, and one that comes or leaves up to 17 more, since those behind it move.
+// The maximum number of keys of changed LSAs that are followed, unless one for each 32 candidates
+// is more: beyond that, recalculating everything may be cheaper. The key of an LSA that came or
+// left counts twice. At 10,000 candidates, all of them cost some 2.8 milliseconds, the route to one
+// destination 6 microseconds, and one that comes or leaves up to 17 more, since those after it
+// move.
 const FEW_CHANGED: usize = 64;
 
-/// What became of candidates that were to follow an event.
+/// The outcome for candidates that were to follow an event.
 #[derive(Clone, Copy, Debug)]
 pub enum Followed {
-    /// Too many LSAs changed, or too many may tell of one destination: they are of no more use.
+    /// Too many LSAs changed, or too many may advertise one destination: the candidates are
+    /// useless.
     TooMany,
-    /// They are those of now, and each of them was one before.
+    /// They are the current candidates, and each of them was one before.
     NoneNew,
-    /// They are those of now, and one of them was none before.
+    /// They are the current candidates, and at least one of them is new.
     SomeNew,
 }
 
-// Calculates the route to one destination anew, where these are the keys of the AS-external-LSAs
-// that may tell of it. False just where another route came.
+// Recalculates the route to one destination. `keys` includes those of the AS-external-LSAs that may
+// advertise it. Returns false if and only if the destination has a new route.
 fn renew_by(
     alloc: Global,
     db: &Lsdb,
@@ -62,7 +64,7 @@ fn renew_by(
     Ok(stood)
 }
 
-// The same where the keys have to be found. None where they may be too many.
+// The same if the keys have to be found; `None` if they may be too many.
 fn renew(
     alloc: Global,
     db: &Lsdb,
@@ -123,15 +125,15 @@ fn renew_all(
     Ok(Some(none_new))
 }
 
-/// Follows an event in which no LSA of types 1 to 4 came, left, came to MaxAge or says something
-/// else: the candidates of the settled database at the moment before become those of the database
-/// at this moment (RFC 2328, section 16.6). Just the destinations are calculated anew of which the
-/// AS-external-LSAs tell or told that changed, and it tells whether one of these has another route
-/// now: where an AS-external-LSA leaves, mostly none has. Where too many of them changed, or too
-/// many may tell of one destination, and where it is refused memory, the routes are of no more use.
+/// Follows an event in which no LSA of types 1 to 4 came, left, reached MaxAge or says something
+/// else: the candidates of the settled database at the moment `before` become those of the database
+/// at this moment (RFC 2328, section 16.6). Only destinations that changed AS-external-LSAs
+/// advertise or advertised are recalculated, and the result says whether one of these has a new
+/// route; usually none has after an AS-external-LSA leaves. If too many of them changed, too many
+/// may advertise one destination, or an allocation is refused, the routes are useless afterwards.
 ///
 /// # Errors
-/// Where memory for keys, networks, offers or a route is refused.
+/// `AllocError` if an allocation is refused.
 pub fn follow_externals(
     alloc: Global,
     db: &Lsdb,

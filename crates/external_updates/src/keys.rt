@@ -1,4 +1,4 @@
-//! The keys of the AS-external-LSAs that may tell of a network.
+//! The keys of the AS-external-LSAs that may advertise a network.
 ghost use Rattle.std.specs.Prelude.{◌≡◌, ◌↔◌, ◌-◌, ◌<◌, IfOk, IfSome, IsTrue, Some, false};
 ghost use Rattle.std.specs.Prelude.{slice_get};
 ghost use Rattle.external_updates.specs.Destinations.{HaveAllUnder, LiesUnder, first_key};
@@ -8,11 +8,11 @@ use routes::Lsdb;
 use std::alloc::{AllocError, Global};
 use words::{Address, Key, LinkStateId, Prefix, RouterId};
 
-// So many keys are looked at for a network first: most networks have one, and the next key lies in
-// another network.
+// The number of keys that are fetched for a network first: most networks have one, and the next key
+// is in another network.
 const FEW: usize = 4;
 
-// So many keys are looked at for one network at the most.
+// The maximum number of keys that are fetched for one network.
 const MOST: usize = 64;
 
 fn first_key(prefix: Prefix) -> Key
@@ -25,7 +25,7 @@ fn first_key(prefix: Prefix) -> Key
     }
 }
 
-/// Whether it is the key of an AS-external-LSA whose Link State ID lies in the network.
+/// Whether it is the key of an AS-external-LSA whose Link State ID is in the network.
 pub fn lies_under(prefix: Prefix, key: &Key) -> bool
     ensures { IsTrue result ↔ LiesUnder prefix key.now }
 {
@@ -35,7 +35,7 @@ pub fn lies_under(prefix: Prefix, key: &Key) -> bool
     prefix.contains(Address::new(key.link_state_id.number()))
 }
 
-// Whether keys under the network may have been cut off behind these, which are the first so many.
+// Whether keys in the network may be missing after these, which are the first `count`.
 fn may_lack(keys: &[Key], prefix: Prefix, count: usize) -> bool
     requires { 0 < count }
     ensures { result ≡ false → (last : KeyValue) → slice_get keys.now (count - 1) ≡ Some last
@@ -47,7 +47,7 @@ fn may_lack(keys: &[Key], prefix: Prefix, count: usize) -> bool
     }
 }
 
-// The keys under the network, with others among them, or None where there may be more than so many.
+// The keys in the network, possibly with others; `None` if there may be more than `count`.
 fn first_under(
     alloc: Global,
     db: &Lsdb,
@@ -65,11 +65,11 @@ fn first_under(
     Ok(Some(keys))
 }
 
-/// The keys of all AS-external-LSAs whose Link State IDs lie in the network, with others among
-/// them, or None where there may be more than 64 of them.
+/// The keys of all AS-external-LSAs whose Link State IDs are in the network, possibly with others;
+/// `None` if there may be more than 64.
 ///
 /// # Errors
-/// Where memory for the keys is refused.
+/// `AllocError` if an allocation is refused.
 pub fn keys_under(alloc: Global, db: &Lsdb, prefix: Prefix) -> Result<Option<Vec<Key>>, AllocError>
     ensures { IfOk result (λ found. IfSome found (λ keys.
         HaveAllUnder db.now.present prefix keys.items)) }

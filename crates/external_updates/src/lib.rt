@@ -1,6 +1,6 @@
-//! Candidates that follow AS-external-LSAs (RFC 2328, section 16.6): where no other LSA says
-//! something else after an event, those destinations alone are calculated anew of which the ones
-//! that do tell, or told.
+//! Candidates that follow AS-external-LSAs (RFC 2328, section 16.6): if no other LSA says something
+//! else after an event, only the destinations that the changed ones advertise or advertised are
+//! recalculated.
 #![tactic(auto)]
 
 mod changes;

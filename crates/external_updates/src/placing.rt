@@ -1,4 +1,4 @@
-//! A route in the place of the one for its prefix.
+//! Replaces the route for a prefix.
 ghost use Rattle.std.specs.Prelude.{◌≡◌, ◌↔◌, ◌<◌, ◌≤◌, IfOk, IfSome, IsTrue, MatchResult, OnOk};
 ghost use Rattle.std.specs.Prelude.{Some, false, length, slice_get, slice_set};
 ghost use Rattle.std.specs.List.{insert, remove};
@@ -8,7 +8,7 @@ ghost use Rattle.candidates.specs.Borders.{Ascend};
 use std::alloc::AllocError;
 use words::{Prefix, Route};
 
-// The place of the route for the prefix, or else the one where it would stand.
+// The index of the route for the prefix, or else the index at which to insert it.
 fn place_of(routes: &[Route], prefix: Prefix) -> Result<usize, usize>
     requires { Ascend routes.now }
     ensures { MatchResult result (IsThere routes.now prefix) (IsGap routes.now prefix) }
@@ -41,14 +41,14 @@ fn put_in(routes: &mut Vec<Route>, at: usize, route: Route) -> Result<(), AllocE
     Ok(())
 }
 
-// Whether both are one route.
+// Whether both are the same route.
 fn is_same(one: &Route, other: &Route) -> bool
     ensures { IsTrue result ↔ (one.now ≡ other.now) }
 {
     *one == *other
 }
 
-// Whether this route stands at this place.
+// Whether this route is at this index.
 fn stands_at(routes: &[Route], at: usize, route: &Route) -> bool
     requires { at < length routes.now }
     ensures { IsTrue result ↔ (slice_get routes.now at ≡ Some route.now) }
@@ -56,8 +56,8 @@ fn stands_at(routes: &[Route], at: usize, route: &Route) -> bool
     is_same(&routes[at], route)
 }
 
-// Puts this route in the place of the one that stands there, or takes that out. False where it is
-// another one.
+// Replaces the route at this index by another, or removes it. Returns false if the new route
+// differs.
 fn replace(routes: &mut Vec<Route>, prefix: Prefix, at: usize, best: Option<Route>) -> bool
     requires ascend { Ascend routes.old.items }
     requires there { IsThere routes.old.items prefix at }
@@ -79,7 +79,7 @@ fn replace(routes: &mut Vec<Route>, prefix: Prefix, at: usize, best: Option<Rout
     }
 }
 
-// Puts this route in where none is for its prefix. False where there is one.
+// Inserts a route, if there is one, for a prefix that has none. Returns false if one is inserted.
 fn add(
     routes: &mut Vec<Route>,
     prefix: Prefix,
@@ -102,11 +102,11 @@ fn add(
     }
 }
 
-/// Takes out of the routes the one for the prefix, if there is one, and puts this one in, if there
-/// is one. False just where that is another one.
+/// Removes the route for the prefix, if there is one, and inserts this one, if there is one.
+/// Returns false if and only if the inserted route is new.
 ///
 /// # Errors
-/// Where memory for one more route is refused.
+/// `AllocError` if an allocation is refused.
 pub fn place(
     routes: &mut Vec<Route>,
     prefix: Prefix,

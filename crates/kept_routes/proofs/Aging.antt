@@ -1,4 +1,4 @@
--- Copies that stay say the same, unless one has come to MaxAge since.
+-- Copies that are unchanged say the same, unless one has reached MaxAge since.
 use Rattle.std.proofs.Common.{◌≡◌, ℕ, ◌+◌, ◌-◌, ◌≤◌, ◌<◌, Bool, true, false, cond, List, [], ◌∷◌, length, get_or, map, min, inl, inr, Option, None, Some, eq-eqb, eqb-true, arith, refl, sym, ◌∙◌, ap, subst}
 use Rattle.std.specs.Prelude.{◌==◌}
 use Rattle.std.specs.FinMap as finite
@@ -44,9 +44,9 @@ module _ (moment : ℕ) (key : Key) (copy : DatabaseCopy) (aged : is_aged_out mo
           in_front e es (is_aged_out moment e.1) (ap (is_aged_out moment) same ∙ aged) (sym (keys_exact key e.0 ((Equal-is (key_cmp key e.0)).0 tied)))
       by_key false tied is rest = skipped e es (is_aged_out moment e.1) (rest is)
 
--- ---- of one key after the other
+-- ---- one key after the other
 
--- one of the first so many keys
+-- one of the first n keys
 abbrev pub IsAmong : List Key → ℕ → Key → Type 0
 IsAmong keys n key = (k : ℕ) × (k < n) × (get_or keys k key ≡ key)
 
@@ -81,13 +81,13 @@ alike true b forth back = sym (forth refl)
 alike false true forth back = back refl
 alike false false forth back = refl
 
--- what has no MaxAge later had none before
+-- what doesn't have MaxAge later didn't have it before
 younger : (a b : Bool) → (a ≡ true → b ≡ true) → b ≡ false → a ≡ false
 younger true b later is = absurd (false≢true (sym is ∙ later refl))
 younger false b later is = refl
 
 module _ (before moment : ℕ) (order : before ≤ moment) (a b : DatabaseCopy) (body : a.lsa.body ≡ b.lsa.body) where
-  -- of one age they are both old, or neither is
+  -- copies of the same age both have MaxAge, or neither has
   says_of_one_age : HaveOneAge a b → (is_aged_out moment b ≡ true → is_aged_out before b ≡ true) → said_by before (Some a) ≡ said_by moment (Some b)
   says_of_one_age same old =
       let first : is_aged_out before a ≡ is_aged_out before b = λ i. min 3600 (same.0 i + (before - same.1 i)) == 3600 in
@@ -118,9 +118,9 @@ pub all_same : (last_type : Option ℕ) (before moment : ℕ) (old new : Databas
 all_same last_type before moment old new order left key of =
     says_same before moment order (finite.get old key) (finite.get new key) (left key of).same (left key of).old_copy
 
--- ---- what is left as it was
+-- ---- what is unchanged
 
--- only copies at MaxAge could have come to it
+-- only copies at MaxAge could have reached it
 pub all_left : (last_type : Option ℕ) (before moment : ℕ) (old new : Database)
     → ((key : Key) → IsUpTo last_type key → SaysTheSame moment (finite.get old key) (finite.get new key))
     → AreOld last_type before moment new (aged_keys moment new) → AreLeft last_type before moment old new

@@ -1,4 +1,5 @@
--- What rests on LSAs of types 1 to 4 alone: all ways, and all that is offered within and between areas.
+-- What depends on LSAs of types 1 to 4 alone: all ways, and all that is offered within and between
+-- areas.
 use Rattle.std.proofs.Common.{◌≡◌, ℕ, ◌≤◌, inl, inr, arith, sym, ◌∙◌}
 use Rattle.words.specs.declared.key.Key.{Key}
 use Rattle.words.specs.declared.route.Route.{Route}
@@ -27,7 +28,7 @@ AgreeInside old new = (key : Key) → key.ls_type ≤ 4 → old key ≡ new key
 pub turned : (old new : Said) → AgreeInside old new → AgreeInside new old
 turned old new same key low = sym (same key low)
 
--- ---- forth
+-- ---- one direction
 
 module _ (old new : Said) (same : AgreeInside old new) (root : Root) where
   way : (node : Node) (w : Way) → IsWay (Leads old root) (ARouter root.router) node w → IsWay (Leads new root) (ARouter root.router) node w
@@ -97,7 +98,7 @@ module _ (old new : Said) (same : AgreeInside old new) (root : Root) where
     is = k.is;
   }
 
--- ---- forth and back
+-- ---- both directions
 
 module _ (old new : Said) (same : AgreeInside old new) (root : Root) where
   abbrev back : AgreeInside new old

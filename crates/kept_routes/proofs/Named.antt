@@ -1,4 +1,4 @@
--- The first key of the summaries that name a router, if there is one.
+-- The first key of the summary-LSAs that name a router, if there is one.
 use Rattle.std.proofs.Common.{◌≡◌, ℕ, zero, suc, ◌<◌, ◌≤◌, ◌⊎◌, inl, inr, Bool, true, false, cond, T, nat_lt, nat_eq, List, [], ◌∷◌, map, Some, None, ltb-true, ltb-false, eqb-true, arith, refl, sym, ap, subst, ◌∙◌}
 use mathlib.Core.Bool.{false≢true}
 use Rattle.std.specs.Prelude.{Option, is_some, ◌&&◌, ◌↔◌, slice_get, take}
@@ -14,14 +14,14 @@ use Rattle.keyed_map.specs.Slots.{keys_from}
 use Rattle.keyed_map.proofs.Keys.{keys_exact, keys_total}
 use Rattle.kept_routes.specs.Externals.{NamesIt, first_named}
 
--- what is there
+-- the value inside
 pub the_some : {X : Type 0} (o : Option X) → is_some o ≡ true → (x : X) × (o ≡ Some x)
 the_some None is = absurd (false≢true is)
 the_some (Some x) is = (x, refl)
 
 -- ---- the order of keys
 
--- not more by a number and then something else
+-- not more by a number, then by something else
 not_more : (a b : ℕ) (r : Ordering) → is_le (ordering_then (nat_cmp a b) r) ≡ true → (a < b) ⊎ ((a ≡ b) × (is_le r ≡ true))
 not_more a b r is =
     elim (nat_lt a b) as (λ c. nat_lt a b ≡ c → is_le (ordering_then (cond c Less (cond (nat_eq a b) Equal Greater)) r) ≡ true → (a < b) ⊎ ((a ≡ b) × (is_le r ≡ true))) [
@@ -43,7 +43,7 @@ by_id : (a b : Key) → is_le (id_cmp a b) ≡ true
     → (a.link_state_id < b.link_state_id) ⊎ ((a.link_state_id ≡ b.link_state_id) × (is_le (nat_cmp a.advertising_router b.advertising_router) ≡ true))
 by_id a b is = not_more a.link_state_id b.link_state_id (nat_cmp a.advertising_router b.advertising_router) is
 
--- what lies between keys of one type and Link State ID has both too
+-- a key between two with the same type and Link State ID has both too
 between : (first middle last : Key) → is_le (key_cmp first middle) ≡ true → is_le (key_cmp middle last) ≡ true → first.ls_type ≡ last.ls_type → first.link_state_id ≡ last.link_state_id
     → (middle.ls_type ≡ last.ls_type) × (middle.link_state_id ≡ last.link_state_id)
 between first middle last low high types ids =
@@ -107,7 +107,7 @@ module _ {X : Type 0} where
   abbrev HasKey : Key → List (Key × X) → Type 0
   HasKey key es = is_some (finite.find key_cmp key es) ≡ true
 
-  -- it is the first one, or among the others
+  -- it is the first key, or among the others
   here_or_later : (key : Key) (e : Key × X) (es : List (Key × X)) → HasKey key (e ∷ es) → (key ≡ e.0) ⊎ HasKey key es
   here_or_later key e es has = by (eq_by_cmp key_cmp key e.0) refl has
     where
@@ -123,7 +123,7 @@ module _ {X : Type 0} where
         | inr later ↦ below first key es (second_part _ _ all) later
       ]
 
-  -- the first of the keys from this one on, not past a key
+  -- the first of the keys from this one on, up to and including another
   pub record IsFirstOf (first key : Key) (es : List (Key × X)) : Type 0 where
     pub found : Key
     pub rest : List Key
@@ -164,7 +164,7 @@ module _ {X : Type 0} where
                 }
           ]
 
-  -- a key of those from one on is there
+  -- a key from this one on exists
   pub is_there : (first found : Key) (rest : List Key) (es : List (Key × X)) → keys_from first (map (λ e. e.0) es) ≡ found ∷ rest → HasKey found es
   is_there first found rest [] is = absurd (cc)
   is_there first found rest (e ∷ es) is = by (is_le (key_cmp first e.0)) refl (is_there first found rest es)

@@ -1,4 +1,4 @@
--- Candidates stay where only AS-external-LSAs change that offer nothing.
+-- Candidates are unchanged if only AS-external-LSAs that offer nothing change.
 use Rattle.std.proofs.Common.{◌≡◌, ◌≢◌, ℕ, ◌≤◌, inl, inr, Some, None, true, refl, arith, sym, ◌∙◌}
 use Rattle.std.specs.Prelude.{List, Option, is_some}
 use Rattle.std.specs.FinMap as finite
@@ -33,7 +33,7 @@ use Rattle.kept_routes.proofs.Aging.{all_old_within, among_aged, says_same}
 use Rattle.kept_routes.proofs.KeptLaws.{walks_kept}
 use Rattle.kept_routes.proofs.Inner.{boundary, external_way, inside}
 
--- the same the other way round
+-- the same in the other direction
 pub turned_offers : (old new : Said) (root : Root) → OfferTheSame old new root → OfferTheSame new old root
 turned_offers old new root same = record {
   inner = λ key low. sym (same.inner key low);
@@ -86,7 +86,7 @@ module _ (old new : Said) (root : Root) (same : OfferTheSame old new root) where
   nothing_comes_stale answers stale =
       (stale.0, same_offers (Offers new root) (Offers old root) stale.0 (λ o _. back o) (λ o _. forth o) stale.1, stale.2)
 
--- the ways lead to an AS boundary router that is reached
+-- the ways lead to each AS boundary router that is reached
 flagged : (said : Said) (root : Root) (ways : Ways) → AreWays said root ways → (router : ℕ) (way : Way) → ReachesBoundaryRouter said root router way
     → (w : WayTo) × IsFlagged said ways router 2 w
 flagged said root ways are router way k = by (ways (ARouter router)) refl (are (ARouter router))
@@ -95,7 +95,7 @@ flagged said root ways are router way k = by (ways (ARouter router)) refl (are (
     by None here none = absurd (none k.reached.distance.0 k.reached.distance.1.is_walk)
     by (Some w) here is = (w, record { lsa = k.lsa; its = k.its; has_flag = k.has_e; reached = here })
 
--- ---- what is left as it was
+-- ---- what is unchanged
 
 module _ (before moment : ℕ) (old new : Database) (walk : KeptWalk) where
   abbrev was : Said

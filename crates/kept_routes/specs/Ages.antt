@@ -1,4 +1,4 @@
--- Copies that had come to MaxAge at a moment already.
+-- Copies that had reached MaxAge at an earlier moment.
 use Rattle.std.specs.Prelude.{◌≡◌, ℕ, List, Option, Some, true}
 use Rattle.std.specs.FinMap as finite
 use Rattle.std.specs.List.{Contains}
@@ -7,17 +7,17 @@ use Rattle.routes.specs.lsdb.Copies.{Database, DatabaseCopy, is_aged_out}
 use Rattle.words.specs.Numbers.{Moment}
 use Rattle.words.specs.declared.key.Key.{Key}
 
--- the copy has MaxAge only if it had it at the moment before
+-- if the copy has MaxAge, it had it at the moment `before`
 abbrev pub IsOldCopy : (before : Moment) → (moment : Moment) → DatabaseCopy → Type 0
 IsOldCopy before moment copy = is_aged_out moment copy ≡ true → is_aged_out before copy ≡ true
 
--- so has the copy of this key, if it is of a type up to this one
+-- the same for the copy with this key, if its type is up to this one
 abbrev pub IsOld : Option ℕ → (before : Moment) → (moment : Moment) → Database → Key → Type 0
 IsOld last_type before moment db key =
     (copy : DatabaseCopy) → IsUpTo last_type key → finite.get db key ≡ Some copy
     → IsOldCopy before moment copy
 
--- those of these keys have
+-- the same for each of these keys
 abbrev pub AreOld : Option ℕ → (before : Moment) → (moment : Moment) → Database → List Key → Type 0
 AreOld last_type before moment db keys =
     (key : Key) → Contains keys key → IsOld last_type before moment db key

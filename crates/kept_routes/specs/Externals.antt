@@ -1,5 +1,4 @@
--- AS-external-LSAs that leave the candidates as they are, whatever they say (RFC 2328, section
--- 16.4).
+-- AS-external-LSAs that don't change the candidates, whatever they say (RFC 2328, section 16.4).
 use Rattle.std.specs.Prelude.{◌≡◌, ◌≢◌, ◌⊎◌, ◌≤◌, true, List, None, Some}
 use Rattle.std.specs.FinMap as finite
 use Rattle.std.specs.List.{Contains}
@@ -17,20 +16,20 @@ use Rattle.kept_routes.specs.Ages.{IsOld}
 use Rattle.kept_routes.specs.Kept.{KeptWalk}
 use Rattle.kept_routes.specs.Sameness.{IsLeft, SayTheSame}
 
--- the key of a summary that tells of an AS boundary router of this name
+-- the key of a summary-LSA for an AS boundary router with this Router ID
 abbrev pub NamesIt : RouterNumber → Key → Type 0
 NamesIt router key = (key.ls_type ≡ 4) × (key.link_state_id ≡ router)
 
--- the least key that does
+-- the least such key
 abbrev pub first_named : RouterNumber → Key
 first_named router = record { ls_type = 4; link_state_id = router; advertising_router = 0 }
 
--- there is a summary that does
+-- there is such a summary-LSA
 abbrev pub IsNamed : Database → RouterNumber → Type 0
 IsNamed db router =
     (key : Key) × (finite.contains_key db key ≡ true) × NamesIt router key
 
--- the walk doesn't lead to the router as an AS boundary router, and no summary names it
+-- the walk doesn't reach the router as an AS boundary router, and no summary-LSA names it
 pub record IsUnreached (moment : Moment) (db : Database) (walk : KeptWalk)
     (router : RouterNumber) : Type 0 where
   pub inside : (way : Way) → IsFlagged (said_at moment db) (way_in walk.reached) router 2 way → ⊥
@@ -47,20 +46,20 @@ pub record OffersNothing (moment : Moment) (db : Database) (walk : KeptWalk)
   pub external : 5 ≤ key.ls_type
   pub of_no_account : IsOfNoAccount moment db walk key.advertising_router
 
--- all other LSAs are left as they were
+-- all other LSAs are unchanged
 abbrev pub LeaveCandidates : (before : Moment) → (moment : Moment) → (old : Database)
     → (new : Database) → KeptWalk → Type 0
 LeaveCandidates before moment old new walk =
     (key : Key) → (OffersNothing moment new walk key → ⊥)
     → IsLeft before moment (finite.get old key) (finite.get new key)
 
--- the copy of this key has MaxAge only if it had it at the moment before, if the key counts
+-- if the copy with this key counts and has MaxAge, it had it at the moment `before`
 abbrev pub IsOldOrLeftOut : (before : Moment) → (moment : Moment) → Database → KeptWalk → Key
     → Type 0
 IsOldOrLeftOut before moment db walk key =
     (OffersNothing moment db walk key → ⊥) → IsOld None before moment db key
 
--- those of these keys have
+-- the same for each of these keys
 abbrev pub AreOldOrLeftOut : (before : Moment) → (moment : Moment) → Database → KeptWalk
     → List Key → Type 0
 AreOldOrLeftOut before moment db walk keys =

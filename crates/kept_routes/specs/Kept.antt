@@ -10,10 +10,10 @@ pub record KeptWalk : Type 0 where
   pub root : Root
   -- where it led
   pub reached : NodeWays
-  -- how many walks were made
+  -- the number of walks that were made
   pub walks : ℕ
 
--- it is the walk of what the LSAs say: the way to each node, or none, by the links that count
+-- it is the walk of what the LSAs say: the way to each node, or None, by the links that count
 pub record IsWalkOf (said : Said) (kept : KeptWalk) : Type 0 where
   pub ways : AreWays said kept.root (way_in kept.reached)
   pub near : AreNear (way_in kept.reached)

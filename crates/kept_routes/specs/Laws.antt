@@ -9,13 +9,13 @@ use Rattle.routes.specs.Tables.{Answers, IsStale, IsTable}
 use Rattle.routes.specs.declared.root.Root.{Root}
 use Rattle.words.specs.declared.route.Route.{Route}
 
--- a walk is kept for as long as the router-LSAs and network-LSAs say the same, whatever others say
+-- a walk remains valid while the router-LSAs and network-LSAs say the same, whatever others say
 abbrev pub WalksAreKept : Type 0
 WalksAreKept =
     (old new : Said) (kept : KeptWalk) → SayTheSame (Some 2) old new → IsWalkOf old kept
     → IsWalkOf new kept
 
--- as long as all LSAs say the same, candidates and table stay, and nothing becomes stale
+-- while all LSAs say the same, candidates and table are unchanged, and nothing becomes stale
 pub record RoutesAreKept : Type 0 where
   pub candidates : (old new : Said) (root : Root) (routes : List Route) → SayTheSame None old new
       → AreCandidates old root routes → AreCandidates new root routes
@@ -24,8 +24,8 @@ pub record RoutesAreKept : Type 0 where
   pub stale : (old new : Said) (root : Root) (answers : Answers) → SayTheSame None old new
       → IsStale old root answers ↔ IsStale new root answers
 
--- and so they do where other AS-external-LSAs alone change than those of routers that are reached
--- (section 16.4)
+-- and so they are while only AS-external-LSAs of the root or of unreached routers change (section
+-- 16.4)
 pub record CandidatesAreKept : Type 0 where
   pub candidates : (old new : Said) (root : Root) (routes : List Route)
       → OfferTheSame old new root → AreCandidates old root routes → AreCandidates new root routes

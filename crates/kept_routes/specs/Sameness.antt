@@ -1,4 +1,4 @@
--- What the LSAs say stays as it was (RFC 2328, section 16).
+-- LSAs that are unchanged (RFC 2328, section 16).
 use Rattle.std.specs.Prelude.{◌≡◌, ℕ, Option, Some}
 use Rattle.std.specs.FinMap as finite
 use Rattle.routes.specs.lsdb.Changes.{IsUpTo, SaysTheSame}
@@ -8,18 +8,19 @@ use Rattle.routes.specs.Said.{Said}
 use Rattle.words.specs.Numbers.{Moment}
 use Rattle.words.specs.declared.key.Key.{Key}
 
--- the LSAs of the types up to this one say the same, of all types where there is none
+-- the LSAs of the types up to this one, or of all types if there is none, say the same
 abbrev pub SayTheSame : Option ℕ → Said → Said → Type 0
 SayTheSame last_type old new = (key : Key) → IsUpTo last_type key → old key ≡ new key
 
--- since the moment before, the LSA of a key didn't come or leave, says nothing else and hasn't come
--- to MaxAge; another instance below MaxAge that says the same doesn't count (section 13.2)
+-- since the moment `before`, the LSA with a key didn't come or leave, doesn't say something else
+-- and hasn't reached MaxAge; another instance below MaxAge that says the same doesn't count
+-- (section 13.2)
 pub record IsLeft (before : Moment) (moment : Moment) (old : Option DatabaseCopy)
     (new : Option DatabaseCopy) : Type 0 where
   pub same : SaysTheSame moment old new
   pub old_copy : (copy : DatabaseCopy) → new ≡ Some copy → IsOldCopy before moment copy
 
--- this holds of the LSAs of the types up to this one, of all types where there is none
+-- the same for the LSAs of the types up to this one, or of all types if there is none
 abbrev pub AreLeft : Option ℕ → (before : Moment) → (moment : Moment) → (old : Database)
     → (new : Database) → Type 0
 AreLeft last_type before moment old new =

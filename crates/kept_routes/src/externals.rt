@@ -1,5 +1,5 @@
-//! Whether the candidates are left as they were, though AS-external-LSAs changed that offer nothing
-//! (RFC 2328, section 16.4).
+//! Whether the candidates are unchanged although AS-external-LSAs changed, because those offer
+//! nothing (RFC 2328, section 16.4).
 ghost use Rattle.std.specs.Prelude.{◌≡◌, ◌≤◌, ◌↔◌, IfOk, IsTrue, MatchOption, Some, bit_and};
 ghost use Rattle.lsa.specs.declared.body.Body.TheVariants as body;
 ghost use Rattle.lsa.specs.declared.body.RouterLsa.{RouterLsa as RouterValue};
@@ -38,7 +38,7 @@ impl<'a> KeyRule for OfNoAccount<'a> {
     }
 }
 
-// Whether an LSA of this key is an external one that offers nothing, whatever it says.
+// Whether an LSA with this key is an external one that offers nothing, whatever it says.
 fn offers_nothing(
     alloc: Global,
     db: &Lsdb,
@@ -82,7 +82,7 @@ fn is_unreached(
     Ok(!named)
 }
 
-// What the router-LSA of this key says, if the database has one below MaxAge.
+// The router-LSA with this key, if the database has one below MaxAge.
 fn router_lsa<'a>(db: &'a Lsdb, moment: Second, key: &Key) -> Option<&'a RouterLsa>
     ensures { MatchOption result ((lsa : RouterValue) → said_at moment db.now.present key.now
         ≡ Some (body.Router lsa) → ⊥) (λ lsa.
@@ -94,7 +94,7 @@ fn router_lsa<'a>(db: &'a Lsdb, moment: Second, key: &Key) -> Option<&'a RouterL
     }
 }
 
-// Whether the walk leads to the router, and its LSA has the flag E.
+// Whether the router is reachable, and its LSA has flag E.
 fn is_boundary(db: &Lsdb, walk: &Routes, moment: Second, router: RouterId) -> bool
     ensures { IsTrue result ↔ ((way : WayTo) × IsFlagged (said_at moment db.now.present)
         (way_in walk.now.reached) router 2 way) }
@@ -126,7 +126,7 @@ fn has_e(lsa: &RouterLsa) -> bool
     lsa.flags & 2 == 2
 }
 
-// Whether a summary of an AS boundary router is of this name.
+// Whether a summary-LSA of an AS boundary router names this one.
 fn is_named(alloc: Global, db: &Lsdb, router: RouterId) -> Result<bool, AllocError>
     ensures { IfOk result (λ is. IsTrue is ↔ IsNamed db.now.present router) }
 {
@@ -154,16 +154,16 @@ fn names_it(router: RouterId, key: &Key) -> bool
     key.ls_type == 4 && key.link_state_id.number() == router.number()
 }
 
-/// Tells whether the candidates by this walk, which was made before the event, are left as they
-/// were: since the database was settled, at the moment before, LSAs came, left, came to MaxAge or
-/// say something else only if they are AS-external-LSAs that offer nothing, whatever they say.
-/// Those are the router's own, and those of routers that aren't reached as AS boundary routers (RFC
-/// 2328, section 16.4). It may also tell so where LSAs came or left at MaxAge.
+/// Whether the candidates by this walk, which was made before the event, are unchanged: since the
+/// database was settled, at the moment `before`, LSAs came, left, reached MaxAge or say something
+/// else only if they are AS-external-LSAs that offer nothing, whatever they say. Those are the
+/// router's own, and those of routers that aren't reached as AS boundary routers (RFC 2328, section
+/// 16.4). LSAs that came or left at MaxAge may or may not count.
 ///
-/// The time is that of the event's edits and of `Lsdb::aged_keys`.
+/// It takes the time of the event's edits and of `Lsdb::aged_keys`.
 ///
 /// # Errors
-/// Where memory for keys, or to compare texts, is refused.
+/// `AllocError` if an allocation is refused.
 pub fn leave_candidates(
     alloc: Global,
     db: &Lsdb,
@@ -182,7 +182,7 @@ pub fn leave_candidates(
     if !db.keeps_others(alloc, &rule, before, moment)? {
         return Ok(false);
     }
-    // Within one moment nothing comes of age.
+    // Within one moment no LSA reaches MaxAge.
     if before.count() == moment.count() {
         return Ok(true);
     }
@@ -190,7 +190,7 @@ pub fn leave_candidates(
     are_old_or_left_out(alloc, &rule, before, &keys)
 }
 
-// Whether of these keys' copies that have MaxAge those had it before the event that count.
+// Whether the copies with these keys that have MaxAge, if they count, had it before the event.
 fn are_old_or_left_out(
     alloc: Global,
     rule: &OfNoAccount<'_>,
@@ -208,7 +208,7 @@ fn are_old_or_left_out(
     Ok(true)
 }
 
-// Whether the copy of this key has MaxAge only if it had it before the event, if the key counts.
+// Whether the copy with this key, if it counts and has MaxAge, had it before the event.
 fn is_old_or_left_out(
     alloc: Global,
     rule: &OfNoAccount<'_>,

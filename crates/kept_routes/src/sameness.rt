@@ -13,16 +13,16 @@ use routes::Lsdb;
 use std::alloc::{AllocError, Global};
 use words::{Key, Second};
 
-/// Tells whether the LSAs of the types up to this one, or of all types where there is none, are
-/// left as they were: since the database was settled, at the moment before, none of them came, left
-/// or has come to MaxAge, and none says something else. They say at the moment what those of the
-/// settled database said then.
+/// Whether the LSAs of the types up to `last_type`, or of all types if that is `None`, are
+/// unchanged: since the database was settled, at the moment `before`, none of them came, left or
+/// reached MaxAge, and none says something else. At `moment` they then say what those of the
+/// settled database said at `before`.
 ///
-/// Another instance below MaxAge that says the same doesn't count (RFC 2328, section 13.2), and
-/// neither does that one was sent. The time is that of the event's edits and of `Lsdb::aged_keys`.
+/// Another instance below MaxAge that says the same doesn't count (RFC 2328, section 13.2), nor
+/// does a transmission. It takes the time of the event's edits and of `Lsdb::aged_keys`.
 ///
 /// # Errors
-/// Where memory for the keys of the LSAs at MaxAge, or to compare texts, is refused.
+/// `AllocError` if an allocation is refused.
 pub fn say_the_same(
     alloc: Global,
     db: &Lsdb,
@@ -33,14 +33,14 @@ pub fn say_the_same(
     requires { before ≤ moment }
     ensures same { IfOk result (λ same. IsTrue same → SayTheSame last_type
         (said_at before db.now.settled) (said_at moment db.now.present)) }
-    // It is true wherever it may be.
+    // It is true whenever that is correct.
     ensures left { IfOk result (λ same. IsTrue same
         ↔ AreLeft last_type before moment db.now.settled db.now.present) }
 {
     if !db.keeps(alloc, last_type, moment)? {
         return Ok(false);
     }
-    // Within one moment nothing comes of age.
+    // Within one moment no LSA reaches MaxAge.
     if before.count() == moment.count() {
         return Ok(true);
     }
@@ -48,8 +48,8 @@ pub fn say_the_same(
     Ok(are_old(db, last_type, before, moment, &keys))
 }
 
-// Whether the copies of these keys that have MaxAge had it at the moment before, those of the types
-// up to this one.
+// Whether the copies with these keys, of the types up to this one, that have MaxAge had it at the
+// moment `before`.
 fn are_old(db: &Lsdb, last_type: Option<u32>, before: Second, moment: Second, keys: &[Key]) -> bool
     ensures { IsTrue result ↔ AreOld last_type before moment db.now.present keys.now }
 {
@@ -61,8 +61,8 @@ fn are_old(db: &Lsdb, last_type: Option<u32>, before: Second, moment: Second, ke
     true
 }
 
-// Whether the copy of this key has MaxAge only if it had it at the moment before, if it is of a
-// type up to this one.
+// Whether the copy with this key, if it has MaxAge and a type up to this one, had it at the moment
+// `before`.
 pub(crate) fn is_old(
     db: &Lsdb,
     last_type: Option<u32>,

@@ -18,8 +18,8 @@ use std::alloc::{AllocError, Global};
 use std::marker::Model;
 use words::{Route, Second};
 
-/// The walk of a database from its root, kept to calculate candidates from without walking again.
-/// It serves for as long as the LSAs of types 1 and 2 say what they said (RFC 2328, section 16.1):
+/// The walk of a database from its root, kept to calculate candidates without another walk. It is
+/// valid while the LSAs of types 1 and 2 say the same (RFC 2328, section 16.1):
 /// `laws::walks_are_kept`.
 #[derive(Drop)]
 pub struct Routes {
@@ -41,7 +41,7 @@ impl Routes {
     /// LSAs, the root at most 63 interfaces.
     ///
     /// # Errors
-    /// Where memory for the walk is refused.
+    /// `AllocError` if an allocation is refused.
     pub fn new(alloc: Global, db: &Lsdb, root: &Root, moment: Second) -> Result<Routes, AllocError>
         requires interfaces { length root.now.addresses ≤ 63 }
         requires size { finite.len db.now.present ≤ 16384 }
@@ -58,7 +58,7 @@ impl Routes {
         })
     }
 
-    /// Takes a walk that was made, in place of the one that was kept.
+    /// Replaces the walk by a new one.
     pub fn take_walk(&mut self, root: Root, reached: Reached)
         ensures { self.new ≡ record {
           root = root;
@@ -72,11 +72,11 @@ impl Routes {
         self.walks = self.walks.saturating_add(1);
     }
 
-    /// The candidates of a database whose walk is kept, at a moment: for each prefix that anything
-    /// offers one route, in the order of the prefixes (RFC 2328, section 16).
+    /// The candidates at a moment of a database with this walk: one route for each prefix that
+    /// anything offers, in the order of the prefixes (RFC 2328, section 16).
     ///
     /// # Errors
-    /// Where memory for the offers or the routes is refused.
+    /// `AllocError` if an allocation is refused.
     pub fn candidates(
         &self,
         alloc: Global,
@@ -95,11 +95,11 @@ impl Routes {
         Ok(routes)
     }
 
-    /// The candidates as `candidates` gives them, with what those to external destinations rest on
-    /// (RFC 2328, sections 16.1 to 16.4), where it is known what AS-external-LSAs tell.
+    /// The candidates as `candidates` gives them, with what external destinations depend on (RFC
+    /// 2328, sections 16.1 to 16.4). `externals` is what AS-external-LSAs advertise.
     ///
     /// # Errors
-    /// Where memory for the offers or the routes is refused.
+    /// `AllocError` if an allocation is refused.
     pub fn calculate(
         &self,
         alloc: Global,
@@ -119,21 +119,21 @@ impl Routes {
         Ok(made)
     }
 
-    /// How many walks were made; it stays at its greatest value.
+    /// The number of walks that were made, which saturates.
     pub fn walks(&self) -> u64
         ensures { result ≡ self.now.walks }
     {
         self.walks
     }
 
-    /// The router from which it walked.
+    /// The root of the walk.
     pub fn root(&self) -> &Root
         ensures { result.now ≡ self.now.root }
     {
         &self.root
     }
 
-    // The way to a node, or None where it didn't lead there.
+    // The way to a node; `None` if the walk didn't reach it.
     pub(crate) fn way_to(&self, node: &Node) -> Option<Way>
         ensures { result ≡ way_in self.now.reached node.now }
     {

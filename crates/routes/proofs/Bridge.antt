@@ -14,7 +14,7 @@ use Rattle.routes.proofs.Determined.{bit_of_member, is_member}
 cost-cons : (l : Link) (ls : List Link) → cost (l ∷ ls) ≡ l.cost + cost ls
 cost-cons l ls = sum_by-cons (λ (link : Link). link.cost) l ls
 
--- a walk for a path, which costs no more
+-- a walk for a path, that costs no more
 record Walks (g : Graph) (at to price : ℕ) : Type 0 where
   walk : List Link
   is_walk : IsWalk g at walk to
@@ -43,7 +43,7 @@ path_of {V} leads number g is v at (l ∷ ls) w to nv nw p =
     let rest = path_of leads number g is step.0.target l.to ls w to step.2.target nw p.1 in
     record { path = step.0 ∷ rest.path; is_walk = (step.1, rest.is_walk); same = omega (arith, cost-cons l ls, rest.same, step.2.price) }
 
--- the answer of the graph for one vertex is an answer for what it stands for
+-- the answer of the graph for one vertex is that for what the vertex stands for
 abbrev pub IsAnswerFor : {V : Type 0} → (V → Step V → Type 0) → V → V → Option Way → Type 0
 IsAnswerFor {V} leads from to None = (walk : List (Step V)) → paths.IsWalk leads from walk to → ⊥
 IsAnswerFor {V} leads from to (Some way) = paths.IsWay leads from to (record { distance = way.distance; hops = way.hops })

@@ -1,4 +1,4 @@
--- Ways rest on LSAs of types 1 and 2 alone.
+-- Ways depend on LSAs of types 1 and 2 alone.
 use Rattle.std.proofs.Common.{◌≡◌, ℕ, ◌≤◌, List, [], ◌∷◌, arith, sym, ◌∙◌}
 use Rattle.words.specs.declared.key.Key.{Key}
 use Rattle.lsa.specs.declared.body.Link.{Link}
@@ -41,7 +41,7 @@ module _ (old new : Said) (same : (key : Key) → key.ls_type ≤ 2 → old key 
   leads (ANetwork id by) (ARouter b) price exit l = (lists id by b l.0, back b _ id l.1, l.2, l.3)
   leads (ANetwork id by) (ANetwork other its) price exit l = absurd l
 
--- ---- ways over links that are the same
+-- ---- ways over the same links
 
 module _ {V : Type 0} (P Q : V → Step V → Type 0) (forth : (v : V) (s : Step V) → P v s → Q v s) (back : (v : V) (s : Step V) → Q v s → P v s) where
   over : (v : V) (walk : List (Step V)) (w : V) → IsWalk P v walk w → IsWalk Q v walk w

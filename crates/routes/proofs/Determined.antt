@@ -54,7 +54,7 @@ one_way leads from to a b p q =
 pub ways : WaysAreDetermined
 ways said root from to a b p q = one_way (Leads said root) from to a b p q
 
--- ---- offers that are as good as each other
+-- ---- equally good offers
 
 kind_at : ℕ → RouteKind
 kind_at zero = Intra
@@ -101,7 +101,7 @@ same_tag a b (ByTag p e) (ByTag q r) = omega (arith, e, r)
 
 -- ---- candidates
 
--- whatever is offered, a prefix has one route
+-- whatever the offers, a prefix has one route
 pub one_route : (IsOffered : Offer → Type 0) (r s : Route) → IsRouteAmong IsOffered r → IsRouteAmong IsOffered s → r.prefix ≡ s.prefix → r ≡ s
 one_route IsOffered r s p q e =
     let Best : Offer → Network → Type 0 = λ o n. IsBestAmong IsOffered n o in

@@ -1,4 +1,4 @@
--- The routes of the offers so far, as the last one is taken up or another one added.
+-- The routes of the offers so far, when the last one is extended or another one added.
 use Rattle.std.proofs.Common.{◌≡◌, ℕ, zero, suc, ◌+◌, ◌<◌, ◌≤◌, ◌⊎◌, inl, inr, false, List, [], ◌∷◌, ◌++◌, length, get_or, take, arith, refl, sym, ◌∙◌, ap, subst, length-append}
 use Rattle.std.specs.List.{AllPairs, Contains}
 use Rattle.std.specs.List.Sorted.{IsSorted}
@@ -42,7 +42,7 @@ listed P routes l = record {
   ascending = l.ascending;
 }
 
--- the same offers in other words
+-- the same offers, described otherwise
 pub reworded : (P Q : Offer → Type 0) (routes : List Route) → ((o : Offer) → P o → Q o) → ((o : Offer) → Q o → P o) → Listed P routes → Listed Q routes
 reworded P Q routes forth back l = record {
   each = λ r t. same_offers P Q r (λ o e. forth o) (λ o e. back o) (l.each r t);
@@ -78,7 +78,7 @@ front_below xs x all k d low =
 below : (xs : List Route) (x r : Route) → AllPairs Ascend (xs ++ x ∷ []) → Contains xs r → Ascend r x
 below xs x r all (k, within, is) = subst (λ a. Ascend a x) is (front_below xs x all k r within)
 
--- an element of a list is the same whatever stands for one past its end
+-- an element of a list doesn't depend on the default for what is past its end
 pub other_default : {X : Type 0} (xs : List X) (k : ℕ) (d e : X) → k < length xs → get_or xs k d ≡ get_or xs k e
 other_default [] k d e low = absurd (omega (arith, low))
 other_default (x ∷ xs) zero d e low = refl
@@ -113,7 +113,7 @@ module _ (P : Offer → Type 0) (n : Offer) (up : (o : Offer) → P o → UpTo o
         ascending = all_pairs_push Ascend [] (route_of n) (λ i j d before within. absurd (omega (arith, before, within))) (λ k d low. absurd (omega (arith, low)));
       }
 
-  -- for the prefix of the last route
+  -- an offer for the prefix of the last route
   module _ (front : List Route) (last : Route) (l : Listed P (front ++ last ∷ [])) where
     abbrev all : List Route
     all = front ++ last ∷ []
@@ -148,7 +148,7 @@ module _ (P : Offer → Type 0) (n : Offer) (up : (o : Offer) → P o → UpTo o
     pub on_worse : last.prefix ≡ n.prefix → (AsGood last n → ⊥) → Listed WithIt (front ++ last ∷ [])
     on_worse same other = replaced same last refl (of_worse P n up last same was_last other)
 
-    -- a route is for a prefix up to that of the new offer
+    -- no route is for a prefix after that of the new offer
     up_to_it : (r : Route) → IsRouteAmong P r → IsBefore r.prefix n.prefix ⊎ (r.prefix ≡ n.prefix)
     up_to_it r k = by_first (up k.first k.is_best.offered)
       where
@@ -200,7 +200,7 @@ module _ (P : Offer → Type 0) (n : Offer) (up : (o : Offer) → P o → UpTo o
 abbrev pub Among : List Offer → Offer → Type 0
 Among offers o = Contains offers o
 
--- the offers before one are up to it
+-- the offers before one come up to it
 pub before_it : (offers : List Offer) (i : ℕ) (d : Offer) → IsSorted offer_cmp offers → i < length offers → (o : Offer) → Among (take i offers) o → UpTo o (get_or offers i d)
 before_it offers i d sorted lt o (k, within, is) =
     let size : length (take i offers) ≡ i = length-take-le i offers (omega (arith, lt)) in
@@ -264,7 +264,7 @@ next_at : (offers : List Offer) (i : ℕ) (d : Offer) → IsSorted offer_cmp off
 next_at offers i d sorted lt front last l other =
     taken offers i d ((front ++ last ∷ []) ++ route_of (get_or offers i d) ∷ []) lt (on_next (Among (take i offers)) (get_or offers i d) (before_it offers i d sorted lt) front last l other)
 
--- the same with the offer by a name of its own
+-- the same, with a name for the offer
 pub step_none : (offers : List Offer) (i : ℕ) (n : Offer) → n ≡ get_or offers i n → IsSorted offer_cmp offers → i < length offers → (front : List Route) → length front ≡ 0 → Listed (Among (take i offers)) front
     → Listed (Among (take (i + 1) offers)) (front ++ route_of n ∷ [])
 step_none offers i n is sorted lt front e l =

@@ -16,7 +16,7 @@ later_is x xs y (k, within, is) = (suc k, omega (arith, within), is)
 pub of_empty : {X : Type 0} (y : X) → Contains [] y → ⊥
 of_empty y (k, within, is) = omega (arith, within)
 
--- the same at another default
+-- the same with another default
 stands : {X : Type 0} (xs : List X) (k : ℕ) (x d : X) → k < length xs → get_or xs k x ≡ x → get_or xs k d ≡ x
 stands [] k x d within is = absurd (omega (arith, within))
 stands (y ∷ xs) zero x d within is = is
@@ -43,7 +43,7 @@ module _ {X : Type 0} (R : X → X → Type 0) where
               ]
         ]
 
-    -- an element of the one rest is one of the other
+    -- an element of one rest is one of the other
     in_rest : (x : X) (xs : List X) (y : X) (ys : List X) → x ≡ y → AllPairs R (x ∷ xs) → (z : X) → Contains (y ∷ ys) z → Contains xs z → Contains ys z
     in_rest x xs y ys e left z among later =
         let P : X → Type 0 = λ w. R x w in

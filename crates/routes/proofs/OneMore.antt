@@ -31,7 +31,7 @@ offers_total =
     (then_total (on_total (λ (o : Offer). o.originator) nat_cmp_total)
     (then_total (on_total (λ (o : Offer). o.tag) nat_cmp_total) (on_total (λ (o : Offer). o.hops) nat_cmp_total))))))
 
--- not less by a number and then something else
+-- not less by a number, then by something else
 not_less : (a b : ℕ) (r : Ordering) → is_lt (ordering_then (nat_cmp a b) r) ≡ false → (b < a) ⊎ ((b ≡ a) × (is_lt r ≡ false))
 not_less a b r e =
     elim (nat_lt a b) as (λ c. nat_lt a b ≡ c → is_lt (ordering_then (cond c Less (cond (nat_eq a b) Equal Greater)) r) ≡ false → (b < a) ⊎ ((b ≡ a) × (is_lt r ≡ false))) [
@@ -48,7 +48,8 @@ regroup Less b c = refl
 regroup Equal b c = refl
 regroup Greater b c = refl
 
--- in order before another one: of a prefix before it, or of the same one, no worse, and where it is as good no later
+-- before another offer in the order: for an earlier prefix, or for the same one, no worse, and no
+-- later if equally good
 pub data UpTo (o n : Offer) : Type 0 where
   Before : IsBefore o.prefix n.prefix → UpTo o n
   Same : o.prefix ≡ n.prefix → IsNoWorse o n → (AreAlike o n → IsNoLater o n) → UpTo o n
@@ -102,7 +103,7 @@ no_worse_itself o = ByDistance refl refl (omega arith)
 pub never_itself : (a b : Network) → a ≡ b → IsBefore a b → ⊥
 never_itself a b e p = let P : Network → Type 0 = λ x. IsBefore x b in let self : IsBefore b b = subst P e p in never_both b b self self
 
--- a route rests on the offers for its prefix alone
+-- a route depends on the offers for its prefix alone
 pub same_offers : (P Q : Offer → Type 0) (r : Route) → ((o : Offer) → o.prefix ≡ r.prefix → P o → Q o) → ((o : Offer) → o.prefix ≡ r.prefix → Q o → P o) → IsRouteAmong P r → IsRouteAmong Q r
 same_offers P Q r forth back k =
     let over : (o : Offer) → IsBestAmong P r.prefix o → IsBestAmong Q r.prefix o =
@@ -138,7 +139,7 @@ module _ (P : Offer → Type 0) (n : Offer) (up : (o : Offer) → P o → UpTo o
       ])
       k
 
-  -- none before it is for its prefix
+  -- no offer before it is for its prefix
   pub of_first : ((o : Offer) → P o → o.prefix ≡ n.prefix → ⊥) → IsRouteAmong WithIt (route_of n)
   of_first none =
       let Worse : Offer → Type 0 = λ x. IsNoWorse n x in
@@ -188,7 +189,7 @@ module _ (P : Offer → Type 0) (n : Offer) (up : (o : Offer) → P o → UpTo o
     first_is : k.first.prefix ≡ n.prefix
     first_is = k.is_best.is_for ∙ same
 
-    -- it isn't as good
+    -- it is worse
     pub of_worse : (AsGood r n → ⊥) → IsRouteAmong WithIt r
     of_worse not_as_good =
         let before : IsNoWorse k.first n = (of_same k.first k.is_best.offered first_is).0 in
@@ -214,7 +215,7 @@ module _ (P : Offer → Type 0) (n : Offer) (up : (o : Offer) → P o → UpTo o
           );
         }
 
-    -- it is as good
+    -- it is equally good
     pub of_as_good : AsGood r n → IsRouteAmong WithIt (joined_route r n)
     of_as_good good =
         let a : AreAlike k.first n = record { kind = ap rank (sym k.kind ∙ good.kind); cost = sym k.cost ∙ good.cost; distance = sym k.distance ∙ good.distance } in

@@ -1,4 +1,4 @@
--- What a graph that stands for the links of a database tells of the database.
+-- What a graph that stands for the links of a database implies for the database.
 use Rattle.std.specs.Prelude.{◌≡◌, ℕ, List, Option, Some, None}
 use Rattle.routes.specs.Graphs.{Graph, IsAnswer, IsGraphOf}
 use Rattle.routes.specs.Links.{Leads}
@@ -9,7 +9,7 @@ use Rattle.routes.specs.declared.graph.Way.{Way}
 use Rattle.routes.specs.declared.root.Root.{Root}
 use Rattle.routes.specs.Said.{Said}
 
--- the way to a node, or none where no walk leads there
+-- the way to a node, or None if no walk leads there
 abbrev pub IsNodeAnswer : Said → Root → Node → Option Way → Type 0
 IsNodeAnswer said root to None =
     (walk : List (Step Node)) → IsWalk (Leads said root) (ARouter root.router) walk to → ⊥
@@ -17,8 +17,8 @@ IsNodeAnswer said root to (Some way) =
     IsWay (Leads said root) (ARouter root.router) to
     (record { distance = way.distance; hops = way.hops })
 
--- where the graph stands for the links of the database, its nodes at these places, its answers are
--- those of the database
+-- if the graph stands for the links of the database, with its nodes at these indices, its answers
+-- are those of the database
 abbrev pub GraphsCarryAnswers : Type 0
 GraphsCarryAnswers =
     (said : Said) (root : Root) (place : Node → Option ℕ) (g : Graph)

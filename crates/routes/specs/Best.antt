@@ -1,5 +1,5 @@
--- How the routes of offers are made: the offers in an order in which the best one for a prefix
--- comes first.
+-- How the routes of offers are calculated: from the offers in an order that has the best one for a
+-- prefix first.
 use Rattle.std.specs.Prelude.{◌≡◌, bit_or}
 use Rattle.std.specs.Ordering.{nat_cmp, ordering_then}
 use Rattle.std.specs.declared.cmp.Ordering.{Ordering}
@@ -26,7 +26,7 @@ kind_cmp a b = ordering_then (nat_cmp (rank a.kind) (rank b.kind)) (cost_cmp a b
 abbrev pub prefix_cmp : Network → Network → Ordering
 prefix_cmp a b = ordering_then (nat_cmp a.address b.address) (nat_cmp a.length b.length)
 
--- by prefix, then the better first, then by originator and tag
+-- by prefix, then better before worse, then by originator and tag
 abbrev pub offer_cmp : Offer → Offer → Ordering
 offer_cmp a b = ordering_then (prefix_cmp a.prefix b.prefix) (kind_cmp a b)
 
@@ -41,12 +41,12 @@ route_of o =
       tag = o.tag;
     }
 
--- the offer is as good as the route
+-- the offer is exactly as good as the route
 pub record AsGood (r : Route) (o : Offer) : Type 0 where
   pub kind : r.kind ≡ o.kind
   pub cost : r.cost ≡ o.cost
   pub distance : r.distance ≡ o.distance
 
--- with the hops of the offer too
+-- with the next hops of the offer too
 abbrev pub joined_route : Route → Offer → Route
 joined_route r o = record r { hops = bit_or r.hops o.hops }

@@ -19,7 +19,7 @@ use Rattle.routes.specs.declared.root.Root.{Root}
 
 -- ---- the way to an external destination
 
--- by the forwarding address, or by the originator where that is 0.0.0.0
+-- by the forwarding address, or by the originator if that is 0.0.0.0
 pub record IsExternalWay (said : Said) (root : Root) (originator : ℕ) (lsa : ExternalLsa)
     (way : Way) : Type 0 where
   pub boundary : Way
@@ -50,7 +50,7 @@ external_offer Type2 prefix lsa originator way =
       originator = originator;
     }
 
--- an external LSA below MaxAge and of a metric below LSInfinity, of another router
+-- an AS-external-LSA below MaxAge with a metric below LSInfinity, of another router
 pub record OffersExternal (said : Said) (root : Root) (o : Offer) : Type 0 where
   pub id : ℕ
   pub originator : ℕ

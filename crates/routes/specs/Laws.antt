@@ -10,13 +10,13 @@ use Rattle.routes.specs.Paths.{IsWay, Way}
 use Rattle.routes.specs.declared.root.Root.{Root}
 use Rattle.routes.specs.Said.{Said}
 
--- whatever links there are, a vertex has one way
+-- whatever the links, there is one way to a vertex
 abbrev pub WaysAreDetermined : Type 0
 WaysAreDetermined =
     (said : Said) (root : Root) (from to : Node) (a b : Way) → IsWay (Leads said root) from to a
     → IsWay (Leads said root) from to b → a ≡ b
 
--- what LSAs of types 1 and 2 say decides all ways
+-- what LSAs of types 1 and 2 say determines all ways
 abbrev pub WaysRestOnLinks : Type 0
 WaysRestOnLinks =
     (old new : Said) (root : Root) → ((key : Key) → key.ls_type ≤ 2 → old key ≡ new key)

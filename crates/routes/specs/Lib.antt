@@ -11,5 +11,5 @@ pub mod Laws
 pub mod Graphs
 pub mod Search
 pub mod Answers
--- what crates above name of those below
+-- re-exported for the crates above
 pub use Rattle.lsdb.specs as lsdb

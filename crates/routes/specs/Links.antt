@@ -45,7 +45,8 @@ pub record ListsRouter (said : Said) (id by router : ℕ) : Type 0 where
   pub among : Contains lsa.attached router
 
 -- A link of this kind and cost to this Link ID that may count: its metric isn't 0, and at the root
--- its data is the address of an own interface, by which the root sends; elsewhere the exit is 0.
+-- its data is the address of an own interface, by which the root sends; for other routers the exit
+-- is 0.
 pub record Counts (said : Said) (root : Root) (router : ℕ) (kind : LinkKind)
     (id price exit : ℕ) : Type 0 where
   pub link : Link
@@ -63,8 +64,8 @@ abbrev pub LinksBack : Said → ℕ → LinkKind → ℕ → Type 0
 LinksBack said router kind id =
     (link : Link) × HasLink said router link × (link.kind ≡ kind) × (link.link_id ≡ id)
 
--- a link counts only where the other end links back; a network leads to each router that it lists
--- at cost 0
+-- a link counts only if the other end links back; a network leads to each router that it lists at
+-- cost 0
 abbrev pub LeadsTo : Said → Root → Node → Node → ℕ → ℕ → Type 0
 LeadsTo said root (ARouter a) (ARouter b) price exit =
     Counts said root a PointToPoint b price exit × LinksBack said b PointToPoint a

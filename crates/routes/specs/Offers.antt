@@ -14,7 +14,7 @@ use Rattle.routes.specs.declared.offer.Offer.{Offer}
 use Rattle.routes.specs.declared.root.Root.{Root}
 use Rattle.routes.specs.Said.{Said}
 
--- the network of the address under the mask, whose ones stand in front
+-- the network of the address under a contiguous mask
 abbrev pub IsPrefix : ℕ → ℕ → Network → Type 0
 IsPrefix address mask prefix =
     (prefix.length ≤ 32) × (mask ≡ mask_of prefix.length)
@@ -34,8 +34,8 @@ intra prefix cost hops =
 
 -- ---- within the area (section 16.1)
 
--- the network is the node's own, or a stub link of the router leads to it, at this cost beyond the
--- way to the node
+-- the network is the node's own, or a stub link of the router leads to it, at this cost in addition
+-- to the way to the node
 abbrev pub Attaches : Said → Node → Network → ℕ → Type 0
 Attaches said (ANetwork id by) prefix more =
     (lsa : NetworkLsa) × IsNetworkLsa said id by lsa × IsPrefix id lsa.mask prefix × (more ≡ 0)
@@ -43,8 +43,8 @@ Attaches said (ARouter router) prefix more =
     (link : Link) × HasLink said router link × (link.kind ≡ Stub)
     × IsPrefix link.link_id link.link_data prefix × (more ≡ link.metric)
 
--- a reachable node offers what it attaches, by the hops of the way to it; the root itself by no
--- other hop than 0
+-- a reachable node offers what it attaches, with the next hops of the way to it; the root's own
+-- networks have only hop 0
 pub record OffersWithin (said : Said) (root : Root) (o : Offer) : Type 0 where
   pub node : Node
   pub prefix : Network
@@ -59,7 +59,7 @@ pub record OffersWithin (said : Said) (root : Root) (o : Offer) : Type 0 where
 
 -- ---- external destinations (section 16.4)
 
--- the originator is reachable, and its flags have E
+-- the originator is reachable, and its flags have bit E
 pub record ReachesBoundaryRouter (said : Said) (root : Root) (originator : ℕ)
     (way : Way) : Type 0 where
   pub lsa : RouterLsa

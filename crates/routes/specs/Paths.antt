@@ -1,14 +1,16 @@
--- Walks over any relation of links, least walks, and their first hops (RFC 2328, section 16.1).
+-- Walks over any relation of links, least-cost walks, and their first hops (RFC 2328, section
+-- 16.1).
 use Rattle.std.specs.Prelude.{◌≡◌, ℕ, ◌+◌, ◌≤◌, ◌↔◌, IsTrue, List, [], ◌∷◌}
 use Rattle.words.specs.Interfaces.{has_interface}
 
--- where a link leads, what it costs, and by which interface the root sends along it (0 elsewhere)
+-- where a link leads, its cost, and the interface by which the root sends along it (0 for other
+-- vertices)
 pub record Step (V : Type 0) : Type 0 where
   pub target : V
   pub price : ℕ
   pub exit : ℕ
 
--- the links lead from one vertex to the other, each from where the one before it leads to
+-- the links lead from one vertex to the other, each from where the one before it ends
 abbrev pub IsWalk : {V : Type 0} → (V → Step V → Type 0) → V → List (Step V) → V → Type 0
 IsWalk leads from [] to = from ≡ to
 IsWalk leads from (step ∷ rest) to = leads from step × IsWalk leads step.target rest to
@@ -23,7 +25,7 @@ pub record IsLeastWalk {V : Type 0} (leads : V → Step V → Type 0) (from : V)
   pub is_walk : IsWalk leads from walk to
   pub least : (other : List (Step V)) → IsWalk leads from other to → price_of walk ≤ price_of other
 
--- the least cost, and the interfaces of the first links of all least walks as a set
+-- the least cost, and the interfaces of the first links of all least-cost walks as a set
 pub record Way : Type 0 where
   pub distance : ℕ
   pub hops : ℕ

@@ -1,5 +1,5 @@
--- Of the offers for each prefix the best ones, as one route (RFC 2328, sections 11, 16.1 and 16.4),
--- whatever is offered.
+-- The best offers for each prefix, as one route (RFC 2328, sections 11, 16.1 and 16.4), whatever
+-- the offers.
 use Rattle.std.specs.Prelude.{◌≡◌, ℕ, suc, ◌<◌, ◌≤◌, ◌↔◌, IsTrue, List}
 use Rattle.std.specs.List.{AllPairs, Contains}
 use Rattle.words.specs.Interfaces.{has_interface}
@@ -18,7 +18,7 @@ rank Inter = 1
 rank External1 = 2
 rank External2 = 3
 
--- by kind, then cost, then distance, none before the other
+-- by kind, then cost, then distance: a is at least as good as b
 pub data IsNoWorse (a b : Offer) : Type 0 where
   ByKind : suc (rank a.kind) ≤ rank b.kind → IsNoWorse a b
   ByCost : rank a.kind ≡ rank b.kind → suc a.cost ≤ b.cost → IsNoWorse a b
@@ -37,7 +37,7 @@ pub data IsNoLater (a b : Offer) : Type 0 where
 
 -- ---- routes
 
--- The route of a prefix: as good as the best of its offers, with the hops of all of these, and the
+-- The route of a prefix: as good as its best offers, with the next hops of all of these, and the
 -- least tag of their least originator.
 pub record IsRouteAmong (IsOffered : Offer → Type 0) (r : Route) : Type 0 where
   pub first : Offer
@@ -55,12 +55,12 @@ pub data IsBefore (a b : Network) : Type 0 where
   ByAddress : a.address < b.address → IsBefore a b
   ByLength : a.address ≡ b.address → a.length < b.length → IsBefore a b
 
--- all routes of what is offered and nothing else, in the order of their prefixes
+-- exactly the routes of what is offered, in the order of their prefixes
 pub record AreRoutesAmong (IsOffered : Offer → Type 0) (routes : List Route) : Type 0 where
   pub each : (r : Route) → Contains routes r ↔ IsRouteAmong IsOffered r
   pub ascending : AllPairs (λ (a : Route) (b : Route). IsBefore a.prefix b.prefix) routes
 
--- the way to an address: that of the route of the longest prefix that it lies in
+-- the way to an address: that of the route with the longest prefix that contains it
 pub record IsForwarded (IsOffered : Offer → Type 0) (address : ℕ) (way : Way) : Type 0 where
   pub by : Route
   pub is_route : IsRouteAmong IsOffered by

@@ -1,4 +1,4 @@
--- What the LSAs of a database say at a moment, on which routes rest (RFC 2328, section 16).
+-- What the LSAs of a database say at a moment, which determines the routes (RFC 2328, section 16).
 use Rattle.std.specs.Prelude.{ℕ, Option}
 use Rattle.std.specs.FinMap as finite
 use Rattle.words.specs.declared.key.Key.{Key}

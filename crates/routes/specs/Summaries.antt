@@ -1,5 +1,5 @@
--- What area border routers tell of other areas (RFC 2328, sections 16.2 and 16.4): networks, and AS
--- boundary routers.
+-- What area border routers advertise of other areas (RFC 2328, sections 16.2 and 16.4): networks,
+-- and AS boundary routers.
 use Rattle.std.specs.Prelude.{◌≡◌, ◌≢◌, ℕ, ◌+◌, ◌<◌, ◌≤◌, ◌↔◌, ◌⊎◌, IsTrue, bit_and}
 use Rattle.words.specs.Interfaces.{has_interface}
 use Rattle.words.specs.Prefixes.{Network}
@@ -16,14 +16,14 @@ use Rattle.routes.specs.declared.node.Node.TheVariants.{ARouter}
 use Rattle.routes.specs.declared.offer.Offer.{Offer}
 use Rattle.routes.specs.declared.root.Root.{Root}
 
--- the router is reachable, and its flags have B
+-- the router is reachable, and its flags have bit B
 pub record ReachesBorderRouter (said : Said) (root : Root) (router : ℕ) (way : Way) : Type 0 where
   pub lsa : RouterLsa
   pub its : IsRouterLsa said router lsa
   pub has_b : bit_and lsa.flags 1 ≡ 1
   pub reached : IsWay (Leads said root) (ARouter root.router) (ARouter router) way
 
--- a summary of a metric below LSInfinity, of another router, which is an area border router that is
+-- a summary-LSA with a metric below LSInfinity, of another router, which is an area border router
 -- reached by this way
 pub record CountsAsSummary (said : Said) (root : Root) (originator : ℕ) (lsa : SummaryLsa)
     (border : Way) : Type 0 where
@@ -60,13 +60,13 @@ pub record OffersBetween (said : Said) (root : Root) (o : Offer) : Type 0 where
   pub is_prefix : IsPrefix id lsa.mask prefix
   pub is : o ≡ inter prefix (border.distance + lsa.metric) border.hops
 
--- what a forwarding address may lead by
+-- the offers that a forwarding address may be reached by
 abbrev pub OffersInside : Said → Root → Offer → Type 0
 OffersInside said root o = OffersWithin said root o ⊎ OffersBetween said root o
 
 -- ---- AS boundary routers (section 16.4)
 
--- an area border router tells of a way of this cost to the router
+-- an area border router advertises a way with this cost to the router
 pub record IsToldOf (said : Said) (root : Root) (router distance : ℕ) (border : Way) : Type 0 where
   pub originator : ℕ
   pub lsa : SummaryLsa
@@ -74,7 +74,7 @@ pub record IsToldOf (said : Said) (root : Root) (router distance : ℕ) (border 
   pub counts : CountsAsSummary said root originator lsa border
   pub is : distance ≡ border.distance + lsa.metric
 
--- the least of those ways, with the next hops of all of its cost
+-- the least cost among those ways, with the next hops of all of that cost
 pub record IsWayBetween (said : Said) (root : Root) (router : ℕ) (way : Way) : Type 0 where
   pub border : Way
   pub told : IsToldOf said root router way.distance border
@@ -84,7 +84,7 @@ pub record IsWayBetween (said : Said) (root : Root) (router : ℕ) (way : Way) :
       ↔ ((other : Way) × IsToldOf said root router way.distance other
       × IsTrue (has_interface other.hops interface))
 
--- within the area where there is such a way, else between areas
+-- within the area if there is such a way, else between areas
 pub data IsBoundaryWay (said : Said) (root : Root) (router : ℕ) (way : Way) : Type 0 where
   Inside : ReachesBoundaryRouter said root router way → IsBoundaryWay said root router way
   Outside : ((other : Way) → ReachesBoundaryRouter said root router other → ⊥)

@@ -8,25 +8,25 @@ use Rattle.routes.specs.declared.root.Root.{Root}
 use Rattle.routes.specs.Said.{Said}
 use Rattle.routes.specs.Routes.{IsBefore}
 
--- routes with the words that were answered of them, 0 to let the route in; there are none before
--- the first answers
+-- routes with the words that were answered about them, 0 to let the route in; empty before the
+-- first answers
 abbrev pub Answers : Type 0
 Answers = List (Route × ℕ)
 
--- an equal route stands among the answers with 0
+-- an equal route is among the answers, with 0
 abbrev pub IsLetIn : Answers → Route → Type 0
 IsLetIn answers r = Contains answers (r, 0)
 
--- an equal route stands among the answers
+-- an equal route is among the answers
 abbrev pub IsAnswered : Answers → Route → Type 0
 IsAnswered answers r = (word : ℕ) × Contains answers (r, word)
 
--- exactly the candidates that are let in, in the order of their prefixes
+-- exactly the candidates that were let in, in the order of their prefixes
 pub record IsTable (said : Said) (root : Root) (answers : Answers)
     (table : List Route) : Type 0 where
   pub each : (r : Route) → Contains table r ↔ (IsCandidate said root r × IsLetIn answers r)
   pub ascending : AllPairs (λ (a : Route) (b : Route). IsBefore a.prefix b.prefix) table
 
--- some candidate isn't answered: the program is to be asked again
+-- some candidate has no answer, so that the program is to be asked again
 abbrev pub IsStale : Said → Root → Answers → Type 0
 IsStale said root answers = (r : Route) × IsCandidate said root r × (IsAnswered answers r → ⊥)

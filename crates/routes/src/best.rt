@@ -1,4 +1,4 @@
-//! Of the offers for each prefix the best ones, as one route.
+//! The best offers for each prefix, as one route.
 ghost use Rattle.std.specs.Prelude.{◌≡◌, ◌↔◌, ◌⊎◌, IfOk, IsTrue};
 ghost use Rattle.std.specs.List.{Contains};
 ghost use Rattle.std.specs.List.Sorted.{IsSorted};
@@ -9,12 +9,12 @@ use crate::offer::Offer;
 use std::alloc::{AllocError, Global};
 use words::{Prefix, Route};
 
-/// The routes of all that is offered, in the order of their prefixes (RFC 2328, sections 11, 16.1
-/// and 16.4). The offers stand in their order: the first one for a prefix is the best one, with the
-/// least tag, and those that are as good join their hops.
+/// The routes of the offers, in the order of their prefixes (RFC 2328, sections 11, 16.1 and 16.4).
+/// The offers are sorted: the first one for a prefix is the best one, with the least tag, and
+/// equally good ones add their next hops.
 ///
 /// # Errors
-/// Where memory for the routes is refused.
+/// `AllocError` if an allocation is refused.
 pub fn routes_in_order(alloc: Global, offers: &[Offer]) -> Result<Vec<Route>, AllocError>
     requires { IsSorted offer_cmp offers.now }
     ensures { IfOk result (λ routes. AreRoutesAmong (λ o. Contains offers.now o) routes.items) }
@@ -55,7 +55,7 @@ fn route_by(offer: Offer) -> Route
     }
 }
 
-// The route with the hops of one more offer, if that is as good.
+// The route with the next hops of one more offer, if that is equally good.
 fn with_offer(route: Route, offer: Offer) -> Route
     ensures { (AsGood route offer × (result ≡ joined_route route offer)) ⊎ ((AsGood route offer → ⊥)
         × (result ≡ route)) }

@@ -1,5 +1,5 @@
-//! Laws that code leans on, each carried by a function with an empty body: there is one way, and
-//! one list of candidates.
+//! Laws that code relies on, each the contract of a function with an empty body: there is one way
+//! to a node, and one list of candidates.
 ghost use Rattle.routes.specs.Answers.{GraphsCarryAnswers};
 ghost use Rattle.routes.specs.Laws.{CandidatesAreDetermined, OneCandidateForEachPrefix};
 ghost use Rattle.routes.specs.Laws.{WaysAreDetermined, WaysRestOnLinks};
@@ -9,8 +9,8 @@ pub fn ways_are_determined()
     ensures { WaysAreDetermined }
 {}
 
-/// The ways to all nodes stay as they are where the LSAs of types 1 and 2 say what they said (RFC
-/// 2328, section 16.1).
+/// The ways to all nodes don't change while the LSAs of types 1 and 2 say the same (RFC 2328,
+/// section 16.1).
 pub fn ways_rest_on_links()
     ensures { WaysRestOnLinks }
 {}
@@ -25,9 +25,9 @@ pub fn candidates_are_determined()
     ensures { CandidatesAreDetermined }
 {}
 
-/// A graph that stands for the links of a database, of links that differ in cost alone perhaps by
-/// the cheapest, gives by `least_ways` the distances and next hops of the database (RFC 2328,
-/// section 16.1).
+/// Let a graph stand for the links of a database, possibly with only the cheapest of links that
+/// differ in cost alone. `least_ways` of the graph then gives the distances and next hops of the
+/// database (RFC 2328, section 16.1).
 pub fn graphs_carry_answers()
     ensures { GraphsCarryAnswers }
 {}

@@ -1,4 +1,4 @@
-//! The routing table's calculation: walks over the links that count, and the routes that they offer
+//! The routing table calculation: walks over the links that count, and the routes that they offer
 //! (RFC 2328, section 16).
 #![tactic(auto)]
 
@@ -16,5 +16,5 @@ pub use node::Node;
 pub use offer::Offer;
 pub use root::Root;
 pub use search::least_ways;
-// What crates above name of those below.
+// Re-exported for the crates above.
 pub use lsdb::{KeyRule, Lsdb};

@@ -1,8 +1,8 @@
 //! Where walks begin.
 use words::{Address, RouterId, Sequence};
 
-/// The router that calculates its table: its Router ID, and the addresses of its interfaces,
-/// interface n at place n - 1.
+/// The router that calculates its table: its Router ID, and the addresses of its interfaces, that
+/// of interface n at index n - 1.
 #[derive(Debug, Drop)]
 pub struct Root {
     pub router: RouterId,

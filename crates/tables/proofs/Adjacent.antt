@@ -1,4 +1,4 @@
--- A list is in order where no element is less than the one before it.
+-- A list is sorted if no element is less than the one before it.
 use Rattle.std.proofs.Common.{◌≡◌, ℕ, ◌<◌, ◌≤◌, ◌+◌, ◌-◌, inl, inr, Bool, true, false, List, length, get_or, arith, sym, ◌∙◌, ap, subst}
 use Rattle.std.specs.Ordering.{is_lt}
 use Rattle.std.specs.declared.cmp.Ordering.{Ordering}
@@ -6,7 +6,7 @@ use Rattle.std.proofs.lemmas.Bool.{cases_eq}
 use Rattle.routes.proofs.Listed.{other_default}
 
 module _ {X : Type 0} (R : X → X → Ordering) (xs : List X) where
-  -- below this place
+  -- below this index
   abbrev pub UpTo : ℕ → Type 0
   UpTo n = (k : ℕ) (d : X) → k + 1 < n → is_lt (R (get_or xs (k + 1) d) (get_or xs k d)) ≡ false
 

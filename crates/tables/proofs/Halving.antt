@@ -1,4 +1,4 @@
--- What a search by halving tells of a list in order.
+-- What a binary search shows of a sorted list.
 use Rattle.std.proofs.Common.{◌≡◌, ℕ, ◌<◌, inl, inr, IsTrue, true, false, List, length, get_or, Result, Ok, Err, arith, refl, sym, ◌∙◌, subst}
 use Rattle.std.specs.Prelude.{◌↔◌, is_ok}
 use Rattle.std.specs.Cmp.{IsTotalOrder}
@@ -17,7 +17,7 @@ use Rattle.tables.specs.Orders.{answer_cmp, route_cmp}
 use Rattle.tables.proofs.Ordered.{answers_exact, answers_total, by_route, routes_exact, routes_total}
 
 module _ {X K : Type 0} {R : K → K → Ordering} (total : IsTotalOrder R) (key : X → K) (xs : List X) (up : IsSortedBy (λ (a : X) (b : X). is_lt (R (key a) (key b))) xs) (wanted : K) where
-  -- some element stands where the wanted one would
+  -- some element compares equal to the wanted one
   abbrev pub Holds : Type 0
   Holds = (x : X) × Contains xs x × (R (key x) wanted ≡ Equal)
 

@@ -1,4 +1,4 @@
--- The first routes have their answers at their own places.
+-- The first routes have their answers at their own indices.
 use Rattle.std.proofs.Common.{◌≡◌, ℕ, ◌<◌, ◌≤◌, inl, inr, List, Some, length, get_or, arith, sym, ◌∙◌, ap, subst}
 use Rattle.std.specs.Prelude.{slice_get}
 use Rattle.std.proofs.lemmas.Bool.{cases_lt}
@@ -9,12 +9,12 @@ use Rattle.routes.specs.Tables.{Answers, IsAnswered}
 use Rattle.routes.proofs.OneMore.{never_itself}
 use Rattle.tables.specs.Parts.{Ascend, LacksAnswers, StandsAt}
 
--- the first so many have
+-- the first `met` routes have
 abbrev pub AreMet : Answers → List Route → ℕ → Type 0
 AreMet answers routes met =
     (k : ℕ) (r : Route) → k < met → slice_get routes k ≡ Some r → StandsAt answers k r
 
--- where all have, none lacks one
+-- if all have, none lacks an answer
 pub none_lacks : (answers : Answers) (routes : List Route) (met : ℕ) → length routes ≤ met → AreMet answers routes met → LacksAnswers answers routes → ⊥
 none_lacks answers routes met all each (r, (k, within, is), none) =
     let there : slice_get routes k ≡ Some r = slice_get-get_or routes k r within ∙ ap (λ (x : Route). Some x) is in
@@ -22,7 +22,7 @@ none_lacks answers routes met all each (r, (k, within, is), none) =
     let answer : Route × ℕ = (r, stands.0) in
     none (stands.0, (k, slice_get_within answers k answer stands.1, get_or_from_slice_get answers k answer answer stands.1))
 
--- and else the next one does, if its answer doesn't stand behind those
+-- and otherwise the next one does, unless its answer is after those
 module _ (answers : Answers) (routes : List Route) (met : ℕ) (route : Route) (within : met < length routes) (here : route ≡ get_or routes met route) (up : Ascend routes) (each : AreMet answers routes met) (behind : (k : ℕ) → met ≤ k → StandsAt answers k route → ⊥) where
   unanswered : IsAnswered answers route → ⊥
   unanswered (word, (k, inside, is)) =

@@ -14,7 +14,7 @@ use Rattle.routes.specs.declared.root.Root.{Root}
 use Rattle.routes.proofs.Listed.{other_default}
 use Rattle.tables.specs.Parts.{AreLetIn, Ascend, LacksAnswers}
 
--- one of the first so many
+-- one of the first n routes
 abbrev pub IsAmong : List Route → ℕ → Route → Type 0
 IsAmong routes n r = (k : ℕ) × (k < n) × (get_or routes k r ≡ r)
 

@@ -3,5 +3,5 @@ pub mod Halving
 pub mod Adjacent
 pub mod LetIn
 pub mod InTurn
--- what crates above name of those below
+-- re-exported for the crates above
 pub use Rattle.routes.proofs as routes

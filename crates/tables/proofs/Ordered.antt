@@ -1,4 +1,4 @@
--- The order of answers is a total one, and tells all answers apart.
+-- The order of answers is total, and distinguishes all answers.
 use Rattle.std.proofs.Common.{◌≡◌, ℕ, zero, suc, false, List, refl, sym, ◌∙◌, ap}
 use Rattle.std.specs.Cmp.{IsTotalOrder, nat_cmp_total}
 use Rattle.std.specs.List.Sorted.{IsSorted, IsSortedBy}
@@ -26,7 +26,7 @@ routes_total =
 pub answers_total : IsTotalOrder answer_cmp
 answers_total = then_total (on_total (λ (a : Route × ℕ). a.0) routes_total) (on_total (λ (a : Route × ℕ). a.1) nat_cmp_total)
 
--- ---- nothing else stands at the same place
+-- ---- nothing else compares equal
 
 kind_at : ℕ → RouteKind
 kind_at zero = Intra
@@ -74,7 +74,7 @@ routes_exact a b e =
 pub answers_exact : (a b : Route × ℕ) → answer_cmp a b ≡ Equal → a ≡ b
 answers_exact = exact_pairs route_cmp nat_cmp routes_exact exact_unsigned
 
--- ---- answers in order are in the order of their routes
+-- ---- sorted answers are in the order of their routes
 
 first_not_less : (r s : Ordering) → is_lt (ordering_then r s) ≡ false → is_lt r ≡ false
 first_not_less Less s e = e

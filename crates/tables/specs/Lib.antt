@@ -1,5 +1,5 @@
 pub mod Orders
 pub mod Parts
 pub mod Rows
--- what crates above name of those below
+-- re-exported for the crates above
 pub use Rattle.routes.specs as routes

@@ -1,4 +1,4 @@
--- The order in which answers stand, so that they can be looked up.
+-- The order of answers, by which they can be searched.
 use Rattle.std.specs.Prelude.{ℕ}
 use Rattle.std.specs.declared.cmp.Ordering.{Ordering}
 use Rattle.std.specs.Ordering.{nat_cmp, ordering_then}

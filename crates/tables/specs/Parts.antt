@@ -1,4 +1,4 @@
--- What answers let in of a list of routes, and what of it they leave unanswered.
+-- The routes of a list that answers let in, and those that they leave unanswered.
 use Rattle.std.specs.Prelude.{◌≡◌, ℕ, List, Some, slice_get, ◌↔◌}
 use Rattle.std.specs.List.{AllPairs, Contains}
 use Rattle.words.specs.declared.route.Route.{Route}
@@ -8,15 +8,15 @@ use Rattle.routes.specs.Tables.{Answers, IsAnswered, IsLetIn}
 abbrev pub Ascend : List Route → Type 0
 Ascend routes = AllPairs (λ (a : Route) (b : Route). IsBefore a.prefix b.prefix) routes
 
--- exactly the routes that are let in, in the order of all
+-- exactly the routes that the answers let in, in the order of the list
 pub record AreLetIn (answers : Answers) (routes part : List Route) : Type 0 where
   pub each : (r : Route) → Contains part r ↔ (Contains routes r × IsLetIn answers r)
   pub ascending : Ascend routes → Ascend part
 
--- some route isn't answered
+-- some route has no answer
 abbrev pub LacksAnswers : Answers → List Route → Type 0
 LacksAnswers answers routes = (r : Route) × Contains routes r × (IsAnswered answers r → ⊥)
 
--- the answer to this route stands at this place
+-- the answer to this route is at this index
 abbrev pub StandsAt : Answers → ℕ → Route → Type 0
 StandsAt answers at route = (word : ℕ) × (slice_get answers at ≡ Some (route, word))

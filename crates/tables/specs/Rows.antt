@@ -3,7 +3,7 @@ use Rattle.std.specs.Prelude.{List, map}
 use Rattle.words.specs.declared.route.Route.{Route}
 use Rattle.words.specs.declared.route.TableRow.{TableRow}
 
--- the prefix and the whole cost; of an external route of type 2 the external metric alone
+-- the prefix and the total cost; for an external route of type 2 the external metric alone
 abbrev pub row_of : Route → TableRow
 row_of r = record { prefix = r.prefix; cost = r.cost }
 

@@ -1,4 +1,4 @@
-//! The table and whether it is stale.
+//! The table, and whether it is stale.
 ghost use Rattle.std.specs.Prelude.{◌≡◌, ◌↔◌, ◌<◌, ◌≤◌, ℕ, IfOk, IsTrue, Some, false};
 ghost use Rattle.std.specs.Prelude.{length, slice_get};
 ghost use Rattle.std.specs.List.Sorted.{IsSorted};
@@ -17,14 +17,13 @@ use words::Route;
 
 /// The routing table (RFC 2328, section 11): exactly the candidates whose equal route was answered
 /// with 0, in the order of their prefixes. The answers are those of the program that the operator
-/// asks of each route; 0 lets it in.
+/// asks about each route; 0 lets it in.
 ///
-/// The answer to each candidate is looked for where it stands if the answers are those to all
-/// candidates in turn, and else by halving. Answers in the order of their routes serve as they
-/// stand, others as a copy that is put in order.
+/// If the answers are those to all candidates in turn, each is found at its own index, else by
+/// binary search. Sorted answers are used as they are, others as a sorted copy.
 ///
 /// # Errors
-/// Where memory for the table or that copy is refused.
+/// `AllocError` if an allocation is refused.
 pub fn table(
     alloc: Global,
     candidates: &[Route],
@@ -42,13 +41,12 @@ pub fn table(
     Ok(table)
 }
 
-/// Tells whether some candidate's equal route has no answer at all, so that the program is to be
-/// asked again. Where the answers are those to all candidates in turn, each is looked at once; else
-/// the time is that of [`table`].
+/// Whether some candidate's equal route has no answer, so that the program is to be asked again. If
+/// the answers are those to all candidates in turn, each is visited once; otherwise this takes the
+/// time of [`table`].
 ///
 /// # Errors
-/// Where the answers don't stand in the order of their routes, and memory for a copy of them is
-/// refused.
+/// `AllocError` if an allocation is refused, which can happen only if the answers aren't sorted.
 pub fn is_stale(
     alloc: Global,
     candidates: &[Route],
@@ -72,7 +70,7 @@ pub fn is_stale(
     Ok(lack_answers(candidates, &ordered))
 }
 
-// The routes that are let in.
+// The routes that the answers let in.
 fn let_in(
     alloc: Global,
     routes: &[Route],
@@ -93,7 +91,7 @@ fn let_in(
     Ok(part)
 }
 
-// Whether some route isn't answered.
+// Whether some route has no answer.
 fn lack_answers(routes: &[Route], answers: &[(Route, u64)]) -> bool
     requires { IsSorted answer_cmp answers.now }
     ensures { IsTrue result ↔ LacksAnswers answers.now routes.now }
@@ -109,7 +107,7 @@ fn lack_answers(routes: &[Route], answers: &[(Route, u64)]) -> bool
     false
 }
 
-// Whether the answer to this route stands at this place.
+// Whether the answer to this route is at this index.
 fn stands_at(answers: &[(Route, u64)], at: usize, route: &Route) -> bool
     ensures { IsTrue result → StandsAt answers.now at route.now }
 {
@@ -119,7 +117,7 @@ fn stands_at(answers: &[(Route, u64)], at: usize, route: &Route) -> bool
     false
 }
 
-// How many of the first routes have their answers at their own places.
+// The number of the first routes that have their answers at their own indices.
 fn answered_in_turn(routes: &[Route], answers: &[(Route, u64)]) -> usize
     ensures within { result ≤ length routes.now }
     ensures each { (k : ℕ) (r : RouteValue) → k < result → slice_get routes.now k ≡ Some r
@@ -133,7 +131,7 @@ fn answered_in_turn(routes: &[Route], answers: &[(Route, u64)]) -> usize
     routes.len()
 }
 
-// Whether an answer to the route stands at this place or behind it.
+// Whether an answer to the route is at this index or after it.
 fn is_answered_from(answers: &[(Route, u64)], from: usize, route: &Route) -> bool
     ensures { result ≡ false → (k : ℕ) → from ≤ k → StandsAt answers.now k route.now → ⊥ }
 {

@@ -1,4 +1,4 @@
-//! Answers of routes: the one that is next in turn, or else looked up by halving.
+//! Answers to routes: the next one in turn, or one that is found by binary search.
 ghost use Rattle.std.specs.Prelude.{◌≡◌, ◌↔◌, IsTrue};
 ghost use Rattle.std.specs.List.Sorted.{IsSorted};
 ghost use Rattle.routes.specs.Tables.{IsAnswered, IsLetIn};
@@ -7,9 +7,9 @@ ghost use Rattle.tables.specs.Orders.{answer_cmp};
 use crate::order::{compare_answers, compare_routes};
 use words::Route;
 
-/// Tells whether an equal route stands among the answers with the word 0, and at which place the
-/// answer to the next route is tried first. Where the one at the place `next` is the route's, as it
-/// is where answers are those to all routes in turn, it is looked at alone.
+/// Whether an equal route is among the answers with the word 0, and the index at which the search
+/// for the answer to the next route begins. If the answer at index `next` is the route's, as in
+/// answers to all routes in turn, no other is looked at.
 pub fn is_let_in(answers: &[(Route, u64)], next: usize, route: &Route) -> (bool, usize)
     requires { IsSorted answer_cmp answers.now }
     ensures { IsTrue result.0 ↔ IsLetIn answers.now route.now }
@@ -24,8 +24,8 @@ pub fn is_let_in(answers: &[(Route, u64)], next: usize, route: &Route) -> (bool,
     }
 }
 
-/// Tells whether an equal route stands among the answers, and at which place the answer to the next
-/// route is tried first, as [`is_let_in`] does.
+/// Whether an equal route is among the answers, and the index at which the search for the answer to
+/// the next route begins, as for [`is_let_in`].
 pub fn is_answered(answers: &[(Route, u64)], next: usize, route: &Route) -> (bool, usize)
     requires { IsSorted answer_cmp answers.now }
     ensures { IsTrue result.0 ↔ IsAnswered answers.now route.now }
@@ -39,14 +39,14 @@ pub fn is_answered(answers: &[(Route, u64)], next: usize, route: &Route) -> (boo
     }
 }
 
-/// Tells whether this is the answer to an equal route.
+/// Whether this is the answer to an equal route.
 pub fn is_of(answer: &(Route, u64), route: &Route) -> bool
     ensures { IsTrue result ↔ (answer.now.0 ≡ route.now) }
 {
     answer.0 == *route
 }
 
-// Whether this is the answer to an equal route, and the word 0.
+// Whether this is the answer to an equal route, with the word 0.
 fn lets_in(answer: &(Route, u64), route: &Route) -> bool
     ensures { IsTrue result ↔ (answer.now ≡ (route.now, 0)) }
 {

@@ -30,7 +30,7 @@ pub fn compare_answers(a: &(Route, u64), b: &(Route, u64)) -> Ordering
     compare_routes(&a.0, &b.0).then(a.1.cmp(&b.1))
 }
 
-/// Tells whether answers stand in their order.
+/// Whether the answers are sorted.
 pub fn are_in_order(answers: &[(Route, u64)]) -> bool
     ensures { IsTrue result ↔ IsSorted answer_cmp answers.now }
 {
@@ -42,7 +42,8 @@ pub fn are_in_order(answers: &[(Route, u64)]) -> bool
     true
 }
 
-// Whether the first answer comes before the other one. Most differ in the address of the prefix.
+// Whether the first answer comes before the second. Most differ in the address of the prefix, which
+// is compared first.
 fn comes_before(a: &(Route, u64), b: &(Route, u64)) -> bool
     ensures { result ≡ is_lt (answer_cmp a.now b.now) }
 {
@@ -52,10 +53,10 @@ fn comes_before(a: &(Route, u64), b: &(Route, u64)) -> bool
     compare_answers(a, b).is_lt()
 }
 
-/// The same answers in their order.
+/// A sorted copy of the answers.
 ///
 /// # Errors
-/// Where memory for them is refused.
+/// `AllocError` if an allocation is refused.
 pub fn in_order(alloc: Global, answers: &[(Route, u64)]) -> Result<Vec<(Route, u64)>, AllocError>
     ensures sorted { IfOk result (λ made. IsSorted answer_cmp made.items) }
     ensures same { IfOk result (λ made. (r : RouteValue) (word : ℕ)

@@ -1,4 +1,4 @@
-//! Rows of the table for programs.
+//! The rows of the table, for programs.
 ghost use Rattle.std.specs.Prelude.{◌≡◌, IfOk};
 ghost use Rattle.tables.specs.Rows.{row_of, rows_of};
 
@@ -6,10 +6,10 @@ use std::alloc::{AllocError, Global};
 use words::{Route, TableRow};
 
 /// The rows of a table as programs see them, one for each route, in their order: the prefix and the
-/// whole cost.
+/// total cost.
 ///
 /// # Errors
-/// Where memory for the rows is refused.
+/// `AllocError` if an allocation is refused.
 pub fn rows_of(alloc: Global, table: &[Route]) -> Result<Vec<TableRow>, AllocError>
     ensures { IfOk result (λ rows. rows.items ≡ rows_of table.now) }
 {
