@@ -1,5 +1,5 @@
--- Nodes are unchanged if only recorded router-LSAs say something else, and so is each vertex whose
--- index wasn't recorded.
+-- Nodes are unchanged if only recorded router-LSAs change, and so is each vertex whose index wasn't
+-- recorded.
 use Rattle.std.proofs.Common.{◌≡◌, ◌≤◌, ◌⊎◌, ◌↔◌, ℕ, inl, inr, List, [], ◌∷◌, ◌++◌, Option, Some, length, slice_get, sym, subst, ◌∙◌, ap, arith}
 use Rattle.std.proofs.lemmas.Bool.{cases_eq}
 use Rattle.std.proofs.lemmas.List.Elements.{Contains-push_cases}

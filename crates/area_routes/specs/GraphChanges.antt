@@ -1,5 +1,5 @@
--- Router-LSAs that say something else, and the nodes whose links that may change (RFC 2328, section
--- 16.1): those of the routers themselves, and of the routers that their LSAs name or named.
+-- Router-LSAs that change, and the nodes whose links this may change (RFC 2328, section 16.1):
+-- those of the routers themselves, and of the routers that their LSAs name or named.
 use Rattle.std.specs.Prelude.{◌≡◌, ◌≤◌, ◌⊎◌, ℕ, List}
 use Rattle.std.specs.List.{Contains}
 use Rattle.lsa.specs.declared.body.RouterLsa.{RouterLsa}

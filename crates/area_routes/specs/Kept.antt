@@ -30,12 +30,12 @@ pub record KeptRoutes : Type 0 where
   pub behind : Bool
   -- the graph of the area, if one was built and has followed each event since
   pub graph : Option AreaGraph
-  -- the candidates, if calculated since an LSA that they depend on said something else
+  -- the candidates, if calculated since an LSA that they depend on changed
   pub candidates : Option (Vec Route)
   -- the results from the LSAs of types 1 to 4, if candidates were calculated since one of those
-  -- said something else
+  -- changed
   pub inner : Option InnerRoutes
-  -- what AS-external-LSAs advertise, if read since one of them said something else
+  -- what AS-external-LSAs advertise, if read since one of them changed
   pub externals : Option (Vec External)
   -- whether each candidate is known to be among the answers
   pub answered : Bool
@@ -103,16 +103,16 @@ pub record BringsNoneNew (old : KeptRoutes) (new : KeptRoutes) : Type 0 where
   pub among : AreAllAmong before.items now.items
 
 -- All that a walk depends on is unchanged since the moment `before`: it has the same root, and of
--- the LSAs of the types up to this one, or of all types if there is none, none came, left or
--- reached MaxAge, and none says something else (section 13.2).
+-- the LSAs of the types up to this one, or of all types if there is none, none was added or
+-- removed, reached MaxAge or changed its contents (section 13.2).
 pub record HasStayed (last_type : Option ℕ) (before : Moment) (moment : Moment)
     (router : RouterNumber) (old : Area) (new : Area) (walk : KeptWalk) : Type 0 where
   pub root : walk.root ≡ root_by router new.links
   pub lsas : AreLeft last_type before moment old.database new.database
 
 -- All that the candidates depend on is unchanged since the moment `before`: the walk has the same
--- root, and LSAs came, left, reached MaxAge or say something else only if they are AS-external-LSAs
--- that offer nothing, whatever they say (section 16.4).
+-- root, and the only LSAs that were added or removed, reached MaxAge or changed their contents are
+-- AS-external-LSAs that offer nothing, whatever they say (section 16.4).
 pub record HaveStayed (before : Moment) (moment : Moment) (router : RouterNumber)
     (old : Area) (new : Area) (walk : KeptWalk) : Type 0 where
   pub root : walk.root ≡ root_by router new.links

@@ -21,8 +21,8 @@ pub struct Next {
     pub none_new: bool,
 }
 
-// The candidates of this moment, from those before an event after which only AS-external-LSAs say
-// something else. `None` if these are many, or an allocation is refused.
+// The candidates of this moment, from those before an event that only changes AS-external-LSAs.
+// `None` if these are many, or an allocation is refused.
 fn follow_from(
     alloc: Global,
     area: &Area,

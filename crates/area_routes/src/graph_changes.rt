@@ -98,7 +98,7 @@ fn is_of_router(key: &Key) -> bool
 }
 
 // Records the nodes whose links this LSA's change may affect. Returns false if these are unknown:
-// if it isn't a router-LSA, came or left, or had or has a transit link.
+// if it isn't a router-LSA, was added or removed, or had or has a transit link.
 fn note_key(
     at: &Surroundings<'_>,
     before: Second,
@@ -130,8 +130,8 @@ fn note_key(
 }
 
 /// The indices of the nodes whose links may have changed since the moment `before`, if only the
-/// LSAs with these keys may say something else. `None` if these are unknown: a router or network
-/// came or left, or a network-LSA or a router-LSA with a transit link changed.
+/// LSAs with these keys may have changed. `None` if these are unknown: a router or network was
+/// added or removed, or a network-LSA or a router-LSA with a transit link changed.
 ///
 /// # Errors
 /// `AllocError` if an allocation is refused.

@@ -99,9 +99,9 @@ fn are_many(places: usize, nodes: usize) -> bool {
 
 /// The graph of a database after an event, from the graph before it: from what the settled database
 /// said at the moment `before` to what the database says at this moment. `None` if it has to be
-/// rebuilt: if a router or network came or left, if a network-LSA or a router-LSA with a transit
-/// link changed, or if many LSAs did. It takes the time of two lookups for each link of the routers
-/// whose LSAs changed and of their neighbors.
+/// rebuilt: if a router or network was added or removed, if a network-LSA or a router-LSA with a
+/// transit link changed, or if many LSAs did. It takes the time of two lookups for each link of the
+/// routers whose LSAs changed and of their neighbors.
 ///
 /// # Errors
 /// `AllocError` if an allocation is refused.

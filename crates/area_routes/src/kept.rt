@@ -43,11 +43,11 @@ pub struct Offered {
 /// The walk of its database is valid while the LSAs of types 1 and 2 say the same (RFC 2328,
 /// section 16.1). The candidates that were calculated, and the knowledge that each has an answer,
 /// are valid while all LSAs say the same, apart from AS-external-LSAs that offer nothing (section
-/// 16.4). If only a few other AS-external-LSAs say something else, only the candidates for the
-/// destinations that these advertise are recalculated (section 16.6); and if none of these is a new
-/// route, as when an AS-external-LSA leaves, all candidates have answers if they had before. An
-/// event makes no walk: if it leaves no valid one, one is made when candidates are requested. The
-/// graph of the area is also kept while it can follow what the LSAs say; such a walk is then only a
+/// 16.4). If only a few other AS-external-LSAs change, only the candidates for the destinations
+/// that these advertise are recalculated (section 16.6); and if none of these is a new route, as
+/// when an AS-external-LSA is removed, all candidates have answers if they had before. An event
+/// makes no walk: if it leaves no valid one, one is made when candidates are requested. The graph
+/// of the area is also kept while it can follow what the LSAs say; such a walk is then only a
 /// search for shortest paths (section 16.1).
 ///
 /// Links, database and answers aren't part of it. They are passed to each call, whose contract says
@@ -59,12 +59,11 @@ pub struct AreaRoutes {
     behind: bool,
     // the graph of the area, if one was built and has followed each event since
     graph: Option<AreaGraph>,
-    // the candidates, if they were calculated since an LSA that they depend on said something else
+    // the candidates, if they were calculated since an LSA that they depend on changed
     candidates: Option<Vec<Route>>,
-    // the results from the LSAs of types 1 to 4, if calculated since one of these said something
-    // else
+    // the results from the LSAs of types 1 to 4, if calculated since one of these changed
     inner: Option<InnerRoutes>,
-    // what AS-external-LSAs advertise, if read since one of these said something else
+    // what AS-external-LSAs advertise, if read since one of these changed
     externals: Option<Vec<External>>,
     // each candidate is known to be among the answers
     answered: bool,
@@ -277,9 +276,9 @@ impl AreaRoutes {
 
     /// Follows a router over an event, from its area when it was last settled, at the moment
     /// `before`, to its area at this moment. No walk is made: the old one remains valid if the
-    /// router's addresses are the same and no LSA of type 1 or 2 came, left, reached MaxAge or says
-    /// something else; another instance below MaxAge that says the same doesn't count (RFC 2328,
-    /// section 13.2).
+    /// router's addresses are the same and no LSA of type 1 or 2 was added or removed, reached
+    /// MaxAge or changed its contents; another instance below MaxAge with the same contents is no
+    /// change (RFC 2328, section 13.2).
     ///
     /// # Errors
     /// `AllocError` if an allocation is refused; the routes are then unchanged.
@@ -298,12 +297,12 @@ impl AreaRoutes {
         ensures answered { OnOk result ((answers : Answers)
             → AreKept router area.now.settled before answers self.old
             → AreKept router area.now.present moment answers self.new) }
-        // It walks again later only if the router's addresses differ, or an LSA of type 1 or 2
-        // came, left, reached MaxAge or says something else.
+        // It walks again later only if the router's addresses differ, or an LSA of type 1 or 2 was
+        // added or removed, reached MaxAge or changed its contents.
         ensures walks { OnOk result (ServesOnlyThen before moment router
             area.now.settled area.now.present self.old self.new) }
-        // If among LSAs of all types only external ones that offer nothing did so, what is known of
-        // the candidates and of the answers is unchanged too.
+        // If the only LSAs of any type for which that happened are external ones that offer
+        // nothing, what is known of the candidates and of the answers is unchanged too.
         ensures candidates { OnOk result (self.old.behind ≡ false
             → HaveStayed before moment router area.now.settled area.now.present self.old.walk
             → self.new ≡ record self.old {
@@ -311,7 +310,7 @@ impl AreaRoutes {
               graph = self.new.graph;
             }) }
         // If candidates are kept over the event, and each was one before, what is known of the
-        // answers is unchanged: they needn't be searched when AS-external-LSAs leave.
+        // answers is unchanged: they needn't be searched when AS-external-LSAs are removed.
         ensures none_new { OnOk result (BringsNoneNew self.old self.new
             → self.new.answered ≡ self.old.answered) }
         ensures err { OnErr result (self.new ≡ self.old) }
@@ -420,9 +419,9 @@ impl AreaRoutes {
     }
 
     // Follows LSAs of types 3 to 5 over an event that leaves the walk valid. If only
-    // AS-external-LSAs say something else, and few of them, candidates that are kept follow these:
-    // if none is new, and each was known to have an answer, each still has. If an allocation is
-    // refused, nothing is known of candidates any more.
+    // AS-external-LSAs change, and few of them, candidates that are kept follow these: if none is
+    // new, and each was known to have an answer, each still has. If an allocation is refused,
+    // nothing is known of candidates any more.
     fn follow_offers(&mut self, alloc: Global, area: &Area, before: Second, moment: Second)
         requires order { before ≤ moment }
         requires walk { IsWalkOf (said_at moment area.now.present.database) self.old.walk }
@@ -458,7 +457,7 @@ impl AreaRoutes {
         self.answered = false;
     }
 
-    // The same if only AS-external-LSAs say something else.
+    // The same if only AS-external-LSAs change.
     fn follow_externals(&mut self, alloc: Global, area: &Area, before: Second, moment: Second)
         requires order { before ≤ moment }
         requires same { SayTheSame (Some 4) (said_at before area.now.settled.database)
@@ -735,8 +734,8 @@ impl AreaRoutes {
 
     /// Whether some candidate isn't among the answers, so that they are to be requested again. If
     /// it is known that each is, no candidate is looked at. That each is, and the candidates that
-    /// were calculated, are remembered until an LSA says something else. If there is no valid walk,
-    /// one is made. There are at most 63 links and 16,384 LSAs.
+    /// were calculated, are remembered until an LSA changes. If there is no valid walk, one is
+    /// made. There are at most 63 links and 16,384 LSAs.
     ///
     /// # Errors
     /// `AllocError` if an allocation is refused; what is known of candidates and answers is then

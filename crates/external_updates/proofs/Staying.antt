@@ -1,4 +1,4 @@
--- What is unchanged while only AS-external-LSAs say something else.
+-- What is unchanged while only AS-external-LSAs change.
 use Rattle.std.proofs.Common.{◌≡◌, ℕ, inl, inr, List, refl, arith, sym, ap, subst, ◌∙◌}
 use Rattle.lsa.specs.declared.body.Body.TheVariants as body
 use Rattle.lsa.specs.declared.body.ExternalLsa.{ExternalLsa}

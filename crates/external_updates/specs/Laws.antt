@@ -1,4 +1,4 @@
--- What is unchanged while only AS-external-LSAs say something else (RFC 2328, section 16.6).
+-- What is unchanged while only AS-external-LSAs change (RFC 2328, section 16.6).
 use Rattle.std.specs.Prelude.{◌≡◌, Some, ◌↔◌}
 use Rattle.candidates.specs.Inner.{AreInner}
 use Rattle.candidates.specs.declared.inner.InnerRoutes.{InnerRoutes}

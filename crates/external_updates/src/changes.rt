@@ -1,4 +1,4 @@
-//! Which LSAs may say something else after an event, and which networks they advertise.
+//! Which LSAs an event may have changed, and which networks they advertise.
 ghost use Rattle.std.specs.Prelude.{◌≡◌, ◌↔◌, ◌≤◌, IfOk, IsTrue, MatchOption, OnOk, Some};
 ghost use Rattle.std.specs.Prelude.{option_copied};
 ghost use Rattle.std.specs.List.{Contains};
@@ -15,9 +15,9 @@ use routes::Lsdb;
 use std::alloc::{AllocError, Global};
 use words::{Key, Prefix, Second};
 
-/// The keys whose LSAs may say something else at the moment than those of the settled database did
-/// at the moment `before`: those that changed since, and those of the copies that have MaxAge. A
-/// key may occur more than once.
+/// The keys whose LSAs may differ in contents at this moment from those of the settled database at
+/// the moment `before`: those that changed since, and those of the copies that have MaxAge. A key
+/// may occur more than once.
 ///
 /// # Errors
 /// `AllocError` if an allocation is refused.

@@ -19,10 +19,10 @@ use std::alloc::{AllocError, Global};
 use words::{Key, Prefix, Route, Second};
 
 // The maximum number of keys of changed LSAs that are followed, unless one for each 32 candidates
-// is more: beyond that, recalculating everything may be cheaper. The key of an LSA that came or
-// left counts twice. At 10,000 candidates, all of them cost some 2.8 milliseconds, the route to one
-// destination 6 microseconds, and one that comes or leaves up to 17 more, since those after it
-// move.
+// is more: beyond that, recalculating everything may be cheaper. At 10,000 candidates that costs
+// some 2.8 milliseconds, the route to one destination 6 microseconds, and one that is added or
+// removed up to 17 more, since those after it move. The key of an LSA that was added or removed
+// counts twice.
 const FEW_CHANGED: usize = 64;
 
 /// The outcome for candidates that were to follow an event.
@@ -125,12 +125,13 @@ fn renew_all(
     Ok(Some(none_new))
 }
 
-/// Follows an event in which no LSA of types 1 to 4 came, left, reached MaxAge or says something
-/// else: the candidates of the settled database at the moment `before` become those of the database
-/// at this moment (RFC 2328, section 16.6). Only destinations that changed AS-external-LSAs
-/// advertise or advertised are recalculated, and the result says whether one of these has a new
-/// route; usually none has after an AS-external-LSA leaves. If too many of them changed, too many
-/// may advertise one destination, or an allocation is refused, the routes are useless afterwards.
+/// Follows an event in which no LSA of types 1 to 4 was added or removed, reached MaxAge or changed
+/// its contents: the candidates of the settled database at the moment `before` become those of the
+/// database at this moment (RFC 2328, section 16.6). Only destinations that changed
+/// AS-external-LSAs advertise or advertised are recalculated, and the result says whether one of
+/// these has a new route; usually none has after an AS-external-LSA is removed. If too many of them
+/// changed, too many may advertise one destination, or an allocation is refused, the routes are
+/// useless afterwards.
 ///
 /// # Errors
 /// `AllocError` if an allocation is refused.

@@ -1,5 +1,5 @@
-//! Laws of what is unchanged while only AS-external-LSAs say something else, each the contract of a
-//! function with an empty body.
+//! Laws of what is unchanged while only AS-external-LSAs change, each the contract of a function
+//! with an empty body.
 ghost use Rattle.external_updates.specs.Laws.{InnerRoutesAreKept, UntouchedCandidatesAreKept};
 
 /// The results from the LSAs of types 1 to 4 remain valid while those say the same (RFC 2328,

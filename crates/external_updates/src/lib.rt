@@ -1,6 +1,5 @@
-//! Candidates that follow AS-external-LSAs (RFC 2328, section 16.6): if no other LSA says something
-//! else after an event, only the destinations that the changed ones advertise or advertised are
-//! recalculated.
+//! Candidates that follow AS-external-LSAs (RFC 2328, section 16.6): if an event changes no other
+//! LSA, only the destinations that the changed ones advertise or advertised are recalculated.
 #![tactic(auto)]
 
 mod changes;

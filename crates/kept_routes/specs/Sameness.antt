@@ -12,8 +12,8 @@ use Rattle.words.specs.declared.key.Key.{Key}
 abbrev pub SayTheSame : Option ℕ → Said → Said → Type 0
 SayTheSame last_type old new = (key : Key) → IsUpTo last_type key → old key ≡ new key
 
--- since the moment `before`, the LSA with a key didn't come or leave, doesn't say something else
--- and hasn't reached MaxAge; another instance below MaxAge that says the same doesn't count
+-- since the moment `before`, the LSA with a key wasn't added or removed, didn't reach MaxAge and
+-- didn't change its contents; another instance below MaxAge with the same contents is no change
 -- (section 13.2)
 pub record IsLeft (before : Moment) (moment : Moment) (old : Option DatabaseCopy)
     (new : Option DatabaseCopy) : Type 0 where

@@ -155,10 +155,10 @@ fn names_it(router: RouterId, key: &Key) -> bool
 }
 
 /// Whether the candidates by this walk, which was made before the event, are unchanged: since the
-/// database was settled, at the moment `before`, LSAs came, left, reached MaxAge or say something
-/// else only if they are AS-external-LSAs that offer nothing, whatever they say. Those are the
-/// router's own, and those of routers that aren't reached as AS boundary routers (RFC 2328, section
-/// 16.4). LSAs that came or left at MaxAge may or may not count.
+/// database was settled, at the moment `before`, the only LSAs that were added or removed, reached
+/// MaxAge or changed their contents are AS-external-LSAs that offer nothing, whatever they say.
+/// Those are the router's own, and those of routers that aren't reached as AS boundary routers (RFC
+/// 2328, section 16.4). LSAs that were added or removed at MaxAge may or may not count.
 ///
 /// It takes the time of the event's edits and of `Lsdb::aged_keys`.
 ///

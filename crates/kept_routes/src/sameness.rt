@@ -14,12 +14,12 @@ use std::alloc::{AllocError, Global};
 use words::{Key, Second};
 
 /// Whether the LSAs of the types up to `last_type`, or of all types if that is `None`, are
-/// unchanged: since the database was settled, at the moment `before`, none of them came, left or
-/// reached MaxAge, and none says something else. At `moment` they then say what those of the
+/// unchanged: since the database was settled, at the moment `before`, none of them was added or
+/// removed, reached MaxAge or changed its contents. At `moment` they then say what those of the
 /// settled database said at `before`.
 ///
-/// Another instance below MaxAge that says the same doesn't count (RFC 2328, section 13.2), nor
-/// does a transmission. It takes the time of the event's edits and of `Lsdb::aged_keys`.
+/// Another instance below MaxAge with the same contents is no change (RFC 2328, section 13.2), nor
+/// is a transmission. It takes the time of the event's edits and of `Lsdb::aged_keys`.
 ///
 /// # Errors
 /// `AllocError` if an allocation is refused.
