@@ -36,7 +36,6 @@ pub fn root_of(alloc: Global, router: RouterId, area: &Area) -> Result<Root, All
     })
 }
 
-// Whether these are the links' addresses.
 fn are_addresses(addresses: &[Address], links: &[Link]) -> bool
     ensures { IsTrue result
         ↔ (addresses.now ≡ map (λ link. (present link).interface.address) links.now) }

@@ -200,7 +200,6 @@ fn write_stack(text: &mut String, stack: &StackBytes) -> Result<(), AllocError>
     Ok(())
 }
 
-/// The lines of a statement.
 fn write_statement(text: &mut String, statement: &Statement) -> Result<(), AllocError>
     ensures says { OnOk result (AddsStatement (string_bytes text.old) (string_bytes text.new)
         statement.now) }
@@ -219,7 +218,6 @@ fn write_statement(text: &mut String, statement: &Statement) -> Result<(), Alloc
     Ok(())
 }
 
-/// The lines of the statements.
 fn write_statements(text: &mut String, statements: &[Statement]) -> Result<(), AllocError>
     ensures says { OnOk result (AddsStatements (string_bytes text.old) (string_bytes text.new)
         statements.now) }

@@ -53,7 +53,6 @@ fn operand_at(width: Width, word: &str) -> Option<Operand>
     }
 }
 
-/// The name of a label.
 fn name_at(word: &str) -> Option<(Target, &str)>
     ensures value { option_map target_view result ≡ name_at word.now }
     ensures found { IfSome result (λ t. Matches (Name t.1.now) word.now × (t.0 ≡ Target.Label)) }

@@ -40,7 +40,6 @@ fn next(text: &mut String, word: &str) -> Result<(), AllocError>
     text.push_str(word)
 }
 
-/// The name of a label.
 fn next_name(text: &mut String, name: &str) -> Result<(), AllocError>
     requires { is_name name.now ≡ true }
     ensures { OnOk result (Adds (string_bytes text.old) (string_bytes text.new) (Name name.now
@@ -320,7 +319,6 @@ fn write_jump(
     next_target(text, target, name)
 }
 
-/// The condition of a jump.
 fn write_condition(
     text: &mut String,
     width: Width,

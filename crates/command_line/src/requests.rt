@@ -76,7 +76,6 @@ fn packet_of(alloc: Global, word: &str) -> Result<Vec<u8>, FromHexError>
     hex::decode(alloc, word)
 }
 
-/// The word with this name.
 fn word_of<'a>(matches: &ArgMatches<'a>, name: &str) -> Option<&'a str>
     ensures { option_map (λ word. word.now) result
         ≡ first_of name.now (rows_of (found_of matches.now)) }
@@ -84,7 +83,6 @@ fn word_of<'a>(matches: &ArgMatches<'a>, name: &str) -> Option<&'a str>
     matches.get_str(name)
 }
 
-/// The number of seats.
 fn seats_of(matches: &ArgMatches<'_>) -> Option<usize>
     ensures some { IfSome result (HasSeats (rows_of (found_of matches.now))) }
     ensures none { result ≡ None → (seats : ℕ) → HasSeats (rows_of (found_of matches.now)) seats

@@ -35,7 +35,6 @@ fn push_bits(out: &mut Text, value: Value, high: u64) {
     }
 }
 
-/// The numbers of a value.
 pub(crate) fn push_numbers(out: &mut Text, value: Value) {
     let (low, high) = range_of(value);
     if low == high {

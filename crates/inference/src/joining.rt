@@ -184,7 +184,6 @@ fn bytes_of(state: &State<Value>, others: &StackBytes) -> StackBytes {
     bytes
 }
 
-/// All bytes of the stack.
 fn all_bytes() -> StackBytes {
     let mut bytes = StackBytes::new();
     bytes.insert_range(0, 512);

@@ -150,7 +150,6 @@ pub(crate) fn load_number(state: &mut State, target: Register, number: u64) -> R
     Ok(())
 }
 
-/// The map with a number.
 fn map_of(number: i32) -> Option<Map>
     ensures { result ≡ map_of number }
 {

@@ -17,7 +17,6 @@ use isa::{LoadSize, Map, Register};
 use machine::{Content, Fault, Input, Pointer, State};
 use maps::{Seat, Shared};
 
-/// A load from the context.
 fn load_context(
     state: &mut State,
     size: LoadSize,
@@ -73,7 +72,6 @@ fn stack_content(state: &State, size: LoadSize, at: u64) -> Result<Content, Faul
     Err(Fault::Kind)
 }
 
-/// A load from the stack.
 fn load_stack(state: &mut State, size: LoadSize, target: Register, at: u64) -> Result<(), Fault>
     requires { state.old.slot < 4096 }
     ensures ok { OnOk result ((input : Given) → LoadsInto size (pointers.Stack at) input target
@@ -101,7 +99,6 @@ pub(crate) fn map_length(map: Map) -> u64
     }
 }
 
-/// A load from a map.
 fn load_map(
     state: &mut State,
     size: LoadSize,

@@ -33,7 +33,6 @@ fn store_bytes(state: &mut State, size: StoreSize, at: u64, number: u64) -> Resu
     Ok(())
 }
 
-/// A store of a pointer on the stack.
 fn store_pointer(state: &mut State, size: StoreSize, at: u64, pointer: Pointer) -> Result<(), Fault>
     requires { state.old.slot < 4096 }
     ensures ok { OnOk result (StoresAt size (pointers.Stack at) (Address pointer) state.old Silent

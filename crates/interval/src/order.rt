@@ -11,7 +11,6 @@ use crate::bounds::{between, modulus};
 use crate::span::Span;
 use isa::{Test, Width};
 
-/// The equal pairs.
 fn equal(left: Span, right: Span) -> Option<(Span, Span)>
     ensures holds { KeepsPairs (λ a b. a == b) left right result }
     ensures inside { StaysInside left right result }

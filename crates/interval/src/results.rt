@@ -14,7 +14,6 @@ use absdom::UnaryOperation;
 use absdom::arithmetic::unary;
 use isa::{Extension, Operation, SwapWidth, Width, arithmetic};
 
-/// The sums.
 fn sum(width: Width, left: Span, right: Span) -> Span
     requires left { left.high < 2 ^ bits width }
     requires right { right.high < 2 ^ bits width }
@@ -29,7 +28,6 @@ fn sum(width: Width, left: Span, right: Span) -> Span
     )
 }
 
-/// The differences.
 fn difference(width: Width, left: Span, right: Span) -> Span
     requires left { left.high < 2 ^ bits width }
     requires right { right.high < 2 ^ bits width }
@@ -45,7 +43,6 @@ fn difference(width: Width, left: Span, right: Span) -> Span
     )
 }
 
-/// The products.
 fn product(width: Width, left: Span, right: Span) -> Span
     ensures holds { HasResults width Multiply left right result }
     ensures narrow { IsNarrow width Multiply (bounds_of left) (bounds_of right) (bounds_of result) }

@@ -289,7 +289,6 @@ fn fields_of(instruction: &Instruction) -> Fields
     }
 }
 
-/// The slot of a load.
 fn load_fields(size: LoadSize, target: u8, base: u8, offset: i16) -> Fields
     ensures { result ≡ fields (load_code size + 1) target base (cast_unsigned w16 offset) 0 }
 {
@@ -302,7 +301,6 @@ fn load_fields(size: LoadSize, target: u8, base: u8, offset: i16) -> Fields
     }
 }
 
-/// The slot of a store.
 fn store_fields(size: StoreSize, base: u8, offset: i16, source: Source) -> Fields
     ensures value { result ≡ fields_of_store size base offset source }
     ensures source { result.source ≤ 10 }

@@ -10,7 +10,6 @@ use inference::memory::Memory;
 use object::Statement;
 use std::alloc::{AllocError, Global};
 
-/// The ranks of the given statements.
 fn given_ranks(graph: &Graph<'_>, given: &[Statement]) -> Plan {
     let mut plan = Plan::new(graph.memory, graph.nodes());
     for statement in given {

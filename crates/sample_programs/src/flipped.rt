@@ -4,7 +4,6 @@ use crate::worked::sum_down_from;
 use std::alloc::Global;
 use std::test::Fail;
 
-/// The bits of a byte.
 const BITS: [u8; 8] = [1, 2, 4, 8, 16, 32, 64, 128];
 
 /// The hook may be `count` or `tag` in place of `price`. The entry rank 10 may gain one of its
