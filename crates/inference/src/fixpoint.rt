@@ -43,8 +43,8 @@ fn repeat(passes: &mut Passes<'_>, purpose: Purpose, most: usize) {
     }
 }
 
-/// Widens the statements until each edge stays within them, if lenient even those that no run
-/// takes, and then narrows them to what reaches them.
+/// Widens the statements until each edge stays within them, and then narrows them to what reaches
+/// them. If lenient, sites without a statement get one from edges that no run takes.
 fn widen_and_narrow(passes: &mut Passes<'_>, is_lenient: bool) {
     let most = passes.program.sites.len().saturating_mul(MOST_CHANGES);
     passes.draft.renew();
