@@ -1,4 +1,4 @@
-//! Laws of command lines, each carried by a function with an empty body.
+//! Laws of command lines, each the contract of a function with an empty body.
 ghost use Rattle.command_line.specs.Laws.{MistakenWordsAskForNothing, PlainWordsAreTaken};
 ghost use Rattle.command_line.specs.Laws.{WhereTheNamesLieChangesNothing, WordsMakeOneRequest};
 ghost use Rattle.command_line.specs.Worked.{WorkedWords};

@@ -52,8 +52,8 @@ pub record IsNarrowResult (w : Width) (operation : Operation) (l r result : Boun
   -- no result has more bits than the width
   pub small : result.high < 2 ^ bits w
 
--- How narrow the results of an operation on one number are. The numbers from m to n, with m above
--- 0, have the negations from the modulus less n to the modulus less m.
+-- How narrow the results of an operation on one number are. The negations of the numbers from m to
+-- n, with m above 0, run from the modulus minus n to the modulus minus m.
 abbrev pub IsNarrowUnary : UnaryOperation → Bounds → Bounds → Type 0
 IsNarrowUnary (Negate w) operand result =
     0 < (cut_bounds w operand).low

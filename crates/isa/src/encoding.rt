@@ -163,7 +163,7 @@ fn operand_of(source: Source) -> Operand
     }
 }
 
-/// The first, or only, slot of a signed move.
+/// The first, or only, slot of a sign-extending move.
 fn extension_fields(extension: Extension, target: u8, source: u8) -> Fields
     ensures { result ≡ fields_of_extension extension target source }
 {

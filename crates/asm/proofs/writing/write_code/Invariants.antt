@@ -6,7 +6,7 @@ use Rattle.asm.specs.Listing.{text_of, slot_lines}
 use Rattle.asm.proofs.Codes.{CodeSoFar}
 use Rattle.asm.proofs.writing.write_code.Given as goal
 
--- the instructions so far are listed, and what is still to come makes the whole
+-- the instructions so far are listed; with those still to come they make the whole
 abbrev pub invariant-loop-slot : goal.invariant-loop-slot
 invariant-loop-slot l = record {
   says : (hook : Hook) (rank : ℕ) → Listed (string_bytes l.fn.text) (code_sketch hook rank []) Any → CodeSoFar (string_bytes l.text) hook rank l.code l.slot-index;

@@ -6,7 +6,7 @@ use Rattle.asm.specs.Listing.{text_of, with_lines}
 use Rattle.asm.proofs.Registers.{stating, kinds_up_to}
 use Rattle.asm.proofs.writing.write_kinds.Given as goal
 
--- what the registers so far hold is listed, and what is still to come makes the whole
+-- what the registers so far hold is listed; with what is still to come it makes the whole
 abbrev pub invariant-loop-index : goal.invariant-loop-index
 invariant-loop-index l = record {
   says : (f : Front) (slot : ℕ) (rank : Rank) → Listed (string_bytes l.fn.text) (sketch_of f (Some (bare slot rank))) (AreStated l.kinds 0)

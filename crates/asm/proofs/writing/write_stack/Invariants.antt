@@ -7,7 +7,7 @@ use Rattle.asm.specs.Listing.{text_of, bytes_line, longest_ranges}
 use Rattle.asm.proofs.Ranges.{filling, bytes_up_to}
 use Rattle.asm.proofs.writing.write_stack.Given as goal
 
--- the ranges so far are listed, and what is still to come makes the whole
+-- the ranges so far are listed; with those still to come they make the whole
 abbrev pub invariant-loop-start : goal.invariant-loop-start
 invariant-loop-start l = record {
   within : l.start ≤ 512;

@@ -7,7 +7,7 @@ use Rattle.asm.specs.Listed.{Listed, ListedAll, Any, code_sketch}
 use Rattle.asm.specs.Listing.{text_of, statement_lines}
 use Rattle.asm.proofs.writing.write_statements.Given as goal
 
--- the statements so far are listed, and what is still to come makes the whole
+-- the statements so far are listed; with those still to come they make the whole
 abbrev pub invariant-loop-statement : goal.invariant-loop-statement
 invariant-loop-statement l = record {
   says : (hook : Hook) (rank : ℕ) (code : List Slot) → AreStatements 0 (length code) l.statements → Listed (string_bytes l.fn.text) (code_sketch hook rank code) Any
