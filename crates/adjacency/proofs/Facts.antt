@@ -115,7 +115,7 @@ listless_kept = record {
   has_retransmission = λ state s r t o key x adds part h e. not_both (sym part ∙ e);
 }
 
--- ---- where the neighbor is Full nothing is to be requested
+-- ---- nothing is to be requested of a Full neighbor
 
 abbrev pub Bare : Fact
 Bare state s r t o = state ≡ Full → (finite.len r == 0) ≡ true

@@ -1,5 +1,5 @@
--- What each step of the neighbor's table keeps: a fact of a neighbor's state and lists holds after every step, where it holds at the start
--- of each exchange and the few changes of the lists keep it.
+-- What each step of the neighbor's table keeps: a fact of a neighbor's state and lists holds after
+-- every step, if it holds at the start of each exchange and the few changes of the lists keep it.
 use Rattle.std.proofs.Common.{◌≡◌, ℕ, ◌+◌, ◌%◌, ◌^◌, Bool, true, false, cond, not, ◌&&◌, ◌||◌, List, [], ◌∷◌, map, take, Option, None, Some, refl}
 use Rattle.std.specs.Prelude.{◌==◌, nat_lt}
 use Rattle.std.specs.FinMap as finite
@@ -33,8 +33,8 @@ Fact = State → ByKey ListEntry → ByKey ListEntry → ByKey ListEntry → Key
 abbrev pub Of : Fact → Neighbor → Type 0
 Of Q n = Q n.state n.summary n.requests n.retransmissions n.outstanding
 
--- it holds where the lists are empty, and each change of the lists keeps it: an exchange begins with retransmissions of which `Begins`
--- holds, and flooding puts entries of which `Adds` holds on the list
+-- it holds of empty lists, and each change of the lists keeps it: an exchange begins with
+-- retransmissions of which `Begins` holds, and flooding puts entries of which `Adds` holds on the list
 pub record IsKeptWith (Begins : ByKey ListEntry → Type 0) (Adds : Key → ListEntry → Type 0) (Q : Fact) : Type 0 where
   pub begins : Q Init finite.empty finite.empty finite.empty set.empty
   pub restarts : Q ExStart finite.empty finite.empty finite.empty set.empty

@@ -1,5 +1,6 @@
--- What each step of the neighbor's table tells and owes: where something holds of the copies of the database, at every age, it holds of all
--- that enters a retransmission list or is sent in an Update or an Acknowledgment.
+-- What each step of the neighbor's table tells and owes: if something holds of the copies of the
+-- database, at every age, it holds of all that enters a retransmission list or is sent in an Update
+-- or an Acknowledgment.
 use Rattle.std.proofs.Common.{◌≤◌, ℕ, ◌+◌, ◌%◌, ◌^◌, Bool, true, false, cond, not, ◌&&◌, ◌||◌, List, [], ◌∷◌, ◌++◌, map, Option, None, Some}
 use Rattle.std.proofs.Math.Nat.{min-le_left}
 use Rattle.std.specs.Prelude.{◌==◌, ◌-◌, nat_le, nat_lt}

@@ -36,7 +36,7 @@ is_there db key = finite.contains_key db key
 abbrev pub lsas_of : Moment → Database → List Key → List Lsa
 lsas_of moment db keys = filter_map (λ (key : Key). lsa_of moment (finite.get db key)) keys
 
--- the LSAs are sent and go on no list; where one is missing, none is (BadLSReq)
+-- the LSAs are sent and go on no list; if one is missing, none is sent (BadLSReq)
 abbrev pub answer_to_request : Moment → Database → List Key → Neighbor → Step
 answer_to_request moment db keys n =
     if list_all (is_there db) keys

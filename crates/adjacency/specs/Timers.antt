@@ -28,7 +28,7 @@ run_out moment dead n =
     step_on (λ m. no_sends (without_old_description moment dead m))
     (after_inactivity_timer moment dead n)
 
--- Loading becomes Full where nothing is left to request
+-- Loading becomes Full once nothing is left to request
 abbrev pub full_where : State → (requests_nothing : Bool) → State
 full_where Init requests_nothing = Init
 full_where ExStart requests_nothing = ExStart
@@ -50,7 +50,7 @@ abbrev pub retransmission_is_due : Moment → (interval : Seconds) → Neighbor 
 retransmission_is_due moment interval n =
     not (finite.len n.retransmissions == 0) && has_passed n.retransmitted_at interval moment
 
--- the LSAs that have room behind so many bytes; none where one before them had none
+-- the LSAs that have room after the given number of bytes; none once one before them had no room
 abbrev pub that_fit_after : Option ℕ → List Lsa → List Lsa
 that_fit_after None ls = []
 that_fit_after (Some used) ls = that_fit used ls

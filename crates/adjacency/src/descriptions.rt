@@ -31,7 +31,7 @@ pub fn as_received(description: &Description) -> ReceivedDescription
     }
 }
 
-/// Tells whether both flags are set, or neither is.
+/// Whether both flags are set, or neither is.
 pub fn same_flag(a: bool, b: bool) -> bool
     ensures { result ≡ same_flag a b }
 {
@@ -49,7 +49,7 @@ fn same_received(last: &ReceivedDescription, description: &Description) -> bool
     options && init && more && master && sequence
 }
 
-/// Tells whether it is the last one received once more: its flags, Options and number are the same.
+/// Whether it is the last one received once more: its flags, Options and number are the same.
 pub fn is_duplicate(received: &Option<ReceivedDescription>, description: &Description) -> bool
     ensures { result ≡ is_duplicate received.now description.now }
 {
@@ -59,7 +59,7 @@ pub fn is_duplicate(received: &Option<ReceivedDescription>, description: &Descri
     }
 }
 
-/// Tells whether its Options are others than those of the last one received.
+/// Whether its Options are others than those of the last one received.
 pub fn changes_options(received: &Option<ReceivedDescription>, description: &Description) -> bool
     ensures { result ≡ changes_options received.now description.now }
 {
@@ -78,7 +78,7 @@ fn is_empty(headers: &[Header]) -> bool
     }
 }
 
-// Tells whether it opens an exchange.
+// Whether it opens an exchange.
 fn is_initial_description(description: &Description) -> bool
     ensures { result ≡ is_initial_description description.now }
 {
@@ -103,7 +103,7 @@ fn is_known_type(header: &Header) -> bool
     header.ls_type >= 1 && header.ls_type <= 5
 }
 
-// Tells whether all these headers are of types that are known.
+// Whether all these headers are of types that are known.
 fn know_types(headers: &[Header]) -> bool
     ensures { result ≡ list_all (λ (h : AnyHeader). is_known_type h.ls_type) headers.now }
 {
@@ -122,8 +122,8 @@ fn knows_types(description: &Description) -> bool
     know_types(description.headers.as_slice())
 }
 
-/// Tells whether the adjacency begins anew: at a mismatch, or where one that is to be accepted has
-/// a header of an unknown type.
+/// Whether the adjacency begins anew: at a mismatch, or if one that is to be accepted has a
+/// header of an unknown type.
 pub fn starts_over(verdict: Verdict, description: &Description) -> bool
     ensures { result ≡ starts_over (verdict_of verdict) description.now }
 {
@@ -137,7 +137,7 @@ pub fn starts_over(verdict: Verdict, description: &Description) -> bool
     }
 }
 
-/// Tells whether this router follows: the other side opens the exchange and has the larger Router
+/// Whether this router follows: the other side opens the exchange and has the larger Router
 /// ID.
 pub fn follows(own: RouterId, other: RouterId, description: &Description) -> bool
     ensures { result ≡ follows own other description.now }
@@ -146,7 +146,7 @@ pub fn follows(own: RouterId, other: RouterId, description: &Description) -> boo
     is_initial_description(description) && smaller
 }
 
-/// Tells whether this router leads: the other side, which has the smaller Router ID, took its
+/// Whether this router leads: the other side, which has the smaller Router ID, took its
 /// number over.
 pub fn leads(own: RouterId, other: RouterId, sequence: u32, description: &Description) -> bool
     ensures { result ≡ leads own other sequence description.now }
@@ -156,7 +156,7 @@ pub fn leads(own: RouterId, other: RouterId, sequence: u32, description: &Descri
     !description.init && !description.master && same && larger
 }
 
-/// The verdict in ExStart: this router is the slave where it follows, the master where it leads.
+/// The verdict in ExStart: this router is the slave if it follows, the master if it leads.
 pub fn negotiation(follows: bool, leads: bool) -> Verdict
     ensures { verdict_of result ≡ first_verdict
         ((follows, Judgment.NegotiatedAsSlave) ∷ (leads, Judgment.NegotiatedAsMaster) ∷ [])
@@ -185,7 +185,7 @@ pub struct ExchangeTests {
 }
 
 impl ExchangeTests {
-    /// The verdict: it is accepted where the MS bits of both sides differ, the I bit is clear, the
+    /// The verdict: it is accepted if the MS bits of both sides differ, the I bit is clear, the
     /// Options are those of before, and the number is the expected one.
     pub fn verdict(&self) -> Verdict
         ensures verdict { verdict_of result ≡ first_verdict
@@ -211,7 +211,7 @@ impl ExchangeTests {
     }
 }
 
-/// The verdict on a duplicate, which the master discards, and the slave answers where its last
+/// The verdict on a duplicate, which the master discards, and the slave answers if its last
 /// Description is kept; else the other verdict.
 pub fn repetition(duplicate: bool, is_master: bool, answers: bool, otherwise: Verdict) -> Verdict
     ensures { verdict_of result ≡ first_verdict

@@ -4,8 +4,8 @@ ghost use Rattle.adjacency.specs.Laws.{WhatIsOutstandingIsRequestedAgain};
 ghost use Rattle.adjacency.specs.Rooms.{StepsHaveRoom};
 ghost use Rattle.adjacency.specs.Worked.{AWorkedConversation};
 
-/// Where the end of an exchange or of Loading leaves a neighbor Full, nothing is left to request
-/// (RFC 2328, section 10.3).
+/// If the end of an exchange or of Loading leaves a neighbor Full, nothing is left to request (RFC
+/// 2328, section 10.3).
 pub fn full_has_nothing_to_request()
     ensures { FullHasNothingToRequest }
 {}

@@ -63,7 +63,7 @@ pub struct Standing {
 }
 
 impl Standing {
-    /// The same once more: a `Copy` struct with a field that has a model counts as moved where it
+    /// The same once more: a `Copy` struct with a field that has a model counts as moved when it
     /// is used.
     pub fn same(&self) -> Standing
         ensures { result ≡ self.now }

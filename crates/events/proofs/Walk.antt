@@ -47,7 +47,7 @@ pub record Invariant : Type 1 where
   pub of_lsa : Lsa → Type 0
   -- of the key of an own LSA
   pub of_key : Key → Type 0
-  -- where an LSA may be originated whether there is room for it or not
+  -- of originations that don't ask for room
   pub without_room : Type 0
 
 pub record OfEvent (i : Invariant) (p : EventState) : Type 0 where

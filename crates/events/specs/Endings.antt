@@ -70,7 +70,7 @@ is_current moment r =
     is_at moment (finite.get r.originated (router_key r.id))
     && copy_has_body (router_body r.area.links) (finite.get r.area.database (router_key r.id))
 
--- at once, or at a Tick, where the links have changed in this event
+-- at once, or at a Tick, if the links have changed in this event
 abbrev pub describe_router : List Link → Moment → EventState → EventState
 describe_router before moment p =
     if links_differ before p.router.area.links && not (is_current moment p.router)

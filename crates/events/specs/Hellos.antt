@@ -30,7 +30,7 @@ agrees_on interface h =
 abbrev pub agrees : Link → Hello → Bool
 agrees link h = agrees_on link.interface h
 
--- another router is heard only where the neighbor is Down
+-- another router is heard only while the neighbor is Down
 abbrev pub may_be : Option Neighbor → RouterNumber → Bool
 may_be None from = true
 may_be (Some n) from = n.router == from
@@ -48,7 +48,7 @@ abbrev pub is_due : Moment → Seconds → Option Moment → Bool
 is_due moment interval None = true
 is_due moment interval (Some last) = has_passed last interval moment
 
--- a Hello is sent at the first Tick, and where HelloInterval has passed since the last one
+-- a Hello is sent at the first Tick, and once HelloInterval has passed since the last one
 abbrev pub hello_is_due : Moment → Link → Bool
 hello_is_due moment link = is_due moment link.interface.hello_interval link.last_hello_sent
 

@@ -19,7 +19,7 @@ core_error_number refusing.ClockBack = 4
 core_error_number refusing.Full = 5
 core_error_number refusing.Memory = 6
 
--- what the router says where a packet can't be read
+-- what the router answers to a packet that can't be read
 abbrev pub core_error_of : ReadError → CoreError
 core_error_of (reading.Fault f) = refusing.BadPacket f
 core_error_of reading.Memory = refusing.Memory

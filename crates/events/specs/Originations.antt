@@ -181,7 +181,7 @@ originate_body may_now moment key (Some says) p =
     else if may_now && may_originate moment key p.router then originate moment key says p
     else on_router (wait key) p
 
--- where there is room for it
+-- if there is room for it
 abbrev pub originate_or_wait : Moment → Key → EventState → EventState
 originate_or_wait moment key p =
     originate_body (has_room key p.router) moment key (wanted_body p.router key) p

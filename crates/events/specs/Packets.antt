@@ -57,7 +57,7 @@ is_there db key = finite.contains_key db key
 abbrev pub requested_lsas : Moment → Database → List Key → List Lsa
 requested_lsas moment db keys = filter_map (λ (key : Key). lsa_of moment (finite.get db key)) keys
 
--- the LSAs are sent and go on no list; where one is missing, none is
+-- the LSAs are sent and go on no list; if one is missing, none is sent
 abbrev pub requested_from : Moment → InterfaceNumber → List Key → Outcome → Outcome
 requested_from moment number keys o =
     if list_all (is_there o.area.database) keys

@@ -85,7 +85,7 @@ acknowledgments (Content.Requests keys) = None
 acknowledgments (Content.Updates lsa) = None
 acknowledgments (Content.Acknowledges h) = Some h
 
--- a Request stands where its first key does
+-- a Request is ordered by its first key
 abbrev pub first_key : List Key → Key
 first_key [] = record { ls_type = 0; link_state_id = 0; advertising_router = 0 }
 first_key (key ∷ keys) = key

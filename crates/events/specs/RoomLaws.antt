@@ -30,7 +30,7 @@ HaveRoom outs = AllByRecursion (λ (o : Out). length o.bytes ≤ 8192) outs
 pub record EveryPacketHasRoom : Type 0 where
   -- at the start
   pub first : (c : Config) → in_profile c ≡ true → IsRoomy (initial c)
-  -- after each event, where it held before it; and what the event sends has room
+  -- after each event, if it held before it; and what the event sends has room
   pub event : (old : Router) (moment : ℕ) (event : Occurrence) (outs : List Out) (new : Router)
       → Happens old moment event outs new → IsRoomy old → IsRoomy new × HaveRoom outs
   -- each thing that it sends has room in a packet

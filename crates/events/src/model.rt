@@ -10,7 +10,7 @@ use words::{RouterId, Second, Sequence};
 
 /// How a router begins (RFC 2328, appendix C).
 ///
-/// A router runs with it where the Router ID isn't 0.0.0.0, the start is below 2^62 seconds, there
+/// A router runs with it if the Router ID isn't 0.0.0.0, the start is below 2^62 seconds, there
 /// are 1 to 63 interfaces, no two have one address, and each interface's numbers are in the ranges
 /// that [`Interface`] names.
 #[derive(Debug, Drop)]

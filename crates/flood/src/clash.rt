@@ -8,7 +8,7 @@ ghost use Rattle.events.specs.Refusals.{clashes, is_taken};
 use procedures::{Router, external_key, same_external, same_network};
 use words::{External, Prefix};
 
-/// Tells whether an external destination of this prefix is announced.
+/// Whether an external destination of this prefix is announced.
 pub fn is_announced(router: &Router, prefix: Prefix) -> bool
     ensures { result ≡ is_for prefix
         (finite.get router.now.present.announced (external_key router.now.present.id prefix)) }
@@ -30,7 +30,7 @@ fn is_taken(router: &Router, prefix: Prefix) -> bool
     }
 }
 
-/// Tells whether the answers are on two destinations, or another announced prefix has the Link
+/// Whether the answers are on two destinations, or another announced prefix has the Link
 /// State ID of the destination.
 pub fn clashes(router: &Router, tagged: External, priced: External) -> bool
     ensures { result ≡ clashes router.now.present tagged priced }

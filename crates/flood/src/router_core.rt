@@ -286,7 +286,7 @@ impl Core {
         Ok(made)
     }
 
-    /// Tells whether some candidate stands in none of the answers of the last Install, so that they
+    /// Whether some candidate stands in none of the answers of the last Install, so that they
     /// are to be asked for again. Where that was found of none, by this call or as the answers
     /// came, and no event since has changed what an LSA says, no candidate is looked at. Where an
     /// event left no walk that serves, one is made and kept.
@@ -316,7 +316,7 @@ impl Core {
         self.routes.walks()
     }
 
-    /// Tells whether the external destination of this prefix is announced, or is to be as soon as
+    /// Whether the external destination of this prefix is announced, or is to be as soon as
     /// an LSA of it may go out.
     pub fn wants(&self, prefix: Prefix) -> bool
         ensures { result ≡ is_for prefix

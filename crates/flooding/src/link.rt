@@ -124,21 +124,21 @@ impl Link {
         self.place.flood(alloc, moment, from, copy, delay, draft)
     }
 
-    /// Tells whether there is a neighbor in Exchange or Loading.
+    /// Whether there is a neighbor in Exchange or Loading.
     pub fn is_exchange_or_loading(&self) -> bool
         ensures { result ≡ any_exchange_or_loading self.now.present.neighbor }
     {
         self.place.is_exchange_or_loading()
     }
 
-    /// Tells whether the LSA of this key is on the neighbor's request list.
+    /// Whether the LSA of this key is on the neighbor's request list.
     pub fn was_requested(&self, key: &Key) -> bool
         ensures { result ≡ was_requested key.now self.now.present.neighbor }
     {
         self.place.was_requested(key)
     }
 
-    /// Tells whether the neighbor has still to acknowledge just this instance.
+    /// Whether the neighbor has still to acknowledge just this instance.
     pub fn has_instance(&self, moment: Second, header: &Header) -> bool
         ensures { result ≡ has_instance moment header.now self.now.present.neighbor }
     {

@@ -32,7 +32,7 @@ fn some_is_exchange_or_loading(links: &[Link]) -> bool
     false
 }
 
-/// Tells whether some neighbor is in Exchange or Loading.
+/// Whether some neighbor is in Exchange or Loading.
 pub fn any_exchange_or_loading(links: &[Link]) -> bool
     ensures { result ≡ any_exchange_or_loading (map present links.now) }
 {

@@ -27,7 +27,7 @@ pub struct Link {
 }
 
 impl Way {
-    /// Tells whether packets leave by the interface. Those that end at the router leave by none.
+    /// Whether packets leave by the interface. Those that end at the router leave by none.
     pub fn leaves_by(&self, interface: u8) -> bool
         ensures { result ≡ leaves_by self.now interface }
     {

@@ -58,7 +58,7 @@ module _ {X : Type 0} where
   not_there None b f t = refl
   not_there (Some s) b f t = absurd (let no : true ≡ false = sym t ∙ f refl in cc)
 
-  -- nor at any key where there is no slot
+  -- nor at a key without a slot
   pub none_there : (es : List (Key × Slot X)) (q : Key) → (0 < length es → ⊥) → is_some (held_in (lookup (is_at (key_cmp q)) es)) ≡ false
   none_there [] q empty = refl
   none_there (e ∷ es) q empty = absurd (empty (omega arith))
@@ -149,7 +149,7 @@ module _ {X : Type 0} where
   abbrev pub Keeps : (Key → Option X → Option X → Type 0) → ByKey X → Edit X → Type 0
   Keeps S now e = S e.key (held_before e.before) (map.get now e.key)
 
-  -- each of the first so many edits that is the first of its key
+  -- each edit, among the given number of first ones, that is the first of its key
   abbrev pub AllKeep : (Key → Option X → Option X → Type 0) → ByKey X → List (Edit X) → ℕ → Type 0
   AllKeep S now es n = (place : ℕ) (e : Edit X) → place < n → slice_get es place ≡ Some e → IsFirst es place e.key → Keeps S now e
 
@@ -177,7 +177,7 @@ module _ {X : Type 0} where
               subst (λ o. S q o (map.get (live m) q)) was (subst P stood.its one)
         ]
 
-  -- where all is kept, what the first edit of a key found is
+  -- if all is kept, so is what the first edit of a key found
   pub first_kept : (S : Key → Option X → Option X → Type 0) (es : List (Edit X)) (m : ByKey (Slot X)) (place : ℕ) (edit : Edit X) → slice_get es place ≡ Some edit
       → IsFirst es place edit.key → ((q : Key) → S q (map.get (live (undone es m)) q) (map.get (live m) q)) → Keeps S (live m) edit
   first_kept S es m place edit at first all =
@@ -228,7 +228,7 @@ module _ {X : Type 0} where
         | inr is ↦ let P : Key → Type 0 = λ k. S k (map.get settled k) (map.get present k) → ⊥ in subst P is one
       ]
 
-  -- where a key holds the same, so does what its first edit found
+  -- if a key holds the same, so does what its first edit found
   pub kept_there : (S : Key → Option X → Option X → Type 0) (es : List (Edit X)) (m : ByKey (Slot X)) (place : ℕ) (edit : Edit X) → slice_get es place ≡ Some edit
       → IsFirst es place edit.key → S edit.key (map.get (live (undone es m)) edit.key) (map.get (live m) edit.key) → Keeps S (live m) edit
   kept_there S es m place edit at first same =

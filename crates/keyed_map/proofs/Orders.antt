@@ -85,7 +85,7 @@ module _ {X : Type 0} where
   live_held es fs ordered still is =
       finite.same_entries_map _ _ (live_entries fs still ∙ ap kept is ∙ kept_held es ∙ sym (live_entries es ordered))
 
-  -- and all of them where no key is left
+  -- and all of them if no key is left
   pub live_none : (es fs : List (Key × Slot X)) → finite.len (live (slots_of es)) ≡ 0 → fs ≡ [] → live (slots_of fs) ≡ live (slots_of es)
   live_none es fs none is = ap live (slots-empty fs is) ∙ live-empty ∙ sym (finite.empty_of_len (live (slots_of es)) none)
 
@@ -122,7 +122,7 @@ module _ {X : Type 0} where
   kept_from key ((k, Holds x) ∷ es) =
       from_holds (is_le (key_cmp key k)) k x (entries_between key_cmp (Included key) Unbounded es) ∙ ap (λ ks. cond (is_le (key_cmp key k)) (k ∷ ks) ks) (kept_from key es)
 
--- all keys, where none is left
+-- all keys, if none is left
 pub cut_all : (ks : List Key) (n : ℕ) → length ks ≤ n → take n (ks ++ []) ≡ ks
 cut_all [] zero le = refl
 cut_all [] (suc n) le = refl

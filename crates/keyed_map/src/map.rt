@@ -49,8 +49,8 @@ impl<X> Model for KeyedMap<X> {
     ghost invariant = { λ a. IsKept a.edits.items (slots_of a.slots.entries) a.len a.settled_len };
 }
 
-// The key once more: a `Copy` struct with a field that has a model counts as moved where it is
-// used.
+// The key once more: a `Copy` struct with a field that has a model counts as moved when it
+// is used.
 fn same(key: &Key) -> Key
     ensures { result ≡ key.now }
 {
@@ -117,7 +117,7 @@ fn take_out<X: Drop>(slots: &mut BTreeMap<Key, Slot<X>>, key: &Key) -> Option<X>
     }
 }
 
-// Forgets the keys that are gone, where so many others are there. It wants no memory.
+// Forgets the keys that are gone; `len` others are there. It takes no memory.
 fn forget_gone<X: Drop>(slots: &mut BTreeMap<Key, Slot<X>>, len: usize)
     requires { len ≡ map.len (live (slots_of slots.old.entries)) }
     ensures { live (slots_of slots.new.entries) ≡ live (slots_of slots.old.entries) }
@@ -164,7 +164,7 @@ fn is_first<X>(edits: &[Edit<X>], place: usize, key: &Key) -> bool
     true
 }
 
-/// A value that can be copied where there is memory.
+/// A value that can be copied if there is memory.
 pub trait Copied: Drop + Sized {
     fn copy(&self, alloc: Global) -> Result<Self, AllocError>
         ensures { IfOk result (λ made. made ≡ self.now) };
@@ -190,11 +190,11 @@ pub trait ChangeTest<X> {
 
     ghost counted: { Self → Key → Type 0 };
 
-    /// Tells whether the key counts. At one that doesn't both are the same whatever they are, and
+    /// Whether the key counts. At one that doesn't both are the same whatever they are, and
     /// are not looked up.
     ///
     /// # Errors
-    /// Where memory to find out is refused.
+    /// If memory to find out is refused.
     fn counts(&self, alloc: Global, key: &Key) -> Result<bool, AllocError>
         ensures { IfOk result (λ counts. (counts ≡ true → counted self.now key.now)
             × (counts ≡ false → (before now : Option X) → same self.now key.now before now)) };
@@ -202,7 +202,7 @@ pub trait ChangeTest<X> {
     /// Compares both at a key that counts.
     ///
     /// # Errors
-    /// Where memory to compare both is refused.
+    /// If memory to compare both is refused.
     fn is_same(
         &self,
         alloc: Global,
@@ -302,7 +302,7 @@ impl<X: Drop> KeyedMap<X> {
         self.len
     }
 
-    /// Tells whether there is no key.
+    /// Whether there is no key.
     pub fn is_empty(&self) -> bool
         ensures { result ≡ (map.len self.now.present == 0) }
     {
@@ -346,7 +346,7 @@ impl<X: Drop> KeyedMap<X> {
         }
     }
 
-    /// Tells whether the key is there.
+    /// Whether the key is there.
     pub fn contains(&self, key: &Key) -> bool
         ensures { result ≡ map.contains_key self.now.present key.now }
     {
@@ -374,7 +374,7 @@ impl<X: Drop> KeyedMap<X> {
         }
     }
 
-    /// The first so many keys, in their order.
+    /// The first `count` keys, in their order.
     pub fn first(&self, alloc: Global, count: usize) -> Result<Vec<Key>, AllocError>
         ensures { IfOk result (λ keys. keys.items ≡ take count (map.keys self.now.present)) }
     {
@@ -390,7 +390,7 @@ impl<X: Drop> KeyedMap<X> {
         Ok(keys)
     }
 
-    /// The first so many keys from a key on, in their order.
+    /// The first `count` keys from a key on, in their order.
     pub fn first_from(&self, alloc: Global, key: &Key, count: usize) -> Result<Vec<Key>, AllocError>
         ensures { IfOk result (λ keys. keys.items
             ≡ take count (keys_from key.now (map.keys self.now.present))) }
@@ -459,11 +459,11 @@ impl<X: Drop> KeyedMap<X> {
         is_kept(alloc, test, edits, place, now)
     }
 
-    /// Tells whether each key holds the same, by the test, as when the map was last settled. It
+    /// Whether each key holds the same, by the test, as when the map was last settled. It
     /// looks at the keys that were edited since. The first edit of a key tells what it held then.
     ///
     /// # Errors
-    /// Where the test was refused memory.
+    /// If the test was refused memory.
     pub fn keeps<T: ChangeTest<X>>(&self, alloc: Global, test: &T) -> Result<bool, AllocError>
         requires { (key : KeyValue) (o : Option X) → T.same test.now key o o }
         ensures { IfOk result (λ keeps. IsTrue keeps ↔ ((key : KeyValue)
@@ -482,7 +482,7 @@ impl<X: Drop> KeyedMap<X> {
     /// the keys that were edited since.
     ///
     /// # Errors
-    /// Where memory for the keys, or to compare what they hold, is refused.
+    /// If memory for the keys, or to compare what they hold, is refused.
     pub fn changed_keys<T: ChangeTest<X>>(
         &self,
         alloc: Global,

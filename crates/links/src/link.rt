@@ -35,7 +35,7 @@ pub trait Link {
         ensures fine { OnOk result (faults self.new ≡ faults self.old) }
         ensures fault { OnErr result (faults self.old < faults self.new) };
 
-    /// Tells whether the bytes were sent at the interface of this number; if not, they are lost: a
+    /// Whether the bytes were sent at the interface of this number; if not, they are lost: a
     /// send would have waited, or was refused for a reason that is the packet's or its way's.
     fn send(&mut self, interface: u16, bytes: &[u8]) -> Result<bool, LinkFault>
         ensures given { OnOk result (gives self.old interface bytes.now self.new) }

@@ -132,7 +132,7 @@ pub fn read(alloc: Global, bytes: &[u8]) -> Result<Lsa, ReadError>
     // The text of an LSA is read as that LSA, unless memory runs out.
     ensures only { (lsa : Parts) → LsaText bytes.now lsa → result ≡ Ok lsa
         ⊎ (result ≡ Err ReadError.Memory) }
-    // Which fault it is; want of memory comes only where there is none.
+    // Which fault it is; `Memory` comes only if there is none.
     ensures exact { Reads bytes.now result }
 {
     outcome(alloc, bytes)

@@ -10,7 +10,7 @@ use Rattle.lsdb.proofs.Joins.{get-joined}
 use Rattle.std.specs.FinMap as finite
 use Rattle.words.specs.declared.key.Key.{Key}
 
--- the same body with ages that count alike, where there is an LSA
+-- the same body with ages that count alike, if there is an LSA
 pub same_copies : (moment : ℕ) (l m : Option Lsa) (t u : Option Times) → IsSameBody l m → (is_some m ≡ true → CountsAlike moment t u)
     → SaysTheSame moment (both l t) (both m u)
 same_copies moment None None t u same ages = tt
@@ -24,7 +24,7 @@ same_copies moment (Some l) (Some m) t u same ages = of_times t u (ages refl)
     of_times (Some t) None is = absurd is
     of_times (Some t) (Some u) is = (same, is)
 
--- and the other way round, where no LSA is without its times
+-- and the other way round, if no LSA is without its times
 pub same_bodies : (moment : ℕ) (l m : Option Lsa) (t u : Option Times) → (is_some l ≡ true → is_some t ≡ true) → (is_some m ≡ true → is_some u ≡ true)
     → SaysTheSame moment (both l t) (both m u) → IsSameBody l m
 same_bodies moment None None t u before now same = tt

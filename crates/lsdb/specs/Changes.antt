@@ -7,7 +7,7 @@ use Rattle.lsdb.specs.declared.times.Times.{Times}
 use Rattle.words.specs.Numbers.{Moment}
 use Rattle.words.specs.declared.key.Key.{Key}
 
--- a key of a type up to this one, of any type where there is none
+-- a key of a type up to this one, of any type if none is given
 abbrev pub IsUpTo : Option ℕ → Key → Type 0
 IsUpTo None key = Unit {0}
 IsUpTo (Some last) key = key.ls_type ≤ last

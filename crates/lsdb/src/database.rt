@@ -58,8 +58,8 @@ pub struct Lsdb {
     externals: usize,
     settled_externals: usize,
     ages: Ages,
-    // at most so many of the aged keys' copies have left since the ages were foreseen, or came
-    // again; only the time that looking at the aged takes rests on it
+    // at most this many of the aged keys' copies have left, or were replaced, since the ages were
+    // foreseen; only the time that looking at the aged takes depends on it
     past: usize,
 }
 
@@ -290,8 +290,8 @@ fn tells_max_age(moment: Second, times: &Times) -> bool
     age_at(times.age, times.stored, moment) == MAX_AGE
 }
 
-// Whether the times of this key have come to MaxAge at the moment. Where none of another key can
-// have before it, they aren't looked up.
+// Whether the times of this key have come to MaxAge at the moment. If no key's can have by then,
+// they aren't looked up.
 pub(crate) fn has_max_age(ages: &Ages, times: &KeyedMap<Times>, key: &Key, moment: Second) -> bool
     requires { ForeseesAll ages.now times.now.present }
     ensures { result ≡ aged_at moment (finite.get times.now.present key.now) }
@@ -305,7 +305,7 @@ pub(crate) fn has_max_age(ages: &Ages, times: &KeyedMap<Times>, key: &Key, momen
     }
 }
 
-// One more, where the key is among the aged.
+// One more if the key is among the aged.
 fn one_more_past(ages: &Ages, key: &Key, past: usize) -> usize {
     if ages.aged.contains(key) {
         return past.saturating_add(1);
@@ -394,12 +394,12 @@ impl Lsdb {
         }
     }
 
-    /// What the copies of the types up to this one say, or those of all types where there is none,
+    /// What the copies of the types up to this one say, or those of all types if none is given,
     /// if they are below MaxAge at the moment, in the order of their keys (RFC 2328, section 16).
     /// It looks at each copy of these types once, and at no other.
     ///
     /// # Errors
-    /// Where memory for the list is refused.
+    /// If memory for the list is refused.
     pub fn bodies_at(
         &self,
         alloc: Global,
@@ -434,7 +434,7 @@ impl Lsdb {
         self.externals
     }
 
-    /// Tells whether an LSA of this key passes no limit: it takes the place of its copy, or there
+    /// Whether an LSA of this key passes no limit: it takes the place of its copy, or there
     /// are fewer than 16,384 LSAs and, if the router itself originates it as an AS-external-LSA,
     /// fewer than 4,096 of these.
     pub fn has_room(&self, key: &Key) -> bool
@@ -445,7 +445,7 @@ impl Lsdb {
                 && (!is_own_external(self.router, key) || self.externals < MOST_OWN_EXTERNALS)
     }
 
-    /// Tells whether there are more than 16,384 LSAs, or more than 4,096 AS-external-LSAs of the
+    /// Whether there are more than 16,384 LSAs, or more than 4,096 AS-external-LSAs of the
     /// router itself among them.
     pub fn exceeds(&self) -> bool
         ensures { result ≡ exceeds self.now.router self.now.present }
@@ -453,7 +453,7 @@ impl Lsdb {
         self.lsas.len() > MOST_LSAS || self.externals > MOST_OWN_EXTERNALS
     }
 
-    /// The first so many keys, in their order.
+    /// The first `count` keys, in their order.
     pub fn first(&self, alloc: Global, count: usize) -> Result<Vec<Key>, AllocError>
         ensures { IfOk result (λ keys. keys.items ≡ take count (finite.keys self.now.present)) }
     {
@@ -483,7 +483,7 @@ impl Lsdb {
         self.lsas.keys_where(alloc, &aged_out)
     }
 
-    /// Tells whether each copy of a type up to this one, or of any type where there is none, says
+    /// Whether each copy of a type up to this one, or of any type if none is given, says
     /// at the moment what the copy of its key said when the database was last settled (RFC 2328,
     /// section 13.2): none came or left, each has the body that it had, and neither the copy of
     /// then nor the one of now is at MaxAge at the moment, unless they have one age. It looks at
@@ -491,7 +491,7 @@ impl Lsdb {
     /// don't count, nor does that a copy was sent.
     ///
     /// # Errors
-    /// Where memory for the texts of LSAs, to compare them, is refused.
+    /// If memory for the texts of LSAs, to compare them, is refused.
     pub fn keeps(
         &self,
         alloc: Global,
@@ -513,7 +513,7 @@ impl Lsdb {
         self.times.keeps(alloc, &ages)
     }
 
-    // The LSA takes the place of its copy; `installed` tells whether flooding brought it.
+    // The LSA takes the place of its copy; `installed` is the moment if flooding brought it.
     fn put(&mut self, moment: Second, lsa: Lsa, installed: Option<Second>) -> Result<(), AllocError>
         ensures ok { OnOk result (self.new.present ≡ put_copy moment lsa installed
             self.old.present) }
@@ -615,7 +615,7 @@ impl Lsdb {
     }
 
     /// Makes the edits so far final, and looks at each copy if one may have come of age by this
-    /// moment, so that `aged_keys` needn't before another one can. Where most of those that had
+    /// moment, so that `aged_keys` needn't before another one can. If most of those that had
     /// MaxAge have left or came again younger, it forgets these. Without memory for what it finds
     /// it looks again the next time.
     pub fn settle_at(&mut self, alloc: Global, moment: Second)

@@ -38,7 +38,7 @@ impl<'a> DatabaseCopy<'a> {
         age_at(self.times.age, self.times.stored, moment)
     }
 
-    /// Tells whether it has MaxAge at the moment.
+    /// Whether it has MaxAge at the moment.
     pub fn is_aged_out(&self, moment: Second) -> bool
         ensures { result ≡ is_aged_out moment self.now }
     {

@@ -54,10 +54,10 @@ impl<'a> KeyedBody<'a> {
     }
 }
 
-/// What LSAs of the types up to this one, or of all types, say that have these times.
+/// What the LSAs that have these times say, of the types up to this one or of all types.
 ///
 /// # Errors
-/// Where memory for the list is refused.
+/// If memory for the list is refused.
 pub fn bodies_of<'a>(
     alloc: Global,
     lsas: &'a KeyedMap<StoredLsa>,

@@ -9,21 +9,20 @@ use crate::stored::StoredLsa;
 use keyed_map::KeyedMap;
 use words::{Key, RouterId};
 
-/// So many LSAs the database has at most, whosoever they are (a limit of this project's own).
+/// The most LSAs that the database has, whoever originated them (a limit of this project's own).
 pub const MOST_LSAS: usize = 16_384;
 
-/// So many AS-external-LSAs of the router itself are at most among them (a limit of this project's
-/// own).
+/// The most AS-external-LSAs of the router itself among them (a limit of this project's own).
 pub const MOST_OWN_EXTERNALS: usize = 4_096;
 
-/// Tells whether this is the key of an AS-external-LSA of the router (RFC 2328, section 12.4.4).
+/// Whether this is the key of an AS-external-LSA of the router (RFC 2328, section 12.4.4).
 pub fn is_own_external(router: RouterId, key: &Key) -> bool
     ensures { result ≡ is_own_external router key.now }
 {
     key.ls_type == 5 && key.advertising_router == router
 }
 
-/// Tells whether this is the key of an own external that is there. Of other keys nothing is looked
+/// Whether this is the key of an own external that is there. Of other keys nothing is looked
 /// up.
 pub fn holds_own(router: RouterId, lsas: &KeyedMap<StoredLsa>, key: &Key) -> bool
     ensures { result ≡ (if is_own_external router key.now

@@ -1,4 +1,4 @@
-//! An LSA where it is kept.
+//! An LSA as the database keeps it.
 ghost use Rattle.std.specs.Prelude.{◌≡◌};
 
 use keyed_map::Copied;

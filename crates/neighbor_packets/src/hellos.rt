@@ -12,7 +12,7 @@ use packet::Hello;
 use std::alloc::{AllocError, Global};
 use words::{E_BIT, RouterId, Second};
 
-/// Tells whether a packet of the router `from` may be of a neighbor: it is of some router, and not
+/// Whether a packet of the router `from` may be of a neighbor: it is of some router, and not
 /// of this one, `own` (RFC 2328, section 8.2).
 pub fn is_foreign(own: RouterId, from: RouterId) -> bool
     ensures { result ≡ is_foreign own from }
@@ -72,7 +72,7 @@ fn is_among(own: RouterId, routers: &[RouterId]) -> bool
     false
 }
 
-// Tells whether the Hello names this router.
+// Whether the Hello names this router.
 fn names(own: RouterId, hello: &Hello) -> bool
     ensures { result ≡ names own hello.now }
 {

@@ -239,7 +239,7 @@ impl Place {
         Ok(())
     }
 
-    /// Tells whether there is a neighbor in Exchange or later: Requests, Updates and
+    /// Whether there is a neighbor in Exchange or later: Requests, Updates and
     /// Acknowledgments of it count.
     pub fn is_exchange_or_later(&self) -> bool
         ensures { result ≡ any_exchange_or_later self.now.present }

@@ -106,7 +106,7 @@ fn meets(moment: Second, copy: &DatabaseCopy<'_>, request: Option<ListEntry>) ->
     }
 }
 
-// Tells whether the instance is the one on the list.
+// Whether the instance is the one on the list.
 fn is_entry(moment: Second, header: &Header, entry: Option<ListEntry>) -> bool
     ensures { result ≡ is_entry moment header.now entry }
 {
@@ -230,7 +230,7 @@ impl Neighbor {
         self.standing.last_heard = moment;
     }
 
-    /// Tells whether it takes part in flooding: it is in Exchange or later.
+    /// Whether it takes part in flooding: it is in Exchange or later.
     pub fn floods(&self) -> bool
         ensures { result ≡ is_exchange_or_later self.now.present.state }
     {

@@ -100,7 +100,7 @@ fn said(alloc: Global, lsa: &Lsa) -> Result<Vec<u8>, AllocError>
     Ok(text)
 }
 
-// Tells whether both say the same.
+// Whether both say the same.
 fn same_body(alloc: Global, a: &Lsa, b: &Lsa) -> Result<bool, AllocError>
     ensures { IfOk result (λ same. same ≡ same_body a.now.body b.now.body) }
 {
@@ -157,7 +157,7 @@ fn texts_differ(
     Ok(!same)
 }
 
-/// Tells whether the content of the router-LSA differs from what it was for links of the same
+/// Whether the content of the router-LSA differs from what it was for links of the same
 /// interfaces, of which just the neighbors `before` were Full, interface n at place n - 1. Where
 /// the same are Full now, that takes no look at texts.
 ///
@@ -191,7 +191,7 @@ fn lsa_says(alloc: Global, links: &[Link], lsa: &Lsa) -> Result<bool, AllocError
     Ok(same)
 }
 
-/// Tells whether there is a copy, and it says what the router-LSA of these links is to say.
+/// Whether there is a copy, and it says what the router-LSA of these links is to say.
 ///
 /// The only error is that an allocation was refused.
 pub fn tells(

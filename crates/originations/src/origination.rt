@@ -33,7 +33,7 @@ pub enum Origination {
     Originates(Lsa),
 }
 
-/// Tells whether MinLSInterval, five seconds, has passed since this moment at which the LSA was
+/// Whether MinLSInterval, five seconds, has passed since this moment at which the LSA was
 /// last originated, if it was.
 pub fn interval_is_over(moment: Second, last: Option<Second>) -> bool
     ensures { result ≡ interval_is_over moment last }

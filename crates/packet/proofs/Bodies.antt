@@ -19,7 +19,7 @@ use Rattle.packet.specs.Text.{IsBody, IsKey, IsRouter, IsUnread, Open, body_text
 use Rattle.packet.proofs.Records.{key-fits, key-spells, router-fits, router-spells}
 use Rattle.packet.proofs.Cuts.{lsas_first}
 
--- what these bytes have where a body leaves something open
+-- what these bytes have in the places that a body leaves open
 abbrev pub filler_of : ℕ → List ℕ → Open
 filler_of authentication bytes = record { authentication = authentication; designated = field bytes 12 4; backup = field bytes 16 4 }
 

@@ -1,4 +1,4 @@
--- Where nothing is wrong with bytes, they are a text of what they say, and nothing is wrong with a text.
+-- Bytes with which nothing is wrong are a text of what they say, and nothing is wrong with a text.
 use Rattle.std.proofs.Common.{◌≡◌, ℕ, ◌+◌, ◌^◌, ◌<◌, ◌≤◌, ◌⊎◌, inl, inr, true, false, not, cond, eqb, List, [], ◌∷◌, ◌++◌, length, drop, Option, None, Some, Result, Ok, Err, refl, sym, ap, subst, ◌∙◌, arith}
 use Rattle.std.specs.Prelude.{IfOk, is_none, nat_lt}
 use Rattle.std.specs.List.{AllByRecursion}

@@ -24,7 +24,7 @@ fn least_length(kind: Option<PacketType>) -> usize
     }
 }
 
-/// The first so many bytes.
+/// The first `count` bytes.
 pub fn front(bytes: &[u8], count: usize) -> &[u8]
     requires { count ≤ length bytes.now }
     ensures { result.now ≡ take count bytes.now }
@@ -32,7 +32,7 @@ pub fn front(bytes: &[u8], count: usize) -> &[u8]
     &bytes[..count]
 }
 
-/// What stands behind so many bytes.
+/// What follows the first `count` bytes.
 pub fn behind(bytes: &[u8], count: usize) -> &[u8]
     requires { count ≤ length bytes.now }
     ensures { result.now ≡ drop count bytes.now }
@@ -40,7 +40,7 @@ pub fn behind(bytes: &[u8], count: usize) -> &[u8]
     &bytes[count..]
 }
 
-// Whether so many LSAs, cut by their length fields, fill these bytes exactly.
+// Whether that many LSAs, cut by their length fields, fill these bytes exactly.
 #[tactic(auto, using(crate::proofs::Cuts::lsas_short, crate::proofs::Cuts::lsas_cut, crate::proofs::Cuts::lsas_on))]
 fn are_lsas(count: u32, bytes: &[u8]) -> bool
     ensures { result ≡ are_lsas count bytes.now }

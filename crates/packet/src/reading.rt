@@ -161,7 +161,7 @@ fn outcome(alloc: Global, bytes: &[u8]) -> Result<Packet, ReadError>
 
 /// The packet whose text the bytes are (RFC 2328, section 8.2 and appendix A.3).
 ///
-/// Refusals are tried in the order of [`Fault`](crate::Fault); `Memory` comes only where nothing is
+/// Refusals are tried in the order of [`Fault`](crate::Fault); `Memory` comes only if nothing is
 /// wrong with the bytes. The authentication bytes and a Hello's two Designated Routers may be
 /// anything.
 pub fn read(alloc: Global, bytes: &[u8]) -> Result<Packet, ReadError>
@@ -170,7 +170,7 @@ pub fn read(alloc: Global, bytes: &[u8]) -> Result<Packet, ReadError>
     // A text of a packet is read as that packet, unless memory runs out.
     ensures only { (p : Packet) → PacketText bytes.now p → result ≡ Ok p
         ⊎ (result ≡ Err ReadError.Memory) }
-    // Which fault it is; want of memory comes only where there is none.
+    // Which fault it is; `Memory` comes only if there is none.
     ensures exact { Reads bytes.now result }
     // What is read can be written.
     ensures writable { IfOk result (λ p. (length (text closed_fields 0 p) ≤ 8192)

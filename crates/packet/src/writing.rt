@@ -210,7 +210,7 @@ pub fn write(alloc: Global, packet: &Packet) -> Result<Vec<u8>, AllocError>
     // An Update's number of LSAs has 32 bits.
     requires count { lsa_count packet.now.body < 2 ^ 32 }
     ensures canonical { IfOk result (λ bytes. bytes.items ≡ canonical packet.now) }
-    // It is a text where each LSA of an Update has the length that it says.
+    // It is a text if each LSA of an Update has the length that it says.
     ensures text { LsasAreWhole packet.now.body
         → IfOk result (λ bytes. PacketText bytes.items packet.now) }
 {

@@ -27,7 +27,7 @@ pub fn external_key(own: RouterId, prefix: Prefix) -> Key
     }
 }
 
-/// Tells whether two prefixes are the same: of one address and one length.
+/// Whether two prefixes are the same: of one address and one length.
 pub fn same_network(a: Prefix, b: Prefix) -> bool
     ensures { result ≡ same_network a b }
 {
@@ -49,7 +49,7 @@ fn same_kind(a: ExternalType, b: ExternalType) -> bool
     }
 }
 
-/// Tells whether two destinations are the same in each part: prefix, metric, type and tag.
+/// Whether two destinations are the same in each part: prefix, metric, type and tag.
 pub fn same_external(a: &External, b: &External) -> bool
     ensures { result ≡ same_external a.now b.now }
 {

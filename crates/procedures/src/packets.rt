@@ -56,7 +56,7 @@ fn neighbor_at(router: &Router, number: usize) -> Option<(RouterId, State)>
     links[i].neighbor()
 }
 
-// Tells whether the neighbor at the interface of this number is in Exchange or later.
+// Whether the neighbor at the interface of this number is in Exchange or later.
 fn is_in_exchange(router: &Router, number: usize) -> bool
     requires first { 1 ≤ number }
     requires last { number ≤ length router.now.present.area.links }
@@ -66,7 +66,7 @@ fn is_in_exchange(router: &Router, number: usize) -> bool
     is_in_exchange_named(neighbor)
 }
 
-// Tells whether this is the Router ID of the neighbor at the interface of this number.
+// Whether this is the Router ID of the neighbor at the interface of this number.
 fn is_from(from: RouterId, router: &Router, number: usize) -> bool
     requires first { 1 ≤ number }
     requires last { number ≤ length router.now.present.area.links }
@@ -76,7 +76,7 @@ fn is_from(from: RouterId, router: &Router, number: usize) -> bool
     is_from_named(from, neighbor)
 }
 
-// Tells whether the packet is of another router, and a Hello or from the interface's neighbor.
+// Whether the packet is of another router, and a Hello or from the interface's neighbor.
 fn is_heard(packet: &Packet, router: &Router, number: usize) -> bool
     requires first { 1 ≤ number }
     requires last { number ≤ length router.now.present.area.links }

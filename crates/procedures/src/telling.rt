@@ -40,7 +40,7 @@ fn is_at(moment: Second, at: Option<Second>) -> bool
     at == moment
 }
 
-// Tells whether the present links were told in an instance that was originated at this moment.
+// Whether the present links were told in an instance that was originated at this moment.
 fn is_current(router: &Router, alloc: Global, moment: Second) -> Result<bool, AllocError>
     ensures { IfOk result (λ current. current ≡ is_current moment router.now.present) }
 {
@@ -54,7 +54,7 @@ fn is_current(router: &Router, alloc: Global, moment: Second) -> Result<bool, Al
     originations::tells(alloc, area.links(), copy)
 }
 
-/// Tells whether the content of the router-LSA differs from what it was when just the neighbors
+/// Whether the content of the router-LSA differs from what it was when just the neighbors
 /// `before` were Full.
 ///
 /// The only error is that an allocation was refused.
@@ -73,7 +73,7 @@ pub fn has_changed(
     originations::links_differ(alloc, area.links(), before)
 }
 
-/// Tells whether the content of the router-LSA differs from what it was when just the neighbors
+/// Whether the content of the router-LSA differs from what it was when just the neighbors
 /// `before` were Full, and isn't told yet in an instance of this moment.
 ///
 /// The only error is that an allocation was refused.

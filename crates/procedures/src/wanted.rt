@@ -33,7 +33,7 @@ fn names_router_lsa(own: RouterId, key: &Key) -> bool
     is_same(key, &own_key)
 }
 
-/// Tells whether the own LSA of this key is wanted: it is the router-LSA, or that of a destination
+/// Whether the own LSA of this key is wanted: it is the router-LSA, or that of a destination
 /// that is announced.
 pub fn is_wanted(router: &Router, key: &Key) -> bool
     ensures { result ≡ is_wanted (wanted_body router.now.present key.now) }

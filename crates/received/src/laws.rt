@@ -5,7 +5,7 @@ ghost use Rattle.received.specs.Worked.{WorkedCases};
 ghost use Rattle.received.specs.WorkedTable.{WorkedTable};
 
 /// After an LSA was flooded, the only instance of its key on the retransmission list of a neighbor
-/// in Exchange or later is the LSA itself, and exactly where the neighbor got it: no older one
+/// in Exchange or later is the LSA itself, and exactly if the neighbor got it: no older one
 /// stays (RFC 2328, sections 13 and 13.3).
 pub fn flooding_replaces_older_instances()
     ensures { FloodingReplacesOlderInstances }
@@ -17,8 +17,8 @@ pub fn exactly_one_case_applies()
     ensures { ExactlyOneCaseApplies }
 {}
 
-/// An LSA at MaxAge without a copy: acknowledged alone where all neighbors are Full, installed
-/// where one is in Loading.
+/// An LSA at MaxAge without a copy: acknowledged alone if all neighbors are Full, installed if one
+/// is in Loading.
 pub fn worked_cases()
     ensures { WorkedCases }
 {}

@@ -131,7 +131,7 @@ impl Router {
         &self.announced
     }
 
-    /// Tells whether the own LSA of this key waits for a Tick.
+    /// Whether the own LSA of this key waits for a Tick.
     pub fn is_waiting(&self, key: &Key) -> bool
         ensures { result ≡ set.contains self.now.present.waiting key.now }
     {

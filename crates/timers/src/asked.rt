@@ -30,14 +30,14 @@ fn has_retransmission_on(key: &Key, links: &[Link]) -> bool
     false
 }
 
-/// Tells whether some neighbor is in Exchange or Loading.
+/// Whether some neighbor is in Exchange or Loading.
 pub fn any_exchange_or_loading(area: &Area) -> bool
     ensures { result ≡ any_exchange_or_loading area.now.present.links }
 {
     is_exchange_or_loading_on(area.links())
 }
 
-/// Tells whether some neighbor has still to acknowledge an instance of this key.
+/// Whether some neighbor has still to acknowledge an instance of this key.
 pub fn any_has_retransmission(area: &Area, key: &Key) -> bool
     ensures { result ≡ any_has_retransmission key.now area.now.present.links }
 {

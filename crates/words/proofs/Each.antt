@@ -12,7 +12,7 @@ pub each_one_more : {X : Type 0} (P : X → Type 0) (xs : List X) (i : ℕ) (x :
     → AllByRecursion P (take i xs) → AllByRecursion P (take (i + 1) xs)
 each_one_more P xs i x lt is p all = subst (AllByRecursion P) (sym (take_more xs i x lt)) (one_behind P (take i xs) (get_or xs i x) all (subst P is p))
 
--- the same, where the item is read with a value for what stands behind the end
+-- the same of an item that is read with a default for a place past the end
 pub each_next : {X : Type 0} (P : X → Type 0) (xs : List X) (i : ℕ) (d : X) → i < length xs → P (get_or xs i d)
     → AllByRecursion P (take i xs) → AllByRecursion P (take (i + 1) xs)
 each_next P xs i d lt p all = subst (AllByRecursion P) (sym (take_more xs i d lt)) (one_behind P (take i xs) (get_or xs i d) all p)

@@ -34,29 +34,28 @@ initial_sequence_number = negsuc 2147483646
 abbrev pub max_sequence_number : ℤ
 max_sequence_number = pos 2147483647
 
--- a packet has at most so many bytes (own); the MTU that Descriptions tell
+-- the most bytes of a packet (own); the MTU that Descriptions tell
 abbrev pub largest_packet : ℕ
 largest_packet = 8192
 
--- one Description has room for so many headers: 20 bytes each, behind 24 of the packet's header and
--- 8 of its own (RFC 2328, section A.3.3)
+-- the most headers of one Description: 20 bytes each, after the packet's header of 24 and 8 of its
+-- own (RFC 2328, section A.3.3)
 abbrev pub most_headers_described : ℕ
 most_headers_described = 408
 
--- one Request has room for so many keys: 12 bytes each, behind 24 of the packet's header (section
--- A.3.4)
+-- the most keys of one Request: 12 bytes each, after the packet's header of 24 (section A.3.4)
 abbrev pub most_keys_requested : ℕ
 most_keys_requested = 680
 
--- the database has at most so many LSAs (own)
+-- the most LSAs of a database (own)
 abbrev pub most_lsas : ℕ
 most_lsas = 16384
 
--- so many of them at most are own AS-external-LSAs (own)
+-- the most own AS-external-LSAs among them (own)
 abbrev pub most_own_externals : ℕ
 most_own_externals = 4096
 
--- a router has at most so many interfaces (own)
+-- the most interfaces of a router (own)
 abbrev pub most_interfaces : ℕ
 most_interfaces = 63
 

@@ -15,7 +15,7 @@ use std::alloc::{AllocError, Global};
 use words::{Key, Second};
 
 impl Link {
-    /// Tells whether the neighbor has still to acknowledge an instance of this key.
+    /// Whether the neighbor has still to acknowledge an instance of this key.
     pub fn has_retransmission(&self, key: &Key) -> bool
         ensures { result ≡ has_retransmission key.now self.now.present.neighbor }
     {

@@ -29,7 +29,7 @@ impl Lsdb {
     /// there twice. It looks at the edits since then.
     ///
     /// # Errors
-    /// Where memory for the keys, or for the texts of LSAs, to compare them, is refused.
+    /// If memory for the keys, or for the texts of LSAs, to compare them, is refused.
     pub fn changed_keys(&self, alloc: Global, moment: Second) -> Result<Vec<Key>, AllocError>
         ensures changed { IfOk result (λ keys. (key : KeyValue) → Contains keys.items key
             → SaysTheSame moment (finite.get self.now.settled key) (finite.get self.now.present key)

@@ -20,7 +20,7 @@ pub trait KeyRule {
     ghost leaves_out: { Self → Key → Type 0 };
 
     /// # Errors
-    /// Where memory to find out is refused.
+    /// If memory to find out is refused.
     fn leaves_out(&self, alloc: Global, key: &Key) -> Result<bool, AllocError>
         ensures { IfOk result (λ is. IsTrue is ↔ leaves_out self.now key.now) };
 }
@@ -119,13 +119,13 @@ impl Lsdb {
         self.times.keeps(alloc, &ages)
     }
 
-    /// Tells whether each copy whose key counts says at the moment what the copy of its key said
+    /// Whether each copy whose key counts says at the moment what the copy of its key said
     /// when the database was last settled, as `keeps` does (RFC 2328, section 13.2). A key that had
     /// no copy then, or one of MaxAge at the moment before, may have none now, or one of MaxAge. It
     /// looks at the edits since then.
     ///
     /// # Errors
-    /// Where memory for the rule, or for the texts of LSAs, to compare them, is refused.
+    /// If memory for the rule, or for the texts of LSAs, to compare them, is refused.
     pub fn keeps_others<T: KeyRule>(
         &self,
         alloc: Global,
@@ -147,7 +147,7 @@ impl Lsdb {
         self.says_no_more(alloc, rule, before, moment)
     }
 
-    /// The first so many keys from a key on, in their order.
+    /// The first `count` keys from a key on, in their order.
     pub fn first_from(&self, alloc: Global, key: &Key, count: usize) -> Result<Vec<Key>, AllocError>
         ensures { IfOk result (λ keys. keys.items
             ≡ take count (keys_from key.now (finite.keys self.now.present))) }

@@ -14,7 +14,7 @@ use packet::Description;
 use std::alloc::{AllocError, Global};
 use words::{RouterId, Second};
 
-// Tells whether the sender's interface sends larger datagrams than this router's.
+// Whether the sender's interface sends larger datagrams than this router's.
 fn is_too_large(description: &Description) -> bool
     ensures { result ≡ nat_lt 8192 description.now.mtu }
 {
@@ -34,7 +34,7 @@ fn is_init(state: State) -> bool
 }
 
 impl Place {
-    // Tells whether there is a neighbor in Init.
+    // Whether there is a neighbor in Init.
     fn is_init(&self) -> bool
         ensures { result ≡ any_init self.now.present }
     {

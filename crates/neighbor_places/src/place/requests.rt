@@ -19,7 +19,7 @@ fn is_there(database: &Lsdb, key: &Key) -> bool
     }
 }
 
-// Tells whether the database has them all.
+// Whether the database has them all.
 fn are_there(database: &Lsdb, keys: &[Key]) -> bool
     ensures { result ≡ list_all (is_there database.now.present) keys.now }
 {

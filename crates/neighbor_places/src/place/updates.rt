@@ -16,7 +16,7 @@ use std::alloc::{AllocError, Global};
 use words::{Key, Second};
 
 impl Place {
-    /// Tells whether there is a neighbor in Exchange or Loading.
+    /// Whether there is a neighbor in Exchange or Loading.
     pub fn is_exchange_or_loading(&self) -> bool
         ensures { result ≡ any_exchange_or_loading self.now.present }
     {
@@ -26,7 +26,7 @@ impl Place {
         }
     }
 
-    /// Tells whether the neighbor is still asked for the LSA of this key.
+    /// Whether the neighbor is still asked for the LSA of this key.
     pub fn was_requested(&self, key: &Key) -> bool
         ensures { result ≡ was_requested key.now self.now.present }
     {
@@ -36,7 +36,7 @@ impl Place {
         }
     }
 
-    /// Tells whether the key is on the neighbor's retransmission list.
+    /// Whether the key is on the neighbor's retransmission list.
     pub fn has_retransmission(&self, key: &Key) -> bool
         ensures { result ≡ has_retransmission key.now self.now.present }
     {
@@ -46,7 +46,7 @@ impl Place {
         }
     }
 
-    /// Tells whether just this instance is on the neighbor's retransmission list.
+    /// Whether just this instance is on the neighbor's retransmission list.
     pub fn has_instance(&self, moment: Second, header: &Header) -> bool
         ensures { result ≡ has_instance moment header.now self.now.present }
     {

@@ -54,7 +54,7 @@ pub fn copy(description: &Description) -> Result<Description, AllocError>
     })
 }
 
-// Tells whether this instance is newer than the copy of its key, or there is no copy.
+// Whether this instance is newer than the copy of its key, or there is no copy.
 fn is_wanted(moment: Second, database: &Lsdb, header: &Header) -> bool
     ensures { result ≡ is_wanted moment database.now.present header.now }
 {
@@ -201,7 +201,7 @@ impl Neighbor {
         self.standing.sequence
     }
 
-    // Tells whether this router is the master.
+    // Whether this router is the master.
     fn is_master(&self) -> bool
         ensures { result ≡ self.now.present.is_master }
     {
@@ -308,7 +308,7 @@ impl Neighbor {
         draft.describe(next)
     }
 
-    // Tells whether the last one sent announced more.
+    // Whether the last one sent announced more.
     fn announced_more(&self) -> bool
         ensures { result ≡ announced_more self.now.present.described }
     {

@@ -65,7 +65,7 @@ fn full_where(state: State, unrequested: bool) -> State
     }
 }
 
-// Tells whether a Description is sent again in this state: that of ExStart, and the master's of
+// Whether a Description is sent again in this state: that of ExStart, and the master's of
 // Exchange.
 fn repeats_description(state: State, is_master: bool) -> bool
     ensures { result ≡ repeats_description state is_master }
@@ -167,7 +167,7 @@ fn send_that_fit(
 impl Neighbor {
     // ---- what runs out
 
-    /// Tells whether the inactivity timer has run out: RouterDeadInterval (`dead`, in seconds) has
+    /// Whether the inactivity timer has run out: RouterDeadInterval (`dead`, in seconds) has
     /// passed since it started.
     pub fn is_inactive(&self, moment: Second, dead: u32) -> bool
         ensures { result ≡ has_passed self.now.present.last_heard dead moment }

@@ -11,28 +11,28 @@ use std::alloc::AllocError;
 use words::{Key, Second};
 
 impl Neighbor {
-    /// Tells whether it is in Exchange or Loading, so that its database isn't synchronized yet.
+    /// Whether it is in Exchange or Loading, so that its database isn't synchronized yet.
     pub fn is_exchange_or_loading(&self) -> bool
         ensures { result ≡ is_exchange_or_loading self.now.present.state }
     {
         is_exchange_or_loading(self.standing.state)
     }
 
-    /// Tells whether the key is on the request list.
+    /// Whether the key is on the request list.
     pub fn requests_key(&self, key: &Key) -> bool
         ensures { result ≡ finite.contains_key self.now.present.requests key.now }
     {
         self.requests.contains(key)
     }
 
-    /// Tells whether the key is on the retransmission list.
+    /// Whether the key is on the retransmission list.
     pub fn has_retransmission(&self, key: &Key) -> bool
         ensures { result ≡ finite.contains_key self.now.present.retransmissions key.now }
     {
         self.retransmissions.contains(key)
     }
 
-    /// Tells whether just this instance is on the retransmission list (RFC 2328, section 13, step
+    /// Whether just this instance is on the retransmission list (RFC 2328, section 13, step
     /// 7a).
     pub fn has_instance(&self, moment: Second, header: &Header) -> bool
         ensures { result ≡ is_entry moment header.now
