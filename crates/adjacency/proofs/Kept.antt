@@ -25,7 +25,8 @@ pub chosen : {A : Type 0} (P : A → Type 0) (b : Bool) (x y : A) → (b ≡ tru
 chosen P true x y p q = p refl
 chosen P false x y p q = q refl
 
--- ---- facts of a state and of its lists: what is to be described, requested and acknowledged, and what is outstanding
+-- ---- facts of a state and of its lists: what is to be described, requested and acknowledged, and
+-- what is outstanding
 
 abbrev pub Fact : Type 1
 Fact = State → ByKey ListEntry → ByKey ListEntry → ByKey ListEntry → KeySet → Type 0
@@ -34,7 +35,8 @@ abbrev pub Of : Fact → Neighbor → Type 0
 Of Q n = Q n.state n.summary n.requests n.retransmissions n.outstanding
 
 -- it holds of empty lists, and each change of the lists keeps it: an exchange begins with
--- retransmissions of which `Begins` holds, and flooding puts entries of which `Adds` holds on the list
+-- retransmissions of which `Begins` holds, and flooding puts entries of which `Adds` holds on the
+-- list
 pub record IsKeptWith (Begins : ByKey ListEntry → Type 0) (Adds : Key → ListEntry → Type 0) (Q : Fact) : Type 0 where
   pub begins : Q Init finite.empty finite.empty finite.empty set.empty
   pub restarts : Q ExStart finite.empty finite.empty finite.empty set.empty

@@ -23,7 +23,8 @@ use Rattle.adjacency.specs.Retransmissions.{acknowledged_neighbor, after_acknowl
 use Rattle.adjacency.proofs.Kept.{chosen}
 use Rattle.adjacency.proofs.Maps.{AllIn, IfThere, OfEntry, entries_in, inserted_in, made_in, none_in, removed_in}
 
--- something that holds of LSAs, headers and keys, and of an LSA at any age that an LSA may have; and the number of the links, which stays
+-- something that holds of LSAs, headers and keys, and of an LSA at any age that an LSA may have;
+-- and the number of the links, which stays
 pub record Telling : Type 1 where
   pub of_lsa : Lsa → Type 0
   pub of_header : Header → Type 0

@@ -27,8 +27,8 @@ without_met_request moment lsa n =
     if meets moment lsa (request_of n lsa) then without_request (lsa_key lsa) n else n
 
 -- the request leaves once it is met; the old instance leaves the retransmission list, and the LSA
--- enters it and is sent exactly if the neighbor gets it: it isn't the one that the LSA came from, and
--- requests nothing newer
+-- enters it and is sent exactly if the neighbor gets it: it isn't the one that the LSA came from,
+-- and requests nothing newer
 abbrev pub flooded_in_exchange : ℕ → Bool → Lsa → Neighbor → Step
 flooded_in_exchange moment from lsa n =
     if not from && passes moment lsa (request_of n lsa)

@@ -74,7 +74,8 @@ not_just true true e is = refl
 not_just true false e is = absurd cc
 not_just false b e is = absurd cc
 
--- what was as new as a copy at the moment before is so now, unless the copy has come to MaxAge since
+-- what was as new as a copy at the moment before is so now, unless the copy has come to MaxAge
+-- since
 pub aged_at_least : (l : ListEntry) (c : DatabaseCopy) (before now : ℕ) → before ≤ now → has_just_aged_out before now c ≡ false
     → is_at_least (listed_now before l) (copy_now before c) ≡ true → is_at_least (listed_now now l) (copy_now now c) ≡ true
 aged_at_least l c before now later young e =

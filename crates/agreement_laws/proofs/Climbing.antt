@@ -1,4 +1,5 @@
--- What each part of an event makes of the instance under a key: it stays, or one that is as new takes its place, until it is removed.
+-- What each part of an event makes of the instance under a key: it stays, or one that is as new
+-- takes its place, until it is removed.
 use Rattle.std.proofs.Common.{◌≡◌, ℕ, ℤ, Bool, true, false, cond, not, ◌&&◌, ◌||◌, ◌⊎◌, inl, inr, List, [], ◌∷◌, map, Option, None, Some, is_some, refl, sym, ap, subst, ◌∙◌, arith}
 use Rattle.std.specs.Prelude.{pos, ◌+ℤ◌, ◌<ℤ◌, is_none}
 use Rattle.std.specs.declared.cmp.Ordering.{Ordering}

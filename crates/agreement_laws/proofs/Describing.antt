@@ -1,5 +1,6 @@
--- What a received Description makes of a copy that is settled with the neighbor: the exchange begins with all copies on one of its lists,
--- what leaves the summary list is described, and what is requested was told.
+-- What a received Description makes of a copy that is settled with the neighbor: the exchange
+-- begins with all copies on one of its lists, what leaves the summary list is described, and what
+-- is requested was told.
 use Rattle.std.proofs.Common.{◌≡◌, ℕ, ◌%◌, ◌^◌, ◌+◌, Bool, true, false, cond, not, ◌&&◌, ◌||◌, ◌⊎◌, inl, inr, List, [], ◌∷◌, ◌++◌, Option, None, Some, is_some, refl, sym, ap, subst, ◌∙◌}
 use Rattle.std.specs.Prelude.{◌==◌, nat_lt}
 use Rattle.std.specs.FinMap as finite

@@ -1,4 +1,5 @@
--- What is still to be described once the exchange is done: nothing. The last Description sent tells whether it was the last.
+-- What is still to be described once the exchange is done: nothing. The last Description sent tells
+-- whether it was the last.
 use Rattle.std.proofs.Common.{◌≡◌, ℕ, zero, suc, ◌+◌, ◌≤◌, ◌%◌, ◌^◌, Bool, true, false, cond, not, ◌&&◌, ◌||◌, List, [], ◌∷◌, length, map, drop, Option, None, Some, refl, sym, ap, subst, ◌∙◌, arith}
 use Rattle.std.specs.Prelude.{◌==◌, nat_lt}
 use Rattle.std.specs.FinMap as finite
@@ -66,8 +67,8 @@ left_empty n m e =
 
 -- ---- a neighbor
 
--- the moment at which the exchange was done is kept from then on; before it, the last Description sent announced more wherever something
--- was left
+-- the moment at which the exchange was done is kept from then on; before it, the last Description
+-- sent announced more wherever something was left
 abbrev pub Done : State → Option Description → Option ℕ → ByKey ListEntry → Type 0
 Done Init d at s = at ≡ None
 Done ExStart d at s = (at ≡ None) × (announced_more d ≡ true)

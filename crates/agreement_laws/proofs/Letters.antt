@@ -1,5 +1,5 @@
--- What a router says in the texts that go out at an interface: each is of one packet, whose Update bears LSAs that were sent there, and whose
--- Acknowledgment headers that were acknowledged there.
+-- What a router says in the texts that go out at an interface: each is of one packet, whose Update
+-- bears LSAs that were sent there, and whose Acknowledgment headers that were acknowledged there.
 use Rattle.std.proofs.Common.{◌≡◌, ℕ, ◌+◌, Bool, true, false, cond, ◌⊎◌, inl, inr, List, [], ◌∷◌, map, Option, None, Some, refl, sym, ap, subst, ◌∙◌}
 use Rattle.std.specs.Prelude.{◌==◌}
 use Rattle.std.specs.List.{AllByRecursion, Contains, cons_option, enumerate_from, filter_map, flat_map}

@@ -1,5 +1,6 @@
--- Maps by key, and their entries in key order: what is found under one key after another is changed, among the first entries and among
--- the rest, and in a list that is filled from the database.
+-- Maps by key, and their entries in key order: what is found under one key after another is
+-- changed, among the first entries and among the rest, and in a list that is filled from the
+-- database.
 use Rattle.std.proofs.Common.{◌≡◌, ℕ, zero, suc, Bool, true, false, cond, ◌⊎◌, inl, inr, List, [], ◌∷◌, map, take, drop, Option, None, Some, refl, sym, ap, ◌∙◌}
 use Rattle.std.specs.FinMap as finite
 use Rattle.std.specs.List.{Contains, filter}

@@ -1,5 +1,5 @@
--- What each part of an event makes of a copy that is settled with the neighbor at an interface: it stays settled, or the copy that takes its
--- place is.
+-- What each part of an event makes of a copy that is settled with the neighbor at an interface: it
+-- stays settled, or the copy that takes its place is.
 use Rattle.std.proofs.Common.{◌≡◌, ℕ, zero, suc, ◌≤◌, Bool, true, false, cond, not, ◌&&◌, ◌⊎◌, inl, inr, List, [], ◌∷◌, ◌++◌, map, Option, None, Some, is_some, refl, sym, ap, subst, ◌∙◌, arith}
 use Rattle.std.specs.Prelude.{◌==◌, ◌+◌, is_none, slice_get}
 use Rattle.std.specs.FinMap as finite

@@ -1,4 +1,5 @@
--- The text of an LSA is read with the name that was written, whatever else its header says: the numbers that name it fill their fields.
+-- The text of an LSA is read with the name that was written, whatever else its header says: the
+-- numbers that name it fill their fields.
 use Rattle.std.proofs.Common.{◌≡◌, ℕ, ◌/◌, ◌%◌, ◌^◌, [], ◌∷◌, ◌++◌, sym, ap, ◌∙◌, arith}
 use Rattle.std.specs.Int.{w32, cast_unsigned}
 use Rattle.words.specs.Fields.{fields}

@@ -1,4 +1,5 @@
--- What a router has told its neighbor it holds, unless it has forgotten it: through each of its turns, and in every history of two neighbors.
+-- What a router has told its neighbor it holds, unless it has forgotten it: through each of its
+-- turns, and in every history of two neighbors.
 use Rattle.std.proofs.Common.{◌≡◌, ℕ, zero, suc, ◌<◌, Bool, cond, ◌&&◌, ◌⊎◌, inl, inr, length, List, [], ◌∷◌, ◌++◌, map, Option, None, Some, refl, sym, ap, subst, ◌∙◌, arith}
 use Rattle.std.specs.Prelude.{slice_get}
 use Rattle.std.specs.FinMap as finite

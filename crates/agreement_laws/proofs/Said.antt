@@ -1,4 +1,5 @@
--- What each part of an event says of LSAs is held by then: what its Updates take along, and what its acknowledgments name when they are made.
+-- What each part of an event says of LSAs is held by then: what its Updates take along, and what
+-- its acknowledgments name when they are made.
 use Rattle.std.proofs.Common.{◌≡◌, ℕ, zero, suc, ◌+◌, Bool, true, false, cond, not, ◌&&◌, inl, inr, List, [], ◌∷◌, ◌++◌, map, Option, None, Some, is_some, refl, sym, ap, subst, ◌∙◌, arith}
 use Rattle.std.specs.Prelude.{◌==◌, is_none, nat_le, slice_get}
 use Rattle.std.specs.Cmp.{tied_itself}

@@ -1,5 +1,6 @@
--- What a router says of LSAs at an interface, and has to say: what is sent there, acknowledgments that wait, what is to be described, and the
--- last Description, which may be sent again. Each step of the neighbor keeps what is so of it.
+-- What a router says of LSAs at an interface, and has to say: what is sent there, acknowledgments
+-- that wait, what is to be described, and the last Description, which may be sent again. Each step
+-- of the neighbor keeps what is so of it.
 use Rattle.std.proofs.Common.{◌≡◌, ℕ, zero, suc, ◌+◌, ◌%◌, ◌^◌, Bool, true, false, cond, not, ◌&&◌, ◌||◌, ◌⊎◌, inl, inr, List, [], ◌∷◌, map, take, drop, Option, None, Some}
 use Rattle.std.specs.Prelude.{◌==◌, nat_lt}
 use Rattle.std.specs.FinMap as finite

@@ -1,5 +1,6 @@
--- What each step of a neighbor, but for the exchange of Descriptions, makes of a copy that is settled with it: it stays settled, unless the
--- adjacency is given up, or what takes it off a list is what settles it from then on.
+-- What each step of a neighbor, but for the exchange of Descriptions, makes of a copy that is
+-- settled with it: it stays settled, unless the adjacency is given up, or what takes it off a list
+-- is what settles it from then on.
 use Rattle.std.proofs.Common.{◌≡◌, ℕ, Bool, true, false, cond, not, ◌&&◌, ◌⊎◌, inl, inr, List, [], ◌∷◌, map, Option, None, Some, is_some, refl, sym, ap, subst, ◌∙◌}
 use Rattle.std.specs.Prelude.{◌==◌}
 use Rattle.std.specs.FinMap as finite

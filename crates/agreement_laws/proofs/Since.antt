@@ -1,4 +1,5 @@
--- What a router holds was told to its neighbor, or by it, in their present conversation: in every history of two neighbors.
+-- What a router holds was told to its neighbor, or by it, in their present conversation: in every
+-- history of two neighbors.
 use Rattle.std.proofs.Common.{◌≡◌, ℕ, true, ◌⊎◌, inl, inr, List, [], ◌∷◌, map, Option, None, Some, refl, sym, subst}
 use Rattle.std.specs.List.{Contains, filter_map}
 use Rattle.words.specs.declared.key.Key.{Key}

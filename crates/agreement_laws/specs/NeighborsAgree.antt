@@ -1,7 +1,7 @@
--- Full neighbors agree on what was renewed (RFC 2328, sections 10.3 and 13): where each is Full with
--- the other, and an LSA is on neither one's retransmission list, both hold the same instance; unless
--- one of them described it to the other in their exchange, or was without a copy since it told the
--- other that it had it.
+-- Full neighbors agree on what was renewed (RFC 2328, sections 10.3 and 13): where each is Full
+-- with the other, and an LSA is on neither one's retransmission list, both hold the same instance;
+-- unless one of them described it to the other in their exchange, or was without a copy since it
+-- told the other that it had it.
 use Rattle.std.specs.Prelude.{◌≡◌, ◌⊎◌, ℕ, ◌<◌, Bool, true, false, List, [], length, map, None, Some}
 use Rattle.std.specs.Prelude.{slice_get}
 use Rattle.std.specs.FinMap as finite
@@ -76,8 +76,8 @@ pub record AcknowledgesMaxAge (bytes : List ℕ) (name : LsaInstance) : Type 0 w
   pub named : instance_of_header header ≡ name
   pub flushed : is_max_age header.age ≡ true
 
--- Why the router may not hold what the text of this number among those that it sent tells: after the
--- turn, which takes it from before to after,
+-- Why the router may not hold what the text of this number among those that it sent tells: after
+-- the turn, which takes it from before to after,
 pub data Forgets (number : InterfaceNumber) (name : LsaInstance) (text : ℕ) (before after : Party)
     : Type 0 where
   -- it has no copy, and has sent the text by then

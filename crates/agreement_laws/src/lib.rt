@@ -47,11 +47,11 @@ pub fn copies_climb()
     ensures { CopiesClimb }
 {}
 
-/// What a router says of LSAs, it holds: what an event's Updates take along, before InfTransDelay is
-/// added to its age, is held after the event by an instance that is as new, or was and left at MaxAge
-/// in it; so is what an acknowledgment names when it is made, unless there was nothing to flush, and
-/// what a Description bears, when the exchange began (RFC 2328, sections 10.3, 10.7, 13, 13.3 and
-/// 13.5 to 13.7). It asks that the router is in order, as it is in every run.
+/// What a router says of LSAs, it holds: what an event's Updates take along, before InfTransDelay
+/// is added to its age, is held after the event by an instance that is as new, or was and left at
+/// MaxAge in it; so is what an acknowledgment names when it is made, unless there was nothing to
+/// flush, and what a Description bears, when the exchange began (RFC 2328, sections 10.3, 10.7, 13,
+/// 13.3 and 13.5 to 13.7). It asks that the router is in order, as it is in every run.
 pub fn what_is_said_is_held()
     ensures { WhatIsSaidIsHeld }
 {}
@@ -59,9 +59,9 @@ pub fn what_is_said_is_held()
 /// Full neighbors agree on what was renewed, in every history of two neighbors in whatever
 /// surroundings, with loss, repetition, delay, reordering and restarts: where one is Full with the
 /// other, and an LSA is not on its retransmission list, the other holds an instance that is as new;
-/// and where that is so of both, they hold the same instance. Unless, in their present conversation,
-/// it described one as new to the other; or the other one told one as new, and has been without a
-/// copy since, or began anew, or had none to flush (RFC 2328, sections 10.3 and 13).
+/// and where that is so of both, they hold the same instance. Unless, in their present
+/// conversation, it described one as new to the other; or the other one told one as new, and has
+/// been without a copy since, or began anew, or had none to flush (RFC 2328, sections 10.3 and 13).
 pub fn neighbors_agree_on_what_was_renewed()
     ensures { NeighborsAgreeOnWhatWasRenewed }
 {}
@@ -79,9 +79,9 @@ pub fn worked_exchanges()
     ensures { WorkedExchanges }
 {}
 
-/// Worked cases of two neighbors: by what an instance is as new as another, whatever their ages; who
-/// begins anew has forgotten all that it sent, and who keeps its copy forgets nothing that it sent
-/// since it began; what was exchanged counts only while the conversation stands.
+/// Worked cases of two neighbors: by what an instance is as new as another, whatever their ages;
+/// who begins anew has forgotten all that it sent, and who keeps its copy forgets nothing that it
+/// sent since it began; what was exchanged counts only while the conversation stands.
 pub fn worked_neighbors()
     ensures { WorkedNeighbors }
 {}

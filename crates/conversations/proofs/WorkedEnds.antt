@@ -1,4 +1,5 @@
--- Events where nobody is in Exchange or Loading and no copy comes to MaxAge: their beginning and their end.
+-- Events where nobody is in Exchange or Loading and no copy comes to MaxAge: their beginning and
+-- their end.
 use Rattle.std.proofs.Common.{◌≡◌, ℕ, Bool, true, false, cond, not, ◌&&◌, ◌||◌, List, [], ◌∷◌, map, Option, None, Some, refl, sym, ap, ◌∙◌, true≢false}
 use Rattle.std.specs.List.{fold, list_any}
 use Rattle.std.specs.Cmp.{tied_itself}

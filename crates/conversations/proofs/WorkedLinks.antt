@@ -1,4 +1,5 @@
--- What changes of the links leave as it was: which neighbors there are, their states, and so the router-LSA.
+-- What changes of the links leave as it was: which neighbors there are, their states, and so the
+-- router-LSA.
 use Rattle.std.proofs.Common.{◌≡◌, ℕ, zero, suc, ◌+◌, ◌==◌, Bool, true, false, cond, ◌||◌, List, [], ◌∷◌, ◌++◌, map, Option, None, Some, refl, sym, ap, ◌∙◌, slice_get, true≢false, arith}
 use Rattle.std.specs.List.{enumerate_from, flat_map, fold, list_any}
 use Rattle.std.proofs.lemmas.List.{append-nil}

@@ -1,5 +1,5 @@
--- Room in packets through whole events: what an event sends has room, since the copies of the database fit and the lists of the neighbors
--- have room, which each part of an event keeps.
+-- Room in packets through whole events: what an event sends has room, since the copies of the
+-- database fit and the lists of the neighbors have room, which each part of an event keeps.
 use Rattle.std.proofs.Common.{◌≡◌, ◌≤◌, ℕ, ◌+◌, Bool, true, false, cond, ◌&&◌, List, [], ◌∷◌, map, length, Option, None, Some, refl, sym, ap, subst, ◌∙◌, arith}
 use Rattle.std.specs.Prelude.{T}
 use Rattle.std.specs.Cmp.{tied_itself}

@@ -1,4 +1,5 @@
--- One walk over all parts of an event: what each part keeps holds at each point of an event, after it, and so at each point of a run.
+-- One walk over all parts of an event: what each part keeps holds at each point of an event, after
+-- it, and so at each point of a run.
 use Rattle.std.proofs.Common.{◌≡◌, ℕ, ◌==◌, Bool, true, false, cond, not, ◌&&◌, List, [], ◌∷◌, map, Option, None, Some, refl, sym, subst}
 use Rattle.std.specs.Prelude.{nat_le}
 use Rattle.std.specs.List.{AllByRecursion, list_all}

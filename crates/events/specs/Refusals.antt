@@ -78,8 +78,8 @@ pub record WouldExceed (old : Router) (moment : ℕ) (event : Occurrence) : Type
 abbrev pub MayRunOut : Option CoreError → Type 0
 MayRunOut refusal = (refusal ≡ Some error.ClockBack → ⊥) × (refusal ≡ Some error.NoInterface → ⊥)
 
--- An answer gives the reason that stands, and no reason stands if the event is taken. `Memory` comes
--- only if neither the clock nor the interface is refused.
+-- An answer gives the reason that stands, and no reason stands if the event is taken. `Memory`
+-- comes only if neither the clock nor the interface is refused.
 abbrev pub Answers : {X : Type 0} → Router → ℕ → Occurrence → Result X CoreError → Type 0
 Answers old moment event (Ok x) =
     (first_refusal old moment event ≡ None) × (WouldExceed old moment event → ⊥)

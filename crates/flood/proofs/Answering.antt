@@ -1,4 +1,5 @@
--- The answers that let routes in stay over every event but an Install, and the moment of an event is the router's afterwards.
+-- The answers that let routes in stay over every event but an Install, and the moment of an event
+-- is the router's afterwards.
 use Rattle.std.proofs.Common.{◌≡◌, ℕ, ◌≤◌, Bool, true, false, cond, List, [], ◌∷◌, map, Option, None, Some, refl, ap, ◌∙◌, ltb-false}
 use Rattle.std.specs.Prelude.{◌&&◌, ◌||◌, ◌==◌, not, nat_le, nat_lt, if◌then◌else◌}
 use Rattle.std.specs.FinMap as finite

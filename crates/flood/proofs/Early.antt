@@ -1,4 +1,5 @@
--- What stands before anything needs memory stands first; and where nothing does, memory may run out.
+-- What stands before anything needs memory stands first; and where nothing does, memory may run
+-- out.
 use Rattle.std.proofs.Common.{◌≡◌, ℕ, Bool, true, false, Option, None, Some, refl}
 use Rattle.std.specs.Prelude.{if◌then◌else◌, Err}
 use Rattle.packet.specs.declared.refusal.Fault.{Fault}

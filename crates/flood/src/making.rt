@@ -59,8 +59,7 @@ fn make_part(
 /// The whole event: copies that have come to MaxAge are flooded, the event's own part is done, and
 /// the end that all events share.
 ///
-/// `AllocError` comes where memory was refused; the router is to be rolled back then, and the
-/// drafts are of no use.
+/// Errors with `AllocError` if an allocation is refused: roll the router back, and drop the drafts.
 pub fn make_event(
     router: &mut Router,
     alloc: Global,

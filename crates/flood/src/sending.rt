@@ -23,7 +23,7 @@ fn drafts_at(alloc: Global, links: &[Link]) -> Result<Vec<Draft>, AllocError>
 
 /// A draft for each link of the router, into which nothing was sent yet.
 ///
-/// The only error is that an allocation was refused.
+/// Errors with `AllocError` if an allocation is refused.
 pub fn drafts_for(router: &Router, alloc: Global) -> Result<Vec<Draft>, AllocError>
     ensures { IfOk result (λ drafts. drafts.items
         ≡ nothing_at router.now.present.area.links) }
@@ -33,7 +33,7 @@ pub fn drafts_for(router: &Router, alloc: Global) -> Result<Vec<Draft>, AllocErr
 
 /// The packets of all interfaces, in the order of their numbers.
 ///
-/// The only error is that an allocation was refused.
+/// Errors with `AllocError` if an allocation is refused.
 pub fn outs(alloc: Global, own: RouterId, drafts: Vec<Draft>) -> Result<Vec<Out>, AllocError>
     // They are those of what an event sends, each thing of which has room in a packet.
     requires drafts { (links : List LinkOfArea) × (sends : List Send)

@@ -52,7 +52,7 @@ fn describe_links(router: &mut Router, alloc: Global, config: &Config) -> Result
 
 /// A router that has heard of nobody and has originated its router-LSA (RFC 2328, section 12.4.1).
 ///
-/// The only error is that an allocation was refused.
+/// Errors with `AllocError` if an allocation is refused.
 pub fn begin(alloc: Global, config: &Config) -> Result<Router, AllocError>
     requires { in_profile config.now ≡ true }
     ensures { IfOk result (λ router. router.present ≡ initial config.now) }

@@ -36,7 +36,8 @@ use Rattle.flood_laws.proofs.Limits.{AreExternal, one_less, one_more, others_sta
 use Rattle.flood_laws.proofs.Owing.{Owing}
 use Rattle.flood_laws.proofs.Retransmitted.{IsItsOwn, parts_keep, read, retransmissions_are_of_the_database}
 
--- ---- what holds at each point of an event: copies stand under their own keys, and external destinations under own keys are announced
+-- ---- what holds at each point of an event: copies stand under their own keys, and external
+-- destinations under own keys are announced
 
 abbrev pub IsOwnExternal : ℕ → Key → External → Type 0
 IsOwnExternal own key e = key.advertising_router ≡ own

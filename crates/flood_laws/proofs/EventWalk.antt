@@ -1,5 +1,6 @@
--- A second walk over an event, from the end of its ages on, that knows more at each part: which case an LSA is of, that the five seconds
--- of an own LSA are over, and what the router remembers of what it originated.
+-- A second walk over an event, from the end of its ages on, that knows more at each part: which
+-- case an LSA is of, that the five seconds of an own LSA are over, and what the router remembers of
+-- what it originated.
 use Rattle.std.proofs.Common.{◌≡◌, ℕ, Bool, true, false, cond, not, ◌&&◌, ◌||◌, List, [], ◌∷◌, map, Option, None, Some, refl, sym, subst}
 use Rattle.std.specs.Prelude.{◌==◌, nat_le}
 use Rattle.std.specs.List.{AllByRecursion, Contains, cons_option, filter_map, list_all}

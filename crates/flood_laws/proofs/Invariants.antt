@@ -1,4 +1,5 @@
--- A fact of each neighbor's state and lists that every step of its table keeps is kept by every event.
+-- A fact of each neighbor's state and lists that every step of its table keeps is kept by every
+-- event.
 use Rattle.std.proofs.Common.{ℕ, List, [], ◌∷◌, map, Option, None, Some, sym, subst}
 use Rattle.std.specs.List.{AllByRecursion, fold}
 use Rattle.std.specs.FinMap as finite

@@ -1,5 +1,5 @@
--- The numbers of all instances that a router holds stay in their ranges, so that each text that it sends tells just what it bears; and so a
--- step keeps what acknowledgments rest on.
+-- The numbers of all instances that a router holds stay in their ranges, so that each text that it
+-- sends tells just what it bears; and so a step keeps what acknowledgments rest on.
 use Rattle.std.proofs.Common.{◌≡◌, ◌≢◌, ℕ, ℤ, pos, ◌+ℤ◌, ◌+◌, ◌*◌, ◌-◌, ◌/◌, ◌%◌, ◌<◌, ◌≤◌, ◌^◌, Bool, true, false, cond, length, List, [], ◌∷◌, ◌++◌, map, sum, Option, None, Some, FitsSigned, refl, sym, ap, subst, ◌∙◌, arith}
 use Rattle.std.specs.Prelude.{◌==◌}
 use Rattle.std.specs.Int.{w32, cast_unsigned}

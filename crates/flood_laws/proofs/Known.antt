@@ -1,4 +1,5 @@
--- What is so of all names that a router holds, brings in and tells is so of those that an event leaves and sends; and why a name is known.
+-- What is so of all names that a router holds, brings in and tells is so of those that an event
+-- leaves and sends; and why a name is known.
 use Rattle.std.proofs.Common.{◌≡◌, ℕ, false, zero, suc, ◌<◌, length, List, [], ◌∷◌, ◌++◌, map, Option, None, Some, refl, sym, ap, subst, ◌∙◌, arith}
 use Rattle.std.specs.Prelude.{slice_index_or}
 use Rattle.std.specs.FinMap as finite

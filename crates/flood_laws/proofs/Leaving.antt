@@ -1,5 +1,5 @@
--- What becomes of one entry of a retransmission list through a whole event: it stays, unless the adjacency is given up or the LSA is flooded;
--- or the event's packet tells its instance.
+-- What becomes of one entry of a retransmission list through a whole event: it stays, unless the
+-- adjacency is given up or the LSA is flooded; or the event's packet tells its instance.
 use Rattle.std.proofs.Common.{◌≡◌, ℕ, ℤ, zero, suc, ◌+◌, ◌-◌, Bool, true, false, cond, not, ◌&&◌, ◌⊎◌, inl, inr, List, [], ◌∷◌, map, Option, None, Some, is_some, refl, sym, ap, subst, ◌∙◌, arith}
 use Rattle.std.specs.Prelude.{◌==◌, is_none, nat_le, nat_lt, slice_get}
 use Rattle.std.specs.declared.cmp.Ordering.{Ordering}
@@ -793,7 +793,8 @@ module _ (old : Router) (moment : ℕ) (event : Occurrence) (number : ℕ) (befo
 
   -- ---- every part
 
-  -- where the database's copies stand under their own keys, and what is announced are external destinations under own keys
+  -- where the database's copies stand under their own keys, and what is announced are external
+  -- destinations under own keys
   module _ (i : Invariant) (its : (a : Area) (sends : List Send) → i.of_area a sends → IsItsOwn a) (own : (k : Key) → i.of_key k → k.advertising_router ≡ old.id)
       (externals : (r : Router) → i.of_announced r.id r.announced → AreExternal r.announced)
       (stands : StandsThere (neighbor_at number (start_event moment old).router.area.links)) where

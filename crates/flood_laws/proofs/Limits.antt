@@ -1,4 +1,5 @@
--- A Tick, a Withdraw, an Install and a LinkDown stay within the limits: an own LSA that they originate finds room first.
+-- A Tick, a Withdraw, an Install and a LinkDown stay within the limits: an own LSA that they
+-- originate finds room first.
 use Rattle.std.proofs.Common.{◌≡◌, ◌≤◌, ◌<◌, ℕ, ◌+◌, Bool, true, false, cond, not, ◌&&◌, ◌||◌, nat_lt, List, [], ◌∷◌, map, Option, None, Some, is_some, refl, sym, ap, subst, ◌∙◌, arith}
 use Rattle.std.specs.FinMap as finite
 use Rattle.std.specs.List.{AllByRecursion, fold}

@@ -1,5 +1,6 @@
--- Each name that an event leaves in a router and sends was held before, came in the event's Update, or is a new instance: one past the number of
--- the last copy, of an LSA that the router remembers to have originated in this event.
+-- Each name that an event leaves in a router and sends was held before, came in the event's Update,
+-- or is a new instance: one past the number of the last copy, of an LSA that the router remembers
+-- to have originated in this event.
 use Rattle.std.proofs.Common.{◌≡◌, ℕ, ℤ, pos, ◌+ℤ◌, Bool, true, false, cond, List, [], ◌∷◌, ◌++◌, map, length, Option, None, Some, refl, sym, ap, subst, ◌∙◌}
 use Rattle.std.specs.FinMap as finite
 use Rattle.std.specs.List.{AllByRecursion, Contains, filter_map, fold}

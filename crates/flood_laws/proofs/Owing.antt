@@ -1,5 +1,5 @@
--- What each step of a neighbor makes of one entry of its retransmission list: it stays, unless the adjacency is given up, the LSA is
--- flooded, or the entry is acknowledged.
+-- What each step of a neighbor makes of one entry of its retransmission list: it stays, unless the
+-- adjacency is given up, the LSA is flooded, or the entry is acknowledged.
 use Rattle.std.proofs.Common.{◌≡◌, ℕ, ◌%◌, ◌^◌, ◌+◌, Bool, true, false, cond, not, ◌&&◌, ◌||◌, ◌⊎◌, inl, inr, List, [], ◌∷◌, map, Option, None, Some, is_some, refl, sym, ap, subst, ◌∙◌}
 use Rattle.std.specs.Prelude.{◌==◌, nat_lt}
 use Rattle.std.specs.FinMap as finite
@@ -50,7 +50,8 @@ left_there m k key e = left_of (same_key key k) (finite.get m key) (ap is_some (
 -- ---- the entry
 
 module _ (key : Key) (name : LsaInstance) (Asked : Type 0) where
-  -- the adjacency was given up; or the neighbor is still to acknowledge the instance, and, if it is asked for the LSA now, counts as asked
+  -- the adjacency was given up; or the neighbor is still to acknowledge the instance, and, if it is
+  -- asked for the LSA now, counts as asked
   abbrev pub Owing : Neighbor → Type 0
   Owing m = (is_exchange_or_later m.state ≡ false) ⊎ ((owes m key ≡ Some name) × (finite.contains_key m.requests key ≡ true → Asked))
 
@@ -102,7 +103,8 @@ module _ (key : Key) (name : LsaInstance) (Asked : Type 0) where
   first_false : (b : Bool) → (not false && b) ≡ false → b ≡ false
   first_false b e = e
 
-  -- of this key, and of the same instance, from nobody: it stays on the list, unless the neighbor is asked for the LSA
+  -- of this key, and of the same instance, from nobody: it stays on the list, unless the neighbor
+  -- is asked for the LSA
   pub flooded_same : (moment : ℕ) (lsa : Lsa) (m : Neighbor) → same_key key (lsa_key lsa) ≡ true → record { key = key; sequence = lsa.header.sequence; checksum = lsa.header.checksum } ≡ name
       → Owing m → Owing (flooding moment false lsa m).neighbor ⊎ Asked
   flooded_same moment lsa m same is (inl before) =

@@ -1,5 +1,6 @@
--- What holds of all that is held and told, through whole events: where it holds of what is held before, of the LSAs that the event's packet
--- brings, and of new instances of the router's own LSAs, it holds of all that is held after the event and of all that is sent.
+-- What holds of all that is held and told, through whole events: where it holds of what is held
+-- before, of the LSAs that the event's packet brings, and of new instances of the router's own
+-- LSAs, it holds of all that is held after the event and of all that is sent.
 use Rattle.std.proofs.Common.{◌≡◌, ℕ, ◌+◌, false, List, [], ◌∷◌, map, length, Option, None, Some, sym, subst, ◌∙◌, arith}
 use Rattle.std.specs.FinMap as finite
 use Rattle.std.specs.List.{AllByRecursion, enumerate_from, filter, flat_map, fold}
@@ -49,7 +50,8 @@ told t id = record {
   without_room = Unit {0};
 }
 
--- an own LSA that is wanted of a router with so many links, past a copy whose number isn't the last one
+-- an own LSA that is wanted of a router with so many links, past a copy whose number isn't the last
+-- one
 abbrev pub IsWanted : Telling → Key → Option DatabaseCopy → LsaBody → Type 0
 IsWanted t key copy says =
     IfThere (OfCopy t) key copy × (has_max_sequence copy ≡ false) × ((r : Router) × (length r.area.links ≡ t.count) × (wanted_body r key ≡ Some says))

@@ -1,4 +1,5 @@
--- What is acknowledged was received: each instance that a router holds or tells is one that it received or originated.
+-- What is acknowledged was received: each instance that a router holds or tells is one that it
+-- received or originated.
 use Rattle.std.proofs.Common.{◌≡◌, ℕ, zero, suc, ◌<◌, length, List, [], ◌∷◌, ◌++◌, map, set, Some, inl, inr, ◌⊎◌, refl, sym, ap, subst, ◌∙◌, arith}
 use Rattle.std.specs.Prelude.{slice_get, slice_index_or}
 use Rattle.std.specs.List.{Contains}

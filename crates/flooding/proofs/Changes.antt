@@ -1,4 +1,5 @@
--- A change of each link, and a step of each link that sends: nothing is done yet, and the loops' invariants.
+-- A change of each link, and a step of each link that sends: nothing is done yet, and the loops'
+-- invariants.
 use Rattle.std.proofs.Common.{◌≡◌, ℕ, ◌+◌, Bool, false, List, [], ◌∷◌, map, refl, sym, ap, ◌∙◌}
 use Rattle.adjacency.specs.Contents.{Content}
 use Rattle.adjacency.specs.Drafts.{Drafted, drafting}

@@ -95,8 +95,8 @@ impl Area {
     /// draft of its interface. It came in at the sender's interface, if it came from anybody. An
     /// Update that takes it along marks it as sent. Without a copy nothing happens.
     ///
-    /// `AllocError` comes where memory was refused; the area is to be rolled back then, and the
-    /// drafts are of no use.
+    /// Errors with `AllocError` if an allocation is refused: roll the area back, and drop the
+    /// drafts.
     pub fn flood(
         &mut self,
         alloc: Global,
@@ -132,8 +132,8 @@ impl Area {
     /// an LSA that was asked for and isn't newer is BadLSReq; a newer copy goes to the sender. What
     /// the router makes of an LSA of its own is no part of it.
     ///
-    /// `AllocError` comes where memory was refused; the area is to be rolled back then, and the
-    /// drafts are of no use.
+    /// Errors with `AllocError` if an allocation is refused: roll the area back, and drop the
+    /// drafts.
     pub fn receive(
         &mut self,
         alloc: Global,
@@ -168,8 +168,8 @@ impl Area {
     /// This router originated the LSA (RFC 2328, section 12.4): it takes the place of its copy, and
     /// is flooded as if from nobody.
     ///
-    /// `AllocError` comes where memory was refused; the area is to be rolled back then, and the
-    /// drafts are of no use.
+    /// Errors with `AllocError` if an allocation is refused: roll the area back, and drop the
+    /// drafts.
     pub fn originate(
         &mut self,
         alloc: Global,
@@ -199,8 +199,8 @@ impl Area {
     /// Premature aging (RFC 2328, section 14.1): a copy of this key that is younger than MaxAge
     /// gets that age, and is flooded as if from nobody. Without such a copy nothing happens.
     ///
-    /// `AllocError` comes where memory was refused; the area is to be rolled back then, and the
-    /// drafts are of no use.
+    /// Errors with `AllocError` if an allocation is refused: roll the area back, and drop the
+    /// drafts.
     pub fn flush(
         &mut self,
         alloc: Global,
@@ -230,8 +230,8 @@ impl Area {
     /// A copy of this key that has come to MaxAge since the moment before is flooded as if from
     /// nobody (RFC 2328, section 14). Without such a copy nothing happens.
     ///
-    /// `AllocError` comes where memory was refused; the area is to be rolled back then, and the
-    /// drafts are of no use.
+    /// Errors with `AllocError` if an allocation is refused: roll the area back, and drop the
+    /// drafts.
     pub fn come_of_age(
         &mut self,
         alloc: Global,

@@ -98,7 +98,7 @@ impl Link {
     /// Floods the copy to the neighbor, which is the one that it came from or isn't; tells whether
     /// an Update takes it along, InfTransDelay seconds older than it is (RFC 2328, section 13.3).
     ///
-    /// `AllocError` comes where memory was refused; the link is to be rolled back then.
+    /// Errors with `AllocError` if an allocation is refused: roll the link back.
     pub fn flood(
         &mut self,
         alloc: Global,
@@ -148,7 +148,7 @@ impl Link {
     /// BadLSReq (RFC 2328, section 10.3): from Exchange on the neighbor goes back to ExStart, and
     /// the first Description of a new attempt is sent.
     ///
-    /// `AllocError` comes where memory was refused; the link is to be rolled back then.
+    /// Errors with `AllocError` if an allocation is refused: roll the link back.
     pub fn bad_request(
         &mut self,
         alloc: Global,
@@ -167,7 +167,7 @@ impl Link {
 
     /// The entry of the header's key leaves the neighbor's retransmission list.
     ///
-    /// `AllocError` comes where memory was refused; the link is to be rolled back then.
+    /// Errors with `AllocError` if an allocation is refused: roll the link back.
     pub fn take_off(&mut self, header: &Header) -> Result<(), AllocError>
         ensures ok { OnOk result (self.new.present
             ≡ with_neighbor
@@ -181,7 +181,7 @@ impl Link {
 
     /// The next Request, where the neighbor is to be sent one (RFC 2328, section 10.9).
     ///
-    /// `AllocError` comes where memory was refused; the link is to be rolled back then.
+    /// Errors with `AllocError` if an allocation is refused: roll the link back.
     pub fn request(
         &mut self,
         alloc: Global,
@@ -201,7 +201,7 @@ impl Link {
     /// The instance is acknowledged at the next Tick, in the place of an earlier one of its key
     /// (RFC 2328, section 13.5).
     ///
-    /// `AllocError` comes where memory was refused; the link is to be rolled back then.
+    /// Errors with `AllocError` if an allocation is refused: roll the link back.
     pub fn acknowledge_later(&mut self, header: Header) -> Result<(), AllocError>
         ensures ok { OnOk result (self.new.present ≡ acknowledge_later header self.old.present) }
         ensures settled { self.new.settled ≡ self.old.settled }

@@ -1,4 +1,5 @@
--- Along the routers that hand a packet on the routes are better and better, so that it comes to none twice.
+-- Along the routers that hand a packet on the routes are better and better, so that it comes to
+-- none twice.
 use Rattle.std.proofs.Common.{◌≡◌, ℕ, zero, suc, ◌<◌, ◌≤◌, inl, inr, List, [], ◌∷◌, Some, length, get_or, arith, refl, sym, ◌∙◌, ap, subst}
 use Rattle.std.specs.List.{Contains}
 use Rattle.std.proofs.lemmas.Bool.{cases_lt}

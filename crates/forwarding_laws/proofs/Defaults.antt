@@ -1,4 +1,5 @@
--- A packet is handed on past a router that announces a default route, by the longer route that this has.
+-- A packet is handed on past a router that announces a default route, by the longer route that this
+-- has.
 use Rattle.std.proofs.Common.{◌≡◌, ◌≢◌, ℕ, ◌<◌, ◌≤◌, inl, inr, [], ◌∷◌, arith, refl, ap, subst}
 use Rattle.words.specs.Prefixes.{Network}
 use Rattle.words.specs.declared.key.Key.{Key}

@@ -1,4 +1,5 @@
--- One hop: the next router has a better route of the same prefix, which is its longest for the address, or announces the address itself.
+-- One hop: the next router has a better route of the same prefix, which is its longest for the
+-- address, or announces the address itself.
 use Rattle.std.proofs.Common.{◌≡◌, ◌≢◌, ℕ, ◌+◌, ◌<◌, ◌≤◌, inl, inr, IsTrue, List, [], ◌∷◌, Some, length, arith, refl, sym, ◌∙◌, ap, subst}
 use Rattle.std.specs.List.{Contains}
 use Rattle.std.proofs.lemmas.Bool.{cases_eq, cases_lt}
@@ -472,7 +473,8 @@ module _ (topology : Topology) (converged : HasConverged topology) (premises : O
 
     -- ---- the next hop 0
 
-    -- where the way is the one to the router that the LSA comes from, it has a next hop, and 0 is none
+    -- where the way is the one to the router that the LSA comes from, it has a next hop, and 0 is
+    -- none
     away_from : (place : ℕ) (a : Forwarder) (o : Offer) (s : IsSent place a o) → s.x.lsa.forwarding ≡ 0 → (i : ℕ) → IsTrue (has_interface o.hops i) → 0 < i
     away_from place a o s direct i t =
         let Has : ℕ → Type 0 = λ h. IsTrue (has_interface h i) in

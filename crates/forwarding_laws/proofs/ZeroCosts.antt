@@ -1,4 +1,5 @@
--- The worked topology in which the interface of the left router costs 0: its candidates, premises, and the packet that is lost.
+-- The worked topology in which the interface of the left router costs 0: its candidates, premises,
+-- and the packet that is lost.
 use Rattle.std.proofs.Common.{◌≡◌, ◌≢◌, ℕ, ◌+◌, ◌≤◌, ◌||◌, inl, inr, Bool, true, false, cond, not, nat_eq, eqb-true, eq-eqb, List, [], ◌∷◌, filter, Some, slice_get, arith, refl, sym, ◌∙◌, ap, subst}
 use Rattle.std.specs.List.{AllByRecursion, AllPairs, Contains}
 use Rattle.std.proofs.lemmas.List.Elements.{All-cons, All-nil}

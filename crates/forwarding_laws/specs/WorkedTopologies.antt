@@ -1,7 +1,7 @@
 -- Worked topologies (RFC 2328, sections 11, 16.1 and 16.4): three routers in a row, along which a
--- packet is handed on, also past a default route; three ways in which packets do come back: where two databases differ, where
--- a link leads elsewhere than the routers know, and where interfaces of a router have one address;
--- and one in which a packet is lost: where an interface costs 0.
+-- packet is handed on, also past a default route; three ways in which packets do come back: where
+-- two databases differ, where a link leads elsewhere than the routers know, and where interfaces of
+-- a router have one address; and one in which a packet is lost: where an interface costs 0.
 use Rattle.std.specs.Prelude.{◌≢◌, ℕ, ◌&&◌, Bool, List, [], ◌∷◌, Option, Some, None, map, nat_eq}
 use Rattle.std.specs.Prelude.{if◌then◌else◌}
 use Rattle.std.specs.FinMap as finite

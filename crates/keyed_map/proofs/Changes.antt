@@ -108,7 +108,8 @@ module _ {X : Type 0} where
     is = s.is;
   }
 
-  -- what stood there before all edits stands there now, or stood there before the first edit of the key
+  -- what stood there before all edits stands there now, or stood there before the first edit of the
+  -- key
   pub before_edits : (es : List (Edit X)) (m : ByKey (Slot X)) (q : Key)
       → (map.get (undone es m) q ≡ map.get m q) ⊎ StoodAt es q (map.get (undone es m) q)
   before_edits [] m q = inl refl

@@ -66,7 +66,8 @@ module _ {X : Type 0} where
   IsKept es m len settled =
       AllFit es m × (len ≡ map.len (live m)) × (settled ≡ map.len (live (undone es m)))
 
--- how many keys there are after a key was set or taken out, by whether it was held before and is now
+-- how many keys there are after a key was set or taken out, by whether it was held before and is
+-- now
 abbrev pub count_after_change : Bool → Bool → ℕ → ℕ
 count_after_change held true n = if held then n else n + 1
 count_after_change held false n = if held then n - 1 else n

@@ -320,8 +320,8 @@ impl<X: Drop> KeyedMap<X> {
         }
     }
 
-    /// The value that a key had when the map was last settled, if the key was there. It looks at the
-    /// edits since.
+    /// The value that a key had when the map was last settled, if the key was there. It looks at
+    /// the edits since.
     pub fn settled_get(&self, key: &Key) -> Option<&X>
         ensures { option_copied result ≡ map.get self.now.settled key.now }
     {
@@ -478,8 +478,8 @@ impl<X: Drop> KeyedMap<X> {
         Ok(true)
     }
 
-    /// The keys that hold something else, by the test, than when the map was last settled. It looks at
-    /// the keys that were edited since.
+    /// The keys that hold something else, by the test, than when the map was last settled. It looks
+    /// at the keys that were edited since.
     ///
     /// # Errors
     /// If memory for the keys, or to compare what they hold, is refused.

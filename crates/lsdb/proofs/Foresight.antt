@@ -68,7 +68,8 @@ pub foresees_absent : (ages : Ages) (times : ByKey Times) (q : Key)
     → list_any (eq_by_cmp key_cmp q) (finite.keys times) ≡ false → Foresees ages q (finite.get times q)
 foresees_absent ages times q none = absent_at ages q (finite.get times q) (finite.contains_key-keys times q ∙ none)
 
--- ages that are due when others are foresee what these do of a key that isn't among the aged of these
+-- ages that are due when others are foresee what these do of a key that isn't among the aged of
+-- these
 pub foresees_past : (ages made : Ages) → made.due ≡ ages.due → (q : Key) (o : Option Times)
     → list_any (eq_by_cmp key_cmp q) (finite.keys ages.aged.present) ≡ false → Foresees ages q o → Foresees made q o
 foresees_past ages made due q o none foreseen moment before is = absurd (false≢true

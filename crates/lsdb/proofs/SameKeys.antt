@@ -80,7 +80,8 @@ module _ {X Y : Type 0} where
       let sets : key_set m ≡ key_set n = same _ _ (λ q. units _ _ (has_key m q ∙ is q ∙ sym (has_key n q))) in
       sym (set_keys m) ∙ ap finite.keys sets ∙ set_keys n
 
-  -- if each key of n that passes stands in m too, m's keys that pass and stand in n are n's that pass
+  -- if each key of n that passes stands in m too, m's keys that pass and stand in n are n's that
+  -- pass
   pub keys_among : (p : Key → Bool) (m : ByKey X) (n : ByKey Y)
       → ((q : Key) → finite.contains_key n q ≡ true → p q ≡ true → finite.contains_key m q ≡ true)
       → keys_where (λ k x. p k && finite.contains_key n k) (finite.entries m) ≡ keys_where (λ k y. p k) (finite.entries n)

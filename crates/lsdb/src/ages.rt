@@ -64,8 +64,8 @@ pub fn foresee(alloc: Global, times: &KeyedMap<Times>, moment: Second) -> Result
     Ok(ages)
 }
 
-/// What these times foresee, given what the ages foresee of them: it looks at the copies of the aged
-/// keys alone. Those that have MaxAge at the moment stay among the aged.
+/// What these times foresee, given what the ages foresee of them: it looks at the copies of the
+/// aged keys alone. Those that have MaxAge at the moment stay among the aged.
 pub fn foresee_again(
     alloc: Global,
     ages: &Ages,

@@ -42,8 +42,7 @@ impl<'a> LinkStep for Acknowledging<'a> {
 /// 2328, section 13.7): just these leave its retransmission list. Without a neighbor nothing
 /// happens.
 ///
-/// `AllocError` comes where memory was refused; the area is to be rolled back then, and the drafts
-/// are of no use.
+/// Errors with `AllocError` if an allocation is refused: roll the area back, and drop the drafts.
 pub fn acknowledged(
     area: &mut Area,
     alloc: Global,

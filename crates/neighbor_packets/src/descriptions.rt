@@ -52,8 +52,7 @@ impl<'a> LinkStep for Describing<'a> {
 /// A Database Description came from the neighbor at the interface of this number, to the router
 /// `own` (RFC 2328, section 10.6), as `Link::description` says. Without a neighbor nothing happens.
 ///
-/// `AllocError` comes where memory was refused; the area is to be rolled back then, and the drafts
-/// are of no use.
+/// Errors with `AllocError` if an allocation is refused: roll the area back, and drop the drafts.
 pub fn describe(
     area: &mut Area,
     alloc: Global,

@@ -116,8 +116,7 @@ impl<'a> LinkStep for Hearing<'a> {
 /// is heard there. Else the inactivity timer starts again, Down becomes Init, and 2-WayReceived or
 /// 1-WayReceived follows, by whether it names this router.
 ///
-/// `AllocError` comes where memory was refused; the area is to be rolled back then, and the drafts
-/// are of no use.
+/// Errors with `AllocError` if an allocation is refused: roll the area back, and drop the drafts.
 pub fn hear(
     area: &mut Area,
     alloc: Global,

@@ -41,8 +41,7 @@ impl<'a> LinkStep for Answering<'a> {
 /// which is in Exchange or later (RFC 2328, section 10.7): the copies are sent, go on no list and
 /// count as sent, or, where one is missing, none is, and it is BadLSReq.
 ///
-/// `AllocError` comes where memory was refused; the area is to be rolled back then, and the drafts
-/// are of no use.
+/// Errors with `AllocError` if an allocation is refused: roll the area back, and drop the drafts.
 pub fn answer(
     area: &mut Area,
     alloc: Global,

@@ -266,7 +266,7 @@ impl Place {
     /// later state goes back to Init (1-WayReceived), and the lists are cleared without a walk over
     /// them.
     ///
-    /// `AllocError` comes where memory was refused; the place is to be rolled back then.
+    /// Errors with `AllocError` if an allocation is refused: roll the place back.
     pub fn hello(
         &mut self,
         alloc: Global,

@@ -24,7 +24,7 @@ use words::{E_BIT, LinkStateId, RouterId, Sequence, SequenceNumber};
 /// The Router IDs of the neighbors that are Full, interface n at place n - 1, None where there is
 /// none: what the router-LSA rests on beside the configuration.
 ///
-/// The only error is that an allocation was refused.
+/// Errors with `AllocError` if an allocation is refused.
 pub fn full_routers(alloc: Global, links: &[Link]) -> Result<Vec<Option<RouterId>>, AllocError>
     ensures { IfOk result (λ full. full.items ≡ full_routers (map present links.now)) }
 {
@@ -161,7 +161,7 @@ fn texts_differ(
 /// interfaces, of which just the neighbors `before` were Full, interface n at place n - 1. Where
 /// the same are Full now, that takes no look at texts.
 ///
-/// The only error is that an allocation was refused.
+/// Errors with `AllocError` if an allocation is refused.
 pub fn links_differ(
     alloc: Global,
     links: &[Link],
@@ -193,7 +193,7 @@ fn lsa_says(alloc: Global, links: &[Link], lsa: &Lsa) -> Result<bool, AllocError
 
 /// Whether there is a copy, and it says what the router-LSA of these links is to say.
 ///
-/// The only error is that an allocation was refused.
+/// Errors with `AllocError` if an allocation is refused.
 pub fn tells(
     alloc: Global,
     links: &[Link],

@@ -38,7 +38,7 @@ fn external_body(alloc: Global, external: &External) -> Body
 /// database (RFC 2328, section 12.4.4). None where the copy has MaxSequenceNumber: it is to be
 /// flushed first.
 ///
-/// The only error is that an allocation was refused.
+/// Errors with `AllocError` if an allocation is refused.
 pub fn external_instance(
     alloc: Global,
     own: RouterId,

@@ -14,7 +14,7 @@ use words::{E_BIT, Key};
 /// The instance of this key that follows the copy of the database and says this: of age 0, its
 /// type, length and checksum those of what it says. None where the copy has MaxSequenceNumber.
 ///
-/// The only error is that an allocation was refused.
+/// Errors with `AllocError` if an allocation is refused.
 pub fn next_instance(
     alloc: Global,
     database: &Lsdb,

@@ -74,7 +74,7 @@ fn unless_flushed(copy: Option<DatabaseCopy<'_>>) -> Origination
 /// flushed first (RFC 2328, sections 12.4.1 and 12.1.6). `last` is the moment at which it was last
 /// originated, if that is known.
 ///
-/// The only error is that an allocation was refused.
+/// Errors with `AllocError` if an allocation is refused.
 pub fn originate_router(
     alloc: Global,
     may_now: bool,
@@ -101,7 +101,7 @@ pub fn originate_router(
 /// What becomes of the own AS-external-LSA of this destination, as `originate_router` says of the
 /// router-LSA (RFC 2328, section 12.4.4).
 ///
-/// The only error is that an allocation was refused.
+/// Errors with `AllocError` if an allocation is refused.
 pub fn originate_external(
     alloc: Global,
     may_now: bool,

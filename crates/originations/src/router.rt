@@ -124,7 +124,7 @@ fn router_body(alloc: Global, links: &[Link]) -> Result<Body, AllocError>
 /// one to its subnet (RFC 2328, section 12.4.1). None where the copy has MaxSequenceNumber: it is
 /// to be flushed first.
 ///
-/// The only error is that an allocation was refused.
+/// Errors with `AllocError` if an allocation is refused.
 pub fn router_instance(
     alloc: Global,
     own: RouterId,

@@ -1,4 +1,5 @@
--- Two router-LSAs of one text tell of Full neighbors on the same links. So where a Tick ends with the text that the event began with, no neighbor was lost.
+-- Two router-LSAs of one text tell of Full neighbors on the same links. So where a Tick ends with
+-- the text that the event began with, no neighbor was lost.
 use Rattle.std.proofs.Common.{◌≡◌, ◌<◌, ℕ, zero, suc, Bool, true, false, cond, not, ◌⊎◌, inl, inr, List, [], ◌∷◌, ◌++◌, map, Option, None, Some, is_some, refl, sym, ap, subst, ◌∙◌, arith}
 use Rattle.std.specs.List.{flat_map}
 use Rattle.std.specs.Cmp.{tied_itself}

@@ -1,4 +1,5 @@
--- An event's own part, and the end that all events share, leave the router's own copies as they are to stand.
+-- An event's own part, and the end that all events share, leave the router's own copies as they are
+-- to stand.
 use Rattle.std.proofs.Common.{◌≡◌, ℕ, Bool, true, false, cond, not, ◌&&◌, ◌||◌, ◌⊎◌, inl, inr, List, [], ◌∷◌, map, Option, None, Some, is_some, refl, sym, ap, subst, ◌∙◌, arith}
 use Rattle.std.specs.Prelude.{nat_le}
 use Rattle.std.specs.List.{filter, list_all, list_any}

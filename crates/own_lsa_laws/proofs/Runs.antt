@@ -1,4 +1,5 @@
--- Every event leaves the router's own copies as they are to stand, and so does every run from the start.
+-- Every event leaves the router's own copies as they are to stand, and so does every run from the
+-- start.
 use Rattle.std.proofs.Common.{◌≡◌, ℕ, ◌+◌, ◌<◌, ◌≤◌, Bool, true, false, cond, ◌&&◌, ◌⊎◌, inl, inr, List, [], ◌∷◌, map, Option, None, Some, refl, sym, ap, subst, ◌∙◌, arith, true≢false}
 use Rattle.std.specs.FinMap as finite
 use Rattle.std.specs.FinSet as set

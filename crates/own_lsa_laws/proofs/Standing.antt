@@ -1,5 +1,5 @@
--- How an own copy stands at a point of an event: it is at MaxAge, or says what is wanted, or said so before, or waits, or is held back; and databases in
--- which all own copies stand so.
+-- How an own copy stands at a point of an event: it is at MaxAge, or says what is wanted, or said
+-- so before, or waits, or is held back; and databases in which all own copies stand so.
 use Rattle.std.proofs.Common.{◌≡◌, ℕ, ◌+◌, ◌-◌, ◌<◌, ◌≤◌, min, Bool, true, false, cond, ◌⊎◌, inl, inr, List, [], ◌∷◌, Option, None, Some, refl, sym, ap, subst, ◌∙◌, arith, eq-eqb, eqb-true}
 use Rattle.std.specs.List.{fold}
 use Rattle.std.specs.Cmp.{tied_itself}
@@ -73,7 +73,8 @@ is_wanted_of r key says is = by_case (wanted_as r key says is)
 
 -- ---- how a copy stands
 
--- the router-LSA's text before the event and by now; which keys may wait for a Tick; and of which keys nothing is said
+-- the router-LSA's text before the event and by now; which keys may wait for a Tick; and of which
+-- keys nothing is said
 pub record Terms : Type 1 where
   pub before : List ℕ
   pub now : List ℕ
@@ -116,7 +117,8 @@ module _ (moment : ℕ) (t u : Terms) (id : ℕ) (a b : ByKey External) (w v : K
   recast (Standing.HeldBack at wanted there last recent) = Standing.HeldBack at (still_wanted wanted) (by.waiting there) (by.originated at last) recent
   recast (Standing.Excused is) = by.excused is
 
--- ---- what a copy fits: no own instance of its key was originated after it was stored, and as an own one it stands
+-- ---- what a copy fits: no own instance of its key was originated after it was stored, and as an
+-- own one it stands
 
 abbrev pub Fits : ℕ → Terms → ℕ → ByKey External → KeySet → ByKey ℕ → Key → DatabaseCopy → Type 0
 Fits moment t id announced waiting originated key c =

@@ -1,4 +1,5 @@
--- What stands behind a packet's header: bytes that a body fills are its text, and a body's text is filled and read as that body.
+-- What stands behind a packet's header: bytes that a body fills are its text, and a body's text is
+-- filled and read as that body.
 use Rattle.std.proofs.Common.{◌≡◌, ℕ, zero, suc, ◌+◌, ◌-◌, ◌*◌, ◌/◌, ◌%◌, ◌<◌, ◌≤◌, Bool, true, false, not, ◌&&◌, eqb, ltb, List, [], ◌∷◌, ◌++◌, length, get_or, take, drop, Some, refl, sym, ap, ◌∙◌, arith}
 use Rattle.std.specs.Prelude.{bit_and}
 use Rattle.std.specs.List.{flat_map, AllByRecursion}

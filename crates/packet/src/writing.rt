@@ -202,7 +202,7 @@ fn draft(alloc: Global, packet: &Packet) -> Result<Vec<u8>, AllocError>
 
 /// The packet's text, with zeros in what a text leaves open (RFC 2328, appendix A.3).
 ///
-/// The only error is that an allocation was refused.
+/// Errors with `AllocError` if an allocation is refused.
 #[tactic(auto, unfolding(crate::specs::Text::canonical))]
 pub fn write(alloc: Global, packet: &Packet) -> Result<Vec<u8>, AllocError>
     // A packet has at most 8,192 bytes.

@@ -71,7 +71,7 @@ fn put_acknowledgments(
 /// What the packets say that are to be sent: Hellos, Database Descriptions, Link State Requests,
 /// Updates and Acknowledgments.
 ///
-/// The only error is that an allocation was refused.
+/// Errors with `AllocError` if an allocation is refused.
 pub fn bodies(alloc: Global, draft: Draft) -> Result<Vec<Body>, AllocError>
     // An Update has room for each LSA.
     requires { AllShort draft.updates }

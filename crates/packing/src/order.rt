@@ -7,7 +7,7 @@ use std::alloc::AllocError;
 
 /// Puts the items into the order of their keys; those of one key stay as they stand.
 ///
-/// The only error is that an allocation was refused.
+/// Errors with `AllocError` if an allocation is refused.
 pub fn sort_by_keys<X: HasKey + Drop>(items: &mut Vec<X>) -> Result<(), AllocError>
     ensures { OnOk result (items.new.items ≡ in_key_order X.order_key items.old.items) }
 {

@@ -100,7 +100,7 @@ impl<X: HasSize + Drop> Filling<X> {
 /// The items in their order, as many in each packet as have room behind the bytes that it begins
 /// with.
 ///
-/// The only error is that an allocation was refused.
+/// Errors with `AllocError` if an allocation is refused.
 pub fn packed<X: HasSize + Drop>(
     alloc: Global,
     start: usize,

@@ -135,8 +135,7 @@ fn announce_as(
 /// low 32 bits count, and a metric of LSInfinity, 0xffffff, or more withholds it and flushes an own
 /// LSA that stands. What is announced already just so is left alone.
 ///
-/// `AllocError` comes where memory was refused; the router is to be rolled back then, and the
-/// drafts are of no use.
+/// Errors with `AllocError` if an allocation is refused: roll the router back, and drop the drafts.
 pub fn redistribute(
     router: &mut Router,
     alloc: Global,
@@ -163,8 +162,7 @@ pub fn redistribute(
 /// The destination of this prefix is announced no longer, and its LSA is flushed (RFC 2328, section
 /// 14.1). Without such a destination nothing happens.
 ///
-/// `AllocError` comes where memory was refused; the router is to be rolled back then, and the
-/// drafts are of no use.
+/// Errors with `AllocError` if an allocation is refused: roll the router back, and drop the drafts.
 pub fn withdraw(
     router: &mut Router,
     alloc: Global,

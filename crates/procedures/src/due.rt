@@ -43,7 +43,7 @@ fn put_due(router: &Router, moment: Second, key: Key, due: &mut Vec<Key>) -> Res
 /// a Tick, has left the database, or is of LSRefreshTime, 1800 seconds, or more (RFC 2328, section
 /// 12.4).
 ///
-/// The only error is that an allocation was refused.
+/// Errors with `AllocError` if an allocation is refused.
 pub fn due_keys(router: &Router, alloc: Global, moment: Second) -> Result<Vec<Key>, AllocError>
     ensures { IfOk result (λ keys. keys.items ≡ due_keys moment router.now.present) }
 {
@@ -57,8 +57,7 @@ pub fn due_keys(router: &Router, alloc: Global, moment: Second) -> Result<Vec<Ke
 
 /// New instances of the own LSAs of these keys, one after the other, as `originate_or_wait` says.
 ///
-/// `AllocError` comes where memory was refused; the router is to be rolled back then, and the
-/// drafts are of no use.
+/// Errors with `AllocError` if an allocation is refused: roll the router back, and drop the drafts.
 pub fn originate_due(
     router: &mut Router,
     alloc: Global,

@@ -123,8 +123,7 @@ fn request_and_remove(
 /// at MaxAge that nobody has still to acknowledge leave the database; the moment is the last one.
 /// `before` are the neighbors that were Full when the event began.
 ///
-/// `AllocError` comes where memory was refused; the router is to be rolled back then, and the
-/// drafts are of no use.
+/// Errors with `AllocError` if an allocation is refused: roll the router back, and drop the drafts.
 pub fn end_event(
     router: &mut Router,
     alloc: Global,

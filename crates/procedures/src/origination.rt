@@ -102,8 +102,7 @@ fn originate(
 /// in the database and MinLSInterval allows it, else at a Tick; after MaxSequenceNumber the copy is
 /// flushed first (RFC 2328, sections 12.1.6 and 12.4).
 ///
-/// `AllocError` comes where memory was refused; the router is to be rolled back then, and the
-/// drafts are of no use.
+/// Errors with `AllocError` if an allocation is refused: roll the router back, and drop the drafts.
 pub fn originate_or_wait(
     router: &mut Router,
     alloc: Global,
@@ -123,8 +122,7 @@ pub fn originate_or_wait(
 
 /// As `originate_or_wait`, whether there is room in the database or not.
 ///
-/// `AllocError` comes where memory was refused; the router is to be rolled back then, and the
-/// drafts are of no use.
+/// Errors with `AllocError` if an allocation is refused: roll the router back, and drop the drafts.
 pub fn originate_anyway(
     router: &mut Router,
     alloc: Global,
@@ -145,8 +143,7 @@ pub fn originate_anyway(
 /// that is wanted is originated again, one past its number; any other is flushed. An LSA of another
 /// router's changes nothing.
 ///
-/// `AllocError` comes where memory was refused; the router is to be rolled back then, and the
-/// drafts are of no use.
+/// Errors with `AllocError` if an allocation is refused: roll the router back, and drop the drafts.
 pub fn receive_self_originated(
     router: &mut Router,
     alloc: Global,

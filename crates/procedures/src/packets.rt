@@ -162,8 +162,7 @@ fn from_neighbor_before_exchange(
 /// router or of this one is discarded, and so is one other than a Hello that isn't from the
 /// interface's neighbor; Requests, Updates and Acknowledgments count from Exchange on.
 ///
-/// `AllocError` comes where memory was refused; the router is to be rolled back then, and the
-/// drafts are of no use.
+/// Errors with `AllocError` if an allocation is refused: roll the router back, and drop the drafts.
 pub fn receive_packet(
     router: &mut Router,
     alloc: Global,

@@ -13,7 +13,7 @@ use words::{Key, LinkStateId, RouterId, Second};
 /// The Router IDs of the neighbors that are Full, interface n at place n - 1, None where there is
 /// none: what the router-LSA rests on beside the configuration.
 ///
-/// The only error is that an allocation was refused.
+/// Errors with `AllocError` if an allocation is refused.
 pub fn full_routers(router: &Router, alloc: Global) -> Result<Vec<Option<RouterId>>, AllocError>
     ensures { IfOk result (λ full. full.items ≡ full_routers router.now.present.area.links) }
 {
@@ -57,7 +57,7 @@ fn is_current(router: &Router, alloc: Global, moment: Second) -> Result<bool, Al
 /// Whether the content of the router-LSA differs from what it was when just the neighbors
 /// `before` were Full.
 ///
-/// The only error is that an allocation was refused.
+/// Errors with `AllocError` if an allocation is refused.
 pub fn has_changed(
     router: &Router,
     alloc: Global,
@@ -76,7 +76,7 @@ pub fn has_changed(
 /// Whether the content of the router-LSA differs from what it was when just the neighbors
 /// `before` were Full, and isn't told yet in an instance of this moment.
 ///
-/// The only error is that an allocation was refused.
+/// Errors with `AllocError` if an allocation is refused.
 pub fn is_untold(
     router: &Router,
     alloc: Global,

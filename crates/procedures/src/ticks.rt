@@ -71,8 +71,7 @@ fn send_what_is_due(
 /// refreshed are originated; what RxmtInterval lets go out is sent again; delayed acknowledgments
 /// and Hellos that are due are sent.
 ///
-/// `AllocError` comes where memory was refused; the router is to be rolled back then, and the
-/// drafts are of no use.
+/// Errors with `AllocError` if an allocation is refused: roll the router back, and drop the drafts.
 pub fn tick(
     router: &mut Router,
     alloc: Global,

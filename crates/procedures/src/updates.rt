@@ -123,8 +123,7 @@ fn receive_text(
 /// The texts of LSAs in an Update that came in at the interface of this number, from a neighbor in
 /// Exchange or later: one after the other, up to a bad request. A text that is no LSA's is skipped.
 ///
-/// `AllocError` comes where memory was refused; the router is to be rolled back then, and the
-/// drafts are of no use.
+/// Errors with `AllocError` if an allocation is refused: roll the router back, and drop the drafts.
 pub fn receive_lsas(
     router: &mut Router,
     alloc: Global,

@@ -46,7 +46,7 @@ pub fn is_wanted(router: &Router, key: &Key) -> bool
 
 /// What becomes of the own LSA of this key; None, if it isn't wanted.
 ///
-/// The only error is that an allocation was refused.
+/// Errors with `AllocError` if an allocation is refused.
 pub fn wanted_origination(
     router: &Router,
     alloc: Global,

@@ -1,4 +1,5 @@
--- What is announced is what the operator's commands make of it, each under its own key: so two runs that differ in the answers of one key announce the same elsewhere.
+-- What is announced is what the operator's commands make of it, each under its own key: so two runs
+-- that differ in the answers of one key announce the same elsewhere.
 use Rattle.std.proofs.Common.{◌≡◌, ℕ, Bool, true, false, cond, List, [], ◌∷◌, Option, None, Some, refl, sym, ◌∙◌, ap, subst}
 use Rattle.std.specs.Prelude.{nat_le}
 use Rattle.std.specs.List.{cons_option}

@@ -1,4 +1,5 @@
--- What a Redistribute does, it does under the key of its destination; and two of them leave the same but for that key.
+-- What a Redistribute does, it does under the key of its destination; and two of them leave the
+-- same but for that key.
 use Rattle.std.proofs.Common.{◌≡◌, ℕ, ◌+◌, Bool, true, false, cond, not, ◌&&◌, ◌||◌, List, [], ◌∷◌, ◌++◌, map, Option, None, Some, is_some, refl, sym, ◌∙◌, ap, subst}
 use Rattle.std.specs.Prelude.{nat_le}
 use Rattle.std.specs.List.{enumerate_from, flat_map, fold}

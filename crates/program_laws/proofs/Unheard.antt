@@ -1,5 +1,6 @@
--- No event of a router looks at the answers of an Install, and an event has one outcome. So two lives
--- of a router, or two histories of a network, that are the same but for these answers send the same.
+-- No event of a router looks at the answers of an Install, and an event has one outcome. So two
+-- lives of a router, or two histories of a network, that are the same but for these answers send
+-- the same.
 use Rattle.std.proofs.Common.{◌≡◌, ℕ, zero, suc, Bool, true, false, cond, not, ◌&&◌, List, [], ◌∷◌}
 use Rattle.std.proofs.Common.{◌++◌, map, Option, None, Some, refl, sym, ◌∙◌, ap, subst}
 use Rattle.std.specs.Prelude.{◌==◌, nat_le, set, slice_get}

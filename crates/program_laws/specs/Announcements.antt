@@ -1,5 +1,5 @@
--- What follows from an answer at `tag` or `price`, however long after, and whatever other routers make
--- of it: what the router announces of every other destination stays the same.
+-- What follows from an answer at `tag` or `price`, however long after, and whatever other routers
+-- make of it: what the router announces of every other destination stays the same.
 use Rattle.std.specs.Prelude.{◌≡◌, false, if◌then◌else◌, List, Option, None, Some}
 use Rattle.std.specs.List.{filter_map}
 use Rattle.std.specs.FinMap as finite
@@ -29,8 +29,8 @@ abbrev pub asked_but : RouterNumber → Key → List Step → List Occurrence
 asked_but own key steps = filter_map (λ (s : Step). asked_in own key s.event) steps
 
 -- Two runs of one router, in which the operator asks for the same and programs answer the same, but
--- for the answers about one destination. Whatever packets come in, at whatever moments: in the end it
--- announces the same under every other key, and wants to say the same in each of these LSAs.
+-- for the answers about one destination. Whatever packets come in, at whatever moments: in the end
+-- it announces the same under every other key, and wants to say the same in each of these LSAs.
 abbrev pub OtherAnnouncementsStayTheSame : Type 0
 OtherAnnouncementsStayTheSame =
     (old : Router) (key : Key) (steps others : List Step) (new next : Router)

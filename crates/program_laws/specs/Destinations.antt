@@ -74,11 +74,11 @@ abbrev pub IsUnderItsKey : Key → Database → Type 0
 IsUnderItsKey key database =
     (c : DatabaseCopy) → finite.get database key ≡ Some c → lsa_key c.lsa ≡ key
 
--- Two Redistributes of one destination at one moment, with any answers: what is sent is the same but
--- for Updates of the destination's LSA, and so is what the router is afterwards but for what it keeps
--- under that LSA's key. No neighbor is being asked for the LSA, whose flooding may end that
--- neighbor's Loading; and the router-LSA has its place in the database, which the external LSA can't
--- take then.
+-- Two Redistributes of one destination at one moment, with any answers: what is sent is the same
+-- but for Updates of the destination's LSA, and so is what the router is afterwards but for what it
+-- keeps under that LSA's key. No neighbor is being asked for the LSA, whose flooding may end that
+-- neighbor's Loading; and the router-LSA has its place in the database, which the external LSA
+-- can't take then.
 abbrev pub AnswersReachOneDestination : Type 0
 AnswersReachOneDestination =
     (old : Router) (moment : Moment) (destination : External)

@@ -1,4 +1,5 @@
--- What holds of every neighbor still holds after a step of each of them, after a change of a link, after flooding and after a received LSA.
+-- What holds of every neighbor still holds after a step of each of them, after a change of a link,
+-- after flooding and after a received LSA.
 use Rattle.std.proofs.Common.{◌≡◌, ℕ, zero, suc, ◌+◌, ◌==◌, true, cond, List, [], ◌∷◌, map, Option, None, Some}
 use Rattle.std.specs.Prelude.{slice_get}
 use Rattle.std.specs.List.{enumerate_from}

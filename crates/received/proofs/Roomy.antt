@@ -1,5 +1,5 @@
--- Room in packets through what is sent, steps of the neighbors, flooding and a received LSA: the copies of the database fit, the lists of
--- each neighbor have room, and so has all that is sent.
+-- Room in packets through what is sent, steps of the neighbors, flooding and a received LSA: the
+-- copies of the database fit, the lists of each neighbor have room, and so has all that is sent.
 use Rattle.std.proofs.Common.{◌≡◌, ◌≤◌, ℕ, ◌+◌, ◌==◌, cond, List, [], ◌∷◌, ◌++◌, map, length, Option, None, Some, refl, sym, subst, ◌∙◌}
 use Rattle.std.specs.FinMap as finite
 use Rattle.std.specs.List.{AllByRecursion, enumerate_from, flat_map, fold}
@@ -32,7 +32,8 @@ use Rattle.received.proofs.Holding.{changed_keeps, each_keeps}
 abbrev pub SendHasRoom : Send → Type 0
 SendHasRoom s = HasRoom s.content
 
--- the copies fit, there are few links, and the lists of their neighbors have room; and so has all that was sent
+-- the copies fit, there are few links, and the lists of their neighbors have room; and so has all
+-- that was sent
 pub record HasRoomFor (a : Area) (sends : List Send) : Type 0 where
   pub fit : AllFit a.database
   pub lists : HoldsOfEach HasRoomyLists a.links

@@ -1,5 +1,6 @@
--- What holds of all that is held and told, through what is sent, steps of the neighbors, flooding and a received LSA: of the copies of the
--- database, of what each neighbor is still to acknowledge, of the acknowledgments that wait, and of what is sent.
+-- What holds of all that is held and told, through what is sent, steps of the neighbors, flooding
+-- and a received LSA: of the copies of the database, of what each neighbor is still to acknowledge,
+-- of the acknowledgments that wait, and of what is sent.
 use Rattle.std.proofs.Common.{◌≡◌, ℕ, zero, suc, ◌+◌, ◌==◌, cond, List, [], ◌∷◌, ◌++◌, map, length, Option, None, Some, ◌∙◌}
 use Rattle.std.specs.Prelude.{slice_get}
 use Rattle.std.specs.FinMap as finite

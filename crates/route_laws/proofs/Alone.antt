@@ -1,4 +1,5 @@
--- Candidates where each prefix has one best offer, and the offers of a database that is given as a list of copies.
+-- Candidates where each prefix has one best offer, and the offers of a database that is given as a
+-- list of copies.
 use Rattle.std.proofs.Common.{◌≡◌, ℕ, ◌+◌, ◌≤◌, ◌⊎◌, inl, inr, Bool, true, false, IsTrue, List, filter, arith, refl, sym, ◌∙◌, ap, subst}
 use Rattle.std.specs.List.{AllPairs, Contains, list_all}
 use Rattle.std.proofs.lemmas.Bool.{cases_eq}

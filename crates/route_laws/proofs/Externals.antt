@@ -1,4 +1,5 @@
--- The worked external destinations: what each external LSA offers, if it offers anything, and the candidates.
+-- The worked external destinations: what each external LSA offers, if it offers anything, and the
+-- candidates.
 use Rattle.std.proofs.Common.{◌≡◌, ◌≢◌, ℕ, ◌<◌, ◌≤◌, ◌⊎◌, inl, inr, Bool, true, false, not, ◌&&◌, nat_eq, eq-eqb, List, [], ◌∷◌, ◌++◌, None, Some, arith, refl, sym, ◌∙◌, ap, subst}
 use Rattle.std.specs.FinMap as finite
 use Rattle.std.specs.List.{AllByRecursion, AllPairs, Contains}

@@ -1,4 +1,5 @@
--- Labels of the vertices by which a way is checked: a distance and next hops that no link undercuts, and walks that have them.
+-- Labels of the vertices by which a way is checked: a distance and next hops that no link
+-- undercuts, and walks that have them.
 use Rattle.std.proofs.Common.{◌≡◌, ℕ, zero, suc, ◌+◌, ◌<◌, ◌≤◌, ◌⊎◌, inl, inr, Bool, true, false, ◌&&◌, ◌||◌, not, IsTrue, nat_eq, nat_lt, ltb-true, eqb-true, eq-eqb, List, [], ◌∷◌, Some, slice_get, bit_or, max, arith, refl, sym, ◌∙◌, ap, subst}
 use Rattle.std.specs.Int.{bit_at}
 use Rattle.std.specs.List.{list_all}
@@ -20,7 +21,8 @@ use Rattle.routes.specs.Said.{said_at}
 
 -- ---- labels over any links
 
--- no link leads to less than its end's distance, and one that leads to just that carries the next hops on
+-- no link leads to less than its end's distance, and one that leads to just that carries the next
+-- hops on
 pub record AreLabels {V : Type 0} (leads : V → Step V → Type 0) (from : V) (distance hops : V → ℕ) : Type 0 where
   pub start : distance from ≡ 0
   pub low : (v : V) (s : Step V) → leads v s → distance s.target ≤ distance v + s.price

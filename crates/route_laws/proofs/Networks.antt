@@ -1,5 +1,5 @@
--- Labels over routers and transit networks, checked link by link, and the offers within the area of a database that is given as a list of
--- copies and may hold network-LSAs.
+-- Labels over routers and transit networks, checked link by link, and the offers within the area of
+-- a database that is given as a list of copies and may hold network-LSAs.
 use Rattle.std.proofs.Common.{◌≡◌, ℕ, ◌+◌, ◌≤◌, ◌⊎◌, inl, inr, Bool, true, false, ◌&&◌, ◌||◌, not, IsTrue, nat_eq, nat_lt, ltb-true, eqb-true, eq-eqb, List, [], ◌∷◌, ◌++◌, map, filter, bit_or, arith, refl, sym, ◌∙◌, ap, subst}
 use Rattle.std.specs.List.{Contains, list_all}
 use Rattle.std.proofs.lemmas.Bool.{cases_eq}

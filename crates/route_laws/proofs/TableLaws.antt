@@ -1,4 +1,5 @@
--- The table is determined, and is part of the candidates; answers to all of them leave nothing stale.
+-- The table is determined, and is part of the candidates; answers to all of them leave nothing
+-- stale.
 use Rattle.std.proofs.Common.{◌≡◌, List, [], ◌∷◌, refl}
 use Rattle.std.specs.List.{Contains}
 use Rattle.words.specs.declared.route.Route.{Route}

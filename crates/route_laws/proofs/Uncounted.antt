@@ -42,7 +42,8 @@ no_exit (a ∷ addresses) address zero e p =
     not_both (nat_eq a address) (both_true (not (nat_eq a address)) (has_no_exit addresses address) e).0 (eq-eqb a address same)
 no_exit (a ∷ addresses) address (suc n) e p = no_exit addresses address n (both_true (not (nat_eq a address)) (has_no_exit addresses address) e).1 p
 
--- a point-to-point link of a router inside leads inside, has no link back, has metric 0, or is one of the root by no own address
+-- a point-to-point link of a router inside leads inside, has no link back, has metric 0, or is one
+-- of the root by no own address
 abbrev has_no_back : List (ℕ × Link) → ℕ → ℕ → Bool
 has_no_back links from to = list_all (λ (y : ℕ × Link). not (nat_eq y.0 to) || (not (is_point y.1.kind) || not (nat_eq y.1.link_id from))) links
 

@@ -1,4 +1,5 @@
--- What a call on links and database answers, as a part of an event: `shown` is the router from its fields.
+-- What a call on links and database answers, as a part of an event: `shown` is the router from its
+-- fields.
 use Rattle.std.proofs.Common.{◌≡◌, ℕ, suc, ◌+◌, List, [], ◌∷◌, length, Result, Ok, Err, OnOk, IfOk, refl, sym, ap, ◌∙◌, arith}
 use Rattle.std.proofs.lemmas.List.{length-map}
 use Rattle.timers.specs.adjacency.Drafts.{Drafted}

@@ -1,5 +1,5 @@
--- What packets of a neighbor make of links and database: what is sent comes after what was sent before,
--- and the interfaces stay.
+-- What packets of a neighbor make of links and database: what is sent comes after what was sent
+-- before, and the interfaces stay.
 use Rattle.std.proofs.Common.{◌≡◌, ℕ, Bool, true, false, cond, List, map, refl}
 use Rattle.std.specs.Prelude.{Option, None, Some}
 use Rattle.std.specs.List.{list_all}

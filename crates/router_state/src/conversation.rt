@@ -21,8 +21,8 @@ impl Router {
     /// 10.5). It is discarded where the interface and it differ in HelloInterval,
     /// RouterDeadInterval or the E bit, and where another neighbor is heard there.
     ///
-    /// `AllocError` comes where memory was refused; the router is to be rolled back then, and the
-    /// drafts are of no use.
+    /// Errors with `AllocError` if an allocation is refused: roll the router back, and drop the
+    /// drafts.
     pub fn hear(
         &mut self,
         alloc: Global,
@@ -57,8 +57,8 @@ impl Router {
     /// A Database Description came from the neighbor at the interface of this number (RFC 2328,
     /// section 10.6).
     ///
-    /// `AllocError` comes where memory was refused; the router is to be rolled back then, and the
-    /// drafts are of no use.
+    /// Errors with `AllocError` if an allocation is refused: roll the router back, and drop the
+    /// drafts.
     pub fn describe(
         &mut self,
         alloc: Global,
@@ -92,8 +92,8 @@ impl Router {
     /// which is in Exchange or later (RFC 2328, section 10.7): the copies are sent and count as
     /// sent, or, where one is missing, none is, and it is BadLSReq.
     ///
-    /// `AllocError` comes where memory was refused; the router is to be rolled back then, and the
-    /// drafts are of no use.
+    /// Errors with `AllocError` if an allocation is refused: roll the router back, and drop the
+    /// drafts.
     pub fn answer(
         &mut self,
         alloc: Global,
@@ -119,8 +119,8 @@ impl Router {
     /// An Acknowledgment of these instances came from the neighbor at the interface of this number
     /// (RFC 2328, section 13.7).
     ///
-    /// `AllocError` comes where memory was refused; the router is to be rolled back then, and the
-    /// drafts are of no use.
+    /// Errors with `AllocError` if an allocation is refused: roll the router back, and drop the
+    /// drafts.
     pub fn acknowledged(
         &mut self,
         alloc: Global,

@@ -25,7 +25,7 @@ fn copy_moment(saved: &Saved<Second>) -> Saved<Second>
 impl Router {
     /// The same router, with nothing to be taken back.
     ///
-    /// `AllocError` comes where memory was refused.
+    /// Errors with `AllocError` if an allocation is refused.
     pub fn copy(&self, alloc: Global) -> Result<Self, AllocError>
         ensures { IfOk result (λ made. made
             ≡ record { present = self.now.present; settled = self.now.present }) }

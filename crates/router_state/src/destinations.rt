@@ -43,7 +43,7 @@ fn remove_each(keys: &[Key], moments: &mut KeyedMap<Second>) -> Result<(), Alloc
 impl Router {
     /// The destination is announced from now on, under the key of its AS-external-LSA.
     ///
-    /// `AllocError` comes where memory was refused; the router is to be rolled back then.
+    /// Errors with `AllocError` if an allocation is refused: roll the router back.
     pub fn announce(&mut self, key: &Key, external: External) -> Result<(), AllocError>
         requires key { key.now ≡ external_key self.old.present.id external.prefix }
         // A metric has 24 bits.
@@ -56,7 +56,7 @@ impl Router {
 
     /// The destination of this key is announced no longer, and its LSA waits no longer.
     ///
-    /// `AllocError` comes where memory was refused; the router is to be rolled back then.
+    /// Errors with `AllocError` if an allocation is refused: roll the router back.
     pub fn unannounce(&mut self, key: &Key) -> Result<(), AllocError>
         ensures ok { OnOk result (self.new.present ≡ unannounce key.now self.old.present) }
         ensures settled { self.new.settled ≡ self.old.settled }
@@ -67,7 +67,7 @@ impl Router {
 
     /// The own LSA of this key waits for a Tick.
     ///
-    /// `AllocError` comes where memory was refused; the router is to be rolled back then.
+    /// Errors with `AllocError` if an allocation is refused: roll the router back.
     pub fn wait(&mut self, key: &Key) -> Result<(), AllocError>
         ensures ok { OnOk result (self.new.present ≡ wait key.now self.old.present) }
         ensures settled { self.new.settled ≡ self.old.settled }
@@ -78,7 +78,7 @@ impl Router {
     /// The own LSA of this key was originated at this moment: it waits no longer, and its five
     /// seconds run.
     ///
-    /// `AllocError` comes where memory was refused; the router is to be rolled back then.
+    /// Errors with `AllocError` if an allocation is refused: roll the router back.
     pub fn note_originated(&mut self, moment: Second, key: &Key) -> Result<(), AllocError>
         ensures ok { OnOk result (self.new.present
             ≡ as_originated moment key.now self.old.present) }
@@ -90,7 +90,7 @@ impl Router {
 
     /// Own originations whose five seconds are over are forgotten.
     ///
-    /// `AllocError` comes where memory was refused; the router is to be rolled back then.
+    /// Errors with `AllocError` if an allocation is refused: roll the router back.
     pub fn forget_originations(&mut self, alloc: Global, moment: Second) -> Result<(), AllocError>
         ensures ok { OnOk result (self.new.present
             ≡ forget_originations moment self.old.present) }

@@ -14,8 +14,8 @@ impl Router {
     /// This router originated the LSA: it takes the place of its copy, and is flooded as if from
     /// nobody.
     ///
-    /// `AllocError` comes where memory was refused; the router is to be rolled back then, and the
-    /// drafts are of no use.
+    /// Errors with `AllocError` if an allocation is refused: roll the router back, and drop the
+    /// drafts.
     pub fn install_and_flood(
         &mut self,
         alloc: Global,
@@ -36,8 +36,8 @@ impl Router {
     /// Premature aging (RFC 2328, section 14.1): a copy of this key that is younger than MaxAge
     /// gets that age, and is flooded as if from nobody. Without such a copy nothing happens.
     ///
-    /// `AllocError` comes where memory was refused; the router is to be rolled back then, and the
-    /// drafts are of no use.
+    /// Errors with `AllocError` if an allocation is refused: roll the router back, and drop the
+    /// drafts.
     pub fn flush(
         &mut self,
         alloc: Global,

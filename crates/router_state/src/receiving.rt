@@ -15,8 +15,8 @@ impl Router {
     /// An LSA of an Update came in at the interface of this number: tells which case it is, and
     /// does what the case says. What the router makes of an LSA of its own is no part of it.
     ///
-    /// `AllocError` comes where memory was refused; the router is to be rolled back then, and the
-    /// drafts are of no use.
+    /// Errors with `AllocError` if an allocation is refused: roll the router back, and drop the
+    /// drafts.
     pub fn receive(
         &mut self,
         alloc: Global,

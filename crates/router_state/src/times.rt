@@ -18,8 +18,8 @@ impl Router {
     /// Each copy that has come to MaxAge since the moment before is flooded as if from nobody (RFC
     /// 2328, section 14).
     ///
-    /// `AllocError` comes where memory was refused; the router is to be rolled back then, and the
-    /// drafts are of no use.
+    /// Errors with `AllocError` if an allocation is refused: roll the router back, and drop the
+    /// drafts.
     pub fn age(
         &mut self,
         alloc: Global,
@@ -40,8 +40,8 @@ impl Router {
     /// What is next is requested of each neighbor of which nothing is outstanding (RFC 2328,
     /// section 10.9).
     ///
-    /// `AllocError` comes where memory was refused; the router is to be rolled back then, and the
-    /// drafts are of no use.
+    /// Errors with `AllocError` if an allocation is refused: roll the router back, and drop the
+    /// drafts.
     pub fn request_all(
         &mut self,
         alloc: Global,
@@ -61,8 +61,8 @@ impl Router {
     /// What a Tick sends again where RxmtInterval has passed (RFC 2328, sections 10.8, 10.9 and
     /// 13.6).
     ///
-    /// `AllocError` comes where memory was refused; the router is to be rolled back then, and the
-    /// drafts are of no use.
+    /// Errors with `AllocError` if an allocation is refused: roll the router back, and drop the
+    /// drafts.
     pub fn send_all_again(
         &mut self,
         alloc: Global,
@@ -81,8 +81,8 @@ impl Router {
 
     /// Each link's delayed acknowledgments are sent (RFC 2328, section 13.5).
     ///
-    /// `AllocError` comes where memory was refused; the router is to be rolled back then, and the
-    /// drafts are of no use.
+    /// Errors with `AllocError` if an allocation is refused: roll the router back, and drop the
+    /// drafts.
     pub fn acknowledge_all(
         &mut self,
         alloc: Global,
@@ -102,8 +102,8 @@ impl Router {
     /// A Hello is sent at each interface at which none was sent for HelloInterval (RFC 2328,
     /// section 9.5).
     ///
-    /// `AllocError` comes where memory was refused; the router is to be rolled back then, and the
-    /// drafts are of no use.
+    /// Errors with `AllocError` if an allocation is refused: roll the router back, and drop the
+    /// drafts.
     pub fn send_hellos(
         &mut self,
         alloc: Global,
@@ -123,8 +123,8 @@ impl Router {
     /// Copies at MaxAge that are on no retransmission list leave the database, unless some neighbor
     /// is in Exchange or Loading (RFC 2328, section 14).
     ///
-    /// `AllocError` comes where memory was refused; the router is to be rolled back then, and the
-    /// drafts are of no use.
+    /// Errors with `AllocError` if an allocation is refused: roll the router back, and drop the
+    /// drafts.
     pub fn remove_aged(
         &mut self,
         alloc: Global,

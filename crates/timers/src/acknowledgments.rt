@@ -32,8 +32,7 @@ impl LinkStep for Acknowledgments {
 /// Each link's delayed acknowledgments go into the draft of its interface, in the order of their
 /// keys, and none is left (RFC 2328, section 13.5). The moment is that of the Tick.
 ///
-/// `AllocError` comes where memory was refused; the area is to be rolled back then, and the drafts
-/// are of no use.
+/// Errors with `AllocError` if an allocation is refused: roll the area back, and drop the drafts.
 pub fn acknowledge_all(
     area: &mut Area,
     alloc: Global,

@@ -43,8 +43,8 @@ fn remove_each(area: &mut Area, keys: &[Key]) -> Result<(), AllocError>
 /// in Exchange or Loading (RFC 2328, section 14).
 ///
 /// It looks at each copy only where one may have come of age since the database last looked, as
-/// `Lsdb::aged_keys` says. `AllocError` comes where memory was refused; the area is to be rolled
-/// back then.
+/// `Lsdb::aged_keys` says. Errors with `AllocError` if an allocation is refused: roll the area
+/// back.
 pub fn remove_aged(area: &mut Area, alloc: Global, moment: Second) -> Result<(), AllocError>
     ensures ok { OnOk result (area.new.present
         ≡ (remove_aged moment (start area.old.present)).area) }
@@ -88,8 +88,8 @@ fn each_come_of_age(
 /// (RFC 2328, section 14), in the order of their keys, into the draft of each interface.
 ///
 /// It looks at no copy within one moment, and else at each only where one may have come of age
-/// since the database last looked, as `Lsdb::aged_keys` says. `AllocError` comes where memory was
-/// refused; the area is to be rolled back then, and the drafts are of no use.
+/// since the database last looked, as `Lsdb::aged_keys` says. Errors with `AllocError` if an
+/// allocation is refused: roll the area back, and drop the drafts.
 pub fn with_ages(
     area: &mut Area,
     alloc: Global,

@@ -123,8 +123,7 @@ impl LinkStep for Greeting {
 /// Sends a Hello at each interface at which none was sent for HelloInterval (RFC 2328, section
 /// 9.5), into its draft: it names the neighbor that is heard, and the interface's mask and timers.
 ///
-/// `AllocError` comes where memory was refused; the area is to be rolled back then, and the drafts
-/// are of no use.
+/// Errors with `AllocError` if an allocation is refused: roll the area back, and drop the drafts.
 pub fn send_hellos(
     area: &mut Area,
     alloc: Global,

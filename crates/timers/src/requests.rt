@@ -37,8 +37,7 @@ impl LinkStep for NextRequest {
 /// Requests what is next of each neighbor of which nothing is outstanding (RFC 2328, section 10.9):
 /// a Request for the first keys of its request list into the draft of its interface.
 ///
-/// `AllocError` comes where memory was refused; the area is to be rolled back then, and the drafts
-/// are of no use.
+/// Errors with `AllocError` if an allocation is refused: roll the area back, and drop the drafts.
 pub fn request_all(
     area: &mut Area,
     alloc: Global,

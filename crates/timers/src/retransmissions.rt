@@ -88,8 +88,7 @@ fn mark_all(
 /// retransmission list that have room in one Update (RFC 2328, sections 10.8, 10.9 and 13.6), into
 /// the draft of each interface. What an Update takes along counts as sent.
 ///
-/// `AllocError` comes where memory was refused; the area is to be rolled back then, and the drafts
-/// are of no use.
+/// Errors with `AllocError` if an allocation is refused: roll the area back, and drop the drafts.
 pub fn send_all_again(
     area: &mut Area,
     alloc: Global,

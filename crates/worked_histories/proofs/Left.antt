@@ -1,4 +1,5 @@
--- The events of the left router, whose Router ID is 1: it hears a Hello, sends one, and exchanges Descriptions as the slave.
+-- The events of the left router, whose Router ID is 1: it hears a Hello, sends one, and exchanges
+-- Descriptions as the slave.
 use Rattle.std.proofs.Common.{◌≡◌, ℕ, Bool, true, false, cond, not, ◌&&◌, ◌||◌, List, [], ◌∷◌, length, map, take, drop, None, Some, is_some, refl, sym, ap, ◌∙◌}
 use Rattle.std.specs.Prelude.{◌==◌, nat_lt}
 use Rattle.std.specs.FinMap as finite

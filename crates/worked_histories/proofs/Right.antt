@@ -1,5 +1,5 @@
--- The events of the right router, whose Router ID is 2: it sends a Hello, and an hour later, when its own router-LSA has left at MaxAge, it
--- hears one and exchanges Descriptions as the master.
+-- The events of the right router, whose Router ID is 2: it sends a Hello, and an hour later, when
+-- its own router-LSA has left at MaxAge, it hears one and exchanges Descriptions as the master.
 use Rattle.std.proofs.Common.{◌≡◌, ℕ, Bool, true, false, cond, not, ◌&&◌, ◌||◌, List, [], ◌∷◌, length, map, take, drop, None, Some, is_some, refl, sym, ap, ◌∙◌}
 use Rattle.std.specs.Prelude.{◌==◌, nat_lt}
 use Rattle.std.specs.FinMap as finite

@@ -1,4 +1,5 @@
--- Two routers with one interface each, as they begin, and what is left of the one copy that each holds.
+-- Two routers with one interface each, as they begin, and what is left of the one copy that each
+-- holds.
 use Rattle.std.proofs.Common.{◌≡◌, ℕ, Bool, true, false, cond, not, ◌&&◌, ◌||◌, List, [], ◌∷◌, length, Option, None, Some, is_some, refl, sym, ap, subst, ◌∙◌, arith}
 use Rattle.std.specs.Prelude.{◌==◌, nat_lt}
 use Rattle.std.specs.Cmp.{tied_itself}

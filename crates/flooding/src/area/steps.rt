@@ -39,8 +39,8 @@ impl Area {
 
     /// Each link takes the step; what it sends goes into the draft of its interface.
     ///
-    /// `AllocError` comes where memory was refused; the area is to be rolled back then, and the
-    /// drafts are of no use.
+    /// Errors with `AllocError` if an allocation is refused: roll the area back, and drop the
+    /// drafts.
     pub fn step_links<S: LinkStep>(
         &mut self,
         alloc: Global,
@@ -64,8 +64,8 @@ impl Area {
     /// The link of this number takes the step; what it sends goes into the draft of its interface,
     /// and each copy that an Update takes along counts as sent at this moment.
     ///
-    /// `AllocError` comes where memory was refused; the area is to be rolled back then, and the
-    /// drafts are of no use.
+    /// Errors with `AllocError` if an allocation is refused: roll the area back, and drop the
+    /// drafts.
     pub fn step_link<S: LinkStep>(
         &mut self,
         alloc: Global,
@@ -99,7 +99,7 @@ impl Area {
 
     /// An Update took the copy of this key along at this moment. Without a copy nothing happens.
     ///
-    /// `AllocError` comes where memory was refused; the area is to be rolled back then.
+    /// Errors with `AllocError` if an allocation is refused: roll the area back.
     pub fn mark_sent(&mut self, moment: Second, key: &Key) -> Result<(), AllocError>
         ensures ok { OnOk result (self.new.present ≡ record self.old.present {
           database = mark_sent moment key.now self.old.present.database;
@@ -112,7 +112,7 @@ impl Area {
 
     /// The copy of this key leaves the database, if there is one.
     ///
-    /// `AllocError` comes where memory was refused; the area is to be rolled back then.
+    /// Errors with `AllocError` if an allocation is refused: roll the area back.
     pub fn remove(&mut self, key: &Key) -> Result<(), AllocError>
         ensures ok { OnOk result (self.new.present ≡ record self.old.present {
           database = finite.remove self.old.present.database key.now;

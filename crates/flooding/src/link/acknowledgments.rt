@@ -54,7 +54,7 @@ impl Link {
     /// The delayed acknowledgments go into the draft, in the order of their keys, and none is left
     /// (RFC 2328, section 13.5).
     ///
-    /// `AllocError` comes where memory was refused; the link is to be rolled back then.
+    /// Errors with `AllocError` if an allocation is refused: roll the link back.
     pub fn acknowledge(&mut self, alloc: Global, draft: &mut Draft) -> Result<(), AllocError>
         ensures ok { OnOk result (self.new.present
             ≡ record self.old.present { acknowledgments = finite.empty }) }

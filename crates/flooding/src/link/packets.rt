@@ -21,7 +21,7 @@ impl Link {
     /// it was accepted, so the neighbor is Down or of this Router ID. It does what `Place::hello`
     /// says.
     ///
-    /// `AllocError` comes where memory was refused; the link is to be rolled back then.
+    /// Errors with `AllocError` if an allocation is refused: roll the link back.
     pub fn hello(
         &mut self,
         alloc: Global,
@@ -45,7 +45,7 @@ impl Link {
     /// A Database Description came from the neighbor, to the router of the Router ID `own` (RFC
     /// 2328, section 10.6). It does what `Place::description` says.
     ///
-    /// `AllocError` comes where memory was refused; the link is to be rolled back then.
+    /// Errors with `AllocError` if an allocation is refused: roll the link back.
     pub fn description(
         &mut self,
         alloc: Global,
@@ -74,7 +74,7 @@ impl Link {
     /// A Link State Request for these keys came from the neighbor (RFC 2328, section 10.7). It does
     /// what `Place::answer` says, by the interface's InfTransDelay.
     ///
-    /// `AllocError` comes where memory was refused; the link is to be rolled back then.
+    /// Errors with `AllocError` if an allocation is refused: roll the link back.
     pub fn answer(
         &mut self,
         alloc: Global,
@@ -99,7 +99,7 @@ impl Link {
     /// An Acknowledgment of these instances came from the neighbor (RFC 2328, section 13.7). It
     /// does what `Place::ack` says.
     ///
-    /// `AllocError` comes where memory was refused; the link is to be rolled back then.
+    /// Errors with `AllocError` if an allocation is refused: roll the link back.
     pub fn acknowledged(&mut self, moment: Second, headers: &[Header]) -> Result<(), AllocError>
         ensures ok { OnOk result (self.new.present ≡ with_neighbor
             (step_on (λ n. no_sends (after_acknowledgment moment headers.now n))

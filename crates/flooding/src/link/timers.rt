@@ -57,7 +57,7 @@ impl Link {
     /// What a Tick sends again to the neighbor, as `Place::send_again` says, by the interface's
     /// RxmtInterval and InfTransDelay.
     ///
-    /// `AllocError` comes where memory was refused; the link is to be rolled back then.
+    /// Errors with `AllocError` if an allocation is refused: roll the link back.
     pub fn send_again(
         &mut self,
         alloc: Global,

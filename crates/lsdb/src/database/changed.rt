@@ -1,4 +1,5 @@
-//! Which copies say something else than when the database was last settled, and what they said then.
+//! Which copies say something else than when the database was last settled, and what they said
+//! then.
 ghost use Rattle.std.specs.Prelude.{◌≡◌, IfOk, option_copied};
 ghost use Rattle.std.specs.FinMap as finite;
 ghost use Rattle.std.specs.List.{Contains};
@@ -25,8 +26,8 @@ fn is_aged(moment: Second, times: Option<&Times>) -> bool
 
 impl Lsdb {
     /// The keys whose copies don't say at the moment what the copies of these keys said when the
-    /// database was last settled, as `keeps` compares them (RFC 2328, section 13.2). A key may stand
-    /// there twice. It looks at the edits since then.
+    /// database was last settled, as `keeps` compares them (RFC 2328, section 13.2). A key may
+    /// stand there twice. It looks at the edits since then.
     ///
     /// # Errors
     /// If memory for the keys, or for the texts of LSAs, to compare them, is refused.

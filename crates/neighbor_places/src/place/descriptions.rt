@@ -138,7 +138,7 @@ impl Place {
     /// to ExStart (SeqNumberMismatch). It walks over the database only where the negotiation is
     /// done.
     ///
-    /// `AllocError` comes where memory was refused; the place is to be rolled back then.
+    /// Errors with `AllocError` if an allocation is refused: roll the place back.
     pub fn description(
         &mut self,
         alloc: Global,

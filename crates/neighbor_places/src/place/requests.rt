@@ -73,7 +73,7 @@ impl Place {
     /// older than they are, and go on no list. Where the database lacks one, none is sent, and the
     /// neighbor goes back to ExStart (BadLSReq).
     ///
-    /// `AllocError` comes where memory was refused; the place is to be rolled back then.
+    /// Errors with `AllocError` if an allocation is refused: roll the place back.
     pub fn answer(
         &mut self,
         alloc: Global,

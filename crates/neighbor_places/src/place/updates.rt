@@ -73,7 +73,7 @@ impl Place {
     /// BadLSReq (RFC 2328, section 13, step 6): a neighbor in Exchange or later goes back to
     /// ExStart with a new attempt.
     ///
-    /// `AllocError` comes where memory was refused; the place is to be rolled back then.
+    /// Errors with `AllocError` if an allocation is refused: roll the place back.
     pub fn bad_request(
         &mut self,
         alloc: Global,
