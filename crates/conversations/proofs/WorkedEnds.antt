@@ -1,4 +1,4 @@
--- Events where nobody is in Exchange or Loading and no copy comes to MaxAge: their beginning and
+-- Events while nobody is in Exchange or Loading and no copy comes to MaxAge: their beginning and
 -- their end.
 use Rattle.std.proofs.Common.{◌≡◌, ℕ, Bool, true, false, cond, not, ◌&&◌, ◌||◌, List, [], ◌∷◌, map, Option, None, Some, refl, sym, ap, ◌∙◌, true≢false}
 use Rattle.std.specs.List.{fold, list_any}

@@ -24,7 +24,7 @@ use Rattle.conversations.proofs.WorkedEnds.{begins, ended, ends_by}
 use Rattle.conversations.proofs.WorkedLinks.{link_changed}
 use Rattle.conversations.proofs.WorkedUpdates.{itself, start}
 
--- a neighbor that is neither Full nor in Exchange or Loading comes to a link where nobody was
+-- a neighbor that is neither Full nor in Exchange or Loading comes to a link on which nobody was
 module _ (number : ℕ) (n : Neighbor) (not_full : is_full n.state ≡ false) (not_busy : is_exchange_or_loading n.state ≡ false) where
   abbrev changed : (ℕ × Link) → Link
   changed e = cond (e.0 == number) (with_neighbor n e.1) e.1

@@ -59,7 +59,7 @@ IsSentOn says lsa s =
     × (finite.get s.neighbor.retransmissions (its_key says)
     ≡ Some (record { header = lsa.header; at = 100 }))
 
--- in a state where requests count
+-- in a state in which requests count
 pub record RequestsCountIn (state : State) : Type 0 where
   -- number 4 is less recent than what is requested
   pub less_recent : (b : Body) (link : Link) (n : Neighbor) → IsAskedFor b state n

@@ -99,7 +99,7 @@ told_in_order says =
     ∷ [])
 
 pub record WhatIsSentStandsInOrder : Type 0 where
-  -- whatever is sent, where an Update has room for each LSA behind 28 bytes
+  -- whatever is sent, if an Update has room for each LSA after 28 bytes
   pub lsas : (delay : ℕ) (contents : List Content)
       → AllByRecursion (λ (l : Lsa). 28 + l.header.length ≤ 8192) (filter_map updates contents)
       → UpdatesAreInOrder delay contents

@@ -1,6 +1,6 @@
 -- Further rows of the table of received LSAs, in each of which one test alone decides (RFC 2328,
--- section 13). What comes in has sequence number 5 and age 10 at moment 100, where nothing else is
--- said.
+-- section 13). What comes in has sequence number 5 and age 10 at moment 100, unless something else
+-- is said.
 use Rattle.std.specs.Prelude.{◌≡◌, pos, Bool, false, Option, None, Some}
 use Rattle.words.specs.Constants.{max_age, max_sequence_number}
 use Rattle.lsa.specs.declared.body.Body.{Body}

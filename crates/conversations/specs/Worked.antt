@@ -23,7 +23,7 @@ use Rattle.events.specs.declared.model.Out.{Out}
 use Rattle.events.specs.Refusals.{first_refusal}
 use Rattle.events.specs.Routers.{Occurrence, Router}
 
--- the network of 10.0.0.0 with so many bits, and it as an external destination of metric 20
+-- the network of 10.0.0.0 of the given length, and it as an external destination of metric 20
 abbrev pub ten : ℕ → Network
 ten length = record { address = 167772160; length = length }
 
@@ -44,7 +44,7 @@ pub record WorkedEvents : Type 0 where
   pub unknown : (moment : ℕ) (prefix : Network) (p : EventState)
       → finite.get p.router.announced (external_key p.router.id prefix) ≡ None
       → after_withdraw moment prefix p ≡ p
-  -- the whole event of such a withdrawal, where nobody is in Exchange or Loading and no copy comes
+  -- the whole event of such a withdrawal, while nobody is in Exchange or Loading and no copy comes
   -- to MaxAge, sends nothing
   pub unknown_event : (old new : Router) (moment : ℕ) (prefix : Network) (outs : List Out)
       → IsAtRest old moment

@@ -36,7 +36,7 @@ IsOwedTo r moment number lsa =
     }))
 
 pub record AnAgedLsaComes : Type 0 where
-  -- where nobody is in Exchange or Loading, it is acknowledged at once, alone, and isn't installed;
+  -- while nobody is in Exchange or Loading, it is acknowledged at once, alone, and isn't installed;
   -- the links stay as they are
   pub all_full : (old new : Router) (moment number : ℕ) (bytes : List ℕ) (lsa : Lsa) (link : Link)
       (n : Neighbor) (outs : List Out)
@@ -45,7 +45,7 @@ pub record AnAgedLsaComes : Type 0 where
       → Happens old moment (Occurrence.Packet number bytes) outs new
       → (outs ≡ outs_of old.id old.area.links (acknowledges_at_once number lsa))
       × (finite.get new.area.database (lsa_key lsa) ≡ None) × (new.area.links ≡ old.area.links)
-  -- where another neighbor is in Loading and wasn't asked for it, the event's own part installs it,
+  -- while another neighbor is in Loading and wasn't asked for it, the event's own part installs it,
   -- sends it to that neighbor, which is to acknowledge it, and its acknowledgment waits for a Tick
   pub one_loading : (old new : Router) (moment number other : ℕ) (bytes : List ℕ) (lsa : Lsa)
       (link : Link) (n : Neighbor) (another : Link) (m : Neighbor) (outs : List Out)

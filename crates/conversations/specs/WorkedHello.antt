@@ -13,7 +13,7 @@ use Rattle.events.specs.Routers.{Occurrence, Router, shown_at}
 use Rattle.conversations.specs.WorkedAdjacency.{IsNamingHello}
 use Rattle.conversations.specs.WorkedUpdates.{IsAtRest}
 
--- where nobody is in Exchange or Loading, and nobody at this interface: an accepted Hello that
+-- while nobody is in Exchange or Loading, and nobody at this interface: an accepted Hello that
 -- names this router leads to ExStart, and the opening Description with the moment's number is all
 -- that is sent, at whatever interface
 abbrev pub ANeighborIsHeard : Type 0

@@ -70,7 +70,7 @@ pub record ATickOriginates : Type 0 where
         number = 1;
         content = Content.Updates (originated_lsa r link n copy);
       } ∷ (again ++ (waiting_acknowledgments link ++ more))))
-  -- where nothing is due, all acknowledgments that wait are among what is sent
+  -- if nothing is due, all acknowledgments that wait are among what is sent
   pub acknowledges : (r new : Router) (link : Link) (n : Neighbor) (moment : ℕ) (outs : List Out)
       → IsNothingDue r link n moment
       → Happens (beside r link (full n)) moment Occurrence.Tick outs new

@@ -37,16 +37,16 @@ pub fn metrics_announce_or_withhold()
     ensures { MetricsAnnounceOrWithhold }
 {}
 
-/// Worked events: an LSA at MaxAge, without a copy here, comes from a Full neighbor. Where nobody
-/// is in Exchange or Loading it is acknowledged at once and not installed; where another neighbor
+/// Worked events: an LSA at MaxAge, without a copy here, comes from a Full neighbor. While nobody
+/// is in Exchange or Loading it is acknowledged at once and not installed; while another neighbor
 /// is in Loading it is installed, sent there, and acknowledged at a Tick.
 pub fn an_aged_lsa_comes()
     ensures { AnAgedLsaComes }
 {}
 
 /// Worked events of a router with one interface: an Update meets the last request of a neighbor in
-/// Loading, which becomes Full. The router-LSA goes out at once where five seconds have passed
-/// since the last one, else it waits for a Tick.
+/// Loading, which becomes Full. The router-LSA goes out at once if five seconds have passed since
+/// the last one, else it waits for a Tick.
 pub fn a_last_request_is_met()
     ensures { ALastRequestIsMet }
 {}

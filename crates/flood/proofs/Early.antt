@@ -1,5 +1,4 @@
--- What stands before anything needs memory stands first; and where nothing does, memory may run
--- out.
+-- What stands before anything needs memory stands first; and if nothing does, memory may run out.
 use Rattle.std.proofs.Common.{◌≡◌, ℕ, Bool, true, false, Option, None, Some, refl}
 use Rattle.std.specs.Prelude.{if◌then◌else◌, Err}
 use Rattle.packet.specs.declared.refusal.Fault.{Fault}
@@ -11,7 +10,7 @@ use Rattle.events.specs.Routers.{Occurrence, Router}
 use Rattle.flood.specs.Early.{early_refusal, early_refusal_of}
 use Rattle.flood.specs.Parts.{late_refusal}
 
--- ---- where none stands early, the first is a late one
+-- ---- if none stands early, the first is a late one
 
 clock_late : (c : Bool) (early whole late : Option CoreError) → (early ≡ None → whole ≡ late)
     → (if c then Some error.ClockBack else early) ≡ None → (if c then Some error.ClockBack else whole) ≡ late

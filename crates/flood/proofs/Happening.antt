@@ -29,7 +29,7 @@ module _ (old : Router) (moment : ℕ) (event : Occurrence) (p : Part) (is : IsP
     sent = made_state.outs;
   }
 
-  -- and keeps what is known, where it is written as texts
+  -- and keeps what is known, if it is written as texts
   pub made_keeps : (outs : List Out) (new : Router) → IsMade old moment p outs new → AnnouncesAddress event → IsInOrder old → HoldsInstances old
       → AreTexts old.id old.area.links (made_state old moment p).sends → KeepsWhatIsKnown old moment event outs new
   unfolding made_happens

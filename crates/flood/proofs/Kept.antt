@@ -1,4 +1,4 @@
--- What is kept for routes is the router's where it is that of its parts.
+-- What is kept for routes is the router's if it is that of its parts.
 use Rattle.std.proofs.Common.{◌≡◌, ℕ, false, Option, None, Some, refl, subst, ◌∙◌}
 use Rattle.area_routes.specs.Kept.{AreKept, AreRoutesOf, KeptRoutes, ServesOnlyThen}
 use Rattle.area_routes.specs.Offers.{root_by}
@@ -42,7 +42,7 @@ begun r id area moment kept a b c routes is =
       answered = unanswered (said_at moment area.database) (root_by id area.links) r.answers kept is;
     })
 
--- where no reason of refusal stands, memory may run out
+-- if no reason of refusal stands, memory may run out
 pub memory_may_run_out : (r : Option CoreError) → r ≡ None → MayRunOut r
 memory_may_run_out None is = (λ p. absurd cc, λ p. absurd cc)
 memory_may_run_out (Some x) is = absurd cc

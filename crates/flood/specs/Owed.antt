@@ -8,7 +8,7 @@ use Rattle.flood_laws.specs.lsdb.Copies.{Database}
 use Rattle.events.specs.received.Links.{neighbor_at}
 use Rattle.events.specs.Routers.{Router}
 
--- how many LSAs of the database are on its retransmission list; none where there is no neighbor
+-- how many LSAs of the database are on its retransmission list; 0 if there is no neighbor
 abbrev pub owed_by : Option Neighbor → Database → ℕ
 owed_by neighbor database =
     count_by (λ key. has_retransmission key neighbor) (finite.keys database)

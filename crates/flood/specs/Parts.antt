@@ -36,7 +36,7 @@ pub record IsPartOf (event : Occurrence) (p : Part) : Type 0 where
   pub own : (moment : Moment) (before : EventState)
       → OwnPart moment event before (after_part p moment before)
 
--- a packet came in at one of so many interfaces
+-- a packet came in at one of the given number of interfaces
 abbrev pub HasInterface : Part → ℕ → Type 0
 HasInterface (part.Packet number packet) count = (1 ≤ number) × (number ≤ count)
 HasInterface part.Tick count = Unit {0}
@@ -83,7 +83,7 @@ Tells refusal (Err error.Clash) = refusal ≡ Some error.Clash
 Tells refusal (Err error.ClockBack) = refusal ≡ Some error.ClockBack
 Tells refusal (Err error.Full) = refusal ≡ Some error.Full
 
--- `Full` just where what the event leaves passes a limit; else memory was refused
+-- `Full` exactly if what the event leaves passes a limit; else memory was refused
 abbrev pub TellsLimit : {X : Type 0} → Router → Result X CoreError → Type 0
 TellsLimit new (Ok x) = exceeds new ≡ false
 TellsLimit new (Err error.Full) = exceeds new ≡ true

@@ -78,9 +78,9 @@ fn read_vetoes(alloc: Global, answers: &[VetoAnswer]) -> Result<Part, AllocError
 
 /// The own part of an event at a router that refuses neither its moment nor its interface.
 ///
-/// Refused: `BadPacket` where the bytes are no packet's text, `Clash` where the two answers of a
+/// Refused: `BadPacket` if the bytes are no packet's text, `Clash` if the two answers of a
 /// `Redistribute` are on different destinations or the Link State ID is that of another announced
-/// prefix, `Memory` where an allocation was refused.
+/// prefix, `Memory` if an allocation is refused.
 pub fn read_part(router: &Router, alloc: Global, event: &Event) -> Result<Part, CoreError>
     requires { early_refusal_of router.now.present (occurrence_of event.now) ≡ None }
     ensures part { IfOk result (λ part. IsPartOf (occurrence_of event.now) part) }

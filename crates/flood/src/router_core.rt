@@ -84,8 +84,8 @@ impl Core {
     /// A router that has heard of nobody and describes its links in its router-LSA (RFC 2328,
     /// section 12.4.1). The start counts as the moment of a last event.
     ///
-    /// `Interface` is answered exactly where the configuration is outside of what [`Config`]
-    /// allows, `Memory` only where an allocation was refused.
+    /// `Interface` is answered exactly if the configuration is outside of what [`Config`] allows,
+    /// `Memory` only if an allocation is refused.
     pub fn new(alloc: Global, config: &Config) -> Result<Core, ConfigError>
         ensures ok { IfOk result (λ core. core ≡ initial config.now) }
         ensures profile { IsErrOf result ConfigError.Interface ↔ (in_profile config.now ≡ false) }
@@ -111,13 +111,13 @@ impl Core {
     /// One event at a moment: what it makes of the router, and what is to be sent, in the order in
     /// which it is to be sent.
     ///
-    /// Refused, in this order: `ClockBack` where the moment is before that of the last event or
-    /// isn't below 2^62, `NoInterface` where the interface of a packet or of a link that is down
-    /// doesn't exist, `BadPacket` where the bytes are no packet's text, `Clash` where the two
-    /// answers of a `Redistribute` are on different destinations or the Link State ID is that of
-    /// another announced prefix, `Full` where the database would hold more than 16,384 LSAs, or
-    /// more than 4,096 own external ones. `Memory` comes where an allocation was refused, and
-    /// neither the clock nor the interface is. A refusal leaves the router as it was.
+    /// Refused, in this order: `ClockBack` if the moment is before that of the last event or isn't
+    /// below 2^62, `NoInterface` if the interface of a packet or of a link that is down doesn't
+    /// exist, `BadPacket` if the bytes are no packet's text, `Clash` if the two answers of a
+    /// `Redistribute` are on different destinations or the Link State ID is that of another
+    /// announced prefix, `Full` if the database would hold more than 16,384 LSAs, or more than
+    /// 4,096 own external ones. `Memory` comes if an allocation is refused, and neither the clock
+    /// nor the interface is. A refusal leaves the router as it was.
     pub fn step(&mut self, moment: Second, event: &Event) -> Result<Vec<Out>, CoreError>
         ensures ok { IfOk result (λ outs. Happens self.old moment (occurrence_of event.now)
             outs.items self.new) }
@@ -127,7 +127,7 @@ impl Core {
         // from that neighbor tells.
         ensures keeps { IfOk result (λ outs. KeepsWhatIsKnown self.old moment
             (occurrence_of event.now) outs.items self.new) }
-        // Which refusal it is; none stands where the event is taken.
+        // Which refusal it is; none stands if the event is taken.
         ensures refused { Answers self.old moment (occurrence_of event.now) result }
         ensures err { OnErr result (self.new ≡ self.old) }
     {
@@ -183,7 +183,7 @@ impl Core {
         self.router.id()
     }
 
-    /// The moment of the last event, or of the start where there was none.
+    /// The moment of the last event, or of the start if there was none.
     pub fn moment(&self) -> Second
         ensures { result ≡ self.now.moment }
     {
@@ -208,8 +208,8 @@ impl Core {
         self.router.area().database()
     }
 
-    /// The neighbor at the interface of this number and its state, or None where it is Down or
-    /// there is no such interface.
+    /// The neighbor at the interface of this number and its state, or None if it is Down or there
+    /// is no such interface.
     pub fn neighbor(&self, number: u16) -> Option<(RouterId, State)>
         ensures { result ≡ shown_at self.now number }
     {
@@ -220,8 +220,8 @@ impl Core {
 
     /// How many LSAs the neighbor at the interface of this number has still to acknowledge: the
     /// entries of its Link state retransmission list (RFC 2328, section 10), which are all of the
-    /// database. 0 where it is Down or there is no such interface. It looks at each key of the
-    /// database, and wants no memory.
+    /// database. 0 if it is Down or there is no such interface. It looks at each key of the
+    /// database, and takes no memory.
     pub fn owes(&self, number: u16) -> usize
         ensures { result ≡ owed_at self.now number }
     {
@@ -235,8 +235,8 @@ impl Core {
     }
 
     /// The candidates for the routing table at the moment of the last event (RFC 2328, section 16).
-    /// No event walks: where the walk that is kept doesn't serve any more, and
-    /// [`stale`](Core::stale) hasn't made another one since, one is made for this call alone.
+    /// No event walks: if the walk that is kept doesn't serve any more, and [`stale`](Core::stale)
+    /// hasn't made another one since, one is made for this call alone.
     ///
     /// # Errors
     /// Where memory for the walk, the offers or the routes is refused.
@@ -286,10 +286,10 @@ impl Core {
         Ok(made)
     }
 
-    /// Whether some candidate stands in none of the answers of the last Install, so that they
-    /// are to be asked for again. Where that was found of none, by this call or as the answers
-    /// came, and no event since has changed what an LSA says, no candidate is looked at. Where an
-    /// event left no walk that serves, one is made and kept.
+    /// Whether some candidate stands in none of the answers of the last Install, so that they are
+    /// to be asked for again. If none was found, by this call or as the answers came, and no event
+    /// since has changed what an LSA says, no candidate is looked at. If an event left no walk that
+    /// serves, one is made and kept.
     ///
     /// # Errors
     /// Where memory for the walk, the candidates, or answers in order is refused.
@@ -309,9 +309,9 @@ impl Core {
     }
 
     /// How many walks were made and kept since it began or was copied; it stays at its greatest
-    /// value. An event makes none. [`stale`](Core::stale) makes one at most, and only where since
-    /// the last one an LSA of type 1 or 2 came, left, has come to MaxAge or says something else, or
-    /// the addresses are others.
+    /// value. An event makes none. [`stale`](Core::stale) makes one at most, and only if since the
+    /// last one an LSA of type 1 or 2 came, left, has come to MaxAge or says something else, or the
+    /// addresses are others.
     pub fn walks(&self) -> u64 {
         self.routes.walks()
     }

@@ -1,4 +1,4 @@
-//! One event, up to where it is made final or taken back.
+//! One event, until it is made final or taken back.
 ghost use Rattle.std.specs.Prelude.{◌≡◌, IfOk, OnOk, None, false, length};
 ghost use Rattle.events.specs.RoomLaws.{IsRoomy};
 ghost use Rattle.events.specs.Events.{Happens};

@@ -793,7 +793,7 @@ module _ (old : Router) (moment : ℕ) (event : Occurrence) (number : ℕ) (befo
 
   -- ---- every part
 
-  -- where the database's copies stand under their own keys, and what is announced are external
+  -- of a database whose copies stand under their own keys, and announcements that are external
   -- destinations under own keys
   module _ (i : Invariant) (its : (a : Area) (sends : List Send) → i.of_area a sends → IsItsOwn a) (own : (k : Key) → i.of_key k → k.advertising_router ≡ old.id)
       (externals : (r : Router) → i.of_announced r.id r.announced → AreExternal r.announced)

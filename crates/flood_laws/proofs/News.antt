@@ -90,7 +90,7 @@ numbers_marked moment [] db k = refl
 numbers_marked moment (s ∷ more) db k = numbers_marked moment more (marked_database moment db s.content) k ∙ number_marked moment s.content db k
 
 module _ (old : Router) (moment : ℕ) (event : Occurrence) where
-  -- ---- why a name is known, where these are the moments at which the router originated
+  -- ---- why a name is known, given the moments at which the router originated
 
   pub record IsNew (t : ByKey ℕ) (name : LsaInstance) : Type 0 where
     own : name.key.advertising_router ≡ old.id

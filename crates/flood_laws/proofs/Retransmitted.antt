@@ -156,7 +156,7 @@ own_all_marked : (moment : ℕ) (more : List Send) (db : Database) → OwnKeys d
 own_all_marked moment [] db own = own
 own_all_marked moment (s ∷ more) db own = own_all_marked moment more (marked_database moment db s.content) (own_marked moment s.content db own)
 
--- ---- the entries stay those of the database where it changes
+-- ---- the entries stay those of the database when it changes
 
 -- marks change no LSA
 marked_copy : (moment : ℕ) (more : List Send) (db : Database) (key : Key) (x : ListEntry) → IsOfCopy db key x → IsOfCopy (marks moment more db) key x

@@ -1,4 +1,4 @@
--- What holds of all that is held and told, through whole events: where it holds of what is held
+-- What holds of all that is held and told, through whole events: if it holds of what is held
 -- before, of the LSAs that the event's packet brings, and of new instances of the router's own
 -- LSAs, it holds of all that is held after the event and of all that is sent.
 use Rattle.std.proofs.Common.{◌≡◌, ℕ, ◌+◌, false, List, [], ◌∷◌, map, length, Option, None, Some, sym, subst, ◌∙◌, arith}
@@ -50,8 +50,8 @@ told t id = record {
   without_room = Unit {0};
 }
 
--- an own LSA that is wanted of a router with so many links, past a copy whose number isn't the last
--- one
+-- an own LSA that is wanted of a router with the given number of links, past a copy whose number
+-- isn't the last one
 abbrev pub IsWanted : Telling → Key → Option DatabaseCopy → LsaBody → Type 0
 IsWanted t key copy says =
     IfThere (OfCopy t) key copy × (has_max_sequence copy ≡ false) × ((r : Router) × (length r.area.links ≡ t.count) × (wanted_body r key ≡ Some says))

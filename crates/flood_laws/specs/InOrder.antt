@@ -26,7 +26,7 @@ pub record IsInOrder (r : Router) : Type 0 where
 pub record RoutersStayInOrder : Type 0 where
   -- at the start
   pub first : (c : Config) → IsInOrder (initial c)
-  -- after each event, where it held before it
+  -- after each event, if it held before it
   pub event : (old : Router) (moment : Moment) (event : Occurrence) (outs : List Out)
       (new : Router) → Happens old moment event outs new → IsInOrder old → IsInOrder new
   -- so after every run from the start, whatever happens in it

@@ -62,7 +62,7 @@ AnnouncesAddress (Occurrence.LinkDown number) = Unit {0}
 pub record InstancesStayInRange : Type 0 where
   -- at the start
   pub first : (c : Config) → c.router < 2 ^ 32 → HoldsInstances (initial c)
-  -- after each event, where it held before it
+  -- after each event, if it held before it
   pub event : (old : Router) (moment : Moment) (event : Occurrence) (outs : List Out)
       (new : Router) → Happens old moment event outs new → AnnouncesAddress event
       → AnnouncesItsOwn old → HoldsInstances old → HoldsInstances new
@@ -97,8 +97,8 @@ abbrev pub AreTexts : RouterNumber → List Link → List Send → Type 0
 AreTexts own links sends =
     AllByRecursion (λ (e : ℕ × Link). AreTextsAt own sends e.0 e.1) (enumerate_from 1 links)
 
--- of a router as it is in every run, whose instances have their numbers in their ranges, where what
--- is sent is written as texts
+-- of a router as it is in every run, whose instances have their numbers in their ranges, if what is
+-- sent is written as texts
 abbrev pub EventsKeepWhatIsKnown : Type 0
 EventsKeepWhatIsKnown =
     (old : Router) (moment : Moment) (event : Occurrence) (outs : List Out) (new : Router)

@@ -16,7 +16,7 @@ use Rattle.events.specs.RoomLaws.{OfEachNeighbor}
 pub record IsAlwaysSo (P : Neighbor → Type 0) : Type 0 where
   -- at the start
   pub first : (c : Config) → OfEachNeighbor P (initial c)
-  -- after each event, where it held before it
+  -- after each event, if it held before it
   pub event : (old : Router) (moment : ℕ) (event : Occurrence) (outs : List Out) (new : Router)
       → Happens old moment event outs new → OfEachNeighbor P old → OfEachNeighbor P new
   -- so after every run from the start, whatever happens in it
@@ -34,8 +34,8 @@ ListsAreSound = IsAlwaysSo HasSoundLists
 
 -- ---- requests
 
--- Loading means that something is left to request (section 10.3); where something is, in Exchange
--- or Loading, something is outstanding (section 10.9)
+-- Loading means that something is left to request (section 10.3); if something is, in Exchange or
+-- Loading, something is outstanding (section 10.9)
 pub record IsRequesting (n : Neighbor) : Type 0 where
   pub loading : n.state ≡ Loading → requests_nothing n ≡ false
   pub outstanding : is_exchange_or_loading n.state ≡ true → requests_nothing n ≡ false

@@ -39,7 +39,7 @@ pub record HasItsRetransmissions (r : Router) : Type 0 where
 pub record RetransmissionsAreOfTheDatabase : Type 0 where
   -- at the start
   pub first : (c : Config) → HasItsRetransmissions (initial c)
-  -- after each event, where it held before it
+  -- after each event, if it held before it
   pub event : (old : Router) (moment : Moment) (event : Occurrence) (outs : List Out)
       (new : Router) → Happens old moment event outs new → HasItsRetransmissions old
       → HasItsRetransmissions new

@@ -197,8 +197,8 @@ pub record AcknowledgedWasReceived : Type 0 where
       → (place moment : ℕ) (event : Occurrence) → Lives joins w place moment event after
       → (number : InterfaceNumber) (router : RouterNumber) (name : LsaInstance)
       → IsTold event number router name → Contains w.known (knows router name)
-  -- where an entry leaves a neighbor's retransmission list, and neither is the adjacency given up
-  -- nor the LSA flooded, that neighbor had received or originated the instance
+  -- if an entry leaves a neighbor's retransmission list, and neither is the adjacency given up nor
+  -- the LSA flooded, that neighbor had received or originated the instance
   pub left : (joins : Joins) (configs : List Config) (steps : List World) (w after : World)
       → have_names_apart configs ≡ true → list_all in_profile configs ≡ true
       → IsHistory joins (begun_with configs) steps w

@@ -65,7 +65,7 @@ pub fn routers_stay_in_order()
     ensures { RoutersStayInOrder }
 {}
 
-/// Where an entry leaves the retransmission list of a neighbor in an event, the event's packet came
+/// If an entry leaves the retransmission list of a neighbor in an event, the event's packet came
 /// from that neighbor and tells the instance, by key, sequence number and checksum: unless the
 /// adjacency is given up, which clears the lists, or the LSA is flooded in the event, which
 /// replaces its entries (RFC 2328, sections 13, step 7a, and 13.7).
@@ -90,8 +90,8 @@ pub fn updates_tell_what_they_bear()
 {}
 
 /// The canonical text of an Update of LSAs' texts, and of an Acknowledgment, is a text of that
-/// packet, where the headers' numbers are in their ranges, each LSA's length is that of its text,
-/// and there are at most 8,192 bytes.
+/// packet, if the headers' numbers are in their ranges, each LSA's length is that of its text, and
+/// there are at most 8,192 bytes.
 pub fn texts_are_lawful()
     ensures { TextsAreLawful }
 {}
@@ -103,7 +103,7 @@ pub fn instances_stay_in_range()
     ensures { InstancesStayInRange }
 {}
 
-/// A router's step keeps what acknowledgments rest on, where what is sent is written as texts: the
+/// A router's step keeps what acknowledgments rest on, if what is sent is written as texts: the
 /// Router ID stays, each packet that is sent is from this router, and each instance in the
 /// database, on the retransmission lists and among the delayed acknowledgments that it leaves, and
 /// each that an Update or an Acknowledgment tells that it sends, was held before, came in the
@@ -121,7 +121,7 @@ pub fn another_acknowledgment_takes_nothing_off()
 {}
 
 /// Over every history of routers whose steps keep what `Keeps` says, whatever is lost, repeated or
-/// late and whoever begins anew: where an entry leaves the retransmission list of a neighbor, and
+/// late and whoever begins anew: if an entry leaves the retransmission list of a neighbor, and
 /// neither is the adjacency given up nor the LSA flooded in that step, the neighbor had received or
 /// originated the instance.
 pub fn acknowledged_was_received()

@@ -6,7 +6,7 @@ map_behind : {N L : Type 0} (g : N → L) (xs : List N) (y : N) → map g (xs ++
 map_behind g [] y = refl
 map_behind g (x ∷ xs) y = ap (λ ls. g x ∷ ls) (map_behind g xs y)
 
--- the copies of the first so many items show as g what these show as f
+-- each of the items up to the given number is copied, and its copy shows as g what it shows as f
 pub copied_next : {N L : Type 0} (f g : N → L) (xs made longer : List N) (i : ℕ) (x y : N) → i < length xs → x ≡ get_or xs i x → longer ≡ made ++ y ∷ [] → g y ≡ f x
     → map g made ≡ take i (map f xs) → map g longer ≡ take (i + 1) (map f xs)
 copied_next f g xs made longer i x y lt read put shows so_far =

@@ -81,7 +81,7 @@ module _ (moment : ℕ) (sender : Option ℕ) (lsa : Lsa) where
   counts_all n [] = refl
   counts_all n (x ∷ xs) = ap (λ b. counts n (present x) || b) (counts_all (n + 1) xs)
 
-  -- where nothing is done yet
+  -- before the first step
   abbrev pub Floods : ℕ → List (Kept Link) → List Drafted → Bool → List Link → List Drafted → Type 0
   Floods i xs ds sent olds drafts =
       Finishes present after_step after_draft counts i xs ds sent (stepped_links step olds) (drafted_from 1 (stepping_sends step olds) olds drafts) (is_any (stepping_sends step olds))

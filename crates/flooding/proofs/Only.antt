@@ -83,7 +83,7 @@ sent_acts : (f : Neighbor → Step) (k : ℕ) (l : Link) (o : Option Neighbor) �
 sent_acts f k l None = refl
 sent_acts f k l (Some n) = sym (ap (λ b. (cond b (f n) (no_sends n)).sends) (same_number k))
 
--- the links as they are shown, where one of them is changed
+-- the links as they are shown, after one of them changed
 shown_set : (ls : List (Kept Link)) (i : ℕ) (y : Kept Link) → map present (set ls i y) ≡ set (map present ls) i y.present
 shown_set ls i y = map-set present ls i y
 
@@ -123,7 +123,7 @@ module _ (ls : List (Kept Link)) (i k : ℕ) (y d : Kept Link) (lt : i < length 
       drafted_only i 1 k cs (map present ls) ds d.present e dd (shown_within ls i lt) lt_d at
       (is ∙ ap (λ (l : Link). drafting l.interface.delay cs (get_or ds i dd)) (sym shown))
 
--- where the draft's text needs no delay, any link's will do
+-- if the draft's text needs no delay, any link's will do
 pub drafts_at : (ls : List (Kept Link)) (i k : ℕ) → i < length ls → k ≡ 1 + i → (cs : List Content) (ds : List Drafted) (e dd : Drafted) → i < length ds
     → ((d : Kept Link) → e ≡ drafting d.present.interface.delay cs (get_or ds i dd)) → set ds i e ≡ drafts_with (sends_at k cs) (map present ls) ds
 drafts_at [] i k lt at cs ds e dd lt_d is = absurd (omega (arith, lt))

@@ -37,7 +37,7 @@ pub append_none : {A : Type 0} (xs : List A) → xs ++ [] ≡ xs
 append_none [] = refl
 append_none (x ∷ xs) = ap (λ zs. x ∷ zs) (append_none xs)
 
--- where nothing is sent, each draft stays
+-- if nothing is sent, each draft stays
 pub drafted_none : (n : ℕ) (links : List Link) (ds : List Drafted) → ds ≡ drafted_from n [] links ds
 drafted_none n [] ds = refl
 drafted_none n (l ∷ ls) [] = refl

@@ -126,7 +126,7 @@ impl Area {
     }
 
     /// Receives an LSA of an Update that came in at the interface of this number, 1 or more (RFC
-    /// 2328, section 13): tells which case it is, and does what the case says. A newer LSA is
+    /// 2328, section 13): returns which case it is, and does what the case says. A newer LSA is
     /// installed and flooded, and its acknowledgment waits for a Tick; a duplicate is acknowledged
     /// at once; the same instance as the sender is to acknowledge leaves its retransmission list;
     /// an LSA that was asked for and isn't newer is BadLSReq; a newer copy goes to the sender. What
@@ -269,7 +269,7 @@ impl Area {
     }
 
     /// As `settle`, and the database looks at each copy if one may have come of age by this moment,
-    /// as `Lsdb::settle_at` says. Where memory for what it finds is refused it looks again the next
+    /// as `Lsdb::settle_at` says. If memory for what it finds is refused, it looks again the next
     /// time.
     pub fn settle_at(&mut self, alloc: Global, moment: Second)
         ensures { self.new ≡ record self.old { settled = self.old.present } }

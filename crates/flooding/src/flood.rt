@@ -31,7 +31,7 @@ fn was_sent(before: bool, here: bool) -> bool
     before || here
 }
 
-// Floods the copy over all links, each Update into the draft of its interface; tells whether one
+// Floods the copy over all links, each Update into the draft of its interface. Returns whether one
 // was sent.
 fn flood_links(
     alloc: Global,
@@ -63,7 +63,7 @@ fn flood_links(
     Ok(sent)
 }
 
-// Floods the copy of this key over all links, if there is one, and marks it as sent where an Update
+// Floods the copy of this key over all links, if there is one, and marks it as sent if an Update
 // takes it along.
 pub fn flood(
     alloc: Global,

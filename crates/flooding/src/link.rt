@@ -95,8 +95,9 @@ impl Link {
         self.place.neighbor()
     }
 
-    /// Floods the copy to the neighbor, which is the one that it came from or isn't; tells whether
-    /// an Update takes it along, InfTransDelay seconds older than it is (RFC 2328, section 13.3).
+    /// Floods the copy to the neighbor, which is the one that it came from or isn't. Returns
+    /// whether an Update takes it along, InfTransDelay seconds older than it is (RFC 2328, section
+    /// 13.3).
     ///
     /// Errors with `AllocError` if an allocation is refused: roll the link back.
     pub fn flood(
@@ -179,7 +180,7 @@ impl Link {
         self.place.take_off(header)
     }
 
-    /// The next Request, where the neighbor is to be sent one (RFC 2328, section 10.9).
+    /// The next Request, if the neighbor is to be sent one (RFC 2328, section 10.9).
     ///
     /// Errors with `AllocError` if an allocation is refused: roll the link back.
     pub fn request(

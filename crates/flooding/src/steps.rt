@@ -79,7 +79,7 @@ pub fn step_links<S: LinkStep>(
     Ok(())
 }
 
-// The copies that Updates behind the first so many take along count as sent.
+// The copies that Updates after the first `count` take along count as sent.
 fn mark_behind(
     moment: Second,
     count: usize,

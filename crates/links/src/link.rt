@@ -22,7 +22,7 @@ pub trait Link {
 
     ghost hears: { Self → Option (List ℕ) → Self → Type 0 };
 
-    /// A datagram, or none where none came within a second, or there is no memory for the one that
+    /// A datagram, or None if none came within a second, or if there is no memory for the one that
     /// came, which is lost then. It is heard by the buffer: one that is longer is cut to 8,193
     /// bytes, one more than a packet may have.
     fn receive(
@@ -43,7 +43,7 @@ pub trait Link {
         ensures fault { OnErr result (faults self.old < faults self.new) };
 }
 
-/// The datagram of these bytes; None where there is no memory for it.
+/// The datagram of these bytes; None if there is no memory for it.
 pub fn datagram(alloc: Global, bytes: &[u8]) -> Option<Sequence<u8>>
     ensures { IfSome result (λ datagram. datagram ≡ bytes.now) }
 {

@@ -75,7 +75,7 @@ impl<'a> Script<'a> {
         }
     }
 
-    // A copy of the datagram at this place, cut to 8,193 bytes; None where there is no memory.
+    // A copy of the datagram at this place, cut to 8,193 bytes; None if there is no memory.
     fn copied(&self, alloc: Global, at: usize) -> Option<Sequence<u8>>
         ensures { IfSome result (λ datagram. length datagram ≤ 8193) }
     {

@@ -10,7 +10,7 @@ use Rattle.flooding.specs.received.Links.{Link}
 use Rattle.events.specs.Hellos.{accepts, names}
 use Rattle.flooding.specs.Links.{with_neighbor}
 
--- another router is heard only where the neighbor is Down
+-- another router is heard only while the neighbor is Down
 abbrev pub may_be_named : Option (RouterNumber × State) → RouterNumber → Bool
 may_be_named None from = true
 may_be_named (Some named) from = named.0 == from

@@ -44,7 +44,7 @@ fn may_be_named(neighbor: Option<(RouterId, State)>, from: RouterId) -> bool
     }
 }
 
-// Another router is heard only where the neighbor is Down.
+// Another router is heard only while the neighbor is Down.
 fn may_be(link: &Link, from: RouterId) -> bool
     ensures { result ≡ may_be link.now.present.neighbor from }
 {
@@ -111,9 +111,9 @@ impl<'a> LinkStep for Hearing<'a> {
 }
 
 /// A Hello of the router `from` came in at the interface of this number, to the router `own` (RFC
-/// 2328, section 10.5). It is discarded where it is of no router or of this one, where it and the
-/// interface differ in HelloInterval, RouterDeadInterval or the E bit, and where another neighbor
-/// is heard there. Else the inactivity timer starts again, Down becomes Init, and 2-WayReceived or
+/// 2328, section 10.5). It is discarded if it is of no router or of this one, if it and the
+/// interface differ in HelloInterval, RouterDeadInterval or the E bit, or if another neighbor is
+/// heard there. Else the inactivity timer starts again, Down becomes Init, and 2-WayReceived or
 /// 1-WayReceived follows, by whether it names this router.
 ///
 /// Errors with `AllocError` if an allocation is refused: roll the area back, and drop the drafts.

@@ -39,7 +39,7 @@ impl<'a> LinkStep for Answering<'a> {
 
 /// A Link State Request for these keys came from the neighbor at the interface of this number,
 /// which is in Exchange or later (RFC 2328, section 10.7): the copies are sent, go on no list and
-/// count as sent, or, where one is missing, none is, and it is BadLSReq.
+/// count as sent, or, if one is missing, none is, and it is BadLSReq.
 ///
 /// Errors with `AllocError` if an allocation is refused: roll the area back, and drop the drafts.
 pub fn answer(

@@ -72,7 +72,7 @@ impl Place {
         }
     }
 
-    /// Floods the copy to the neighbor, if there is one; tells whether an Update takes it along.
+    /// Floods the copy to the neighbor, if there is one. Returns whether an Update takes it along.
     pub fn flood(
         &mut self,
         alloc: Global,
@@ -261,10 +261,9 @@ impl Place {
 
     /// A Hello came from this router, which names this router or doesn't (RFC 2328, section 10.5):
     /// it was accepted, so the neighbor is Down or of this Router ID. Down becomes Init and the
-    /// inactivity timer starts again. Where the Hello names this router, Init goes on to ExStart
-    /// (2-WayReceived) and the first Description of an attempt is sent; where it doesn't, each
-    /// later state goes back to Init (1-WayReceived), and the lists are cleared without a walk over
-    /// them.
+    /// inactivity timer starts again. If the Hello names this router, Init goes on to ExStart
+    /// (2-WayReceived) and the first Description of an attempt is sent; if it doesn't, each later
+    /// state goes back to Init (1-WayReceived), and the lists are cleared without a walk over them.
     ///
     /// Errors with `AllocError` if an allocation is refused: roll the place back.
     pub fn hello(

@@ -287,7 +287,8 @@ impl Neighbor {
         self.retransmissions.insert(header.key(), entry)
     }
 
-    // What the copy meets is requested no more; tells whether it passes what was requested.
+    // Drops the request that the copy meets. Returns whether the copy goes on: nothing newer was
+    // requested.
     fn meet(&mut self, moment: Second, copy: &DatabaseCopy<'_>) -> Result<bool, AllocError>
         ensures ok { IfOk result (λ _. self.new.present
             ≡ without_met_request moment (lsa_now moment copy.now) self.old.present) }
@@ -339,8 +340,8 @@ impl Neighbor {
     }
 
     /// Floods the copy to the neighbor, which is the one that it came from or isn't (RFC 2328,
-    /// section 13.3); tells whether an Update takes it along, InfTransDelay seconds older than it
-    /// is. Refused, the neighbor is to be rolled back.
+    /// section 13.3). Returns whether an Update takes it along, InfTransDelay seconds older than it
+    /// is. If memory is refused, roll the neighbor back.
     pub fn flood(
         &mut self,
         alloc: Global,
@@ -390,9 +391,9 @@ impl Neighbor {
         Ok(())
     }
 
-    /// An Acknowledgment of these instances (RFC 2328, section 13.7): each is taken off the
-    /// retransmission list where it is the same instance. Refused, the neighbor is to be rolled
-    /// back.
+    /// An Acknowledgment of these instances (RFC 2328, section 13.7): each that is the same
+    /// instance as the entry of its key takes that off the retransmission list. If memory is
+    /// refused, roll the neighbor back.
     pub fn ack(&mut self, moment: Second, headers: &[Header]) -> Result<(), AllocError>
         ensures ok { OnOk result (self.new.present
             ≡ after_acknowledgment moment headers.now self.old.present) }

@@ -21,8 +21,8 @@ use std::alloc::{AllocError, Global};
 use std::cmp::Ordering;
 use words::{E_BIT, LinkStateId, RouterId, Sequence, SequenceNumber};
 
-/// The Router IDs of the neighbors that are Full, interface n at place n - 1, None where there is
-/// none: what the router-LSA rests on beside the configuration.
+/// The Router IDs of the neighbors that are Full, interface n at place n - 1, None if there is
+/// none: what the router-LSA depends on beside the configuration.
 ///
 /// Errors with `AllocError` if an allocation is refused.
 pub fn full_routers(alloc: Global, links: &[Link]) -> Result<Vec<Option<RouterId>>, AllocError>
@@ -35,7 +35,7 @@ pub fn full_routers(alloc: Global, links: &[Link]) -> Result<Vec<Option<RouterId
     Ok(full)
 }
 
-// What the router-LSA of these interfaces says where these neighbors are Full.
+// What the router-LSA of these interfaces says while these neighbors are Full.
 fn described_body(
     alloc: Global,
     links: &[Link],
@@ -76,7 +76,7 @@ fn saying(alloc: Global, says: Body) -> Result<Lsa, AllocError>
     Ok(lsa)
 }
 
-// The router-LSA of these interfaces where these neighbors are Full.
+// The router-LSA of these interfaces while these neighbors are Full.
 fn described_lsa(
     alloc: Global,
     links: &[Link],
@@ -157,9 +157,9 @@ fn texts_differ(
     Ok(!same)
 }
 
-/// Whether the content of the router-LSA differs from what it was for links of the same
-/// interfaces, of which just the neighbors `before` were Full, interface n at place n - 1. Where
-/// the same are Full now, that takes no look at texts.
+/// Whether the content of the router-LSA differs from what it was for links of the same interfaces,
+/// of which just the neighbors `before` were Full, interface n at place n - 1. If the same are Full
+/// now, it looks at no text.
 ///
 /// Errors with `AllocError` if an allocation is refused.
 pub fn links_differ(

@@ -35,8 +35,8 @@ fn external_body(alloc: Global, external: &External) -> Body
 }
 
 /// The instance of the own AS-external-LSA of this destination that follows the copy of the
-/// database (RFC 2328, section 12.4.4). None where the copy has MaxSequenceNumber: it is to be
-/// flushed first.
+/// database (RFC 2328, section 12.4.4). None if the copy has MaxSequenceNumber: it is to be flushed
+/// first.
 ///
 /// Errors with `AllocError` if an allocation is refused.
 pub fn external_instance(

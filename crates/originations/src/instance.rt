@@ -12,7 +12,7 @@ use std::alloc::{AllocError, Global};
 use words::{E_BIT, Key};
 
 /// The instance of this key that follows the copy of the database and says this: of age 0, its
-/// type, length and checksum those of what it says. None where the copy has MaxSequenceNumber.
+/// type, length and checksum those of what it says. None if the copy has MaxSequenceNumber.
 ///
 /// Errors with `AllocError` if an allocation is refused.
 pub fn next_instance(

@@ -19,7 +19,7 @@ use lsa::Lsa;
 use std::alloc::{AllocError, Global};
 use words::{External, RouterId, Second};
 
-// MinLSInterval: so many seconds lie between two own instances of one LSA.
+// MinLSInterval: the least seconds between two own instances of one LSA.
 const MIN_LS_INTERVAL: u64 = 5;
 
 /// What becomes of an own LSA that is wanted.

@@ -121,8 +121,8 @@ fn router_body(alloc: Global, links: &[Link]) -> Result<Body, AllocError>
 
 /// The instance of the own router-LSA that follows the copy of the database and describes these
 /// links, interface n at place n - 1: of each the link to its neighbor, if that is Full, and the
-/// one to its subnet (RFC 2328, section 12.4.1). None where the copy has MaxSequenceNumber: it is
-/// to be flushed first.
+/// one to its subnet (RFC 2328, section 12.4.1). None if the copy has MaxSequenceNumber: it is to
+/// be flushed first.
 ///
 /// Errors with `AllocError` if an allocation is refused.
 pub fn router_instance(

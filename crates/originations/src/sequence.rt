@@ -13,8 +13,8 @@ fn after(number: SequenceNumber) -> Option<SequenceNumber>
     number.next()
 }
 
-/// The number of the next instance: after that of the copy, or the first one, where there is no
-/// copy; None after MaxSequenceNumber.
+/// The number of the next instance: the one after the copy's, or the first one if there is no copy;
+/// None after MaxSequenceNumber.
 pub fn next_number(copy: Option<DatabaseCopy<'_>>) -> Option<SequenceNumber>
     ensures number { result ≡ next_number copy.entry }
     ensures lawful { IfSome result (λ number. number ≢ reserved_sequence) }

@@ -1,5 +1,5 @@
--- Two router-LSAs of one text tell of Full neighbors on the same links. So where a Tick ends with
--- the text that the event began with, no neighbor was lost.
+-- Two router-LSAs of one text tell of Full neighbors on the same links. So if a Tick ends with the
+-- text that the event began with, no neighbor was lost.
 use Rattle.std.proofs.Common.{◌≡◌, ◌<◌, ℕ, zero, suc, Bool, true, false, cond, not, ◌⊎◌, inl, inr, List, [], ◌∷◌, ◌++◌, map, Option, None, Some, is_some, refl, sym, ap, subst, ◌∙◌, arith}
 use Rattle.std.specs.List.{flat_map}
 use Rattle.std.specs.Cmp.{tied_itself}
@@ -64,7 +64,7 @@ shown i full ls = links_text ((told_to i full ++ stub i ∷ []) ++ ls)
 not_one : (n : ℕ) → 1 < n → n ≡ 1 → ⊥
 not_one n above is = omega arith
 
--- the ninth byte of a link tells whether it leads to a router or to a stub network
+-- the ninth byte of a link says if it leads to a router or to a stub network
 same_start : (i : Interface) (a b : Option ℕ) (xs ys : List RouterLink) → shown i a xs ≡ shown i b ys → (is_some a ≡ is_some b) × (links_text xs ≡ links_text ys)
 same_start i None None xs ys e = (refl, ap (behind 12) e)
 same_start i None (Some b) xs ys e = absurd (not_one 3 (omega arith) (ap (at_place 8) e))
@@ -152,7 +152,7 @@ gaining : (xs : List Link) → Gain (faces xs) (faces (map link_loading_done xs)
 gaining [] = tt
 gaining (x ∷ xs) = (filled x.interface x.neighbor, gaining xs)
 
--- where a Tick ends with the text that it began with, what it told in between was that text too
+-- if a Tick ends with the text that it began with, what it told in between was that text too
 pub tick_agrees : (moment : ℕ) (old xs : List Link) → faces xs ≡ faces (map (run_out moment) old)
     → body_text (router_body old) ≡ body_text (router_body (map link_loading_done xs)) → router_body (map (run_out moment) old) ≡ router_body old
 tick_agrees moment old xs same e =

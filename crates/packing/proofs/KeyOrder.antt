@@ -75,8 +75,8 @@ module _ {X : Type 0} (key : X → Key) where
   unfolding same_as
   same_first x xs = ap (λ b. cond b (x ∷ same_as x xs) (same_as x xs)) (is_same (key x))
 
-  -- where the key of x is less than all keys of a list, a list that begins with x has another one
-  -- of that key
+  -- if the key of x is less than all keys of a list, a list that begins with x has another one of
+  -- that key
   apart : (x z : X) (xs zs : List X) → key_cmp (key x) (key z) ≡ Less → IsAscending key (z ∷ zs)
       → same_as x (x ∷ xs) ≡ same_as x (z ∷ zs) → ⊥
   apart x z xs zs less up same =

@@ -35,7 +35,7 @@ impl HasKey for Header {
     }
 }
 
-/// A Request stands where its first key does.
+/// A Request is ordered by its first key.
 impl HasKey for Sequence<Key> {
     ghost use Rattle.events.specs.Packing.{first_key};
 

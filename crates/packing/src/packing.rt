@@ -64,8 +64,7 @@ impl<X: HasSize + Drop> Filling<X> {
         Ok(())
     }
 
-    // The item goes into the packet that is being filled, or into the next one, where it has no
-    // room.
+    // The item goes into the packet that is being filled, or into the next one if it has no room.
     fn take(&mut self, alloc: Global, item: X) -> Result<(), AllocError>
         requires filling { IsFilling self.old.start self.old.used self.old.taken.items }
         requires room { self.old.start + X.size item ≤ 8192 }

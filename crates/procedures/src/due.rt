@@ -10,7 +10,7 @@ use router_state::Router;
 use std::alloc::{AllocError, Global};
 use words::{Key, Second};
 
-// LSRefreshTime: an own LSA of so many seconds is originated again.
+// LSRefreshTime: the age in seconds at which an own LSA is originated again.
 const LS_REFRESH_TIME: u16 = 1800;
 
 fn is_stale(moment: Second, copy: Option<DatabaseCopy<'_>>) -> bool

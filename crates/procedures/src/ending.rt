@@ -14,7 +14,7 @@ use router_state::Router;
 use std::alloc::{AllocError, Global};
 use words::{RouterId, Second};
 
-// The router-LSA goes out, at once or at a Tick, where its content has changed in this event.
+// The router-LSA goes out, at once or at a Tick, if its content has changed in this event.
 fn describe_router(
     router: &mut Router,
     alloc: Global,
@@ -40,7 +40,7 @@ fn describe_router(
     originate_or_wait(router, alloc, moment, &key, drafts)
 }
 
-// Where the content of the router-LSA has changed, it waits for a Tick.
+// If the content of the router-LSA has changed, it waits for a Tick.
 fn describe_router_later(
     router: &mut Router,
     alloc: Global,
@@ -64,8 +64,8 @@ fn describe_router_later(
     router.wait(&key)
 }
 
-// Loading becomes Full where nothing is left to request, and the router-LSA tells what has changed
-// in this event.
+// Loading becomes Full if nothing is left to request, and the router-LSA tells what has changed in
+// this event.
 fn fill(
     router: &mut Router,
     alloc: Global,
@@ -118,9 +118,9 @@ fn request_and_remove(
     router.remove_aged(alloc, moment, drafts)
 }
 
-/// The end of an event: Loading becomes Full where nothing is left to request; where the content of
-/// the router-LSA has changed since the event began, it is originated anew; Requests go out; copies
-/// at MaxAge that nobody has still to acknowledge leave the database; the moment is the last one.
+/// The end of an event: Loading becomes Full if nothing is left to request; if the content of the
+/// router-LSA has changed since the event began, it is originated again; Requests go out; copies at
+/// MaxAge that nobody has still to acknowledge leave the database; the moment is the last one.
 /// `before` are the neighbors that were Full when the event began.
 ///
 /// Errors with `AllocError` if an allocation is refused: roll the router back, and drop the drafts.

@@ -98,8 +98,8 @@ fn originate(
     carry_out(router, alloc, moment, key, found, drafts)
 }
 
-/// A new instance of the own LSA of this key, if it is wanted: at once, where there is room for it
-/// in the database and MinLSInterval allows it, else at a Tick; after MaxSequenceNumber the copy is
+/// A new instance of the own LSA of this key, if it is wanted: at once if there is room for it in
+/// the database and MinLSInterval allows it, else at a Tick; after MaxSequenceNumber the copy is
 /// flushed first (RFC 2328, sections 12.1.6 and 12.4).
 ///
 /// Errors with `AllocError` if an allocation is refused: roll the router back, and drop the drafts.

@@ -91,7 +91,7 @@ fn is_heard(packet: &Packet, router: &Router, number: usize) -> bool
     foreign && (hello || from_neighbor)
 }
 
-// What a packet says that is heard, where the neighbor is in Exchange or later.
+// Takes a packet from a neighbor in Exchange or later.
 fn from_neighbor_in_exchange(
     router: &mut Router,
     alloc: Global,
@@ -127,8 +127,8 @@ fn from_neighbor_in_exchange(
     }
 }
 
-// What a packet says that is heard, where the neighbor isn't in Exchange or later: Requests,
-// Updates and Acknowledgments count for nothing.
+// Takes a packet from a neighbor before Exchange: Requests, Updates and Acknowledgments are
+// discarded.
 fn from_neighbor_before_exchange(
     router: &mut Router,
     alloc: Global,

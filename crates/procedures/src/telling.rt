@@ -10,8 +10,8 @@ use router_state::Router;
 use std::alloc::{AllocError, Global};
 use words::{Key, LinkStateId, RouterId, Second};
 
-/// The Router IDs of the neighbors that are Full, interface n at place n - 1, None where there is
-/// none: what the router-LSA rests on beside the configuration.
+/// The Router IDs of the neighbors that are Full, interface n at place n - 1, None if there is
+/// none: what the router-LSA depends on beside the configuration.
 ///
 /// Errors with `AllocError` if an allocation is refused.
 pub fn full_routers(router: &Router, alloc: Global) -> Result<Vec<Option<RouterId>>, AllocError>

@@ -48,7 +48,7 @@ fn originate_what_is_due(
     originate_due(router, alloc, moment, &keys, drafts)
 }
 
-// What RxmtInterval lets go out is sent again; then delayed acknowledgments, then Hellos that are
+// Retransmissions whose RxmtInterval has passed; then delayed acknowledgments, then Hellos that are
 // due.
 fn send_what_is_due(
     router: &mut Router,
@@ -68,7 +68,7 @@ fn send_what_is_due(
 }
 
 /// What a Tick does, in its order: inactive neighbors are Down; own LSAs that wait or are to be
-/// refreshed are originated; what RxmtInterval lets go out is sent again; delayed acknowledgments
+/// refreshed are originated; what was sent RxmtInterval ago is sent again; delayed acknowledgments
 /// and Hellos that are due are sent.
 ///
 /// Errors with `AllocError` if an allocation is refused: roll the router back, and drop the drafts.

@@ -91,7 +91,7 @@ fn receive_lsa(
     Ok(case)
 }
 
-// The text of an LSA, or bytes that are none's: tells whether the Update goes on.
+// The text of an LSA, or bytes that are none's. Returns whether the Update goes on.
 fn receive_text(
     router: &mut Router,
     alloc: Global,

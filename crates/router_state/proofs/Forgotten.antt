@@ -70,7 +70,7 @@ module _ {X : Type 0} where
   again false true o = refl
   again false false o = refl
 
-  -- a key leaves where it is among them
+  -- a key leaves if it is among them
   pub left : (q : Key) (keys : List Key) (m : ByKey X) → finite.get (fold finite.remove m keys) q ≡ cond (list_any (eq_by_cmp key_cmp q) keys) None (finite.get m q)
   left q [] m = refl
   left q (k ∷ ks) m =

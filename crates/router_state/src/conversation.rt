@@ -18,8 +18,8 @@ use words::{Key, RouterId, Second};
 
 impl Router {
     /// A Hello of the router `from` came in at the interface of this number (RFC 2328, section
-    /// 10.5). It is discarded where the interface and it differ in HelloInterval,
-    /// RouterDeadInterval or the E bit, and where another neighbor is heard there.
+    /// 10.5). It is discarded if the interface and it differ in HelloInterval, RouterDeadInterval
+    /// or the E bit, or if another neighbor is heard there.
     ///
     /// Errors with `AllocError` if an allocation is refused: roll the router back, and drop the
     /// drafts.
@@ -90,7 +90,7 @@ impl Router {
 
     /// A Link State Request for these keys came from the neighbor at the interface of this number,
     /// which is in Exchange or later (RFC 2328, section 10.7): the copies are sent and count as
-    /// sent, or, where one is missing, none is, and it is BadLSReq.
+    /// sent, or, if one is missing, none is, and it is BadLSReq.
     ///
     /// Errors with `AllocError` if an allocation is refused: roll the router back, and drop the
     /// drafts.

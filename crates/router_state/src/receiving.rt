@@ -12,7 +12,7 @@ use timers::{Case, Draft};
 use words::Second;
 
 impl Router {
-    /// An LSA of an Update came in at the interface of this number: tells which case it is, and
+    /// An LSA of an Update came in at the interface of this number: returns which case it is, and
     /// does what the case says. What the router makes of an LSA of its own is no part of it.
     ///
     /// Errors with `AllocError` if an allocation is refused: roll the router back, and drop the

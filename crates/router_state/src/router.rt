@@ -195,7 +195,7 @@ impl Router {
     }
 
     /// As `settle`, and the database looks at each copy if one may have come of age by this moment,
-    /// so that the next event needn't. Where memory for what it finds is refused it looks again the
+    /// so that the next event needn't. If memory for what it finds is refused, it looks again the
     /// next time.
     pub fn settle_at(&mut self, alloc: Global, moment: Second)
         ensures { self.new ≡ record { present = self.old.present; settled = self.old.present } }

@@ -58,7 +58,7 @@ impl Router {
         timers::request_all(&mut self.area, alloc, moment, drafts)
     }
 
-    /// What a Tick sends again where RxmtInterval has passed (RFC 2328, sections 10.8, 10.9 and
+    /// What a Tick sends again once RxmtInterval has passed (RFC 2328, sections 10.8, 10.9 and
     /// 13.6).
     ///
     /// Errors with `AllocError` if an allocation is refused: roll the router back, and drop the

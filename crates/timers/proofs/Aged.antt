@@ -65,7 +65,7 @@ module _ (t : DatabaseCopy → Bool) (q : Key) where
       (among_is es (second (below_all key_cmp e.0 es) (is_sorted key_cmp es) sorted))
       (λ tied. absent q e.0 es (equal (key_cmp q e.0) tied) (first (below_all key_cmp e.0 es) (is_sorted key_cmp es) sorted))
 
--- a key leaves where it is among them, and is on no list
+-- a key leaves if it is among them, and is on no list
 module _ (links : List Link) (q : Key) where
   abbrev on_list : Bool
   on_list = any_has_retransmission q links

@@ -42,7 +42,7 @@ module _ (F : Link → Neighbor → Step) where
   sends_are n [] = refl
   sends_are n (l ∷ ls) = λ i. sends_at n (sent_is (F l) l.neighbor i) ++ sends_are (n + 1) ls i
 
--- where nothing that a link sends is marked, the database stays
+-- if nothing that a link sends is marked, the database stays
 module _ (moment : ℕ) (S : Link → List Content) (none : (n : ℕ) (l : Link) (d : Database) → marks moment d (sends_at n (S l)) ≡ d) where
   pub marks_none : (n : ℕ) (ls : List Link) (d : Database) → marks moment d (flat_map (λ (e : ℕ × Link). sends_at e.0 (S e.1)) (enumerate_from n ls)) ≡ d
   marks_none n [] d = refl

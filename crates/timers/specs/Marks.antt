@@ -22,7 +22,7 @@ sent_again moment db link =
 abbrev pub update_count : Drafted → ℕ
 update_count d = length d.updates
 
--- the keys of the Updates behind the first so many of each draft
+-- the keys of the Updates of each draft that come after its first ones
 abbrev pub keys_behind : List ℕ → List Drafted → List Key
 keys_behind [] ds = []
 keys_behind (c ∷ cs) [] = []

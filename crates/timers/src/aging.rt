@@ -42,7 +42,7 @@ fn remove_each(area: &mut Area, keys: &[Key]) -> Result<(), AllocError>
 /// Copies at MaxAge that are on no retransmission list leave the database, unless some neighbor is
 /// in Exchange or Loading (RFC 2328, section 14).
 ///
-/// It looks at each copy only where one may have come of age since the database last looked, as
+/// It looks at each copy only if one may have come of age since the database last looked, as
 /// `Lsdb::aged_keys` says. Errors with `AllocError` if an allocation is refused: roll the area
 /// back.
 pub fn remove_aged(area: &mut Area, alloc: Global, moment: Second) -> Result<(), AllocError>
@@ -87,9 +87,9 @@ fn each_come_of_age(
 /// Each copy that has come to MaxAge since the moment before is flooded as if from nobody
 /// (RFC 2328, section 14), in the order of their keys, into the draft of each interface.
 ///
-/// It looks at no copy within one moment, and else at each only where one may have come of age
-/// since the database last looked, as `Lsdb::aged_keys` says. Errors with `AllocError` if an
-/// allocation is refused: roll the area back, and drop the drafts.
+/// It looks at no copy within one moment, and else at each only if one may have come of age since
+/// the database last looked, as `Lsdb::aged_keys` says. Errors with `AllocError` if an allocation
+/// is refused: roll the area back, and drop the drafts.
 pub fn with_ages(
     area: &mut Area,
     alloc: Global,

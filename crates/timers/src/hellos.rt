@@ -13,7 +13,7 @@ use packet::Hello;
 use std::alloc::{AllocError, Global};
 use words::{E_BIT, RouterId, Second, Sequence};
 
-// From the start to the moment, at least so many seconds have passed.
+// Whether at least `interval` seconds lie between the start and the moment.
 fn has_passed(start: Second, interval: u16, moment: Second) -> bool
     ensures { result ≡ has_passed start interval moment }
 {

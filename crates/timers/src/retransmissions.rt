@@ -43,7 +43,7 @@ fn update_counts(alloc: Global, drafts: &[Draft]) -> Result<Vec<usize>, AllocErr
     Ok(counts)
 }
 
-// The copies that Updates behind the first so many take along count as sent.
+// The copies that Updates after the first `count` take along count as sent.
 fn mark_behind(
     area: &mut Area,
     moment: Second,
@@ -63,7 +63,7 @@ fn mark_behind(
     Ok(())
 }
 
-// The copies that Updates behind the first so many of each draft take along count as sent.
+// The copies that Updates after the first ones of each draft take along count as sent.
 fn mark_all(
     area: &mut Area,
     moment: Second,
@@ -83,7 +83,7 @@ fn mark_all(
     Ok(())
 }
 
-/// What a Tick sends again where RxmtInterval has passed since it was sent: the Description of
+/// What a Tick sends again once RxmtInterval has passed since it was sent: the Description of
 /// ExStart and the master's of Exchange, what is still requested, and the LSAs of each
 /// retransmission list that have room in one Update (RFC 2328, sections 10.8, 10.9 and 13.6), into
 /// the draft of each interface. What an Update takes along counts as sent.

@@ -25,8 +25,8 @@ impl Area {
         change_links(change, &mut self.links);
     }
 
-    /// The neighbor on the link of this number is Down. It wants no memory. Where there is no such
-    /// link nothing happens.
+    /// The neighbor on the link of this number is Down. It takes no memory. If there is no such
+    /// link, nothing happens.
     pub fn take_down(&mut self, number: usize)
         ensures { self.new ≡ record self.old {
           present = record self.old.present {

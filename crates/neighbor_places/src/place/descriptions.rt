@@ -132,10 +132,10 @@ impl Place {
     /// 2328, sections 10.6 and 10.8). One whose MTU is larger than 8,192 bytes is discarded. In
     /// Init it acts as a Hello that names this router first. The one that negotiates is then
     /// accepted as the next in sequence. What is newer than the database has it goes on the request
-    /// list; the next Description is sent, or the last one again where this one is a duplicate; and
-    /// after the last of either side the neighbor is Loading, or Full where nothing is to be
+    /// list; the next Description is sent, or the last one again if this one is a duplicate; and
+    /// after the last of either side the neighbor is Loading, or Full if nothing is to be
     /// requested. One out of sequence, or with a header of an unknown type, takes the neighbor back
-    /// to ExStart (SeqNumberMismatch). It walks over the database only where the negotiation is
+    /// to ExStart (SeqNumberMismatch). It walks over the database only when the negotiation is
     /// done.
     ///
     /// Errors with `AllocError` if an allocation is refused: roll the place back.

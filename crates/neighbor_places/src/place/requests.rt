@@ -70,7 +70,7 @@ fn send_copies(
 impl Place {
     /// A Link State Request for these keys came from the neighbor (RFC 2328, section 10.7). It
     /// counts from Exchange on: the copies are sent in Updates, InfTransDelay (`delay`) seconds
-    /// older than they are, and go on no list. Where the database lacks one, none is sent, and the
+    /// older than they are, and go on no list. If the database lacks one, none is sent, and the
     /// neighbor goes back to ExStart (BadLSReq).
     ///
     /// Errors with `AllocError` if an allocation is refused: roll the place back.

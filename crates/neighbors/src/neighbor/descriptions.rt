@@ -35,7 +35,7 @@ use packet::Description;
 use std::alloc::{AllocError, Global};
 use words::{E_BIT, Key, Second, Sequence};
 
-/// One Description has room for so many headers.
+/// The most headers of one Description.
 const MOST_HEADERS_DESCRIBED: usize = 408;
 
 // The same Description once more.
@@ -149,7 +149,7 @@ fn headers_of(
     Ok(headers)
 }
 
-// Where nothing is to be requested, the databases are synchronized.
+// Full if nothing is to be requested: the databases are synchronized.
 fn done_state(nothing: bool) -> State
     ensures { result ≡ (if nothing then State.Full else State.Loading) }
 {

@@ -13,7 +13,7 @@ use keyed_map::KeyedMap;
 use std::alloc::{AllocError, Global};
 use words::{Key, Second, Sequence};
 
-/// One Request has room for so many keys.
+/// The most keys of one Request.
 const MOST_KEYS_REQUESTED: usize = 680;
 
 // Puts the keys into an empty set.

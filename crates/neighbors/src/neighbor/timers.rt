@@ -30,7 +30,7 @@ const BEFORE_LSAS: u16 = 28;
 /// The bytes of the largest packet.
 const LARGEST_PACKET: u32 = 8192;
 
-// From the start to the moment, at least so many seconds have passed.
+// Whether at least `interval` seconds lie between the start and the moment.
 fn has_passed(start: Second, interval: u32, moment: Second) -> bool
     ensures { result ≡ has_passed start interval moment }
 {
@@ -93,8 +93,8 @@ impl<'a> KeyTest<()> for StillRequested<'a> {
     }
 }
 
-// Sends the copy if it has room behind so many bytes of an Update. Tells how many there are then,
-// or that it has none.
+// Sends the copy if it has room after the given number of bytes of an Update. Returns the number of
+// bytes then, or None if it has no room.
 fn send_if_it_fits(
     alloc: Global,
     moment: Second,
