@@ -51,7 +51,7 @@ by_max_age Equal Equal true q false true more less e = let no : false ≡ true =
 by_max_age Equal Equal false true false true more less e = absurd cc
 by_max_age Equal Equal false false false true more less e = let no : false ≡ true = less refl in absurd cc
 
--- as new as before, where MaxAge is kept on the one side, and none is won on the other
+-- as new as before, if the one side keeps MaxAge and the other doesn't come to it
 pub still_at_least : (a b : Instance) (age other : ℕ) → (is_max_age a.age ≡ true → is_max_age age ≡ true) → (is_max_age other ≡ true → is_max_age b.age ≡ true)
     → is_at_least a b ≡ true → is_at_least (record a { age = age }) (record b { age = other }) ≡ true
 still_at_least a b age other more less e =

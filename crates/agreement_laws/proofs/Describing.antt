@@ -219,7 +219,7 @@ module _ (key : Key) (now : ℕ) (Of : ℕ → Type 0) (Said : Saying) where
         stated Full m of said none (inl before) = absurd cc
         stated Full m of said none (inr s) = over (record m { state = Full }) s
 
-        -- any Description, where nothing is requested before Exchange
+        -- any Description, as nothing is requested before Exchange
         pub after : (m : Neighbor) → Of m.router
             → ((w : Conversation) (h : Header) → Contains d.headers h → key_of h ≡ key → w.router ≡ m.router → Said w (record { header = h; at = now }))
             → (is_exchange_or_later m.state ≡ false → AreSaid key now Of Said m.requests (conversation_with m)) → Settling key now Of Said (held now key db) m

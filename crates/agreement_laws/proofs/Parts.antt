@@ -54,7 +54,7 @@ use Rattle.agreement_laws.proofs.Ranks.{itself_at_least, same_at_least}
 use Rattle.agreement_laws.proofs.Settling.{Known, Saying, Settling, settling_more}
 use Rattle.agreement_laws.proofs.Settling as settling
 
--- ---- what is held, where the database changes
+-- ---- what is held when the database changes
 
 module _ (moment : ℕ) (key : Key) where
   marked_by : (k : Key) (db : Database) (o : Option DatabaseCopy) → finite.get db k ≡ o → held moment key (changed_by k (λ c. record c { sent = Some moment }) db o) ≡ held moment key db
@@ -150,7 +150,7 @@ pub record Describes (sends : List Send) (number : ℕ) (header : Header) : Type
   pub sent : Contains sends (record { number = number; content = Content.Describes description })
   pub among : Contains description.headers header
 
--- where there is a neighbor at the interface, `There`
+-- if there is a neighbor at the interface, `There`
 module _ (key : Key) (moment : ℕ) (number : ℕ) (There : Type 0) (Of : ℕ → Type 0) (Base : Saying) where
   -- said before or told in this event, or described in it
   abbrev pub SaidBy : List Send → Saying

@@ -373,7 +373,7 @@ module _ (old : Router) (moment : ℕ) where
       })
       (flooded (Some place) lsa p there (on_copies o (install_flooded moment lsa o.area.database) (λ k i so. installed_there k moment i lsa o.area.database newer so) h))
 
-  -- there was none before, where there is none by now
+  -- there was none before, if there is none by now
   none_before : (key : Key) (o : Outcome) → finite.get o.area.database key ≡ None → IsSo o → finite.get old.area.database key ≡ None
   none_before key o none h = by_copy (finite.get old.area.database key) refl
     where

@@ -1,4 +1,4 @@
--- What an event makes of a copy that is settled with a neighbor: where it was settled before the
+-- What an event makes of a copy that is settled with a neighbor: if it was settled before the
 -- event, it is so after it.
 use Rattle.std.proofs.Common.{◌≡◌, ℕ, ◌≤◌, Bool, true, false, cond, not, ◌⊎◌, inl, inr, List, [], ◌∷◌, map, Option, None, Some, refl, sym, ap, subst, ◌∙◌, arith}
 use Rattle.std.specs.Prelude.{◌==◌, length, nat_lt}

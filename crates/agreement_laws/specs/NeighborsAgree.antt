@@ -1,5 +1,5 @@
--- Full neighbors agree on what was renewed (RFC 2328, sections 10.3 and 13): where each is Full
--- with the other, and an LSA is on neither one's retransmission list, both hold the same instance;
+-- Full neighbors agree on what was renewed (RFC 2328, sections 10.3 and 13): if each is Full with
+-- the other, and an LSA is on neither one's retransmission list, both hold the same instance;
 -- unless one of them described it to the other in their exchange, or was without a copy since it
 -- told the other that it had it.
 use Rattle.std.specs.Prelude.{◌≡◌, ◌⊎◌, ℕ, ◌<◌, Bool, true, false, List, [], length, map, None, Some}
@@ -159,7 +159,7 @@ pub record NeighborsAgreeOnWhatWasRenewed : Type 0 where
       → HoldsAsNew (party (other_side side) now).router (instance_of_lsa copy.lsa)
       ⊎ Exception ends side (conversation_with at_rest.neighbor) (instance_of_lsa copy.lsa)
       now earlier h
-  -- so where both are at rest, they hold the same instance
+  -- so if both are at rest, they hold the same instance
   pub same : (ends : Ends) (now : Pair) (earlier : List Pair) (h : IsHistory ends now earlier)
       → (key : Key) (left : IsAtRest ends.left key now.left.router)
       → (right : IsAtRest ends.right key now.right.router)

@@ -57,11 +57,11 @@ pub fn what_is_said_is_held()
 {}
 
 /// Full neighbors agree on what was renewed, in every history of two neighbors in whatever
-/// surroundings, with loss, repetition, delay, reordering and restarts: where one is Full with the
+/// surroundings, with loss, repetition, delay, reordering and restarts: if one is Full with the
 /// other, and an LSA is not on its retransmission list, the other holds an instance that is as new;
-/// and where that is so of both, they hold the same instance. Unless, in their present
-/// conversation, it described one as new to the other; or the other one told one as new, and has
-/// been without a copy since, or began anew, or had none to flush (RFC 2328, sections 10.3 and 13).
+/// and if that is so of both, they hold the same instance. Unless, in their present conversation,
+/// it described one as new to the other; or the other one told one as new, and has been without a
+/// copy since, or began anew, or had none to flush (RFC 2328, sections 10.3 and 13).
 pub fn neighbors_agree_on_what_was_renewed()
     ensures { NeighborsAgreeOnWhatWasRenewed }
 {}

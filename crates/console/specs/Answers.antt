@@ -31,7 +31,7 @@ numbers_text numbers = join_with_byte 44 (map decimal numbers)
 unfoldable pub hops_text : ℕ → List ℕ
 hops_text hops = numbers_text (interfaces_below 64 hops)
 
--- one route: its destination, its kind, its cost and where it leaves by
+-- one route: its destination, its kind, its cost and the interfaces by which it leaves
 abbrev pub route_text : Route → List ℕ
 route_text r =
     prefix_text r.prefix ++ (codes " " ++ (kind_name r.kind ++ (codes " " ++ (decimal r.cost

@@ -103,7 +103,7 @@ pub record IsFirstWrong (lines : List Line) (index : ℕ) : Type 0 where
   pub there : slice_get lines index ≡ Some line
   pub wrong : (c : ConfiguredInterface) → SaysInterface (index + 1) line c → MayFollow before c → ⊥
 
--- The number of the first line that is wrong, where the router's line is 1; or, where there is no
+-- The number of the first line that is wrong, the router's line being 1; or, if there is no
 -- interface, of the line that is missing.
 abbrev pub RefusesInterfaces : List Line → (number : ℕ) → Type 0
 RefusesInterfaces lines number =

@@ -22,7 +22,7 @@ fn kind_name(kind: RouteKind) -> &'static str
     }
 }
 
-/// Adds a number, behind a comma where it isn't the first.
+/// Adds a number, after a comma if it isn't the first.
 fn push_number(text: &mut String, is_first: bool, number: u8) -> Result<(), AllocError>
     ensures { OnOk result (string_bytes text.new
         ≡ string_bytes text.old ++ (if is_first then decimal number else 44 ∷ decimal number)) }
@@ -92,7 +92,7 @@ fn push_routes(text: &mut String, routes: &[Route]) -> Result<(), AllocError>
 
 /// The lines of a routing table, `A.B.C.D/L KIND COST via H,H` for each route, and `end`.
 ///
-/// An error where memory was refused.
+/// Errors with `AllocError` if an allocation is refused.
 pub fn table_text(alloc: Global, routes: &[Route]) -> Result<String, AllocError>
     ensures { IfOk result (λ text. string_bytes text ≡ table_text routes.now) }
 {
@@ -147,7 +147,7 @@ fn push_neighbors(
 /// The lines of the neighbors at interfaces 1, 2, .., `neighbor I A.B.C.D STATE` for each that
 /// isn't Down (None), and `end`.
 ///
-/// An error where memory was refused.
+/// Errors with `AllocError` if an allocation is refused.
 pub fn neighbors_text(
     alloc: Global,
     neighbors: &[Option<(RouterId, State)>],
@@ -184,7 +184,7 @@ fn push_counters(text: &mut String, sums: &[u64]) -> Result<(), AllocError>
 
 /// The line `counter K V` of each counter above 0, from index 0 on.
 ///
-/// An error where memory was refused.
+/// Errors with `AllocError` if an allocation is refused.
 pub fn totals_text(alloc: Global, sums: &[u64]) -> Result<String, AllocError>
     ensures { IfOk result (λ text. string_bytes text ≡ counter_lines 0 sums.now) }
 {
@@ -195,7 +195,7 @@ pub fn totals_text(alloc: Global, sums: &[u64]) -> Result<String, AllocError>
 
 /// The same lines, and `end`.
 ///
-/// An error where memory was refused.
+/// Errors with `AllocError` if an allocation is refused.
 pub fn counters_text(alloc: Global, sums: &[u64]) -> Result<String, AllocError>
     ensures { IfOk result (λ text. string_bytes text ≡ counters_text sums.now) }
 {

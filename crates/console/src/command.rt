@@ -148,7 +148,7 @@ fn command_of<'a>(words: &[&'a str]) -> Option<Command<'a>>
     }
 }
 
-/// What a line of the console asks for, without its line feed; None where it is no command.
+/// What a line of the console asks for, without its line feed; None if it is no command.
 ///
 /// A line is a command's words with one space between them and nothing else beside them: no space
 /// before, behind or twice, no carriage return. Numbers are decimal, with neither a sign nor a
@@ -156,7 +156,7 @@ fn command_of<'a>(words: &[&'a str]) -> Option<Command<'a>>
 /// prefix whose host bits are 0, a metric from 0 to 16,777,214 (LSInfinity is 16,777,215: RFC 2328,
 /// appendix B), 1 or 2 for the type of the metric (section 2.3), and a tag of 32 bits.
 ///
-/// An error where memory was refused.
+/// Errors with `AllocError` if an allocation is refused.
 pub fn read_command<'a>(alloc: Global, line: &'a str) -> Result<Option<Command<'a>>, AllocError>
     ensures { IfOk result (λ found. MatchOption found
         ((command : Command) → LineAsks line.now command → ⊥) (LineAsks line.now)) }

@@ -21,7 +21,7 @@ use words::{Address, RouterId, Sequence};
 /// An interface as a line of a configuration says it.
 #[derive(Clone, Copy, Debug, PartialEq, Eq)]
 pub struct ConfiguredInterface {
-    /// Where it stands and how it speaks.
+    /// Its network and its parameters.
     pub interface: Interface,
     /// The UDP port of 127.0.0.1 that its packets come to.
     pub port: u16,
@@ -40,8 +40,8 @@ pub struct Configured {
 /// Why a text says no configuration. The text is the line that is printed.
 #[derive(Debug, Drop, PartialEq, Eq, Error)]
 pub enum ConfigurationError {
-    /// The first line that is wrong, counted from 1, or the one behind the last where none is wrong
-    /// but an interface is missing.
+    /// The first line that is wrong, counted from 1, or the one after the last if none is wrong but
+    /// an interface is missing.
     #[error("config refusal line {0}")]
     Line(u64),
     /// Memory was refused.
@@ -114,7 +114,8 @@ fn router_of(words: &[&str]) -> Option<RouterId>
     read_router_id(id)
 }
 
-/// What the two words behind `interface` say: the interface's number and where it stands.
+/// What the two words after `interface` say: the interface's number, and its address and prefix
+/// length.
 fn read_where(number: u64, name: &str, at: &str, place: &str) -> Option<(Address, u8)>
     ensures { MatchOption result
         ((n : Network) → n.address < 2 ^ 32 → n.length ≤ 32 → name.now ≡ codes "interface"
@@ -132,7 +133,7 @@ fn read_where(number: u64, name: &str, at: &str, place: &str) -> Option<(Address
     }
 }
 
-/// The interface that the words of a line say, where it is the one of this number.
+/// The interface that the words of a line say, if it is the one of this number.
 fn interface_of(number: u64, words: &[&str]) -> Option<ConfiguredInterface>
     ensures { MatchOption result
         ((c : ConfiguredInterface) → IsInterface c → views words.now ≢ interface_words number c)
@@ -313,7 +314,7 @@ fn lines_of<'a>(alloc: Global, text: &'a str) -> Result<Vec<&'a str>, AllocError
 /// are 1 to 65,535. There are 1 to 63 interfaces.
 ///
 /// An error names the first line that isn't like this, or is one too many, or has an address again;
-/// or the line behind the last, where an interface is missing. It is `Memory` where memory was
+/// or the line after the last, if an interface is missing. It is `Memory` if an allocation is
 /// refused.
 pub fn read_configuration(alloc: Global, text: &str) -> Result<Configured, ConfigurationError>
     ensures said { IfOk result (Says text.now) }

@@ -1,4 +1,4 @@
--- Where each instruction of the code stands in the counted code, and what counts the turns.
+-- The slot of each instruction of the code in the counted code, and what counts the turns.
 use Rattle.std.proofs.Common.{◌≡◌, ℕ, zero, suc, ◌+◌, ◌*◌, ◌^◌, ◌%◌, ◌<◌, ℤ, pos, ◌-ℤ◌, List, [], ◌∷◌, ◌++◌, length, refl, sym, ap, subst, ◌∙◌, Option, Some, None, arith, true, false, Bool, length-append, cond}
 use Rattle.std.specs.Prelude.{slice_get, position, nat_lt, ◌==◌, not, if◌then◌else◌}
 use Rattle.std.proofs.lemmas.Int.{ints}

@@ -34,7 +34,7 @@ use Rattle.machine.specs.Helpers.{state_after_call}
 use Rattle.machine.specs.Steps.{Does, Fills, result_of, on_number, test_result}
 use Rattle.annotations.specs.CountedCode.{names, is_operand, place_of}
 
--- the state of the counted code: one slot later, and so many turns and one are left
+-- the state of the counted code: one slot later, with one turn more left
 abbrev pub later : ℕ → ℕ → State → State
 later counter left s = record {
   slot = s.slot + 1;

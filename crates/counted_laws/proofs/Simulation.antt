@@ -96,7 +96,7 @@ by_order heads slot to place false e found = cc
 back_to : (heads : List ℕ) (slot to place : ℕ) → place_of heads slot (Some to) ≡ Some place → (to ≤ slot) × (position (λ head. head == to) heads ≡ Some place)
 back_to heads slot to place e = by_order heads slot to place (nat_le to slot) refl e
 
--- What the code does where the counted code goes to count a turn, or passes on.
+-- What the code does when the counted code goes to count a turn, or passes on.
 record Turned (counter left : ℕ) (heads : List ℕ) (setting : Setting) (s : State) (i : Instruction) (place at : ℕ) (label : Label) (t : State) : Type 0 where
   next : State
   does : Does i setting s label next
@@ -279,7 +279,7 @@ module _ (answer counter turns : ℕ) (heads : List ℕ) (code : List Slot) (who
         go_on next label others (most - 1) 1 (omega (arith, less, ap length is)) (ap accesses is ∙ after_one label rest others same) mine (a_turn next place back found) (omega (arith, some)) longer
         (subst (λ (n : ℕ). Leads counted_setting (later counter n next) others last) (sym fewer) leads) exits
 
-    -- where a turn is counted
+    -- when a turn is counted
     at_turn : (place : ℕ) (next : State) (label : Label) (rest : List Label) → labels ≡ label ∷ rest → s.slot < length code → next.slot ≤ s.slot
         → position (λ head. head == next.slot) heads ≡ Some place → Step code_setting s label next → 10 ≤ length next.registers
         → Leads counted_setting (counting counter (most + 1) next (detour_at (length code) place)) rest last → Exits counted_setting last word
@@ -342,7 +342,7 @@ module _ (answer counter turns : ℕ) (heads : List ℕ) (code : List Slot) (who
   simulated (suc fuel) s most labels last word enough few long leads exits =
       by_slot s most labels last word few long (λ t n rest less. simulated fuel t n rest last word (omega (arith, less, enough))) (slice_get code s.slot) refl leads exits
 
-  -- from the start, where the turns are set
+  -- from the start, which sets the turns
   pub from_start : (labels : List Label) (last : State) (word : ℕ) → Leads counted_setting start labels last → Exits counted_setting last word
       → IsRun code_setting heads start answer turns labels word
   from_start [] last word leads exits =

@@ -30,7 +30,7 @@ use Rattle.counted_laws.proofs.Frames.{later}
 pub step_by : (setting : Setting) (s next : State) (label : Label) (i : Instruction) → IsAt setting s i → Step setting s label next → Does i setting s label next
 step_by setting s next label i at step = let same : step.instruction ≡ i = cc (step.at, at) in rw same at step.does
 
--- where EXIT answers, the machine is at no other instruction
+-- if EXIT answers, the machine is at no other instruction
 pub exit_only : (setting : Setting) (s : State) (word : ℕ) (i : Instruction) → IsAt setting s i → Exits setting s word → i ≡ instructions.Exit
 exit_only setting s word i at exits = cc (exits.at, at)
 
@@ -128,7 +128,7 @@ module _ (answer counter turns : ℕ) (small : answer < 2 ^ 31) (heads : List �
           ap (λ (s : State). held s 0) h.after ∙ get_or-set_same (slice_set next.registers counter (Number 0)) 0 h.filling Nothing some ∙ filling,
         )
 
-    -- What is left of a run where a turn is counted: the answer, or the run from the head on.
+    -- What is left of a run when a turn is counted: the answer, or the run from the head on.
     abbrev Over : ℕ → List Label → ℕ → Type 0
     Over left labels word = (left ≡ 0) × (accesses labels ≡ []) × (word ≡ answer)
 

@@ -19,7 +19,7 @@ accesses [] = []
 accesses (Silent ∷ labels) = accesses labels
 accesses (label ∷ labels) = label ∷ accesses labels
 
--- A step is a turn where it leads back to a head, or to where it was.
+-- A step is a turn if it leads back to a head, or to its own slot.
 abbrev pub turns_of : Option ℕ → ℕ
 turns_of None = 0
 turns_of (Some place) = 1
@@ -27,8 +27,8 @@ turns_of (Some place) = 1
 abbrev pub turns_between : List ℕ → State → State → ℕ
 turns_between heads s next = turns_of (place_of heads s.slot (Some next.slot))
 
--- Steps with these labels, in order, lead from the one state to the other, and so many of them are
--- turns.
+-- Steps with these labels, in order, lead from the one state to the other, and the given number of
+-- them are turns.
 abbrev pub LeadsInTurns : Setting → List ℕ → State → List Label → ℕ → State → Type 0
 LeadsInTurns setting heads s [] turns end = (s ≡ end) × (turns ≡ 0)
 LeadsInTurns setting heads s (label ∷ labels) turns end =
@@ -47,7 +47,7 @@ pub record Answers (setting : Setting) (heads : List ℕ) (s : State) (most : �
   pub few : turns ≤ most
   pub same : accesses labels ≡ found
 
--- A run from the state, with these accesses, has so many turns.
+-- A run from the state, with these accesses, has the given number of turns.
 pub record Turns (setting : Setting) (heads : List ℕ) (s : State) (turns : ℕ) (found : List Label)
     : Type 0 where
   pub labels : List Label
@@ -55,7 +55,7 @@ pub record Turns (setting : Setting) (heads : List ℕ) (s : State) (turns : ℕ
   pub leads : LeadsInTurns setting heads s labels turns last
   pub same : accesses labels ≡ found
 
--- A run from the state, with the first of these accesses, comes to a slot where no instruction
+-- A run from the state, with the first of these accesses, comes to a slot at which no instruction
 -- begins.
 pub record Leaves (setting : Setting) (heads : List ℕ) (s : State) (most : ℕ) (found : List Label)
     : Type 0 where

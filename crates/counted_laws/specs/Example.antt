@@ -22,6 +22,6 @@ with_two_turns = Start (with_number Move 6 (pos 3)) ∷ Start (with_number Move 
     ∷ Start (Branch Bits64 NotEqual 6 (Immediate (pos 0)) (negsuc 3))
     ∷ Start (with_number Move 0 (pos 7)) ∷ Start Exit ∷ []
 
--- with r6, two turns, and 7 where they are used up
+-- with r6, two turns, and 7 once they are used up
 abbrev pub IsCountedSo : Type 0
 IsCountedSo = counted_code 7 6 2 (1 ∷ []) endless ≡ with_two_turns

@@ -7,8 +7,8 @@ ghost use Rattle.counted_laws.specs.Example.{IsCountedSo};
 
 /// A run of code that counts turns is a run of the given code, with the same answer and the same
 /// accesses to counters and cells, in which no more steps lead back to the loops' heads than turns
-/// are counted. Or it gives the answer that was chosen, where the given code makes one such step
-/// more than that. Or the given code comes to a slot at which none of its instructions begins.
+/// are counted. Or it gives the answer that was chosen, if the given code makes one such step more
+/// than that. Or the given code comes to a slot at which none of its instructions begins.
 pub fn runs_of_counted_code_are_runs()
     ensures { CountedRunsAreRuns }
 {}

@@ -64,7 +64,7 @@ external_not_inter Type1 prefix lsa by way e = cc
 external_not_inter Type2 prefix lsa by way e = cc
 
 module _ (topology : Topology) (converged : HasConverged topology) (premises : OwnRouterLsasMeetThePremises) (every : EveryOfferHasACandidate) (cheapest : CandidatesAreCheapestWalks) where
-  -- ---- back: where a link leads to a router, each of its networks is known at this end too
+  -- ---- back: if a link leads to a router, each of its networks is known at this end too
 
   module _ (place other : ℕ) (a b : Forwarder) (p : StandsAt topology place a) (q : StandsAt topology other b) (price exit : ℕ)
       (link : LeadsTo (says_of a.router) (root_of a.router) (ARouter a.router.id) (ARouter b.router.id) price exit) where
@@ -473,8 +473,7 @@ module _ (topology : Topology) (converged : HasConverged topology) (premises : O
 
     -- ---- the next hop 0
 
-    -- where the way is the one to the router that the LSA comes from, it has a next hop, and 0 is
-    -- none
+    -- if the way is the one to the router that the LSA comes from, it has a next hop, and 0 is none
     away_from : (place : ℕ) (a : Forwarder) (o : Offer) (s : IsSent place a o) → s.x.lsa.forwarding ≡ 0 → (i : ℕ) → IsTrue (has_interface o.hops i) → 0 < i
     away_from place a o s direct i t =
         let Has : ℕ → Type 0 = λ h. IsTrue (has_interface h i) in

@@ -1,5 +1,5 @@
--- Routes within the area among what may lead to a forwarding address, and as candidates: where
--- nothing is offered between areas, they are the same.
+-- Routes within the area among what may lead to a forwarding address, and as candidates: if nothing
+-- is offered between areas, they are the same.
 use Rattle.std.proofs.Common.{◌≡◌, ℕ, ◌<◌, ◌≤◌, ◌⊎◌, inl, inr, List, [], ◌∷◌, arith, refl, sym, ◌∙◌, ap, subst}
 use Rattle.std.specs.List.{Contains}
 use Rattle.std.proofs.lemmas.Bool.{cases_eq, cases_lt}

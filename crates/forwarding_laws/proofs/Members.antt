@@ -19,7 +19,7 @@ use Rattle.forwarding_laws.proofs.Nearer.{leads_there}
 use Rattle.forwarding_laws.specs.Premises.{HaveOwnAddresses, IsCurrent, OwnRouterLsasMeetThePremises}
 use Rattle.forwarding_laws.specs.Topologies.{Forwarder, HasConverged, IsUpToDate, StandsAt, Topology, root_of, says_of}
 
--- of one router, where its database says this
+-- of one router whose database says this
 pub record IsMember (said : Said) (f : Forwarder) : Type 0 where
   pub current : IsCurrent said f.router.id f.router.area.links
   pub candidates : AreCandidates said (root_of f.router) f.table

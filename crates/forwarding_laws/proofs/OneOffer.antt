@@ -1,5 +1,5 @@
--- The candidates of a database of router-LSAs that is given as a list of copies, where each prefix
--- has one offer.
+-- The candidates of a database of router-LSAs that is given as a list of copies, if each prefix has
+-- one offer.
 use Rattle.std.proofs.Common.{◌≡◌, ℕ, zero, suc, inl, inr, Bool, true, false, IsTrue, List, [], ◌∷◌, length, map, filter, arith, refl, sym, ◌∙◌, ap, subst}
 use Rattle.std.specs.List.{AllPairs, Contains, list_all}
 use Rattle.words.specs.Interfaces.{has_interface}

@@ -216,8 +216,8 @@ second_stub = stub (interface_at (ipv4 10 0 0 2) 24)
 abbrev pub narrow_stub : RouterLink
 narrow_stub = stub (interface_at (ipv4 192 0 2 1) 24)
 
--- databases of the three routers' LSAs, where the interface of the left one has this cost, and with
--- these links of the middle one
+-- databases of the three routers' LSAs, with this cost of the left one's interface, and these links
+-- of the middle one
 abbrev pub row_stubs : ℕ → List (ℕ × RouterLink)
 row_stubs cost = (left_id, wide_stub cost) ∷ (middle_id, first_stub) ∷ (middle_id, second_stub) ∷ (right_id, narrow_stub) ∷ []
 

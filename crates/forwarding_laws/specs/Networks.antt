@@ -84,9 +84,9 @@ pub data IsThere (topology : Topology) (address place : ℕ) : Type 0 where
   -- the router announces the address itself
   Announced : IsAnnouncedAt topology address place → IsThere topology address place
 
--- Where a router has a route for the address, whichever next hops are chosen on the way: a router
--- that hands the packet to nobody is where it goes. Since no way is longer than there are routers,
--- each packet arrives.
+-- If a router has a route for the address, whichever next hops are chosen on the way: a router that
+-- hands the packet to nobody is the one that it is sent to. Since no way is longer than there are
+-- routers, each packet arrives.
 abbrev pub PacketsArrive : Type 0
 PacketsArrive =
     (topology : Topology) → HasConverged topology → (address first : ℕ) (others : List ℕ)

@@ -42,7 +42,7 @@ StandsAt topology place forwarder = slice_get topology.routers place ≡ Some fo
 abbrev pub says_of : Router → Said
 says_of router = said_at router.moment router.area.database
 
--- where its walks begin
+-- the root of its walks
 abbrev pub root_of : Router → Root
 root_of router = root_by router.id router.area.links
 

@@ -1,7 +1,7 @@
 -- Worked topologies (RFC 2328, sections 11, 16.1 and 16.4): three routers in a row, along which a
--- packet is handed on, also past a default route; three ways in which packets do come back: where
--- two databases differ, where a link leads elsewhere than the routers know, and where interfaces of
--- a router have one address; and one in which a packet is lost: where an interface costs 0.
+-- packet is handed on, also past a default route; three ways in which packets do come back: two
+-- databases differ, a link leads elsewhere than the routers know, and interfaces of a router have
+-- one address; and one in which a packet is lost: an interface costs 0.
 use Rattle.std.specs.Prelude.{◌≢◌, ℕ, ◌&&◌, Bool, List, [], ◌∷◌, Option, Some, None, map, nat_eq}
 use Rattle.std.specs.Prelude.{if◌then◌else◌}
 use Rattle.std.specs.FinMap as finite
@@ -162,7 +162,7 @@ pub record WorkedTopology : Type 0 where
   pub handed_along : IsHandedAlong in_a_row address (0 ∷ 1 ∷ 2 ∷ [])
   pub is_there : IsThere in_a_row address 2
 
--- ---- the same routers, where the middle one announces a default route of metric 20
+-- ---- the same routers; the middle one announces a default route of metric 20
 
 abbrev pub default_prefix : Network
 default_prefix = record { address = 0; length = 0 }
@@ -207,7 +207,7 @@ pub record DefaultRoutesAreNoEnd : Type 0 where
   pub tells : TellsOf (says_of default_middle.router) middle_id address default_prefix
   pub handed_along : IsHandedAlong around_a_default address (0 ∷ 1 ∷ 2 ∷ [])
 
--- ---- the same routers, where the second interface of the middle one is joined to the left one
+-- ---- the same routers; the second interface of the middle one is joined to the left one
 
 abbrev pub crossed_row : Topology
 crossed_row = record in_a_row { across = across_row 0 }
@@ -219,8 +219,8 @@ pub record CrossedLinksMayLoop : Type 0 where
   pub agree : SayTheSame crossed_row
   pub comes_back : IsHandedAlong crossed_row address (0 ∷ 1 ∷ 0 ∷ [])
 
--- ---- the left and the middle router, where the middle one has begun anew, and hasn't met the
--- right one yet
+-- ---- the left and the middle router; the middle one has begun anew, and hasn't met the right one
+-- yet
 
 abbrev pub anew_links : List Link
 anew_links =
@@ -247,7 +247,7 @@ pub record DifferingDatabasesMayLoop : Type 0 where
   pub joined : AreJoined differing
   pub comes_back : IsHandedAlong differing address (0 ∷ 1 ∷ 0 ∷ [])
 
--- ---- the same routers in their row, where both interfaces of the middle one have one address
+-- ---- the same routers in their row; both interfaces of the middle one have one address
 
 abbrev pub equal_links : List Link
 equal_links =
@@ -286,7 +286,7 @@ pub record EqualAddressesMayLoop : Type 0 where
   pub joined : AreJoined with_equal_addresses
   pub comes_back : IsHandedAlong with_equal_addresses address (0 ∷ 1 ∷ 0 ∷ [])
 
--- ---- the same routers in their row, where the interface of the left one costs 0
+-- ---- the same routers in their row; the interface of the left one costs 0
 
 abbrev pub zero_links : List Link
 zero_links =
@@ -336,7 +336,7 @@ address_abroad = ipv4 203 0 113 5
 
 -- the middle router sends the packet to the left one, toward the forwarding address; that one has
 -- no way to the right router, so no route for the packet, though the forwarding address lies in its
--- own network: it hands the packet to nobody, and isn't where it goes
+-- own network: it hands the packet to nobody, and isn't the one that it is sent to
 pub record ZeroCostsMayLosePackets : Type 0 where
   -- of the left router, all but that its interface costs at least 1
   pub is_current : IsCurrentForwarder zero_left

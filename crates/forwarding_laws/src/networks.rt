@@ -1,8 +1,7 @@
-//! Laws of networks of routers, each carried by a function that does nothing (RFC 2328, sections
-//! 11 and 16): where the databases of all routers say the same, no packet comes to a router twice,
-//! and it arrives. They speak of routers as the rules of events have them, with the routing tables
-//! that a router answers. Worked topologies show that the laws speak of something, and where they
-//! end.
+//! Laws of networks of routers, each carried by a function that does nothing (RFC 2328, sections 11
+//! and 16): while the databases of all routers say the same, no packet comes to a router twice, and
+//! it arrives. They speak of routers as the rules of events have them, with the routing tables that
+//! a router answers. Worked topologies show that the laws speak of something, and where they end.
 ghost use Rattle.forwarding_laws.specs.Networks.{EachHopLeadsOn, PacketsArrive};
 ghost use Rattle.forwarding_laws.specs.Networks.{RoutersForwardWithoutLoops};
 ghost use Rattle.forwarding_laws.specs.WorkedTopologies.{CrossedLinksMayLoop, DefaultRoutesAreNoEnd};
@@ -62,30 +61,29 @@ pub fn default_routes_are_no_end()
     ensures { DefaultRoutesAreNoEnd }
 {}
 
-/// Links that lead elsewhere are outside of the laws: where an interface is joined to another
-/// router than the neighbor that is Full on it, a packet comes back.
+/// Links that lead elsewhere are outside of the laws: if an interface is joined to another router
+/// than the neighbor that is Full on it, a packet comes back.
 pub fn crossed_links_may_loop()
     ensures { CrossedLinksMayLoop }
 {}
 
-/// Databases that differ are outside of the laws: where the middle router has begun anew, and
-/// doesn't know the right one yet, a packet goes back and forth between two routers.
+/// Databases that differ are outside of the laws: if the middle router has begun anew, and doesn't
+/// know the right one yet, a packet goes back and forth between two routers.
 pub fn differing_databases_may_loop()
     ensures { DifferingDatabasesMayLoop }
 {}
 
-/// Interfaces of one router with one address are outside of the laws: where the middle router has
-/// two, each of its links leaves by both, and by one of them a packet comes back. No router takes
-/// such a configuration.
+/// Interfaces of one router with one address are outside of the laws: if the middle router has two,
+/// each of its links leaves by both, and by one of them a packet comes back. No router takes such a
+/// configuration.
 pub fn equal_addresses_may_loop()
     ensures { EqualAddressesMayLoop }
 {}
 
-/// Interfaces of cost 0 are outside of the laws: where that of the left router costs 0, the router
-/// has no way to the others, though they have one to it. So it has no route to a destination that
-/// the right router announces with a forwarding address in the left one's network, and a packet
-/// that the middle one sends it is lost. No router takes such a configuration (RFC 2328, appendix
-/// C.3).
+/// Interfaces of cost 0 are outside of the laws: if that of the left router costs 0, the router has
+/// no way to the others, though they have one to it. So it has no route to a destination that the
+/// right router announces with a forwarding address in the left one's network, and a packet that
+/// the middle one sends it is lost. No router takes such a configuration (RFC 2328, appendix C.3).
 pub fn zero_costs_may_lose_packets()
     ensures { ZeroCostsMayLosePackets }
 {

@@ -2,7 +2,7 @@
 //! function with an empty body (RFC 2328, section 12.4.1).
 ghost use Rattle.forwarding_laws.specs.Premises.{OwnRouterLsasMeetThePremises};
 
-/// Where a router's database says its current router-LSA, that names its interfaces, and each link
+/// If a router's database says its current router-LSA, that names its interfaces, and each link
 /// that counts leads to the Full neighbor on the interface that it leaves by. So each next hop of
 /// its routes, of any kind, is such an interface, or 0.
 pub fn own_router_lsas_meet_the_premises()

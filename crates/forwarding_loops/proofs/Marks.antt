@@ -17,7 +17,7 @@ before_both : (hops : List Hop) (place k : Place) (ahead behind old new : List B
 before_both hops place k ahead behind old new complete (inl kept) = inl kept
 before_both hops place k ahead behind old new complete (inr both) = inr (both.0, complete k (turned_to both.1))
 
--- what both lists mark, where the second one is of the hops the other way
+-- what both lists mark, the second one being of the hops the other way
 pub between : (hops : List Hop) (place : Place) (ahead behind old new : List Bool) → AreReached (map reversed_hop hops) place behind → ((e : Place) → Walk (map reversed_hop hops) place e → IsMarked behind e) → ((k : Place) → IsBoth ahead behind old new k) → MarksBetween hops place ahead old new
 between hops place ahead behind old new sound complete both = λ k. (
   λ marked. after_both hops place k ahead behind old new sound ((both k).0 marked),
@@ -52,7 +52,7 @@ marks_none hops place ahead old sound whole complete off = record {
   marked = λ loop. let on = complete place loop in absurd (cc);
 }
 
--- where all loops by the router before a hop are marked, that one is, too
+-- if all loops by the router before a hop are marked, that one is, too
 pub before_from_at : (hops : List Hop) (costs : List ℕ) (hop : Hop) (old new : List Bool) → MarksLoopsAt hops hop.from old new → MarksLoopsBefore hops costs hop old new
 before_from_at hops costs hop old new at = record {
   sound = at.sound;
@@ -61,7 +61,7 @@ before_from_at hops costs hop old new at = record {
   marked = λ rises loop. at.marked loop;
 }
 
--- where the router before a hop needs no mark, nothing changes
+-- if the router before a hop needs no mark, nothing changes
 pub before_none : (hops : List Hop) (costs : List ℕ) (hop : Hop) (old : List Bool) → GoesRoundOnly hops old → HoldsWholeLoops hops old → IsMarkedBefore hops costs old hop → MarksLoopsBefore hops costs hop old old
 before_none hops costs hop old sound whole before = record {
   sound = sound;

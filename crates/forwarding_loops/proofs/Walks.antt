@@ -38,7 +38,7 @@ pub turned_to : {hops : List Hop} {start : Place} {end : Place} → Walk hops st
 turned_to {hops} (OneHop hop) = OneHop (hands_turned hops _ _ hop)
 turned_to {hops} (OneMore walk hop) = join (OneHop (hands_turned hops _ _ hop)) (turned_to walk)
 
--- where each hop is passed on, all that a packet may come to is marked
+-- if each hop is passed on, all that a packet may come to is marked
 pub all_marked : (hops : List Hop) (start : Place) (marks : List Bool) → All (IsPassedOn start marks) hops → {end : Place} → Walk hops start end → IsMarked marks end
 all_marked hops start marks passed (OneHop hop) = All-contains (IsPassedOn start marks) hops _ passed hop (inl refl)
 all_marked hops start marks passed (OneMore walk hop) = All-contains (IsPassedOn start marks) hops _ passed hop (inr (all_marked hops start marks passed walk))

@@ -8,7 +8,7 @@ use Rattle.forwarding_loops.specs.declared.hop.Hop.{Hop}
 abbrev pub Place : Type 0
 Place = ℕ
 
--- the hop leads from and to one of so many routers
+-- the hop leads from and to one of the given number of routers
 abbrev pub IsAmong : ℕ → Hop → Type 0
 IsAmong routers hop = (hop.from < routers) × (hop.to < routers)
 
@@ -22,19 +22,19 @@ pub data Walk (hops : List Hop) (start : Place) : Place → Type 0 where
   OneMore : {place end : Place} → Walk hops start place → HandsTo hops place end
       → Walk hops start end
 
--- a packet may come back to the router where it starts: the router lies on a loop
+-- a packet may come back to the router that it starts at: the router lies on a loop
 abbrev pub ComesBack : List Hop → Place → Type 0
 ComesBack hops place = Walk hops place place
 
 abbrev pub IsMarked : List Bool → Place → Type 0
 IsMarked marks place = slice_index_or marks place false ≡ true
 
--- of so many routers, exactly those on a loop are marked
+-- of the given number of routers, exactly those on a loop are marked
 pub record AreLoops (hops : List Hop) (routers : ℕ) (marks : List Bool) : Type 0 where
   pub count : length marks ≡ routers
   pub exact : (place : Place) → place < routers → IsMarked marks place ↔ ComesBack hops place
 
--- so many of the routers lie on a loop
+-- the given number of the routers lie on a loop
 abbrev pub IsCountOfLoops : List Hop → ℕ → ℕ → Type 0
 IsCountOfLoops hops routers count =
     (marks : List Bool) × AreLoops hops routers marks × (count ≡ count_by (λ b. b) marks)
@@ -45,7 +45,7 @@ IsCountOfLoops hops routers count =
 abbrev pub AreReached : List Hop → Place → List Bool → Type 0
 AreReached hops start marks = (place : Place) → IsMarked marks place → Walk hops start place
 
--- where the hop leads out of the start or a marked router, its end is marked
+-- if the hop leads out of the start or a marked router, its end is marked
 abbrev pub IsPassedOn : Place → List Bool → Hop → Type 0
 IsPassedOn start marks hop =
     (hop.from ≡ start) ⊎ IsMarked marks hop.from → IsMarked marks hop.to
@@ -59,7 +59,7 @@ pub record PassesOn (start : Place) (hop : Hop) (old new : List Bool) : Type 0 w
   pub before : slice_index_or old hop.to false ≡ false
   pub after : new ≡ slice_set old hop.to true
 
--- what holds behind so many of the hops, of which some were passed on or none
+-- what holds after the given number of hops, of which some were passed on or none
 pub record IsSpread (hops : List Hop) (start : Place) (old marks : List Bool) (some : Bool)
     (count : ℕ) : Type 0 where
   pub sound : AreReached hops start marks
@@ -96,7 +96,7 @@ pub record MarksLoopsAt (hops : List Hop) (place : Place) (old new : List Bool) 
   pub kept : (k : Place) → IsMarked old k → IsMarked new k
   pub marked : ComesBack hops place → IsMarked new place
 
--- where the costs don't fall along the hop, the router before it is marked if it lies on a loop
+-- unless the costs fall along the hop, the router before it is marked if it lies on a loop
 abbrev pub IsMarkedBefore : List Hop → List ℕ → List Bool → Hop → Type 0
 IsMarkedBefore hops costs marks hop =
     slice_index_or costs hop.from 0 ≤ slice_index_or costs hop.to 0

@@ -2,8 +2,8 @@
 //! hop of its own.
 //!
 //! A hop leads from one router to another. A packet that starts at a router may take any hop there,
-//! and again where it then is. A router lies on a loop exactly where some such walk comes back to
-//! it. The hops may be those that the ways of all routers to one prefix make over the links between
+//! and again at the next one. A router lies on a loop exactly if some such walk comes back to it.
+//! The hops may be those that the ways of all routers to one prefix make over the links between
 //! them.
 #![tactic(auto)]
 

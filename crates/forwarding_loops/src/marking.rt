@@ -85,7 +85,7 @@ fn mark_loops_before(
     mark_loops_at(alloc, hops, hop.from, marks)
 }
 
-// Marks the routers of all loops, where none is marked.
+// Marks the routers of all loops, given that none is marked.
 fn mark_all(
     alloc: Global,
     hops: &[Hop],
@@ -106,8 +106,8 @@ fn mark_all(
 
 /// Marks the routers that lie on a loop, of as many as there are costs.
 ///
-/// Each router's cost is that of its route. Where the costs fall along each hop there is no loop,
-/// and nothing else is looked at: a loop has a hop along which they don't. Any costs give the same
+/// Each router's cost is that of its route. If the costs fall along each hop, there is no loop, and
+/// nothing else is looked at: a loop has a hop along which they don't. Any costs give the same
 /// marks.
 ///
 /// # Errors

@@ -1,4 +1,4 @@
-//! Where a packet may come to from a router, and from where one may come to it.
+//! The routers to which a packet may come from a router, and those from which one may come to it.
 ghost use Rattle.std.specs.Prelude.{◌≡◌, ℕ, IfOk, length, map, true, false};
 ghost use Rattle.std.specs.List.{All};
 ghost use Rattle.forwarding_loops.specs.Loops.{AreReached, IsAmong, IsMarked, IsPassedOn, IsSpread};
@@ -7,8 +7,8 @@ ghost use Rattle.forwarding_loops.specs.Loops.{PassesOn, Walk, reversed_hop};
 use crate::hop::Hop;
 use std::alloc::{AllocError, Global};
 
-// Marks the end of the hop, if it leads out of the start or a router that is marked. Tells whether
-// it was marked anew.
+// Marks the end of the hop, if it leads out of the start or a router that is marked. Returns
+// whether that mark is new.
 fn pass_on(hop: Hop, start: usize, marks: &mut [bool]) -> bool
     requires { IsAmong (length marks.old) hop }
     ensures passes { result ≡ true → PassesOn start hop marks.old marks.new }
@@ -25,8 +25,8 @@ fn pass_on(hop: Hop, start: usize, marks: &mut [bool]) -> bool
     true
 }
 
-// Marks the ends of hops that lead out of the start or a router that is marked. Tells whether any
-// was marked anew.
+// Marks the ends of hops that lead out of the start or a router that is marked. Returns whether any
+// mark is new.
 fn spread(hops: &[Hop], start: usize, marks: &mut [bool]) -> bool
     requires within { All (IsAmong (length marks.old)) hops.now }
     requires sound { AreReached hops.now start marks.old }
@@ -51,7 +51,7 @@ fn spread_all(hops: &[Hop], start: usize, marks: &mut [bool])
     while spread(hops, start, marks) {}
 }
 
-/// Of so many routers, marks those that a packet may come to from the start.
+/// Of `count` routers, marks those that a packet may come to from the start.
 ///
 /// # Errors
 /// Where memory for the marks is refused.

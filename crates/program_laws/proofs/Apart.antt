@@ -114,7 +114,7 @@ module _ (key : Key) where
   pub flooding_alike : (moment : Moment) (lsa : Lsa) (n : Neighbor) → AreAlike (flooding moment false lsa n) (flooding moment false lsa (without n))
   flooding_alike moment lsa n = alike_by (is_exchange_or_later n.state) (passes moment lsa (request_of n lsa)) (meets moment lsa (request_of n lsa)) moment lsa n
 
-  -- ---- the LSA of the key itself, where nobody is asked for it
+  -- ---- the LSA of the key itself, if nobody is asked for it
 
   none_of : (b : Bool) (o : Option ListEntry) → o ≡ None → cond b o None ≡ None
   none_of true o is = is

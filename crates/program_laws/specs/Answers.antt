@@ -13,12 +13,12 @@ use Rattle.program_laws.specs.Seats.{IsLawfulList}
 
 -- The program that the operations leave at the hook decides, and nothing else.
 pub record AnswersAreOfWhatStands : Type 0 where
-  -- where they leave none, the answer is the default, and the seat made no access
+  -- if they leave none, the answer is the default, and the seat made no access
   pub default : (before now : List Operation) (old new : SeatView) (hook : Hook) (input : Given)
       (word : ℕ) → IsAnswered before now old new input word → IsOfHook hook input
       → leaves hook now ≡ None
       → (word ≡ default_of hook input) × (new.accesses ≡ old.accesses)
-  -- where they leave one, the answer is the word of a run of it, and the seat made its accesses
+  -- if they leave one, the answer is the word of a run of it, and the seat made its accesses
   pub program : (before now : List Operation) (old new : SeatView) (hook : Hook) (input : Given)
       (word : ℕ) (program : Program) → IsAnswered before now old new input word
       → IsOfHook hook input → leaves hook now ≡ Some program

@@ -15,9 +15,8 @@ use Rattle.transfer.specs.declared.rule.Rule.TheVariants as rules
 use Rattle.segments.specs.Refusals.{IsFirst, MayRefuse}
 use Rattle.verifier.specs.Examples.{then_exit, says, seven, test_on}
 
--- Of a sound program: want of memory at slot 0, and at its slots a rule of which only the domain
--- can tell whether it is broken; none on jumps, statements, the code's end, helpers, the bound and
--- r10.
+-- Of a sound program: `Memory` at slot 0, and at its slots a rule of which only the domain can tell
+-- if it is broken; none on jumps, statements, the code's end, helpers, the bound and r10.
 abbrev pub IsOfSound : (slots : ℕ) → ℕ → Rule → Type 0
 IsOfSound slots slot rules.Target = ⊥
 IsOfSound slots slot rules.FallsOff = ⊥
@@ -29,7 +28,7 @@ IsOfSound slots slot rules.Frame = ⊥
 IsOfSound slots slot rules.Memory = slot ≡ 0
 IsOfSound slots slot other = slot < slots
 
--- `if r0 == 0 goto`, so many slots behind the next one
+-- `if r0 == 0 goto`, the given number of slots after the next one
 abbrev pub test_by : ℕ → Instruction
 test_by distance = Branch Bits64 Equal 0 (Immediate (pos 0)) (pos distance)
 
@@ -94,16 +93,15 @@ open_code = Start seven ∷ []
 abbrev pub cut_code : List Slot
 cut_code = Start Exit ∷ Start Exit ∷ []
 
--- The rules on jumps, statements and the code's end have an order: where a slot breaks the one on
--- targets, none of the three behind it counts there; where it breaks that on the end, neither of
--- the two; where it can't be reached, not the last. No rule on registers counts at any of these
--- slots.
+-- The rules on jumps, statements and the code's end have an order: if a slot breaks the one on
+-- targets, none of the three after it counts there; if it breaks that on the end, neither of the
+-- two; if it can't be reached, not the last. No rule on registers counts at any of these slots.
 pub record RulesCountInTheirOrder : Type 0 where
   pub astray_ends : IsFirst astray_code [] 1 rules.FallsOff → ⊥
   pub astray_unreached : IsFirst astray_code [] 1 rules.Unreached → ⊥
   pub astray_unstated : IsFirst astray_code [] 1 rules.Unstated → ⊥
   pub astray_kind : IsFirst astray_code [] 1 rules.Kind → ⊥
-  -- and where the rule on targets alone is broken
+  -- and if the rule on targets alone is broken
   pub stated_kind : IsFirst astray_code astray_statements 1 rules.Kind → ⊥
   pub open_unreached : IsFirst open_code [] 0 rules.Unreached → ⊥
   pub open_unstated : IsFirst open_code [] 0 rules.Unstated → ⊥

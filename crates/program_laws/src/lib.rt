@@ -31,9 +31,9 @@ pub fn seats_grow()
     ensures { SeatsGrow }
 {}
 
-/// An answer is that of the program that the operations leave at the hook, or the default where
-/// they leave none; the seat made just the accesses of that run, and none without a program; what
-/// was known is still known, and what the seat was told still so.
+/// An answer is that of the program that the operations leave at the hook, or the default if they
+/// leave none; the seat made just the accesses of that run, and none without a program; what was
+/// known is still known, and what the seat was told still so.
 pub fn answers_are_of_what_stands()
     ensures { AnswersAreOfWhatStands }
 {}
@@ -43,20 +43,19 @@ pub fn sound_code_is_not_named()
     ensures { SoundCodeIsNotNamed }
 {}
 
-/// No helper that there is is told as missing, and the bound is told only where it is passed, at
-/// slot 0.
+/// No helper that exists is told as missing, and the bound is told only if it is passed, at slot 0.
 pub fn helpers_and_bound_are_named_aptly()
     ensures { HelpersAndBoundAreNamedAptly }
 {}
 
-/// Where a slot breaks one of the rules on jumps, statements and the code's end, none behind it
-/// counts there, and none at a later slot.
+/// If a slot breaks one of the rules on jumps, statements and the code's end, none after it counts
+/// there, and none at a later slot.
 pub fn later_rules_dont_count()
     ensures { LaterRulesDontCount }
 {}
 
 /// The rules on jumps, statements and the code's end count in this order at a slot: targets, the
-/// end, what can't be reached, what isn't stated; no other rule counts where one of them is broken.
+/// end, what can't be reached, what isn't stated; no other rule counts if one of them is broken.
 pub fn rules_count_in_their_order()
     ensures { RulesCountInTheirOrder }
 {}

@@ -44,10 +44,10 @@ pub fn answers_reach_one_destination()
     ensures { AnswersReachOneDestination }
 {}
 
-/// What follows from such an answer, over whole runs: where an operator asks for the same and
-/// programs answer the same but about one destination, the router announces the same of every other
-/// one, and wants to say the same in each of its other AS-external-LSAs, however long after, and
-/// whatever packets come in, at whatever moments, in the one run and in the other.
+/// What follows from such an answer, over whole runs: if an operator asks for the same and programs
+/// answer the same but about one destination, the router announces the same of every other one, and
+/// wants to say the same in each of its other AS-external-LSAs, however long after, and whatever
+/// packets come in, at whatever moments, in the one run and in the other.
 pub fn other_announcements_stay_the_same()
     ensures { OtherAnnouncementsStayTheSame }
 {}

@@ -29,7 +29,7 @@ use Rattle.routes.specs.Said.{Said, said_at}
 use Rattle.routes.specs.Routes.{IsBefore}
 use Rattle.route_laws.proofs.NoSummaries.{nothing_between}
 
--- ---- walks that don't leave a set of routers, where there are no networks
+-- ---- walks that don't leave a set of routers, without networks
 
 abbrev has_no_exit : List ℕ → ℕ → Bool
 has_no_exit [] address = true

@@ -32,8 +32,8 @@ TablesAreDetermined =
     (said : Said) (root : Root) (answers : Answers) (left right : List Route)
     → IsTable said root answers left → IsTable said root answers right → left ≡ right
 
--- the table has a route exactly where it is among the candidates and is let in, so it has none
--- before the first answers
+-- the table has a route exactly if it is among the candidates and is let in, so it has none before
+-- the first answers
 pub record TablesArePartsOfCandidates : Type 0 where
   pub part : (said : Said) (root : Root) (answers : Answers) (routes table : List Route)
       → AreCandidates said root routes → IsTable said root answers table

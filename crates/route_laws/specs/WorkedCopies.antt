@@ -42,7 +42,7 @@ pub record WorkedCopies : Type 0 where
   -- it was sent
   pub was_sent : (b : Body) → IsLeftThen (Some (copy b (pos 4) 10 90))
       (Some (record (copy b (pos 4) 10 90) { sent = Some 105 }))
-  -- it is refreshed: a new instance says the same, also where the old one had come near to MaxAge
+  -- it is refreshed: a new instance says the same, also if the old one had come near to MaxAge
   pub refreshed : (b : Body)
       → IsLeftThen (Some (copy b (pos 4) 1800 90)) (Some (copy b (pos 5) 0 105))
   pub refreshed_late : (b : Body)
@@ -102,7 +102,7 @@ pub record WorkedTypes : Type 0 where
   pub before : (b : Body) → SayTheSame (Some 2) silent (saying 1 b) → ⊥
   pub last : (b : Body) → SayTheSame (Some 2) silent (saying 2 b) → ⊥
   pub behind : (b : Body) → SayTheSame (Some 2) silent (saying 3 b)
-  -- where there is no last one all count
+  -- if there is no last one, all count
   pub every : (b : Body) → SayTheSame None silent (saying 5 b) → ⊥
   -- what they say counts, and that one leaves
   pub other : (b c : Body) → b ≢ c → SayTheSame (Some 2) (saying 2 b) (saying 2 c) → ⊥

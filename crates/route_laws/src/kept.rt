@@ -8,8 +8,8 @@ pub fn worked_copies()
     ensures { WorkedCopies }
 {}
 
-/// Of which types LSAs count: of those up to the last type, this one too, and of all types where
-/// there is no last one.
+/// Of which types LSAs count: of those up to the last type, this one too, and of all types if there
+/// is no last one.
 pub fn worked_types()
     ensures { WorkedTypes }
 {}

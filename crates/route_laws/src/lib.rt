@@ -41,7 +41,7 @@ pub fn answers_to_all_are_not_stale()
 {}
 
 /// A stub network of metric 10 behind two neighbors, all links of cost 5: one route of cost 20 by
-/// both interfaces, in the table where the answer of it is 0, and not where it is 1.
+/// both interfaces, in the table if the answer for it is 0, and not if it is 1.
 pub fn worked_square()
     ensures { WorkedSquare }
 {}
@@ -52,9 +52,8 @@ pub fn worked_two_routers()
     ensures { WorkedTwoRouters }
 {}
 
-/// The candidates where the other router announces external destinations of both types, by itself
-/// or by a forwarding address, and where other external LSAs offer nothing (RFC 2328, section
-/// 16.4).
+/// The candidates if the other router announces external destinations of both types, by itself or
+/// by a forwarding address, while other external LSAs offer nothing (RFC 2328, section 16.4).
 pub fn worked_externals()
     ensures { WorkedExternals }
 {}
@@ -66,8 +65,8 @@ pub fn worked_transit()
     ensures { WorkedTransit }
 {}
 
-/// The candidates where other routers are named by links that don't count: of metric 0, by no
-/// address of the router's own, virtual, or without one back (RFC 2328, section 16.1).
+/// The candidates if other routers are named by links that don't count: of metric 0, by no address
+/// of the router's own, virtual, or without one back (RFC 2328, section 16.1).
 pub fn worked_uncounted()
     ensures { WorkedUncounted }
 {}
@@ -80,10 +79,10 @@ pub fn worked_offers()
     ensures { WorkedOffers }
 {}
 
-/// The candidates where neighbors tell of a network and of AS boundary routers in other areas, as
-/// area border routers and as none: a boundary router within the area is reached there, though it
-/// is told of as nearer, and one that two neighbors tell of by the nearer way (RFC 2328, sections
-/// 16.2 and 16.4).
+/// The candidates if neighbors tell of a network and of AS boundary routers in other areas, as area
+/// border routers and as none: a boundary router within the area is reached there, though it is
+/// told of as nearer, and one that two neighbors tell of by the nearer way (RFC 2328, sections 16.2
+/// and 16.4).
 pub fn worked_summaries()
     ensures { WorkedSummaries }
 {}

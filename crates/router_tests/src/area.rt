@@ -57,7 +57,7 @@ pub fn moment() -> Second {
     Second::new(1000)
 }
 
-/// So many seconds after every LSA came in.
+/// The seconds since every LSA came in.
 pub fn later(seconds: u64) -> Second {
     Second::new(moment().count().saturating_add(seconds))
 }

@@ -63,8 +63,8 @@ fn are_its_links(
     Ok(Some(have_same_links(&made.vertices, &graph.vertices)))
 }
 
-// Whether the graph of two routers followed this LSA to what the database holds then; None where it
-// is to be made anew.
+// Whether the graph of two routers followed this LSA to what the database holds then; None if it is
+// to be made anew.
 fn followed(alloc: Global, db: &mut Lsdb, root: &Root, text: &[u8]) -> Result<Option<bool>, Fail> {
     install_all(alloc, db, TWO)?;
     let lsa = loaded(alloc, text)?;
@@ -75,8 +75,8 @@ fn followed(alloc: Global, db: &mut Lsdb, root: &Root, text: &[u8]) -> Result<Op
     are_its_links(alloc, db, root, &next)
 }
 
-// A name; a router's LSA with one link to the first router; whether the graph of two routers follows
-// it.
+// A name; a router's LSA with one link to the first router; whether the graph of two routers
+// follows it.
 const CHANGES: &[(&str, &[u8], Option<bool>)] = &[
     (
         "the other router's link costs something else",

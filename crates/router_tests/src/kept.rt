@@ -104,7 +104,7 @@ fn links_said(db: &Lsdb, seconds: u64) -> Option<usize> {
     }
 }
 
-// Does the step; false where LSAs say the same and were expected not to, or the other way round.
+// Does the step; false if LSAs say the same and were expected not to, or the other way round.
 fn took(alloc: Global, db: &mut Lsdb, step: Step) -> Result<bool, Fail> {
     match step {
         Step::Install(text) => install_each(alloc, db, &[text]),
@@ -227,7 +227,7 @@ fn serves_again(alloc: Global, db: &Lsdb, root: &Root, anew: &[Route]) -> Result
     serves(alloc, db, root, &mut kept, anew)
 }
 
-// The same where the first walk has been made.
+// The same once the first walk has been made.
 fn serves(
     alloc: Global,
     db: &Lsdb,

@@ -98,7 +98,7 @@ enum Seen {
     AnswersTwice(State, Sent, Sent),
     // One of this sequence number begins an attempt.
     Begins(u32),
-    // In Loading, the one Request has so many keys; of 0, none is sent.
+    // In Loading, the one Request has this many keys; of 0, none is sent.
     Asks(usize),
     // So many LSAs are sent.
     Sends(State, usize),

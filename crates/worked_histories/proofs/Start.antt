@@ -144,7 +144,7 @@ pub old : (id address : ℕ) → is_aged_out 3600 (copy id address) ≡ true
 unfolding sealed_lsa
 old id address = refl
 
--- so it stays in the database at first, and not then, where nobody owes an acknowledgment of it
+-- so it stays in the database at first, and not then, since nobody owes an acknowledgment of it
 pub stays_young : (id address : ℕ) (links : List Link) → stays 0 (record { links = links; database = database id address }) (lsa_key (lsa id address)) ≡ true
 stays_young id address links =
     ap (stays_as 0 (any_has_retransmission (lsa_key (lsa id address)) links)) (found_there id address)
