@@ -1,4 +1,4 @@
--- What stood at a key before all edits.
+-- The value of a key before all edits.
 use Rattle.std.proofs.Common.{◌≡◌, ℕ, zero, suc, ◌+◌, ◌<◌, ◌⊎◌, inl, inr, Bool, true, false, cond, List, [], ◌∷◌, ◌++◌, length, Some, None, refl, sym, ap, subst, ◌∙◌, arith}
 use Rattle.std.specs.Prelude.{Option, slice_get, IsSome, IsTrue, not, ◌↔◌}
 use Rattle.std.specs.BTreeMap.{is_at}
@@ -30,7 +30,7 @@ itself k = ap is_eq (tied_itself keys_total k)
 pub another : (q k : Key) → eq_by_cmp key_cmp q k ≡ false → k ≡ q → ⊥
 another q k other is = let both : true ≡ false = sym (itself q) ∙ ap (eq_by_cmp key_cmp q) (sym is) ∙ other in cc
 
--- what is the first and is the same, or isn't the first, is kept
+-- an edit that is the first and the same, or isn't the first, is kept
 pub kept_or_later : (same first : Bool) (S F : Type 0) → same ≡ false → IsTrue same ↔ S → IsTrue first ↔ F → (IsTrue (not first) → F → S) × ((F → S) → IsTrue (not first))
 kept_or_later same true S F differs s f = (
   (λ t. absurd cc),
@@ -47,23 +47,23 @@ module _ {X : Type 0} where
   held_same (Some Gone) = refl
   held_same (Some (Holds x)) = refl
 
-  -- what held a value held it in its slot
+  -- a value that was held was held in its slot
   pub holds_is : (o : Option (Slot X)) (x : X) → Some x ≡ held_before o → Some (Holds x) ≡ o
   holds_is None x is = absurd cc
   holds_is (Some Gone) x is = absurd cc
   holds_is (Some (Holds y)) x is = cc
 
-  -- nothing stands at a key that lies past the greatest
+  -- a key past the greatest has no value
   pub not_there : (o : Option (Slot X)) (b : Bool) → (IsSome o → b ≡ false) → b ≡ true → is_some (held_in o) ≡ false
   not_there None b f t = refl
   not_there (Some s) b f t = absurd (let no : true ≡ false = sym t ∙ f refl in cc)
 
-  -- nor at a key without a slot
+  -- nor has a key without a slot
   pub none_there : (es : List (Key × Slot X)) (q : Key) → (0 < length es → ⊥) → is_some (held_in (lookup (is_at (key_cmp q)) es)) ≡ false
   none_there [] q empty = refl
   none_there (e ∷ es) q empty = absurd (empty (omega arith))
 
-  -- whether the key was there
+  -- whether the key was held
   pub was_there : (m : ByKey (Slot X)) (q : Key) (before : Option (Slot X)) → before ≡ map.get m q → is_some (held_before before) ≡ map.contains_key (live m) q
   was_there m q before is = ap is_some (sym (held_same before) ∙ ap held_in is ∙ sym (get-live m q))
 
@@ -71,13 +71,13 @@ module _ {X : Type 0} where
   get-put_back k None m q = map.get-remove keys_total m k q
   get-put_back k (Some s) m q = map.get-insert keys_total m k s q
 
-  -- there is an edit at each place
+  -- there is an edit at each index
   pub found_at : (es : List (Edit X)) (n : ℕ) → n < length es → (e : Edit X) × (slice_get es n ≡ Some e)
   found_at [] n low = absurd (omega (arith, low))
   found_at (e ∷ es) zero low = (e, refl)
   found_at (e ∷ es) (suc n) low = found_at es n (omega (arith, low))
 
-  -- before the first edit of the key it stood there
+  -- the slot of the key before its first edit
   pub record StoodAt (es : List (Edit X)) (q : Key) (before : Option (Slot X)) : Type 0 where
     pub edit : Edit X
     pub place : ℕ
@@ -108,8 +108,7 @@ module _ {X : Type 0} where
     is = s.is;
   }
 
-  -- what stood there before all edits stands there now, or stood there before the first edit of the
-  -- key
+  -- the slot before all edits is the present one, or the one before the first edit of the key
   pub before_edits : (es : List (Edit X)) (m : ByKey (Slot X)) (q : Key)
       → (map.get (undone es m) q ≡ map.get m q) ⊎ StoodAt es q (map.get (undone es m) q)
   before_edits [] m q = inl refl
@@ -132,7 +131,7 @@ module _ {X : Type 0} where
             | inr stood ↦ inr (subst (StoodAt (e ∷ es) q) (sym at) (later e es q (map.get (undone es m) q) (another q e.key tied) stood))
           ]
 
-  -- the first edit of a key tells what stood there before all edits
+  -- the first edit of a key has its slot before all edits
   pub first_found : (es : List (Edit X)) (m : ByKey (Slot X)) (place : ℕ) (edit : Edit X) → slice_get es place ≡ Some edit → IsFirst es place edit.key
       → map.get (undone es m) edit.key ≡ edit.before
   first_found [] m place edit at first = absurd cc
@@ -150,7 +149,7 @@ module _ {X : Type 0} where
   abbrev pub Keeps : (Key → Option X → Option X → Type 0) → ByKey X → Edit X → Type 0
   Keeps S now e = S e.key (held_before e.before) (map.get now e.key)
 
-  -- each edit, among the given number of first ones, that is the first of its key
+  -- each of the first `n` edits that is the first of its key
   abbrev pub AllKeep : (Key → Option X → Option X → Type 0) → ByKey X → List (Edit X) → ℕ → Type 0
   AllKeep S now es n = (place : ℕ) (e : Edit X) → place < n → slice_get es place ≡ Some e → IsFirst es place e.key → Keeps S now e
 
@@ -178,7 +177,7 @@ module _ {X : Type 0} where
               subst (λ o. S q o (map.get (live m) q)) was (subst P stood.its one)
         ]
 
-  -- if all is kept, so is what the first edit of a key found
+  -- if all keys keep their values, so does the key of a first edit
   pub first_kept : (S : Key → Option X → Option X → Type 0) (es : List (Edit X)) (m : ByKey (Slot X)) (place : ℕ) (edit : Edit X) → slice_get es place ≡ Some edit
       → IsFirst es place edit.key → ((q : Key) → S q (map.get (live (undone es m)) q) (map.get (live m) q)) → Keeps S (live m) edit
   first_kept S es m place edit at first all =
@@ -186,14 +185,14 @@ module _ {X : Type 0} where
       get-live (undone es m) edit.key ∙ ap held_in (first_found es m place edit at first) ∙ held_same edit.before in
       subst (λ o. S edit.key o (map.get (live m) edit.key)) was (all edit.key)
 
-  -- what the first edit of a key found is what was settled
+  -- the slot in the first edit of a key is the settled one
   pub first_settled : (es : List (Edit X)) (m : ByKey (Slot X)) (place : ℕ) (edit : Edit X) (q : Key) → slice_get es place ≡ Some edit
       → edit.key ≡ q → IsFirst es place q → held_before edit.before ≡ map.get (live (undone es m)) q
   first_settled es m place edit q at its first =
       let found = first_found es m place edit at (subst (IsFirst es place) (sym its) first) in
       sym (get-live (undone es m) edit.key ∙ ap held_in found ∙ held_same edit.before) ∙ ap (map.get (live (undone es m))) its
 
-  -- what stands at a key without an edit is what was settled
+  -- the value of a key without an edit is the settled one
   pub unedited : (es : List (Edit X)) (m : ByKey (Slot X)) (q : Key) → IsFirst es (length es) q → map.get (live m) q ≡ map.get (live (undone es m)) q
   unedited es m q none =
       elim (before_edits es m q) [
@@ -201,26 +200,26 @@ module _ {X : Type 0} where
         | inr stood ↦ absurd (none stood.place stood.edit (slice_get_within es stood.place stood.edit stood.at) stood.at stood.its)
       ]
 
-  -- the same, but for the keys of a list
+  -- the same, except for the keys of a list
   abbrev pub Outside : List Key → (Key → Option X → Option X → Type 0) → Key → Option X → Option X → Type 0
   Outside keys S key before now = (Contains keys key → ⊥) → S key before now
 
-  -- at a key, the same as at this one
+  -- the same for one key
   abbrev pub JustAt : Key → (Key → Option X → Option X → Type 0) → Key → Option X → Option X → Type 0
   JustAt q S key before now = key ≡ q → S key before now
 
-  -- each of these keys holds something else
+  -- each of these keys has another value
   abbrev pub Differ : (Key → Option X → Option X → Type 0) → ByKey X → ByKey X → List Key → Type 0
   Differ S settled present keys =
       (key : Key) → Contains keys key → S key (map.get settled key) (map.get present key) → ⊥
 
-  -- more keys leave fewer to be kept
+  -- more keys in the list leave fewer to be kept
   pub still_outside : (S : Key → Option X → Option X → Type 0) (now : ByKey X) (es : List (Edit X)) (n : ℕ) (keys more : List Key)
       → AllKeep (Outside keys S) now es n → AllKeep (Outside (keys ++ more) S) now es n
   still_outside S now es n keys more all place e low at first none =
       all place e low at first (λ t. none (Contains-append_left keys more e.key t))
 
-  -- one more key that holds something else
+  -- one more key that has another value
   pub one_differs : (S : Key → Option X → Option X → Type 0) (settled present : ByKey X) (keys : List Key) (q : Key)
       → Differ S settled present keys → (S q (map.get settled q) (map.get present q) → ⊥) → Differ S settled present (keys ++ q ∷ [])
   one_differs S settled present keys q all one key t =
@@ -229,7 +228,7 @@ module _ {X : Type 0} where
         | inr is ↦ let P : Key → Type 0 = λ k. S k (map.get settled k) (map.get present k) → ⊥ in subst P is one
       ]
 
-  -- if a key holds the same, so does what its first edit found
+  -- if a key has the same value, so has its first edit
   pub kept_there : (S : Key → Option X → Option X → Type 0) (es : List (Edit X)) (m : ByKey (Slot X)) (place : ℕ) (edit : Edit X) → slice_get es place ≡ Some edit
       → IsFirst es place edit.key → S edit.key (map.get (live (undone es m)) edit.key) (map.get (live m) edit.key) → Keeps S (live m) edit
   kept_there S es m place edit at first same =

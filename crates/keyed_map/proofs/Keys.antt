@@ -1,4 +1,4 @@
--- The order of keys is total, and tells all keys apart.
+-- The order of keys is total, and distinguishes all keys.
 use Rattle.std.specs.Ordering.{nat_cmp}
 use Rattle.std.specs.Cmp.{IsTotalOrder, nat_cmp_total}
 use Rattle.std.specs.FinMap as finite

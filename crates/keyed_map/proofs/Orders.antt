@@ -1,4 +1,4 @@
--- Slots in the order of their keys: what is live keeps the order.
+-- Slots in the order of their keys: the live entries keep the order.
 use Rattle.std.proofs.Common.{Ordering, cond, Some, None, ◌≡◌, ℕ, zero, suc, ◌≤◌, arith, length, take, Bool, true, false, T, List, [], ◌∷◌, ◌++◌, map, ◌&&◌, refl, sym, ap, subst, ◌∙◌}
 use Rattle.std.specs.List.{AllByRecursion, filter}
 use Rattle.std.specs.List.Sorted.{IsStrictlySortedBy}
@@ -79,7 +79,7 @@ module _ {X : Type 0} where
   kept_held ((k, Gone) ∷ es) = kept_held es
   kept_held ((k, Holds x) ∷ es) = ap (λ fs. (k, x) ∷ fs) (kept_held es)
 
-  -- the slots of keys that are gone may be left out
+  -- empty slots may be left out
   pub live_held : (es fs : List (Key × Slot X)) → IsStrictlySortedBy key_cmp (keys_of es) → IsStrictlySortedBy key_cmp (keys_of fs) → fs ≡ filter (λ e. holds e.1) es
       → live (slots_of fs) ≡ live (slots_of es)
   live_held es fs ordered still is =
@@ -98,7 +98,7 @@ module _ {X : Type 0} where
   pub len_live : (es : List (Key × Slot X)) → IsStrictlySortedBy key_cmp (keys_of es) → finite.len (live (slots_of es)) ≤ length es
   len_live es ordered = omega (arith, finite.len-entries (live (slots_of es)), ap length (live_entries es ordered), length-kept es)
 
-  -- one more slot was seen
+  -- one more slot was visited
   abbrev pub key_in : Key × Slot X → List Key
   key_in (k, Gone) = []
   key_in (k, Holds x) = k ∷ []
@@ -115,7 +115,7 @@ module _ {X : Type 0} where
   from_holds true k x es = refl
   from_holds false k x es = refl
 
-  -- what is kept from a key on
+  -- the live entries from a key on
   pub kept_from : (key : Key) (es : List (Key × Slot X)) → map (λ e. e.0) (kept (entries_between key_cmp (Included key) Unbounded es)) ≡ keys_from key (map (λ e. e.0) (kept es))
   kept_from key [] = refl
   kept_from key ((k, Gone) ∷ es) = from_gone (is_le (key_cmp key k)) k (entries_between key_cmp (Included key) Unbounded es) ∙ kept_from key es

@@ -1,4 +1,4 @@
--- What stands in the slots, after an edit and after it is taken back.
+-- The slots after an edit, and after it is undone.
 use Rattle.std.proofs.Common.{◌≡◌, Bool, true, false, cond, T, List, [], ◌∷◌, ◌++◌, Some, None, IsSome, ◌&&◌, refl, sym, ap, subst, ◌∙◌}
 use Rattle.std.specs.Prelude.{Option}
 use Rattle.std.specs.declared.cmp.Ordering.{Ordering}
@@ -105,7 +105,7 @@ module _ {X : Type 0} where
   unfolding slots_of
   slots-empty es is = ap map.from_entries is
 
-  -- to take out what is not there changes nothing
+  -- removing an absent key changes nothing
   pub absent : (m : ByKey X) (k : Key) → map.get m k ≡ None → m ≡ map.remove m k
   absent m k is = same _ _ (λ q. missing q (eq_by_cmp key_cmp q k) refl ∙ sym (map.get-remove keys_total m k q))
     where
@@ -113,7 +113,7 @@ module _ {X : Type 0} where
       missing q true tied = ap (map.get m) (keys_exact q k (equal _ tied)) ∙ is
       missing q false tied = refl
 
-  -- what stands there already is put there
+  -- setting a slot to its value changes nothing
   pub same_again : (m : ByKey (Slot X)) (k : Key) (s : Slot X) → map.get m k ≡ Some s → map.insert m k s ≡ m
   same_again m k s is = same _ _ (λ q. map.get-insert keys_total m k s q ∙ stands q (eq_by_cmp key_cmp q k) refl)
     where
@@ -121,7 +121,7 @@ module _ {X : Type 0} where
       stands q true tied = sym is ∙ ap (map.get m) (sym (keys_exact q k (equal _ tied)))
       stands q false tied = refl
 
-  -- what stood at the key is put back
+  -- the slot of the key is restored
   pub put_back_is : (m : ByKey (Slot X)) (k : Key) (s : Slot X) (before : Option (Slot X)) → before ≡ map.get m k → put_back k before (map.insert m k s) ≡ m
   put_back_is m k s None is = same _ _ (λ q. map.get-remove keys_total _ k q ∙ ap (cond (eq_by_cmp key_cmp q k) None) (map.get-insert keys_total m k s q) ∙ settled_at q (eq_by_cmp key_cmp q k) refl)
     where
@@ -146,7 +146,7 @@ module _ {X : Type 0} where
   AllFit-push [] e m n is fits all = (fits, tt)
   AllFit-push (d ∷ ds) e m n is fits all = (subst (Fits d) (sym (undone-push ds e m n is)) all.0, AllFit-push ds e m n is fits all.1)
 
-  -- the last edit is taken back
+  -- the last edit is undone
   pub popped : (es : List (Edit X)) (e : Edit X) (n : ByKey (Slot X)) → AllFit (es ++ e ∷ []) n → Fits e n × AllFit es (undo e n)
   popped [] e n all = (all.0, tt)
   popped (d ∷ ds) e n all =

@@ -1,4 +1,4 @@
--- A map by LSA key, and what it was when it was last settled.
+-- A map by LSA key, and its state when it was last settled.
 use Rattle.std.specs.Prelude.{refl}
 use Rattle.std.specs.Coded.{Coded, code_by, coded×}
 use Rattle.std.specs.FinMap as map

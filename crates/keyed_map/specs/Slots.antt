@@ -1,4 +1,4 @@
--- A map of slots, of which some are gone, and edits of it with what takes them back.
+-- A map of slots, some of them empty, and the edits that can be undone.
 use Rattle.std.specs.Prelude.{◌≡◌, ℕ, ◌+◌, ◌-◌, Bool, true, false, if◌then◌else◌}
 use Rattle.std.specs.Prelude.{List, [], ◌∷◌, Option, Some, None, IsSome}
 use Rattle.std.specs.Prelude.{map as each}
@@ -12,7 +12,7 @@ use Rattle.keyed_map.specs.declared.slot.Edit.{Edit}
 use Rattle.keyed_map.specs.Keys.{ByKey, key_cmp}
 
 module _ {X : Type 0} where
-  -- the entries that aren't gone
+  -- the entries whose slots aren't empty
   abbrev pub kept : List (Key × Slot X) → List (Key × X)
   kept [] = []
   kept ((k, Gone) ∷ es) = kept es
@@ -24,11 +24,11 @@ module _ {X : Type 0} where
   unfoldable pub slots_of : List (Key × Slot X) → ByKey (Slot X)
   slots_of es = map.from_entries es
 
-  -- the map without what is gone
+  -- the map without its empty slots
   unfoldable pub live : ByKey (Slot X) → ByKey X
   live m = map.from_entries (kept (map.entries m))
 
-  -- a value, or none, is put at a key
+  -- the map with this slot's value at a key, or without the key if the slot is empty
   abbrev pub put_live : ByKey X → Key → Slot X → ByKey X
   put_live m k Gone = map.remove m k
   put_live m k (Holds x) = map.insert m k x
@@ -40,7 +40,7 @@ module _ {X : Type 0} where
   abbrev pub undo : Edit X → ByKey (Slot X) → ByKey (Slot X)
   undo e m = put_back e.key e.before m
 
-  -- what is put back has its place
+  -- a slot that an undo fills exists
   abbrev pub HasPlace : Key → Option (Slot X) → ByKey (Slot X) → Type 0
   HasPlace k None m = Unit {0}
   HasPlace k (Some slot) m = IsSome (map.get m k)
@@ -61,13 +61,12 @@ module _ {X : Type 0} where
   holds Gone = false
   holds (Holds x) = true
 
-  -- the edits can be taken back, and the two numbers are those of the keys now and before the edits
+  -- the edits can be undone, and the two numbers count the keys now and before the edits
   abbrev pub IsKept : List (Edit X) → ByKey (Slot X) → ℕ → ℕ → Type 0
   IsKept es m len settled =
       AllFit es m × (len ≡ map.len (live m)) × (settled ≡ map.len (live (undone es m)))
 
--- how many keys there are after a key was set or taken out, by whether it was held before and is
--- now
+-- the number of keys after one was set or removed, by whether it was held before and is now
 abbrev pub count_after_change : Bool → Bool → ℕ → ℕ
 count_after_change held true n = if held then n else n + 1
 count_after_change held false n = if held then n - 1 else n

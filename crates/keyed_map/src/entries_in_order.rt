@@ -1,10 +1,10 @@
-//! The entries of a map, one after the other.
+//! An iterator over the entries of a map.
 use crate::slot::Slot;
 use std::collections::btree_map;
 use std::marker::Model;
 use words::Key;
 
-/// The entries that are still to come, in the order of their keys. It wants no memory.
+/// The remaining entries, in the order of their keys. It doesn't allocate.
 #[derive(Drop)]
 pub struct EntriesInOrder<'a, X> {
     pub(crate) slots: btree_map::Iter<'a, Key, Slot<X>>,

@@ -1,10 +1,10 @@
-//! The keys of a map, one after the other.
+//! An iterator over the keys of a map.
 use crate::slot::Slot;
 use std::collections::btree_map;
 use std::marker::Model;
 use words::Key;
 
-/// The keys that are still to come, in their order. It wants no memory.
+/// The remaining keys, in their order. It doesn't allocate.
 #[derive(Drop)]
 pub struct KeysInOrder<'a, X> {
     pub(crate) slots: btree_map::Iter<'a, Key, Slot<X>>,

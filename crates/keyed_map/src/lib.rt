@@ -1,5 +1,5 @@
-//! Maps by LSA key whose edits since they were last settled can be taken back, without memory and
-//! at the cost of the edits.
+//! Maps by LSA key whose edits since they were last settled can be undone without allocating, in
+//! time proportional to the number of edits.
 #![tactic(auto)]
 
 mod entries_in_order;

@@ -20,14 +20,14 @@ use std::marker::Model;
 use std::mem::replace;
 use words::Key;
 
-/// A map by LSA key, which remembers what it was when it was last settled.
+/// A map by LSA key, which can be rolled back to its state when it was last settled.
 #[derive(Drop)]
 pub struct KeyedMap<X> {
     slots: BTreeMap<Key, Slot<X>>,
     edits: Vec<Edit<X>>,
-    // no fewer than the slots of keys that are gone: only time rests on it
+    // at least the number of empty slots; only speed depends on it
     gone: usize,
-    // how many keys there are, and how many there were when it was last settled
+    // the number of keys, now and when the map was last settled
     len: usize,
     settled_len: usize,
 }
@@ -49,8 +49,7 @@ impl<X> Model for KeyedMap<X> {
     ghost invariant = { λ a. IsKept a.edits.items (slots_of a.slots.entries) a.len a.settled_len };
 }
 
-// The key once more: a `Copy` struct with a field that has a model counts as moved when it
-// is used.
+// A copy of the key: a `Copy` struct with a field that has a model counts as moved when it is used.
 fn same(key: &Key) -> Key
     ensures { result ≡ key.now }
 {
@@ -66,7 +65,8 @@ fn holds<X>(slot: &Slot<X>) -> bool
     }
 }
 
-// How many keys there are, once one that was held or not was set: there are no more than slots.
+// The number of keys after one was set that was held before or not. There are no more keys than
+// slots, so that this doesn't overflow.
 fn count<X>(slots: &BTreeMap<Key, Slot<X>>, len: usize, held: bool) -> usize
     requires { map.len (live (slots_of slots.now.entries)) ≡ count_after_change held true len }
     ensures { result ≡ map.len (live (slots_of slots.now.entries)) }
@@ -75,7 +75,7 @@ fn count<X>(slots: &BTreeMap<Key, Slot<X>>, len: usize, held: bool) -> usize
     if held { len } else { len + 1 }
 }
 
-// Takes one edit back. It needs no memory.
+// Undoes one edit. It doesn't allocate.
 fn take_back<X: Drop>(slots: &mut BTreeMap<Key, Slot<X>>, edit: Edit<X>)
     requires { Fits edit (slots_of slots.old.entries) }
     ensures { slots_of slots.new.entries ≡ undo edit (slots_of slots.old.entries) }
@@ -92,7 +92,7 @@ fn take_back<X: Drop>(slots: &mut BTreeMap<Key, Slot<X>>, edit: Edit<X>)
     }
 }
 
-// Puts a value at a key.
+// Sets the value of a key.
 fn put_value<X: Drop>(slots: &mut BTreeMap<Key, Slot<X>>, key: Key, x: X) -> Result<(), AllocError>
     ensures { OnOk result (live (slots_of slots.new.entries)
         ≡ map.insert (live (slots_of slots.old.entries)) key x) }
@@ -117,7 +117,7 @@ fn take_out<X: Drop>(slots: &mut BTreeMap<Key, Slot<X>>, key: &Key) -> Option<X>
     }
 }
 
-// Forgets the keys that are gone; `len` others are there. It takes no memory.
+// Removes the empty slots; the other slots are those of `len` keys. It doesn't allocate.
 fn forget_gone<X: Drop>(slots: &mut BTreeMap<Key, Slot<X>>, len: usize)
     requires { len ≡ map.len (live (slots_of slots.old.entries)) }
     ensures { live (slots_of slots.new.entries) ≡ live (slots_of slots.old.entries) }
@@ -129,7 +129,7 @@ fn forget_gone<X: Drop>(slots: &mut BTreeMap<Key, Slot<X>>, len: usize)
     }
 }
 
-// What stood there before an edit.
+// The value before an edit.
 fn held_before<X>(before: &Option<Slot<X>>) -> Option<&X>
     ensures { option_copied result ≡ held_before before.now }
 {
@@ -140,7 +140,7 @@ fn held_before<X>(before: &Option<Slot<X>>) -> Option<&X>
     }
 }
 
-// Whether anything stood there before an edit.
+// Whether there was a value before an edit.
 fn held<X>(before: &Option<Slot<X>>) -> bool
     ensures { result ≡ is_some (held_before before.now) }
 {
@@ -151,7 +151,7 @@ fn held<X>(before: &Option<Slot<X>>) -> bool
     }
 }
 
-// Whether none of the edits before this place was of the key.
+// Whether none of the edits before this index was of the key.
 fn is_first<X>(edits: &[Edit<X>], place: usize, key: &Key) -> bool
     requires { place ≤ length edits.now }
     ensures { IsTrue result ↔ IsFirst edits.now place key.now }
@@ -164,13 +164,13 @@ fn is_first<X>(edits: &[Edit<X>], place: usize, key: &Key) -> bool
     true
 }
 
-/// A value that can be copied if there is memory.
+/// A value that can be copied unless an allocation is refused.
 pub trait Copied: Drop + Sized {
     fn copy(&self, alloc: Global) -> Result<Self, AllocError>
         ensures { IfOk result (λ made. made ≡ self.now) };
 }
 
-/// A test of a key and of what stands there.
+/// A test of a key and its value.
 pub trait KeyTest<X> {
     ghost use Rattle.std.specs.Prelude.{Bool};
     ghost use Rattle.words.specs.declared.key.Key.{Key};
@@ -181,7 +181,7 @@ pub trait KeyTest<X> {
         ensures { result ≡ accepts self.now key.now x.now };
 }
 
-/// A test of what stood at a key and of what stands there now.
+/// A comparison of a key's earlier and present value.
 pub trait ChangeTest<X> {
     ghost use Rattle.std.specs.Prelude.{Option, IfOk, IsTrue, ◌↔◌, ◌≡◌, false, true};
     ghost use Rattle.words.specs.declared.key.Key.{Key};
@@ -190,19 +190,19 @@ pub trait ChangeTest<X> {
 
     ghost counted: { Self → Key → Type 0 };
 
-    /// Whether the key counts. At one that doesn't both are the same whatever they are, and
-    /// are not looked up.
+    /// Whether the key counts. For a key that doesn't, both are the same whatever they are, and are
+    /// not looked up.
     ///
     /// # Errors
-    /// If memory to find out is refused.
+    /// `AllocError` if an allocation is refused.
     fn counts(&self, alloc: Global, key: &Key) -> Result<bool, AllocError>
         ensures { IfOk result (λ counts. (counts ≡ true → counted self.now key.now)
             × (counts ≡ false → (before now : Option X) → same self.now key.now before now)) };
 
-    /// Compares both at a key that counts.
+    /// Compares both values of a key that counts.
     ///
     /// # Errors
-    /// If memory to compare both is refused.
+    /// `AllocError` if an allocation is refused.
     fn is_same(
         &self,
         alloc: Global,
@@ -215,7 +215,7 @@ pub trait ChangeTest<X> {
             ↔ same self.now key.now (option_copied before.entry) (option_copied now.entry)) };
 }
 
-// Whether the key of the edit at this place holds the same now as before the edit, or the edit
+// Whether the key of the edit at this index has the same value now as before the edit, or the edit
 // isn't the first of its key.
 fn is_kept<X, T: ChangeTest<X>>(
     alloc: Global,
@@ -238,7 +238,10 @@ fn is_kept<X, T: ChangeTest<X>>(
 }
 
 impl<X: Copied> KeyedMap<X> {
-    /// The same map, with nothing to be taken back.
+    /// A copy of the map, settled.
+    ///
+    /// # Errors
+    /// `AllocError` if an allocation is refused.
     pub fn copy(&self, alloc: Global) -> Result<Self, AllocError>
         ensures present { IfOk result (λ made. made.present ≡ self.now.present) }
         ensures settled { IfOk result (λ made. made.settled ≡ made.present) }
@@ -260,7 +263,10 @@ impl<X: Copied> KeyedMap<X> {
 }
 
 impl<X: Copy + Drop> KeyedMap<X> {
-    /// The same map of `Copy` values, with nothing to be taken back.
+    /// A copy of a map of `Copy` values, settled.
+    ///
+    /// # Errors
+    /// `AllocError` if an allocation is refused.
     pub fn copied(&self, alloc: Global) -> Result<Self, AllocError>
         ensures present { IfOk result (λ made. made.present ≡ self.now.present) }
         ensures settled { IfOk result (λ made. made.settled ≡ made.present) }
@@ -282,7 +288,7 @@ impl<X: Copy + Drop> KeyedMap<X> {
 }
 
 impl<X: Drop> KeyedMap<X> {
-    /// An empty map. It wants no memory.
+    /// An empty map. It doesn't allocate.
     pub fn new(alloc: Global) -> Self
         ensures { result ≡ record { present = map.empty; settled = map.empty } }
     {
@@ -295,21 +301,21 @@ impl<X: Drop> KeyedMap<X> {
         }
     }
 
-    /// How many keys there are.
+    /// The number of keys.
     pub fn len(&self) -> usize
         ensures { result ≡ map.len self.now.present }
     {
         self.len
     }
 
-    /// Whether there is no key.
+    /// Whether the map is empty.
     pub fn is_empty(&self) -> bool
         ensures { result ≡ (map.len self.now.present == 0) }
     {
         self.len == 0
     }
 
-    /// The value of a key, if the key is there.
+    /// The value of a key, if the map has it.
     pub fn get(&self, key: &Key) -> Option<&X>
         ensures { option_copied result ≡ map.get self.now.present key.now }
     {
@@ -320,8 +326,8 @@ impl<X: Drop> KeyedMap<X> {
         }
     }
 
-    /// The value that a key had when the map was last settled, if the key was there. It looks at
-    /// the edits since.
+    /// The value that a key had when the map was last settled, if the map had it. It scans the
+    /// edits since then.
     pub fn settled_get(&self, key: &Key) -> Option<&X>
         ensures { option_copied result ≡ map.get self.now.settled key.now }
     {
@@ -335,8 +341,8 @@ impl<X: Drop> KeyedMap<X> {
         self.get(key)
     }
 
-    /// Tells that the key comes after all that are there. It looks at the last place alone, which a
-    /// key that left may hold still, so it may say no of such a key.
+    /// Whether the key is certainly greater than all keys of the map. It compares the key with the
+    /// last slot only, which may be empty, so that `false` says nothing.
     pub fn is_beyond(&self, key: &Key) -> bool
         ensures { IsTrue result → map.contains_key self.now.present key.now ≡ false }
     {
@@ -346,7 +352,7 @@ impl<X: Drop> KeyedMap<X> {
         }
     }
 
-    /// Whether the key is there.
+    /// Whether the map has the key.
     pub fn contains(&self, key: &Key) -> bool
         ensures { result ≡ map.contains_key self.now.present key.now }
     {
@@ -374,7 +380,10 @@ impl<X: Drop> KeyedMap<X> {
         }
     }
 
-    /// The first `count` keys, in their order.
+    /// The first `count` keys, in their order, or all if there are fewer.
+    ///
+    /// # Errors
+    /// `AllocError` if an allocation is refused.
     pub fn first(&self, alloc: Global, count: usize) -> Result<Vec<Key>, AllocError>
         ensures { IfOk result (λ keys. keys.items ≡ take count (map.keys self.now.present)) }
     {
@@ -390,7 +399,10 @@ impl<X: Drop> KeyedMap<X> {
         Ok(keys)
     }
 
-    /// The first `count` keys from a key on, in their order.
+    /// The first `count` keys from a key on, in their order, or all if there are fewer.
+    ///
+    /// # Errors
+    /// `AllocError` if an allocation is refused.
     pub fn first_from(&self, alloc: Global, key: &Key, count: usize) -> Result<Vec<Key>, AllocError>
         ensures { IfOk result (λ keys. keys.items
             ≡ take count (keys_from key.now (map.keys self.now.present))) }
@@ -407,7 +419,7 @@ impl<X: Drop> KeyedMap<X> {
         Ok(keys)
     }
 
-    /// The first key from a key on, if there is one.
+    /// The least key that is equal to or greater than a key, if there is one.
     pub fn next_from(&self, key: &Key) -> Option<Key>
         ensures { result ≡ slice_get (keys_from key.now (map.keys self.now.present)) 0 }
     {
@@ -419,7 +431,10 @@ impl<X: Drop> KeyedMap<X> {
         None
     }
 
-    /// The keys that pass a test, in their order. It looks at each.
+    /// The keys that pass a test, in their order. It visits every key.
+    ///
+    /// # Errors
+    /// `AllocError` if an allocation is refused.
     pub fn keys_where<T: KeyTest<X>>(&self, alloc: Global, test: &T) -> Result<Vec<Key>, AllocError>
         ensures { IfOk result (λ keys. keys.items ≡ keys_where (T.accepts test.now)
             (map.entries self.now.present)) }
@@ -436,8 +451,8 @@ impl<X: Drop> KeyedMap<X> {
         Ok(keys)
     }
 
-    // Whether the key of the edit at this place doesn't count, or holds the same now as before the
-    // edit, or the edit isn't the first of its key.
+    // Whether the key of the edit at this index doesn't count, or has the same value now as before
+    // the edit, or the edit isn't the first of its key.
     fn keeps_at<T: ChangeTest<X>>(
         &self,
         alloc: Global,
@@ -459,11 +474,11 @@ impl<X: Drop> KeyedMap<X> {
         is_kept(alloc, test, edits, place, now)
     }
 
-    /// Whether each key holds the same, by the test, as when the map was last settled. It
-    /// looks at the keys that were edited since. The first edit of a key tells what it held then.
+    /// Whether each key has the same value, by the test, as when the map was last settled. It
+    /// visits the keys that were edited since. The first edit of a key has its value then.
     ///
     /// # Errors
-    /// If the test was refused memory.
+    /// `AllocError` if the test is refused an allocation.
     pub fn keeps<T: ChangeTest<X>>(&self, alloc: Global, test: &T) -> Result<bool, AllocError>
         requires { (key : KeyValue) (o : Option X) → T.same test.now key o o }
         ensures { IfOk result (λ keeps. IsTrue keeps ↔ ((key : KeyValue)
@@ -478,11 +493,11 @@ impl<X: Drop> KeyedMap<X> {
         Ok(true)
     }
 
-    /// The keys that hold something else, by the test, than when the map was last settled. It looks
-    /// at the keys that were edited since.
+    /// The keys that have another value, by the test, than when the map was last settled. It visits
+    /// the keys that were edited since.
     ///
     /// # Errors
-    /// If memory for the keys, or to compare what they hold, is refused.
+    /// `AllocError` if an allocation is refused.
     pub fn changed_keys<T: ChangeTest<X>>(
         &self,
         alloc: Global,
@@ -507,6 +522,9 @@ impl<X: Drop> KeyedMap<X> {
     }
 
     /// Sets the value of a key.
+    ///
+    /// # Errors
+    /// `AllocError` if an allocation is refused; the map keeps its values.
     pub fn insert(&mut self, key: Key, x: X) -> Result<(), AllocError>
         ensures ok { OnOk result (self.new.present ≡ map.insert self.old.present key x) }
         ensures settled { self.new.settled ≡ self.old.settled }
@@ -521,7 +539,10 @@ impl<X: Drop> KeyedMap<X> {
         Ok(())
     }
 
-    /// Takes a key out, if it is there.
+    /// Removes a key, if the map has it.
+    ///
+    /// # Errors
+    /// `AllocError` if an allocation is refused; the map keeps its values.
     pub fn remove(&mut self, key: &Key) -> Result<(), AllocError>
         ensures ok { OnOk result (self.new.present ≡ map.remove self.old.present key.now) }
         ensures settled { self.new.settled ≡ self.old.settled }
@@ -552,7 +573,7 @@ impl<X: Drop> KeyedMap<X> {
         }
     }
 
-    /// Takes all edits back that were made since it was last settled.
+    /// Undoes all edits since the map was last settled.
     pub fn roll_back(&mut self)
         ensures { self.new ≡ record { present = self.old.settled; settled = self.old.settled } }
     {

@@ -1,4 +1,4 @@
--- What the types keep of a body and what is shown of it make it a body that can be written.
+-- What a body's types ensure and what is proved of it make it a body that can be written.
 use Rattle.std.specs.List.{AllByRecursion}
 use Rattle.words.proofs.Each.{each_both}
 use Rattle.lsa.specs.declared.body.Link.{Link}

@@ -1,6 +1,6 @@
--- What a body of a Rust value keeps by the types of its fields, and what they don't keep: a field
--- of one, two or three bytes may lie in a wider type, and a list may be longer than its count can
--- say. Together they are `IsBody`.
+-- What the field types of a body in Rust ensure, and what they don't: a field of one, two or three
+-- bytes may have a wider type, and a list may be longer than its count can say. Together they are
+-- `IsBody`.
 use Rattle.std.specs.Prelude.{ℕ, ◌<◌, ◌^◌, length}
 use Rattle.std.specs.List.{AllByRecursion}
 use Rattle.lsa.specs.declared.body.Link.{Link}
@@ -13,7 +13,7 @@ use Rattle.lsa.specs.declared.body.Body.{Body}
 use Rattle.lsa.specs.declared.body.Body.TheVariants as body
 use Rattle.lsa.specs.Text.{IsLinkTos, IsNetworkLsa}
 
--- ---- kept by the types
+-- ---- ensured by the types
 
 pub record LinkIsTyped (l : Link) : Type 0 where
   pub link_id : l.link_id < 2 ^ 32
@@ -50,7 +50,7 @@ BodyIsTyped (body.NetworkSummary s) = SummaryIsTyped s
 BodyIsTyped (body.RouterSummary s) = SummaryIsTyped s
 BodyIsTyped (body.External e) = ExternalIsTyped e
 
--- ---- left to show
+-- ---- left to prove
 
 abbrev pub LinkFits : Link → Type 0
 LinkFits l = length l.tos < 2 ^ 8

@@ -1,4 +1,4 @@
-//! LSAs as values whose text is right.
+//! LSAs whose encoding is valid.
 ghost use Rattle.std.specs.Prelude.{◌≡◌, ◌≢◌, ◌≤◌, ◌⊎◌, ◌++◌, length, IfOk, OnOk};
 ghost use Rattle.lsa.specs.Text.{IsBody, LsaText, Parts, body_text, reserved_sequence};
 ghost use Rattle.words.specs.Constants.{max_age};
@@ -17,8 +17,8 @@ use crate::writing::{put_body, type_of};
 use std::alloc::{AllocError, Global};
 use std::marker::Model;
 
-/// A link state advertisement: its header and what it says. Its text is an LSA's, with a checksum
-/// that holds. Clauses see the record of both.
+/// A link state advertisement: its header and its body. Its encoding is valid, and its checksum is
+/// correct. Clauses see the record of both.
 #[derive(Debug, Drop)]
 pub struct Lsa {
     header: Header,
@@ -36,8 +36,11 @@ impl Model for Lsa {
 }
 
 impl Lsa {
-    /// An LSA to be originated: the header's type, length and checksum are set as the body has
-    /// them, whatever they were, the check bytes from 1 to 255.
+    /// An LSA to be originated: the header's type, length and checksum are computed from the body,
+    /// whatever they were, with check bytes from 1 to 255.
+    ///
+    /// # Errors
+    /// `AllocError` if an allocation is refused.
     pub fn new(alloc: Global, header: Header, body: Body) -> Result<Self, AllocError>
         requires age { header.age ≤ max_age }
         requires sequence { header.sequence ≢ reserved_sequence }
@@ -63,7 +66,7 @@ impl Lsa {
         Ok(Lsa { header, body })
     }
 
-    /// The same instance at another age, in seconds: its checksum doesn't cover the age.
+    /// Sets the age of this instance, in seconds. The checksum doesn't cover the age.
     pub fn set_age(&mut self, age: u16)
         requires { age ≤ max_age }
         ensures { self.new ≡ with_age age self.old }
@@ -71,15 +74,17 @@ impl Lsa {
         self.header.age = age;
     }
 
-    /// Says that its age is at most 3600 (MaxAge), as the type keeps it. It does nothing when the
-    /// program runs.
+    /// A lemma for proofs: the age is at most 3600 (MaxAge). It does nothing at run time.
     pub fn check_age(&self)
         ensures { self.now.header.age ≤ max_age }
     {
         let _header = &self.header;
     }
 
-    /// The same LSA once more.
+    /// A copy of the LSA.
+    ///
+    /// # Errors
+    /// `AllocError` if an allocation is refused.
     pub fn copy(&self) -> Result<Self, AllocError>
         ensures { IfOk result (λ copy. copy ≡ self.now) }
     {
@@ -90,22 +95,24 @@ impl Lsa {
         })
     }
 
-    /// What it begins with.
+    /// The LSA's header.
     pub fn header(&self) -> Header
         ensures { result ≡ self.now.header }
     {
         self.header
     }
 
-    /// Puts the text of what it says behind these bytes. The only error is that an allocation was
-    /// refused.
+    /// Appends the bytes of the body.
+    ///
+    /// # Errors
+    /// `AllocError` if an allocation is refused.
     pub fn put_body(&self, out: &mut Vec<u8>) -> Result<(), AllocError>
         ensures { OnOk result (out.new.items ≡ out.old.items ++ body_text self.now.body) }
     {
         put_body(out, &self.body)
     }
 
-    /// What it says.
+    /// The LSA's body.
     pub fn body(&self) -> &Body
         ensures { result.now ≡ self.now.body }
     {
@@ -125,14 +132,14 @@ fn outcome(alloc: Global, bytes: &[u8]) -> Result<Lsa, ReadError>
     Ok(Lsa { header, body })
 }
 
-/// The LSA whose text the bytes are: all of them, from its age to the last byte of its body.
+/// Parses an LSA from all of the bytes, from its age to the last byte of its body.
 pub fn read(alloc: Global, bytes: &[u8]) -> Result<Lsa, ReadError>
-    // What is read has these bytes as its text.
+    // The bytes encode the LSA that is returned.
     ensures found { IfOk result (λ lsa. LsaText bytes.now lsa) }
-    // The text of an LSA is read as that LSA, unless memory runs out.
+    // The bytes of an LSA are parsed as that LSA, unless an allocation is refused.
     ensures only { (lsa : Parts) → LsaText bytes.now lsa → result ≡ Ok lsa
         ⊎ (result ≡ Err ReadError.Memory) }
-    // Which fault it is; `Memory` comes only if there is none.
+    // Which fault it is; `Memory` is returned only if there is none.
     ensures exact { Reads bytes.now result }
 {
     outcome(alloc, bytes)
@@ -149,7 +156,10 @@ fn written(alloc: Global, header: &Header, body: &Body) -> Result<Vec<u8>, Alloc
     Ok(out)
 }
 
-/// The LSA's text.
+/// The bytes of the LSA.
+///
+/// # Errors
+/// `AllocError` if an allocation is refused.
 pub fn write(alloc: Global, lsa: &Lsa) -> Result<Vec<u8>, AllocError>
     ensures written { IfOk result (λ bytes. bytes.items ≡ text lsa.now) }
     ensures text { IfOk result (λ bytes. LsaText bytes.items lsa.now) }
@@ -157,7 +167,10 @@ pub fn write(alloc: Global, lsa: &Lsa) -> Result<Vec<u8>, AllocError>
     written(alloc, &lsa.header, &lsa.body)
 }
 
-/// The LSA's text at another age, in seconds, as it is sent.
+/// The bytes of the LSA at another age, in seconds, as it is sent.
+///
+/// # Errors
+/// `AllocError` if an allocation is refused.
 pub fn write_at_age(alloc: Global, lsa: &Lsa, age: u16) -> Result<Vec<u8>, AllocError>
     requires { age ≤ max_age }
     ensures written { IfOk result (λ bytes. bytes.items ≡ text (with_age age lsa.now)) }

@@ -1,5 +1,5 @@
-//! What the types of a body's fields keep, told to proofs: nothing here does anything when the
-//! program runs.
+//! Lemmas for proofs: the ranges that the types of a body's fields ensure. Nothing here does
+//! anything at run time.
 ghost use Rattle.std.specs.List.{AllByRecursion};
 ghost use Rattle.lsa.specs.Text.{IsAttached, IsLinkTos};
 ghost use Rattle.lsa.specs.Ranges.{BodyIsTyped, ExternalIsTyped, ExternalTosIsTyped, LinkIsTyped};
@@ -105,10 +105,9 @@ fn check_external(external: &ExternalLsa)
 }
 
 impl Body {
-    /// Says that every field is in its range, as the fields' types keep it. It does nothing when
-    /// the program runs.
+    /// A lemma for proofs: every field is in the range of its type. It does nothing at run time.
     ///
-    /// The types don't keep that a list is no longer than its count can say, and that a metric of
+    /// The types don't ensure that a list is no longer than its count can say, nor that a metric of
     /// three bytes is below 2^24.
     pub fn check_ranges(&self)
         ensures { BodyIsTyped self.now }

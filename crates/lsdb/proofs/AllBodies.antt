@@ -1,4 +1,4 @@
--- What the database says at all of its keys, from a walk over its LSAs.
+-- The bodies of the LSAs of all keys, from a scan of the database.
 use Rattle.std.proofs.Common.{◌≡◌, ℕ, zero, suc, ◌<◌, ◌≤◌, ◌⊎◌, inl, inr, Bool, true, false, cond, T, ◌&&◌, List, [], ◌∷◌, ◌++◌, append_assoc, Some, None, length, get_or, refl, sym, ◌∙◌, ap, subst, arith}
 use Rattle.std.specs.Prelude.{Option}
 use Rattle.std.proofs.lemmas.Bool.{cases_lt}
@@ -114,9 +114,9 @@ found_at (e ∷ es) sorted q l among =
           ] refl
     ]
 
--- ---- what LSAs with these times say
+-- ---- the bodies of LSAs with these times
 
--- the bodies of the LSAs that haven't come to MaxAge
+-- the bodies of the LSAs that haven't reached MaxAge
 abbrev pub tells : ℕ → ByKey Times → List (Key × Lsa) → List (Key × Body)
 tells moment times [] = []
 tells moment times (e ∷ es) = cond (aged_at moment (finite.get times e.0)) (tells moment times es) ((e.0, e.1.body) ∷ tells moment times es)
@@ -128,7 +128,7 @@ module _ (moment : ℕ) (times : ByKey Times) where
   abbrev told : List (Key × Lsa) → List (Key × Body)
   told es = tells moment times es
 
-  -- an LSA that tells it
+  -- an LSA with that body
   record IsToldBy (es : List (Key × Lsa)) (x : Key × Body) : Type 0 where
     lsa : Lsa
     among : Contains es (x.0, lsa)
@@ -198,7 +198,7 @@ module _ (moment : ℕ) (times : ByKey Times) where
         | false ↦ omega (arith, rest)
       ]
 
-  -- ---- what the database says
+  -- ---- the bodies of the database
 
   module _ (lsas : ByKey Lsa) (has : HaveTimes lsas times) where
     abbrev said : Key → Option Body
@@ -224,7 +224,7 @@ module _ (moment : ℕ) (times : ByKey Times) where
               ] refl
         ] refl
 
-    -- a walk that ended before the first LSA that doesn't count
+    -- a scan that ended before the first LSA that doesn't count
     pub are_bodies : (last : Option ℕ) (done : List (Key × Body)) (rest : List (Key × Lsa)) → done ++ told rest ≡ told (finite.entries lsas)
         → ((x : Key × Body) → Contains done x → IsUpTo last x.0) → ((x : Key × Lsa) → Contains rest x → IsUpTo last x.0 → ⊥) → AreBodies last said done
     are_bodies last done rest whole count beyond = record {
@@ -239,7 +239,7 @@ module _ (moment : ℕ) (times : ByKey Times) where
       ascend = front_pairs Before done (told rest) (subst (AllPairs Before) (sym whole) (told_ascend (finite.entries lsas) (finite.entries_sorted lsas)));
     }
 
--- ---- where a walk ends
+-- ---- the end of a scan
 
 pub none_left : (last : Option ℕ) (x : Key × Lsa) → Contains [] x → IsUpTo last x.0 → ⊥
 none_left last x t = absurd (of_empty x t)
@@ -255,9 +255,9 @@ none_beyond last e es sorted not x among up =
       | inr later ↦ type_beyond last e.0 x.0 (below e.0 es x (first _ _ sorted) later) not up
     ]
 
--- ---- the walk
+-- ---- the scan
 
--- what was told and what the LSAs ahead tell is what all tell
+-- the bodies so far and those of the LSAs still to be visited are all bodies
 pub record IsWalk (last : Option ℕ) (moment : ℕ) (times : ByKey Times) (all ahead : List (Key × Lsa)) (done : List (Key × Body)) : Type 0 where
   pub whole : done ++ tells moment times ahead ≡ tells moment times all
   pub sorted : T (is_sorted key_cmp ahead)

@@ -1,4 +1,4 @@
--- LSAs of one type whose texts are the same behind their headers have one body.
+-- LSAs of one LS type whose bytes after their headers are the same have one body.
 use Rattle.std.proofs.Common.{◌≡◌, ℕ, ◌≤◌, List, ◌++◌, length, drop, refl, sym, ap, ◌∙◌, arith, length-append}
 use Rattle.std.proofs.lemmas.List.{drop_at}
 use Rattle.lsa.specs.Headers.{header_text}
@@ -7,7 +7,7 @@ use Rattle.lsa.specs.Text.{LsaText, body_text, type_of}
 use Rattle.lsdb.specs.Headers.{Lsa}
 
 module _ (xs : List ℕ) (a : Lsa) (at : LsaText xs a) where
-  -- a text is no shorter than its header
+  -- an LSA has at least the bytes of its header
   pub long : 20 ≤ length xs
   long =
       let size : length xs ≡ length (header_text a.header ++ body_text a.body) = ap length at.spelled in
@@ -18,7 +18,7 @@ module _ (xs : List ℕ) (a : Lsa) (at : LsaText xs a) where
   behind = ap (drop 20) at.spelled ∙ drop_at (header_text a.header) (body_text a.body) 20 refl
 
 module _ (xs ys : List ℕ) (a b : Lsa) (at : LsaText xs a) (bt : LsaText ys b) where
-  -- the second text is also that of the LSA with its header and the body of the first
+  -- the second bytes also encode the LSA with its header and the body of the first
   exchanged : a.header.ls_type ≡ b.header.ls_type → body_text a.body ≡ body_text b.body → LsaText ys (record { header = b.header; body = a.body })
   exchanged types same = record {
     is_lsa = record {

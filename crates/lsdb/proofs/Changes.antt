@@ -1,4 +1,4 @@
--- Copies whose LSAs have the bodies and whose ages count as before.
+-- Copies whose LSAs have the same bodies as before and whose ages count alike.
 use Rattle.std.proofs.Common.{◌≡◌, ℕ, inl, Bool, true, false, MatchBool, Some, None, refl, sym, subst}
 use Rattle.std.specs.Prelude.{Option, is_some, IsTrue, ◌↔◌}
 use Rattle.lsdb.specs.Changes.{CountsAlike, IsSameBody, SaysTheSame}
@@ -10,7 +10,7 @@ use Rattle.lsdb.proofs.Joins.{get-joined}
 use Rattle.std.specs.FinMap as finite
 use Rattle.words.specs.declared.key.Key.{Key}
 
--- the same body with ages that count alike, if there is an LSA
+-- the same body, and ages that count alike if there is an LSA
 pub same_copies : (moment : ℕ) (l m : Option Lsa) (t u : Option Times) → IsSameBody l m → (is_some m ≡ true → CountsAlike moment t u)
     → SaysTheSame moment (both l t) (both m u)
 same_copies moment None None t u same ages = tt
@@ -24,7 +24,7 @@ same_copies moment (Some l) (Some m) t u same ages = of_times t u (ages refl)
     of_times (Some t) None is = absurd is
     of_times (Some t) (Some u) is = (same, is)
 
--- and the other way round, if no LSA is without its times
+-- and conversely, if every LSA has its times
 pub same_bodies : (moment : ℕ) (l m : Option Lsa) (t u : Option Times) → (is_some l ≡ true → is_some t ≡ true) → (is_some m ≡ true → is_some u ≡ true)
     → SaysTheSame moment (both l t) (both m u) → IsSameBody l m
 same_bodies moment None None t u before now same = tt
@@ -53,7 +53,7 @@ pub same_body_itself : (l : Option Lsa) → IsSameBody l l
 same_body_itself None = tt
 same_body_itself (Some l) = refl
 
--- what holds of LSAs and times at a key holds of the copies there, and the other way round
+-- what holds of the LSAs and times of a key holds of its copies, and conversely
 module _ (moment : ℕ) (l m : ByKey Lsa) (t u : ByKey Times) (key : Key) where
   pub in_joined : SaysTheSame moment (both (finite.get l key) (finite.get t key)) (both (finite.get m key) (finite.get u key))
       → SaysTheSame moment (finite.get (copies_of l t) key) (finite.get (copies_of m u) key)
@@ -67,7 +67,7 @@ module _ (moment : ℕ) (l m : ByKey Lsa) (t u : ByKey Times) (key : Key) where
       subst (SaysTheSame moment (both (finite.get l key) (finite.get t key))) (get-joined m u key)
       (subst (λ o. SaysTheSame moment o (finite.get (copies_of m u) key)) (get-joined l t key) same)
 
--- what a test of two values tells
+-- what a test of two values means
 pub by_test : (r : Bool) (P : Type 0) → MatchBool r P (P → ⊥) → IsTrue r ↔ P
 by_test true P m = ((λ t. m), (λ p. refl))
 by_test false P m = ((λ t. absurd cc), (λ p. absurd (m p)))

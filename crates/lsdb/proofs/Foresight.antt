@@ -1,4 +1,4 @@
--- What stays foreseen when the times of a key change, and when more is foreseen.
+-- What stays foreseen when the times of a key change, and when more keys are aged.
 use Rattle.std.proofs.Common.{◌≡◌, Bool, true, false, cond, ◌||◌, List, ◌∷◌, Some, None, refl, sym, ap, subst, ◌∙◌}
 use mathlib.Core.Bool.{false≢true}
 use Rattle.std.specs.Prelude.{◌<◌, Option, is_some}
@@ -41,7 +41,7 @@ pub foresees_nothing : (ages : Ages) → ForeseesAll ages finite.empty
 foresees_nothing ages q moment before is =
     absurd (false≢true (sym (ap (aged_at moment) (finite.get-empty {X = Times} key_cmp q)) ∙ is))
 
--- ---- more is foreseen
+-- ---- more keys are aged
 
 still_there : (b : Bool) (o : Option (Unit {0})) → is_some o ≡ true → is_some (cond b (Some tt) o) ≡ true
 still_there true o is = refl
@@ -63,13 +63,12 @@ absent_at : (ages : Ages) (q : Key) (o : Option Times) → is_some o ≡ false �
 absent_at ages q None is = none_aged ages q
 absent_at ages q (Some t) is = absurd (false≢true (sym is))
 
--- of keys without times nothing is to be foreseen
+-- nothing has to be foreseen for keys without times
 pub foresees_absent : (ages : Ages) (times : ByKey Times) (q : Key)
     → list_any (eq_by_cmp key_cmp q) (finite.keys times) ≡ false → Foresees ages q (finite.get times q)
 foresees_absent ages times q none = absent_at ages q (finite.get times q) (finite.contains_key-keys times q ∙ none)
 
--- ages that are due when others are foresee what these do of a key that isn't among the aged of
--- these
+-- ages that are due at the same moment foresee the same for a key that isn't aged in the others
 pub foresees_past : (ages made : Ages) → made.due ≡ ages.due → (q : Key) (o : Option Times)
     → list_any (eq_by_cmp key_cmp q) (finite.keys ages.aged.present) ≡ false → Foresees ages q o → Foresees made q o
 foresees_past ages made due q o none foreseen moment before is = absurd (false≢true
@@ -86,6 +85,6 @@ module _ (ages more_ages : Ages) (times : ByKey Times) (key : Key) (rest : List 
   next_at q false is none =
       more q (finite.get times q) (before q (ap (λ c. c || list_any (eq_by_cmp key_cmp q) rest) is ∙ none))
 
-  -- once the times of one more key are foreseen
+  -- after the times of one more key are foreseen
   pub foresees_next : (q : Key) → list_any (eq_by_cmp key_cmp q) rest ≡ false → Foresees more_ages q (finite.get times q)
   foresees_next q none = next_at q (eq_by_cmp key_cmp q key) refl none

@@ -1,4 +1,4 @@
--- What the joined maps answer, and what edits of them make.
+-- What the joined maps return, and the results of editing them.
 use Rattle.std.proofs.Common.{◌≡◌, ℕ, Bool, true, false, cond, T, List, [], ◌∷◌, Some, None, ◌&&◌, ◌||◌, length, map, refl, sym, ap, subst, ◌∙◌}
 use mathlib.Core.Bool.{false≢true}
 use Rattle.std.proofs.lemmas.List.{length-map}
@@ -73,7 +73,7 @@ spread : (b : Bool) (l : Lsa) (t : Times) (o : Option Lsa) (u : Option Times) �
 spread true l t o u = refl
 spread false l t o u = refl
 
--- an LSA with its times is put at a key
+-- an LSA with its times is set at a key
 pub joined_insert : (lsas : ByKey Lsa) (times : ByKey Times) (k : Key) (l : Lsa) (t : Times)
     → copies_of (finite.insert lsas k l) (finite.insert times k t) ≡ finite.insert (copies_of lsas times) k (copy_of l t)
 joined_insert lsas times k l t = same _ _ (λ q.
@@ -103,7 +103,7 @@ changed_at k change d (Some c) = finite.insert d k (change c)
 pub change_is : (k : Key) (change : DatabaseCopy → DatabaseCopy) (d : Database) (o : Option DatabaseCopy) → finite.get d k ≡ o → change_copy k change d ≡ changed_at k change d o
 change_is k change d o is = ap (changed_at k change d) is
 
--- the times of a key are changed as the change of its copy has it
+-- the times of a key change as the change of its copy says
 retimed : (change : DatabaseCopy → DatabaseCopy) (lsas : ByKey Lsa) (times : ByKey Times) (k : Key) (t u : Times) → ((l : Lsa) → copy_of l u ≡ change (copy_of l t))
     → (o : Option Lsa) → finite.get lsas k ≡ o → finite.get times k ≡ Some t → copies_of lsas (finite.insert times k u) ≡ change_copy k change (copies_of lsas times)
 retimed change lsas times k t u same_change None none at =
@@ -123,7 +123,7 @@ retimed change lsas times k t u same_change (Some l) some at =
     put ∙ ap (finite.insert (copies_of lsas times) k) (same_change l)
     ∙ sym (change_is k change (copies_of lsas times) (Some (copy_of l t)) (get-joined lsas times k ∙ ap (λ p. both p (finite.get times k)) some ∙ ap (both (Some l)) at))
 
--- the copy of a key counts as sent
+-- the copy of a key is marked as sent
 pub marks : (moment : ℕ) (lsas : ByKey Lsa) (times : ByKey Times) (k : Key) (t : Times) → finite.get times k ≡ Some t
     → copies_of lsas (finite.insert times k (record t { sent = Some moment })) ≡ mark_sent moment k (copies_of lsas times)
 marks moment lsas times k t at =
@@ -150,7 +150,7 @@ taken : (b : Bool) (o : Option Lsa) (u : Option Times) → both (cond b None o) 
 taken true o u = refl
 taken false o u = refl
 
--- an LSA is taken out with its times
+-- an LSA is removed with its times
 pub joined_remove : (lsas : ByKey Lsa) (times : ByKey Times) (k : Key) → copies_of (finite.remove lsas k) (finite.remove times k) ≡ finite.remove (copies_of lsas times) k
 joined_remove lsas times k = same _ _ (λ q.
     get-joined (finite.remove lsas k) (finite.remove times k) q
@@ -160,7 +160,7 @@ joined_remove lsas times k = same _ _ (λ q.
     ∙ ap (cond (eq_by_cmp key_cmp q k) None) (sym (get-joined lsas times q))
     ∙ sym (finite.get-remove keys_total (copies_of lsas times) k q))
 
--- ---- that each LSA has its times
+-- ---- each LSA has its times
 
 module _ {B : Type 0} where
   one_put : (b : Bool) (u : B) (p : Option B) → is_some p ≡ true → is_some (cond b (Some u) p) ≡ true
@@ -277,7 +277,7 @@ aged_with moment times [] = refl
 aged_with moment times (e ∷ es) =
     aged_entry moment e.0 e.1 (finite.get times e.0) (with_times times es) (filter (λ f. aged_at moment (finite.get times f.0)) es) (aged_with moment times es)
 
--- the copies that have MaxAge are the LSAs with such times
+-- the copies at MaxAge are the LSAs with such times
 pub aged_joined : (moment : ℕ) (lsas : ByKey Lsa) (times : ByKey Times)
     → keys_where (λ k l. aged_at moment (finite.get times k)) (finite.entries lsas) ≡ aged_keys moment (copies_of lsas times)
 aged_joined moment lsas times =

@@ -1,2 +1,2 @@
--- The order of keys is total, and tells all keys apart.
+-- The order of keys is total, and distinguishes all keys.
 pub use Rattle.keyed_map.proofs.Keys.{keys_exact, keys_total}

@@ -1,4 +1,4 @@
--- How many keys of own externals a map has, after an edit.
+-- The number of keys of self-originated AS-external-LSAs in a map after an edit.
 use Rattle.std.proofs.Common.{◌≡◌, ℕ, ◌+◌, ◌-◌, ◌≤◌, Bool, true, false, cond, not, nat_lt, List, [], ◌∷◌, Some, None, ◌&&◌, ◌||◌, length, map, refl, sym, ap, ◌∙◌, arith}
 use Rattle.std.specs.Prelude.{Option, is_some}
 use Rattle.std.specs.declared.cmp.Ordering.TheVariants.{Equal}
@@ -59,7 +59,7 @@ module _ {X : Type 0} (p : Key → Bool) where
   taken_among true false g = refl
   taken_among false r g = refl
 
-  -- an entry is put among those that are kept, or beside them
+  -- an entry that passes is added to those that are kept, another isn't
   put_kept : (m : ByKey X) (k : Key) (x : X) (b : Bool) → p k ≡ b
       → finite.retain_keys (finite.insert m k x) p
       ≡ cond b (finite.insert (finite.retain_keys m p) k x) (finite.retain_keys m p)
@@ -143,7 +143,7 @@ module _ {X : Type 0} (p : Key → Bool) where
 pub count_empty : (X : Type 0) (p : Key → Bool) → finite.len (finite.retain_keys (finite.empty {X = X} {R = key_cmp}) p) ≡ 0
 count_empty X p = ap finite.len (retained_none p) ∙ finite.len-empty key_cmp X
 
--- the own externals of the database are those of its LSAs
+-- the self-originated AS-external-LSAs of the database are those of its LSAs
 pub own_joined : (router : ℕ) (lsas : ByKey Lsa) (times : ByKey Times) → HaveTimes lsas times
     → count_own_externals router lsas ≡ own_externals router (copies_of lsas times)
 own_joined router lsas times has =
@@ -154,13 +154,13 @@ pub contains_joined : (lsas : ByKey Lsa) (times : ByKey Times) → HaveTimes lsa
 contains_joined lsas times has k =
     finite.contains_key-keys lsas k ∙ sym (finite.contains_key-keys (copies_of lsas times) k ∙ ap (list_any (eq_by_cmp key_cmp k)) (keys_joined lsas times has))
 
--- whether a key is there counts of own externals alone
+-- the number changes only with the keys of self-originated AS-external-LSAs
 pub counts_if_own : (own there holds : Bool) (n : ℕ)
     → cond own (count_after_change there holds n) n ≡ cond own (count_after_change (cond own there false) holds n) n
 counts_if_own true there holds n = refl
 counts_if_own false there holds n = refl
 
--- ---- one of two, as it is computed
+-- ---- one of two values, as it is computed
 
 pub either_true : (a b : Bool) → a ≡ true → a ≡ (a || b)
 either_true a b is = is ∙ sym (ap (λ c. c || b) is)

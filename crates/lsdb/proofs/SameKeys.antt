@@ -1,4 +1,4 @@
--- Maps with the same keys, whatever stands there.
+-- Maps with the same keys, whatever their values.
 use Rattle.std.proofs.Common.{◌≡◌, Bool, true, false, cond, T, List, [], ◌∷◌, map, ◌&&◌, refl, sym, ap, subst, ◌∙◌}
 use Rattle.std.specs.Prelude.{Option, Some, None, is_some}
 use Rattle.std.specs.FinMap as finite
@@ -11,7 +11,7 @@ use Rattle.lsdb.proofs.Joins.{same}
 use Rattle.lsdb.proofs.Owned.{contains_kept, entries_kept}
 
 module _ {X : Type 0} where
-  -- the keys alone
+  -- the keys without values
   abbrev bare : List (Key × X) → List (Key × Unit {0})
   bare [] = []
   bare (e ∷ es) = (e.0, tt) ∷ bare es
@@ -55,7 +55,7 @@ module _ {X : Type 0} where
       ap (map (λ e. e.0)) (finite.entries-from_sorted key_cmp (bare (finite.entries m)) (sorted_set m))
       ∙ keys_bare (finite.entries m)
 
-  -- the keys that pass a test of keys, of a map whose others are left out
+  -- the keys that pass a test, in a map without the others
   keys_kept : (p : Key → Bool) (m : ByKey X) → keys_where (λ k x. p k) (finite.entries m) ≡ finite.keys (finite.retain_keys m p)
   keys_kept p m = ap (map (λ e. e.0)) (sym (entries_kept p m))
 
@@ -80,7 +80,7 @@ module _ {X Y : Type 0} where
       let sets : key_set m ≡ key_set n = same _ _ (λ q. units _ _ (has_key m q ∙ is q ∙ sym (has_key n q))) in
       sym (set_keys m) ∙ ap finite.keys sets ∙ set_keys n
 
-  -- if each key of n that passes stands in m too, m's keys that pass and stand in n are n's that
+  -- if m has each key of n that passes, the keys of m that pass and are in n are those of n that
   -- pass
   pub keys_among : (p : Key → Bool) (m : ByKey X) (n : ByKey Y)
       → ((q : Key) → finite.contains_key n q ≡ true → p q ≡ true → finite.contains_key m q ≡ true)

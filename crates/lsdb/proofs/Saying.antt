@@ -1,4 +1,4 @@
--- What the joined maps say at a key.
+-- The body of a key in the joined maps.
 use Rattle.std.proofs.Common.{◌≡◌, ℕ, true, false, Some, None, sym, ap, ◌∙◌}
 use mathlib.Core.Bool.{false≢true}
 use Rattle.std.specs.Prelude.{Option, Bool, if◌then◌else◌, is_some}
@@ -17,7 +17,7 @@ module _ (moment : ℕ) (lsas : ByKey Lsa) (times : ByKey Times) (q : Key) where
       → said_by moment (finite.get (copies_of lsas times) q) ≡ said_by moment (both o (finite.get times q))
   joined_at o is = ap (said_by moment) (get-joined lsas times q ∙ ap (λ p. both p (finite.get times q)) is)
 
-  -- no LSA says nothing
+  -- without an LSA there is none
   pub says_nothing : finite.get lsas q ≡ None → None ≡ said_by moment (finite.get (copies_of lsas times) q)
   says_nothing none = sym (joined_at None none)
 
@@ -36,12 +36,12 @@ module _ (moment : ℕ) (lsas : ByKey Lsa) (times : ByKey Times) (q : Key) where
       said : Bool → Option Body
       said b = if b then None else Some l.body
 
-  -- nor does one at MaxAge
+  -- nor at MaxAge
   pub says_no_more : (l : Lsa) → finite.get lsas q ≡ Some l → aged_at moment (finite.get times q) ≡ true
       → None ≡ said_by moment (finite.get (copies_of lsas times) q)
   says_no_more l some is = sym (joined_at (Some l) some ∙ aged_says l (finite.get times q) is)
 
-  -- another one says what it has
+  -- otherwise it is the LSA's body
   pub says_it : (l : Lsa) → finite.get lsas q ≡ Some l → HaveTimes lsas times
       → aged_at moment (finite.get times q) ≡ false
       → Some l.body ≡ said_by moment (finite.get (copies_of lsas times) q)

@@ -1,4 +1,4 @@
--- What is silent says nothing.
+-- Copies with silent times say nothing.
 use Rattle.std.proofs.Common.{◌≡◌, ℕ, inl, inr, Bool, true, refl, sym, ap, subst, ◌∙◌}
 use mathlib.Core.Bool.{false≢true}
 use Rattle.std.specs.Prelude.{◌-◌, ◌+◌, ◌==◌, ◌⊎◌, min, Option, None, Some, if◌then◌else◌}
@@ -23,7 +23,7 @@ silent_says moment (Some l) (Some t) is = ap (λ b. said b) is
     said : Bool → Option Body
     said b = if b then None else Some l.body
 
--- times that count alike with silent ones were silent too
+-- times that count like silent ones were silent too
 was_silent : (before moment : ℕ) (t u : Option Times) → CountsAlike moment t u → AreSilent before moment u u → is_silent before t ≡ true
 was_silent before moment None u alike silent = refl
 was_silent before moment (Some t) None alike silent = absurd alike
@@ -43,7 +43,7 @@ module _ (before moment : ℕ) (l m : Option Lsa) (t u : Option Times) where
   no_more (inl same) (inl alike) = inl (same_copies moment l m t u same (λ _. alike))
   no_more (inr silent) (inl alike) = both_silent (was_silent before moment t u alike silent) silent.1
 
--- what holds of LSAs and times at a key holds of the copies there
+-- what holds of the LSAs and times of a key holds of its copies
 pub no_more_joined : (before moment : ℕ) (l m : ByKey Lsa) (t u : ByKey Times) (key : Key)
     → SaysNoMore before moment (both (finite.get l key) (finite.get t key)) (both (finite.get m key) (finite.get u key))
     → SaysNoMore before moment (finite.get (copies_of l t) key) (finite.get (copies_of m u) key)

@@ -1,4 +1,4 @@
--- What all LSAs of a database say (RFC 2328, section 16).
+-- The bodies of all LSAs of a database (RFC 2328, section 16).
 use Rattle.std.specs.Prelude.{◌≡◌, ℕ, ◌↔◌, List, Option, Some}
 use Rattle.std.specs.List.{AllPairs, Contains}
 use Rattle.std.specs.declared.cmp.Ordering.TheVariants.{Less}
@@ -11,8 +11,8 @@ use Rattle.lsdb.specs.Keys.{key_cmp}
 abbrev pub InOrder : List (Key × Body) → Type 0
 InOrder bodies = AllPairs (λ (a : Key × Body) (b : Key × Body). key_cmp a.0 b.0 ≡ Less) bodies
 
--- just the keys of the types up to this one, or of all types, whose LSAs say something, each once
--- and with what its LSA says, in the order of the keys
+-- exactly the keys of LS types up to this one, or of all types, whose LSAs say something, each once
+-- and with its LSA's body, in the order of the keys
 pub record AreBodies (last : Option ℕ) (said : Key → Option Body)
     (bodies : List (Key × Body)) : Type 0 where
   pub each : (key : Key) (says : Body) → Contains bodies (key, says)

@@ -1,4 +1,4 @@
--- Which copies say what those before them said (RFC 2328, section 13.2).
+-- Which copies say the same as earlier copies of their keys (RFC 2328, section 13.2).
 use Rattle.std.specs.Prelude.{◌≡◌, ◌⊎◌, ℕ, ◌≤◌, false, Option, None, Some}
 use Rattle.lsdb.specs.Copies.{DatabaseCopy, is_aged_out}
 use Rattle.lsdb.specs.Headers.{Lsa}
@@ -7,14 +7,14 @@ use Rattle.lsdb.specs.declared.times.Times.{Times}
 use Rattle.words.specs.Numbers.{Moment}
 use Rattle.words.specs.declared.key.Key.{Key}
 
--- a key of a type up to this one, of any type if none is given
+-- a key of an LS type up to this one, or of any type if none is given
 abbrev pub IsUpTo : Option ℕ → Key → Type 0
 IsUpTo None key = Unit {0}
 IsUpTo (Some last) key = key.ls_type ≤ last
 
 -- ---- copies
 
--- both have had one age at one moment
+-- both had one age at one moment
 abbrev pub HaveOneAge : DatabaseCopy → DatabaseCopy → Type 0
 HaveOneAge a b = (a.lsa.header.age ≡ b.lsa.header.age) × (a.stored ≡ b.stored)
 
@@ -22,9 +22,9 @@ HaveOneAge a b = (a.lsa.header.age ≡ b.lsa.header.age) × (a.stored ≡ b.stor
 abbrev pub HaveNoMaxAge : Moment → DatabaseCopy → DatabaseCopy → Type 0
 HaveNoMaxAge moment a b = (is_aged_out moment a ≡ false) × (is_aged_out moment b ≡ false)
 
--- The copy before and the one now say the same at the moment, or there is neither: their LSAs have
--- one body, and ages that count alike. What else the headers say doesn't count, nor do the moments
--- at which they were installed and sent.
+-- The earlier copy and the present one say the same at the moment, or neither exists: their LSAs
+-- have one body, and either the same age or neither has MaxAge. The other header fields don't
+-- matter, nor do the moments at which they were installed and sent.
 abbrev pub SaysTheSame : Moment → (before : Option DatabaseCopy) → (now : Option DatabaseCopy)
     → Type 0
 SaysTheSame moment None None = Unit {0}
@@ -33,29 +33,29 @@ SaysTheSame moment (Some a) None = ⊥
 SaysTheSame moment (Some a) (Some b) =
     (a.lsa.body ≡ b.lsa.body) × (HaveOneAge a b ⊎ HaveNoMaxAge moment a b)
 
--- ---- the LSAs and the times of copies apart
+-- ---- the LSAs and the times of copies, separately
 
--- the bytes of an LSA's header (RFC 2328, section A.4.1)
+-- the length of an LSA's header in bytes (RFC 2328, section A.4.1)
 abbrev pub header_length : ℕ
 header_length = 20
 
--- one body, or neither LSA
+-- one body, or neither LSA exists
 abbrev pub IsSameBody : (before : Option Lsa) → (now : Option Lsa) → Type 0
 IsSameBody None None = Unit {0}
 IsSameBody None (Some b) = ⊥
 IsSameBody (Some a) None = ⊥
 IsSameBody (Some a) (Some b) = a.body ≡ b.body
 
--- both tell of one age at one moment
+-- both give one age at one moment
 abbrev pub TellOneAge : Times → Times → Type 0
 TellOneAge t u = (t.age ≡ u.age) × (t.stored ≡ u.stored)
 
--- neither tells of MaxAge at the moment
+-- neither gives MaxAge at the moment
 abbrev pub TellNoMaxAge : Moment → Times → Times → Type 0
 TellNoMaxAge moment t u =
     (aged_at moment (Some t) ≡ false) × (aged_at moment (Some u) ≡ false)
 
--- ages that count alike at the moment, or neither
+-- the same age, or no MaxAge at the moment, or neither exists
 abbrev pub CountsAlike : Moment → (before : Option Times) → (now : Option Times) → Type 0
 CountsAlike moment None None = Unit {0}
 CountsAlike moment None (Some u) = ⊥

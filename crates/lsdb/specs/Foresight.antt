@@ -1,4 +1,4 @@
--- What is known of when copies come to MaxAge.
+-- What is known about when copies will reach MaxAge.
 use Rattle.std.specs.Prelude.{◌≡◌, ◌<◌, true, Option}
 use Rattle.std.specs.FinMap as finite
 use Rattle.words.specs.Numbers.{Moment}
@@ -8,7 +8,7 @@ use Rattle.lsdb.specs.Keys.{ByKey}
 use Rattle.lsdb.specs.declared.ages.Ages.{Ages}
 use Rattle.lsdb.specs.declared.times.Times.{Times}
 
--- before `due`, these times are of MaxAge only if their key is among the aged
+-- before `due`, these times give MaxAge only if their key is among the aged keys
 abbrev pub Foresees : Ages → Key → Option Times → Type 0
 Foresees ages key times =
     (moment : Moment) → moment < ages.due → aged_at moment times ≡ true

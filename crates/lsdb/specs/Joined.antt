@@ -1,4 +1,4 @@
--- The copies of the database: the LSAs of one map with the times of another.
+-- The copies of the database: the LSAs of one map joined with the times of another.
 use Rattle.std.specs.Prelude.{◌≡◌, ℕ, Bool, true, false, List, [], ◌∷◌, Option, None, Some}
 use Rattle.std.specs.FinMap as finite
 use Rattle.words.specs.Numbers.{Moment, RouterNumber}
@@ -18,7 +18,7 @@ copy_of l t = record {
   sent = t.sent;
 }
 
--- a copy has both
+-- a copy needs both
 abbrev pub both : Option Lsa → Option Times → Option DatabaseCopy
 both None t = None
 both (Some l) None = None
@@ -37,16 +37,16 @@ with_times times (e ∷ es) =
 unfoldable pub copies_of : ByKey Lsa → ByKey Times → Database
 copies_of lsas times = finite.from_entries (with_times times (finite.entries lsas))
 
--- no LSA is without its times
+-- every LSA has its times
 abbrev pub HaveTimes : ByKey Lsa → ByKey Times → Type 0
 HaveTimes lsas times =
     (q : Key) → finite.contains_key lsas q ≡ true → finite.contains_key times q ≡ true
 
--- what has these times has come to MaxAge
+-- a copy with these times has reached MaxAge
 abbrev pub aged_at : Moment → Option Times → Bool
 aged_at moment None = false
 aged_at moment (Some t) = is_max_age (age_at t.age t.stored moment)
 
--- how many of the keys are those of own externals
+-- the number of the keys that are those of self-originated AS-external-LSAs
 abbrev pub count_own_externals : {X : Type 0} → RouterNumber → ByKey X → ℕ
 count_own_externals router m = finite.len (finite.retain_keys m (is_own_external router))

@@ -1,4 +1,4 @@
--- The database of a router, and what it was when it was last settled.
+-- The database of a router, and its state when it was last settled.
 use Rattle.std.specs.Prelude.{ℕ, refl}
 use Rattle.std.specs.Coded.{Coded, code_by, coded×, coded_ℕ}
 use Rattle.std.specs.FinMap as finite
@@ -7,7 +7,7 @@ use Rattle.lsdb.specs.Copies.{Database, DatabaseCopy}
 use Rattle.lsdb.specs.Keys.{coded_key}
 
 pub record RouterDatabase : Type 0 where
-  -- the router's own ID
+  -- the router's own Router ID
   pub router : RouterNumber
   pub present : Database
   pub settled : Database

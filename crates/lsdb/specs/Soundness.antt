@@ -1,4 +1,4 @@
--- What the database keeps of its LSAs and of their times.
+-- The invariants of the database's LSAs and their times.
 use Rattle.std.specs.Prelude.{◌≡◌, ℕ}
 use Rattle.keyed_map.specs.Held.{Held}
 use Rattle.words.specs.Numbers.{RouterNumber}
@@ -8,8 +8,8 @@ use Rattle.lsdb.specs.Joined.{HaveTimes, count_own_externals}
 use Rattle.lsdb.specs.declared.ages.Ages.{Ages}
 use Rattle.lsdb.specs.declared.times.Times.{Times}
 
--- no LSA is without its times; the two numbers are those of the own externals now and when it was
--- last settled; what is foreseen of ages holds of both
+-- every LSA has its times; the two numbers count the self-originated AS-external-LSAs now and when
+-- the database was last settled; the ages foresee the times of both
 pub record AreKept (router : RouterNumber) (lsas : Held Lsa) (times : Held Times)
     (externals settled_externals : ℕ) (ages : Ages) : Type 0 where
   pub present : HaveTimes lsas.present times.present

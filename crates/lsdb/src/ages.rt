@@ -1,4 +1,4 @@
-//! What may have come to MaxAge.
+//! Which copies may have reached MaxAge.
 ghost use Rattle.std.specs.Prelude.{◌≡◌, Option, Some, IfOk, OnOk};
 ghost use Rattle.words.specs.declared.key.Key.{Key};
 ghost use Rattle.lsdb.specs.Foresight.{Foresees, ForeseesAll};
@@ -10,7 +10,7 @@ use keyed_map::KeyedMap;
 use std::alloc::{AllocError, Global};
 use words::{Key, MAX_AGE, Second};
 
-/// Which keys' copies may have MaxAge before a moment: no others have.
+/// The keys whose copies may have MaxAge before a moment. No other copies have.
 #[derive(Drop)]
 pub struct Ages {
     /// Before this moment, only copies of the aged keys have MaxAge.
@@ -19,7 +19,7 @@ pub struct Ages {
 }
 
 impl Ages {
-    /// No copy is known: nothing is said from `due` on, and before it none has MaxAge.
+    /// No aged keys: before `due`, no copy has MaxAge.
     pub fn new(alloc: Global, due: Second) -> Self
         ensures { result.due ≡ due }
     {
@@ -29,7 +29,11 @@ impl Ages {
         }
     }
 
-    /// The copy of this key may have these times from this moment on. What was foreseen stays so.
+    /// Notes that the copy of this key may have these times from this moment on. What was foreseen
+    /// stays valid.
+    ///
+    /// # Errors
+    /// `AllocError` if an allocation is refused.
     pub fn note(&mut self, moment: Second, key: &Key, times: &Times) -> Result<(), AllocError>
         ensures more { (q : Key) (o : Option Times) → Foresees self.old q o
             → Foresees self.new q o }
@@ -50,8 +54,11 @@ impl Ages {
     }
 }
 
-/// What these times foresee: it looks at each once. Copies that have MaxAge at the moment are among
-/// the aged, and no other comes to it before `due`, which lies past the moment.
+/// What is foreseen of these times, from a scan of all of them. Copies that have MaxAge at the
+/// moment are among the aged keys, and no other reaches it before `due`, which is after the moment.
+///
+/// # Errors
+/// `AllocError` if an allocation is refused.
 pub fn foresee(alloc: Global, times: &KeyedMap<Times>, moment: Second) -> Result<Ages, AllocError>
     ensures { IfOk result (λ ages. ForeseesAll ages times.now.present) }
 {
@@ -64,8 +71,11 @@ pub fn foresee(alloc: Global, times: &KeyedMap<Times>, moment: Second) -> Result
     Ok(ages)
 }
 
-/// What these times foresee, given what the ages foresee of them: it looks at the copies of the
-/// aged keys alone. Those that have MaxAge at the moment stay among the aged.
+/// What is foreseen of these times, from what `ages` foresees of them: only the copies of its aged
+/// keys are visited. Those that have MaxAge at the moment stay among the aged keys.
+///
+/// # Errors
+/// `AllocError` if an allocation is refused.
 pub fn foresee_again(
     alloc: Global,
     ages: &Ages,

@@ -48,18 +48,18 @@ use words::{Key, MAX_AGE, RouterId, Second};
 /// The link state database of a router: at most one copy for each key, and the copies when it was
 /// last settled.
 ///
-/// The LSAs and their times stand apart: an edit of a copy's times copies no LSA.
+/// The LSAs and their times are in separate maps, so that an edit of a copy's times copies no LSA.
 #[derive(Drop)]
 pub struct Lsdb {
     router: RouterId,
     lsas: KeyedMap<StoredLsa>,
     times: KeyedMap<Times>,
-    // how many own AS-external-LSAs there are, and how many there were when it was last settled
+    // the number of self-originated AS-external-LSAs, now and when the database was last settled
     externals: usize,
     settled_externals: usize,
     ages: Ages,
-    // at most this many of the aged keys' copies have left, or were replaced, since the ages were
-    // foreseen; only the time that looking at the aged takes depends on it
+    // at least the number of aged keys whose copies were removed or replaced since the ages were
+    // foreseen; only the time that a visit of the aged keys takes depends on it
     past: usize,
 }
 
@@ -84,7 +84,7 @@ impl Model for Lsdb {
         AreKept a.router a.lsas a.times a.externals a.settled_externals a.ages };
 }
 
-// Which LSAs have come to MaxAge.
+// Selects the LSAs that have reached MaxAge.
 #[derive(Drop)]
 struct AgedOut<'a> {
     times: &'a KeyedMap<Times>,
@@ -104,7 +104,7 @@ impl<'a> KeyTest<StoredLsa> for AgedOut<'a> {
     }
 }
 
-// Which keys have an LSA that has come to MaxAge.
+// Selects the keys that have an LSA which has reached MaxAge.
 #[derive(Drop)]
 struct AgedAndThere<'a> {
     lsas: &'a KeyedMap<StoredLsa>,
@@ -130,7 +130,7 @@ impl<'a> KeyTest<()> for AgedAndThere<'a> {
     }
 }
 
-// Whether LSAs of the types up to this one, or of all types, have the bodies that they had.
+// Whether LSAs of the LS types up to this one, or of all types, have the same bodies as before.
 #[derive(Drop)]
 struct SameBodies {
     last_type: Option<u32>,
@@ -158,8 +158,8 @@ impl ChangeTest<StoredLsa> for SameBodies {
     }
 }
 
-// Whether the ages of LSAs of the types up to this one, or of all types, count at the moment as
-// those that they had.
+// Whether the times of LSAs of the LS types up to this one, or of all types, give the same age as
+// before, or no MaxAge at the moment.
 #[derive(Drop)]
 struct AlikeAges<'a> {
     lsas: &'a KeyedMap<StoredLsa>,
@@ -191,7 +191,7 @@ impl<'a> ChangeTest<Times> for AlikeAges<'a> {
     }
 }
 
-// Whether both LSAs have one body, or there is neither.
+// Whether both LSAs have one body, or neither exists.
 fn is_same_body(
     alloc: Global,
     before: Option<&StoredLsa>,
@@ -209,7 +209,7 @@ fn is_same_body(
     }
 }
 
-// Whether both LSAs have one body: one type, and the same bytes behind their headers.
+// Whether both LSAs have one body: one LS type, and the same bytes after their headers.
 fn have_one_body(alloc: Global, old: &Lsa, new: &Lsa) -> Result<bool, AllocError>
     ensures { IfOk result (λ same. IsTrue same ↔ (old.now.body ≡ new.now.body)) }
 {
@@ -222,7 +222,7 @@ fn have_one_body(alloc: Global, old: &Lsa, new: &Lsa) -> Result<bool, AllocError
     Ok(have_one_rest(old_text.as_slice(), new_text.as_slice()))
 }
 
-// Whether the texts are the same behind their headers.
+// Whether the bytes after both headers are the same.
 fn have_one_rest(old: &[u8], new: &[u8]) -> bool
     requires first { header_length ≤ length old.now }
     requires second { header_length ≤ length new.now }
@@ -231,7 +231,7 @@ fn have_one_rest(old: &[u8], new: &[u8]) -> bool
     behind_header(old) == behind_header(new)
 }
 
-// The bytes of an LSA behind its header (RFC 2328, section A.4.1).
+// The bytes of an LSA after its header (RFC 2328, section A.4.1).
 fn behind_header(text: &[u8]) -> &[u8]
     requires { header_length ≤ length text.now }
     ensures { result.now ≡ drop header_length text.now }
@@ -248,7 +248,7 @@ pub(crate) fn is_up_to(last_type: Option<u32>, key: &Key) -> bool
     }
 }
 
-// Whether the ages of both count alike at the moment, or there is neither.
+// Whether both times give the same age, or no MaxAge at the moment, or neither exists.
 fn counts_alike(moment: Second, before: Option<&Times>, now: Option<&Times>) -> bool
     ensures { IsTrue result
         ↔ CountsAlike moment (option_copied before.entry) (option_copied now.entry) }
@@ -262,7 +262,7 @@ fn counts_alike(moment: Second, before: Option<&Times>, now: Option<&Times>) -> 
     }
 }
 
-// Whether both tell of one age at one moment, or neither of MaxAge at this one.
+// Whether both times give one age at one moment, or neither gives MaxAge at this one.
 fn count_alike(moment: Second, old: &Times, new: &Times) -> bool
     ensures { IsTrue result ↔ (TellOneAge old.now new.now ⊎ TellNoMaxAge moment old.now new.now) }
 {
@@ -290,8 +290,8 @@ fn tells_max_age(moment: Second, times: &Times) -> bool
     age_at(times.age, times.stored, moment) == MAX_AGE
 }
 
-// Whether the times of this key have come to MaxAge at the moment. If no key's can have by then,
-// they aren't looked up.
+// Whether the times of this key give MaxAge at the moment. If no key's times can by then, they
+// aren't looked up.
 pub(crate) fn has_max_age(ages: &Ages, times: &KeyedMap<Times>, key: &Key, moment: Second) -> bool
     requires { ForeseesAll ages.now times.now.present }
     ensures { result ≡ aged_at moment (finite.get times.now.present key.now) }
@@ -305,7 +305,7 @@ pub(crate) fn has_max_age(ages: &Ages, times: &KeyedMap<Times>, key: &Key, momen
     }
 }
 
-// One more if the key is among the aged.
+// `past`, and one more if the key is among the aged keys.
 fn one_more_past(ages: &Ages, key: &Key, past: usize) -> usize {
     if ages.aged.contains(key) {
         return past.saturating_add(1);
@@ -314,7 +314,7 @@ fn one_more_past(ages: &Ages, key: &Key, past: usize) -> usize {
 }
 
 impl Lsdb {
-    /// The empty database of a router. It wants no memory.
+    /// The empty database of a router. It doesn't allocate.
     pub fn new(alloc: Global, router: RouterId) -> Self
         ensures { result ≡ record {
           router = router;
@@ -334,7 +334,10 @@ impl Lsdb {
         }
     }
 
-    /// The same database, with nothing to be taken back.
+    /// A copy of the database, settled.
+    ///
+    /// # Errors
+    /// `AllocError` if an allocation is refused.
     pub fn copy(&self, alloc: Global) -> Result<Self, AllocError>
         ensures { IfOk result (λ made. made ≡ record self.now { settled = self.now.present }) }
     {
@@ -351,7 +354,7 @@ impl Lsdb {
         })
     }
 
-    /// How many copies there are.
+    /// The number of copies.
     pub fn len(&self) -> usize
         ensures { result ≡ finite.len self.now.present }
     {
@@ -362,7 +365,7 @@ impl Lsdb {
     pub fn get(&self, key: &Key) -> Option<DatabaseCopy<'_>>
         ensures { result ≡ finite.get self.now.present key.now }
     {
-        // A database that comes in the order of its keys grows at its end.
+        // LSAs that arrive in the order of their keys aren't searched for.
         if self.lsas.is_beyond(key) {
             return None;
         }
@@ -379,7 +382,7 @@ impl Lsdb {
         }
     }
 
-    /// What the copy of this key says, if there is one below MaxAge at the moment.
+    /// The body of this key's copy, if there is one below MaxAge at the moment.
     pub fn body_at(&self, moment: Second, key: &Key) -> Option<&Body>
         ensures { option_copied result ≡ said_by moment (finite.get self.now.present key.now) }
     {
@@ -394,12 +397,12 @@ impl Lsdb {
         }
     }
 
-    /// What the copies of the types up to this one say, or those of all types if none is given,
-    /// if they are below MaxAge at the moment, in the order of their keys (RFC 2328, section 16).
-    /// It looks at each copy of these types once, and at no other.
+    /// The bodies of the copies of LS types up to this one, or of all types if none is given, that
+    /// are below MaxAge at the moment, in the order of their keys (RFC 2328, section 16). It visits
+    /// each copy of these types once, and no other.
     ///
     /// # Errors
-    /// If memory for the list is refused.
+    /// `AllocError` if an allocation is refused.
     pub fn bodies_at(
         &self,
         alloc: Global,
@@ -427,16 +430,16 @@ impl Lsdb {
         self.lsas.keys()
     }
 
-    /// How many AS-external-LSAs of the router itself there are.
+    /// The number of AS-external-LSAs that the router itself originates.
     pub fn own_externals(&self) -> usize
         ensures { result ≡ own_externals self.now.router self.now.present }
     {
         self.externals
     }
 
-    /// Whether an LSA of this key passes no limit: it takes the place of its copy, or there
-    /// are fewer than 16,384 LSAs and, if the router itself originates it as an AS-external-LSA,
-    /// fewer than 4,096 of these.
+    /// Whether an LSA with this key stays within the limits: it replaces a copy, or there are fewer
+    /// than 16,384 LSAs and, if it is an AS-external-LSA of the router itself, fewer than 4,096 of
+    /// these.
     pub fn has_room(&self, key: &Key) -> bool
         ensures { result ≡ has_room self.now.router key.now self.now.present }
     {
@@ -445,15 +448,18 @@ impl Lsdb {
                 && (!is_own_external(self.router, key) || self.externals < MOST_OWN_EXTERNALS)
     }
 
-    /// Whether there are more than 16,384 LSAs, or more than 4,096 AS-external-LSAs of the
-    /// router itself among them.
+    /// Whether there are more than 16,384 LSAs, or more than 4,096 AS-external-LSAs of the router
+    /// itself among them.
     pub fn exceeds(&self) -> bool
         ensures { result ≡ exceeds self.now.router self.now.present }
     {
         self.lsas.len() > MOST_LSAS || self.externals > MOST_OWN_EXTERNALS
     }
 
-    /// The first `count` keys, in their order.
+    /// The first `count` keys, in their order, or all if there are fewer.
+    ///
+    /// # Errors
+    /// `AllocError` if an allocation is refused.
     pub fn first(&self, alloc: Global, count: usize) -> Result<Vec<Key>, AllocError>
         ensures { IfOk result (λ keys. keys.items ≡ take count (finite.keys self.now.present)) }
     {
@@ -462,9 +468,12 @@ impl Lsdb {
 
     /// The keys of the copies that have MaxAge at the moment, in their order.
     ///
-    /// It looks at each copy only from the moment on at which one may have come of age since
-    /// `settle_at` last looked; before that, at those alone that had MaxAge then or got it since,
-    /// and at no more that have left than there are others.
+    /// It visits all copies only if one may have reached MaxAge since `settle_at` last scanned
+    /// them. Otherwise it visits only those that had MaxAge then or got it since; at most a third
+    /// of these have been removed or replaced.
+    ///
+    /// # Errors
+    /// `AllocError` if an allocation is refused.
     pub fn aged_keys(&self, alloc: Global, moment: Second) -> Result<Vec<Key>, AllocError>
         ensures { IfOk result (λ keys. keys.items ≡ aged_keys moment self.now.present) }
     {
@@ -483,15 +492,15 @@ impl Lsdb {
         self.lsas.keys_where(alloc, &aged_out)
     }
 
-    /// Whether each copy of a type up to this one, or of any type if none is given, says
-    /// at the moment what the copy of its key said when the database was last settled (RFC 2328,
-    /// section 13.2): none came or left, each has the body that it had, and neither the copy of
-    /// then nor the one of now is at MaxAge at the moment, unless they have one age. It looks at
-    /// the edits since then. Another sequence number, checksum, age below MaxAge or other Options
-    /// don't count, nor does that a copy was sent.
+    /// Whether each copy of an LS type up to this one, or of any type if none is given, says at the
+    /// moment what the copy of its key said when the database was last settled (RFC 2328, section
+    /// 13.2): no copy was added or removed, each has the same body, and neither the earlier copy
+    /// nor the present one is at MaxAge at the moment, unless they have the same age. It visits the
+    /// edits since then. Another sequence number, checksum, age below MaxAge or Options field
+    /// doesn't matter, nor whether a copy was sent.
     ///
     /// # Errors
-    /// If memory for the texts of LSAs, to compare them, is refused.
+    /// `AllocError` if an allocation for the bytes of LSAs, which are compared, is refused.
     pub fn keeps(
         &self,
         alloc: Global,
@@ -513,7 +522,8 @@ impl Lsdb {
         self.times.keeps(alloc, &ages)
     }
 
-    // The LSA takes the place of its copy; `installed` is the moment if flooding brought it.
+    // The LSA replaces the copy of its key; `installed` is the moment if it was received by
+    // flooding.
     fn put(&mut self, moment: Second, lsa: Lsa, installed: Option<Second>) -> Result<(), AllocError>
         ensures ok { OnOk result (self.new.present ≡ put_copy moment lsa installed
             self.old.present) }
@@ -538,7 +548,10 @@ impl Lsdb {
         Ok(())
     }
 
-    /// Flooding brought the LSA at this moment (RFC 2328, section 13.2).
+    /// Installs an LSA that was received by flooding at this moment (RFC 2328, section 13.2).
+    ///
+    /// # Errors
+    /// `AllocError` if an allocation is refused; the caller then rolls back.
     pub fn install_flooded(&mut self, moment: Second, lsa: Lsa) -> Result<(), AllocError>
         ensures ok { OnOk result (self.new.present ≡ install_flooded moment lsa self.old.present) }
         ensures settled { self.new.settled ≡ self.old.settled }
@@ -547,7 +560,10 @@ impl Lsdb {
         self.put(moment, lsa, Some(moment))
     }
 
-    /// This router originated the LSA at this moment (RFC 2328, section 12.4).
+    /// Installs an LSA that this router originated at this moment (RFC 2328, section 12.4).
+    ///
+    /// # Errors
+    /// `AllocError` if an allocation is refused; the caller then rolls back.
     pub fn install_originated(&mut self, moment: Second, lsa: Lsa) -> Result<(), AllocError>
         ensures ok { OnOk result (self.new.present ≡ install_originated moment lsa
             self.old.present) }
@@ -557,7 +573,11 @@ impl Lsdb {
         self.put(moment, lsa, None)
     }
 
-    /// An Update took the copy of this key along at this moment. Without a copy nothing happens.
+    /// Notes that the copy of this key was sent in a Link State Update at this moment. Without a
+    /// copy nothing changes.
+    ///
+    /// # Errors
+    /// `AllocError` if an allocation is refused; the caller then rolls back.
     pub fn mark_sent(&mut self, moment: Second, key: &Key) -> Result<(), AllocError>
         ensures ok { OnOk result (self.new.present ≡ mark_sent moment key.now self.old.present) }
         ensures settled { self.new.settled ≡ self.old.settled }
@@ -574,7 +594,10 @@ impl Lsdb {
     }
 
     /// Premature aging (RFC 2328, section 14.1): the copy of this key has MaxAge from this moment
-    /// on. Without a copy nothing happens.
+    /// on. Without a copy nothing changes.
+    ///
+    /// # Errors
+    /// `AllocError` if an allocation is refused; the caller then rolls back.
     pub fn age_out(&mut self, moment: Second, key: &Key) -> Result<(), AllocError>
         ensures ok { OnOk result (self.new.present ≡ age_out moment key.now self.old.present) }
         ensures settled { self.new.settled ≡ self.old.settled }
@@ -592,7 +615,10 @@ impl Lsdb {
         self.times.insert(*key, aged)
     }
 
-    /// The copy of this key leaves the database, if there is one.
+    /// Removes the copy of this key, if there is one.
+    ///
+    /// # Errors
+    /// `AllocError` if an allocation is refused; the caller then rolls back.
     pub fn remove(&mut self, key: &Key) -> Result<(), AllocError>
         ensures ok { OnOk result (self.new.present ≡ finite.remove self.old.present key.now) }
         ensures settled { self.new.settled ≡ self.old.settled }
@@ -614,10 +640,10 @@ impl Lsdb {
         self.settled_externals = self.externals;
     }
 
-    /// Makes the edits so far final, and looks at each copy if one may have come of age by this
-    /// moment, so that `aged_keys` needn't before another one can. If most of those that had
-    /// MaxAge have left or came again younger, it forgets these. Without memory for what it finds
-    /// it looks again the next time.
+    /// Makes the edits so far final, and scans all copies if one may have reached MaxAge by this
+    /// moment, so that `aged_keys` needn't before another one can. If more than half of the aged
+    /// keys have lost their copies or got younger ones, it visits the aged keys only and drops
+    /// these. If an allocation is refused, it tries again the next time.
     pub fn settle_at(&mut self, alloc: Global, moment: Second)
         ensures { self.new ≡ record self.old { settled = self.old.present } }
     {
@@ -639,7 +665,7 @@ impl Lsdb {
         }
     }
 
-    /// Takes all edits back that were made since it was last settled.
+    /// Undoes all edits since the database was last settled.
     pub fn roll_back(&mut self)
         ensures { self.new ≡ record self.old { present = self.old.settled } }
     {

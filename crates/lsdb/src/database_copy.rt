@@ -1,4 +1,4 @@
-//! A copy of the database, as it is lent.
+//! A borrowed copy of the database.
 ghost use Rattle.std.specs.Prelude.{◌≡◌, ◌≤◌, IfOk};
 ghost use Rattle.words.specs.Constants.{max_age};
 ghost use Rattle.lsa.specs.Text.{text};
@@ -12,7 +12,7 @@ use std::alloc::{AllocError, Global};
 use std::marker::Model;
 use words::{MAX_AGE, Second, Sequence};
 
-/// A copy of an LSA. Clauses see it as the database has it.
+/// A copy of an LSA, borrowed from the database. Clauses see it as the database has it.
 #[derive(Drop)]
 pub struct DatabaseCopy<'a> {
     pub lsa: &'a Lsa,
@@ -38,7 +38,7 @@ impl<'a> DatabaseCopy<'a> {
         age_at(self.times.age, self.times.stored, moment)
     }
 
-    /// Whether it has MaxAge at the moment.
+    /// Whether it is at MaxAge at the moment.
     pub fn is_aged_out(&self, moment: Second) -> bool
         ensures { result ≡ is_aged_out moment self.now }
     {
@@ -56,7 +56,7 @@ impl<'a> DatabaseCopy<'a> {
         }
     }
 
-    /// Which instance it is at the moment.
+    /// The instance at the moment.
     pub fn instance(&self, moment: Second) -> Instance
         ensures { result ≡ copy_now moment self.now }
     {
@@ -68,7 +68,10 @@ impl<'a> DatabaseCopy<'a> {
         }
     }
 
-    /// Its text at this age, in seconds.
+    /// Its bytes at this age, in seconds.
+    ///
+    /// # Errors
+    /// `AllocError` if an allocation is refused.
     pub fn text(&self, alloc: Global, age: u16) -> Result<Sequence<u8>, AllocError>
         requires { age ≤ max_age }
         ensures { IfOk result (λ bytes. bytes ≡ text (lsa_aged age self.now.lsa)) }

@@ -1,4 +1,4 @@
-//! What all copies say at a moment, lent in the order of their keys.
+//! The bodies of all copies at a moment, borrowed, in the order of their keys.
 ghost use Rattle.std.specs.Prelude.{◌≡◌, ◌≤◌, IfOk, length};
 ghost use Rattle.std.specs.FinMap as finite;
 ghost use Rattle.lsdb.specs.Bodies.{AreBodies};
@@ -16,7 +16,7 @@ use std::alloc::{AllocError, Global};
 use std::marker::Model;
 use words::{Key, Second};
 
-/// A key with what its LSA says. Clauses see the pair.
+/// A key with the body of its LSA. Clauses see the pair.
 #[derive(Drop)]
 pub struct KeyedBody<'a> {
     key: Key,
@@ -46,7 +46,7 @@ impl<'a> KeyedBody<'a> {
         &self.key
     }
 
-    /// What the LSA says.
+    /// The body of the LSA.
     pub fn body(&self) -> &'a Body
         ensures { result.now ≡ self.now.1 }
     {
@@ -54,10 +54,11 @@ impl<'a> KeyedBody<'a> {
     }
 }
 
-/// What the LSAs that have these times say, of the types up to this one or of all types.
+/// The bodies of the LSAs of LS types up to this one, or of all types, whose times are below MaxAge
+/// at the moment.
 ///
 /// # Errors
-/// If memory for the list is refused.
+/// `AllocError` if an allocation is refused.
 pub fn bodies_of<'a>(
     alloc: Global,
     lsas: &'a KeyedMap<StoredLsa>,

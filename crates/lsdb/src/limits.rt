@@ -1,4 +1,4 @@
-//! How many LSAs the database may hold.
+//! The limits on the number of LSAs in the database.
 ghost use Rattle.std.specs.Prelude.{◌≡◌, if◌then◌else◌, false};
 ghost use Rattle.std.specs.FinMap as map;
 ghost use Rattle.keyed_map.specs.Slots.{count_after_change};
@@ -9,10 +9,10 @@ use crate::stored::StoredLsa;
 use keyed_map::KeyedMap;
 use words::{Key, RouterId};
 
-/// The most LSAs that the database has, whoever originated them (a limit of this project's own).
+/// The most LSAs in the database, whoever originated them (a limit of this project).
 pub const MOST_LSAS: usize = 16_384;
 
-/// The most AS-external-LSAs of the router itself among them (a limit of this project's own).
+/// The most AS-external-LSAs of the router itself among them (a limit of this project).
 pub const MOST_OWN_EXTERNALS: usize = 4_096;
 
 /// Whether this is the key of an AS-external-LSA of the router (RFC 2328, section 12.4.4).
@@ -22,8 +22,8 @@ pub fn is_own_external(router: RouterId, key: &Key) -> bool
     key.ls_type == 5 && key.advertising_router == router
 }
 
-/// Whether this is the key of an own external that is there. Of other keys nothing is looked
-/// up.
+/// Whether this is the key of an AS-external-LSA of the router that is in the database. Other keys
+/// aren't looked up.
 pub fn holds_own(router: RouterId, lsas: &KeyedMap<StoredLsa>, key: &Key) -> bool
     ensures { result ≡ (if is_own_external router key.now
         then map.contains_key lsas.now.present key.now else false) }
@@ -35,8 +35,9 @@ pub fn holds_own(router: RouterId, lsas: &KeyedMap<StoredLsa>, key: &Key) -> boo
     }
 }
 
-/// How many own externals there are, once the LSA of a key was set or taken out: `held` tells
-/// whether the key of an own external was there, `holds` whether the key is there now.
+/// The number of the router's own AS-external-LSAs after the LSA of a key was set or removed:
+/// `held` says whether the database had the key of an own AS-external-LSA before, `holds` whether
+/// it has the key now.
 pub fn recount(
     router: RouterId,
     lsas: &KeyedMap<StoredLsa>,

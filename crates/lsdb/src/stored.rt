@@ -1,4 +1,4 @@
-//! An LSA as the database keeps it.
+//! An LSA as the database stores it.
 ghost use Rattle.std.specs.Prelude.{◌≡◌};
 
 use keyed_map::Copied;
@@ -6,7 +6,7 @@ use lsa::Lsa;
 use std::alloc::{AllocError, Global};
 use std::marker::Model;
 
-/// An LSA of the database, apart from its times. Clauses see the LSA.
+/// An LSA of the database, without its times. Clauses see the LSA.
 #[derive(Drop)]
 pub struct StoredLsa {
     lsa: Lsa,

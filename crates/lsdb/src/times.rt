@@ -1,17 +1,17 @@
-//! The moments of a copy.
+//! The times of a copy.
 use keyed_map::Copied;
 use std::alloc::{AllocError, Global};
 use words::Second;
 
-/// What changes of a copy while its LSA stays.
+/// What may change for a copy while its LSA stays the same.
 #[derive(Clone, Copy, Debug)]
 pub struct Times {
     /// Its age at the moment `stored`, in seconds, at most 3600.
     pub age: u16,
     pub stored: Second,
-    /// When flooding installed it, if flooding did.
+    /// When it was installed by flooding, if it was.
     pub installed: Option<Second>,
-    /// When it was last sent in an Update, if it was.
+    /// When it was last sent in a Link State Update, if it was.
     pub sent: Option<Second>,
 }
 

@@ -1,4 +1,4 @@
--- A body's text is filled, and read as that body.
+-- The encoding of a body has its exact length, and is read as that body.
 use Rattle.std.proofs.Common.{◌≡◌, ℕ, ◌+◌, ◌-◌, ◌*◌, ◌/◌, ◌%◌, ◌^◌, ◌<◌, ◌≤◌, Bool, true, false, not, ◌&&◌, eqb, ltb, List, [], ◌∷◌, ◌++◌, length, take, drop, Some, refl, sym, ap, ◌∙◌, arith}
 use Rattle.std.specs.Prelude.{bit_and}
 use Rattle.std.specs.List.{flat_map, AllByRecursion}
@@ -24,7 +24,7 @@ use Rattle.packet.proofs.Records.{key-reads_back, key-wide, router-reads_back, r
 use Rattle.packet.proofs.Bodies.{take-size}
 use Rattle.packet.proofs.Firsts.{is_equal}
 
--- what a body's text is read as
+-- what the encoding of a body is read as
 pub record IsAgain (b : Body) (bytes : List ℕ) : Type 0 where
   pub room : least_length (Some (type_of b)) ≤ 24 + length bytes
   pub filled : is_filled (type_of b) bytes ≡ true
@@ -35,7 +35,7 @@ pub record IsAgain (b : Body) (bytes : List ℕ) : Type 0 where
 bits : (i m s : Bool) → ℕ
 bits i m s = 4 * bit i + 2 * bit m + bit s
 
--- a number's flags, as a Description has them
+-- the flags of a number, as in a Database Description
 abbrev flag : ℕ → ℕ → Bool
 flag n k = not (eqb (bit_and n k) 0)
 
@@ -83,7 +83,7 @@ master_back false false false = refl
 
 -- ---- LSAs
 
--- LSAs that stand one behind the other are cut again
+-- consecutive LSAs are divided again
 lsas_again : (lsas : List (List ℕ)) → AllByRecursion IsUnread lsas
     → (are_lsas (length lsas) (flat_map (λ (lsa : List ℕ). lsa) lsas) ≡ true) × (lsas_of (length lsas) (flat_map (λ (lsa : List ℕ). lsa) lsas) ≡ lsas)
 lsas_again [] all = (refl, refl)
@@ -106,7 +106,7 @@ lsas_again (lsa ∷ lsas) all =
           ∷ (ap (λ k. lsas_of (length lsas) (drop k (lsa ++ flat_map (λ (lsa : List ℕ). lsa) lsas))) size ∙ ap (lsas_of (length lsas)) behind ∙ next.1) i),
     )
 
--- each has room for its header
+-- each LSA has room for its header
 pub lsas_room : (lsas : List (List ℕ)) → AllByRecursion IsUnread lsas → 20 * length lsas ≤ length (flat_map (λ (lsa : List ℕ). lsa) lsas)
 lsas_room [] all = omega arith
 lsas_room (lsa ∷ lsas) all = omega (arith, lsas_room lsas all.1, all.0.room, length-append lsa (flat_map (λ (lsa : List ℕ). lsa) lsas))

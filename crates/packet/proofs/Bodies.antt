@@ -1,5 +1,5 @@
--- What stands behind a packet's header: bytes that a body fills are its text, and a body's text is
--- filled and read as that body.
+-- The bytes after a packet's header: bytes that a body fills encode it, and the encoding of a body
+-- is filled and read as that body.
 use Rattle.std.proofs.Common.{◌≡◌, ℕ, zero, suc, ◌+◌, ◌-◌, ◌*◌, ◌/◌, ◌%◌, ◌<◌, ◌≤◌, Bool, true, false, not, ◌&&◌, eqb, ltb, List, [], ◌∷◌, ◌++◌, length, get_or, take, drop, Some, refl, sym, ap, ◌∙◌, arith}
 use Rattle.std.specs.Prelude.{bit_and}
 use Rattle.std.specs.List.{flat_map, AllByRecursion}
@@ -20,7 +20,7 @@ use Rattle.packet.specs.Text.{IsBody, IsKey, IsRouter, IsUnread, Open, body_text
 use Rattle.packet.proofs.Records.{key-fits, key-spells, router-fits, router-spells}
 use Rattle.packet.proofs.Cuts.{lsas_first}
 
--- what these bytes have in the places that a body leaves open
+-- the bytes of the fields that a body leaves open
 abbrev pub filler_of : ℕ → List ℕ → Open
 filler_of authentication bytes = record { authentication = authentication; designated = field bytes 12 4; backup = field bytes 16 4 }
 
@@ -40,7 +40,7 @@ and_parts : (a b : Bool) → (a && b) ≡ true → (a ≡ true) × (b ≡ true)
 and_parts true b e = (refl, e)
 and_parts false b e = absurd cc
 
--- nothing stands behind the end
+-- nothing is after the end
 at_end : (bytes text : List ℕ) (n : ℕ) → n ≡ length bytes → text ++ drop n bytes ≡ text
 at_end bytes text n e = ap (λ t. text ++ t) (ap (λ (k : ℕ). drop k bytes) e ∙ drop_all (length bytes) bytes (omega arith)) ∙ append-nil text
 
@@ -81,7 +81,7 @@ take-bytes (suc n) [] i fits = omega arith
 take-bytes (suc n) (b ∷ bytes) zero fits = fits zero
 take-bytes (suc n) (b ∷ bytes) (suc i) fits = take-bytes n bytes i (λ k. fits (suc k))
 
--- the length field stands in what is cut off
+-- the length field is in the bytes that are taken
 pub take-size : (n : ℕ) (bytes : List ℕ) → 20 ≤ n → field (take n bytes) 18 2 ≡ field bytes 18 2
 take-size n bytes le =
     let e : n ≡ 18 + (n - 18) = omega arith in
@@ -102,9 +102,9 @@ lsas_fit (suc n) bytes fits e =
       lsas_fit n (drop (field bytes 18 2) bytes) (IsBytes-drop (field bytes 18 2) bytes fits) next.after,
     )
 
--- ---- what fills is the text
+-- ---- bytes that are filled encode the body
 
--- the records behind a place are all that stands there
+-- the records from an index on are all of the remaining bytes
 records_all : {X : Type 0} (read : List ℕ → ℕ → X) (text : X → List ℕ) (P : X → Type 0) (width n at : ℕ) (bytes : List ℕ)
     → ((bytes : List ℕ) (at : ℕ) → IsBytes bytes → at + width ≤ length bytes → text (read bytes at) ++ drop (at + width) bytes ≡ drop at bytes)
     → IsBytes bytes → at + width * n ≡ length bytes → flat_map text (records read width bytes at n) ≡ drop at bytes

@@ -1,4 +1,4 @@
--- LSAs cut off the front of an Update's bytes, one by one.
+-- LSAs taken off the front of a Link State Update's bytes, one by one.
 use Rattle.std.proofs.Common.{◌≡◌, ℕ, suc, ◌+◌, ◌-◌, ◌<◌, ◌≤◌, ◌⊎◌, inl, inr, Bool, true, false, ◌&&◌, leb, List, [], ◌∷◌, ◌++◌, length, take, drop, refl, sym, ap, ◌∙◌, append_assoc, arith}
 use Rattle.std.proofs.lemmas.Bool.{le-leb, leb-true, lt-leb}
 use Rattle.words.specs.Fields.{field}
@@ -7,7 +7,7 @@ use Rattle.packet.specs.Reading.{are_lsas, lsas_of}
 abbrev size_of : List ℕ → ℕ
 size_of bytes = field bytes 18 2
 
--- one LSA more
+-- one more LSA
 more : (n i : ℕ) (bytes : List ℕ) → i < n
     → are_lsas (n - i) bytes ≡ (leb 20 (length bytes) && leb 20 (size_of bytes) && leb (size_of bytes) (length bytes) && are_lsas (n - (i + 1)) (drop (size_of bytes) bytes))
 more n i bytes lt =
@@ -32,7 +32,7 @@ pub lsas_on : (n i : ℕ) (bytes : List ℕ) → i < n → 20 ≤ length bytes �
 lsas_on n i bytes lt room least fits =
     more n i bytes lt ∙ (λ j. le-leb 20 (length bytes) room j && le-leb 20 (size_of bytes) least j && le-leb (size_of bytes) (length bytes) fits j && are_lsas (n - (i + 1)) (drop (size_of bytes) bytes))
 
--- what is known of the next LSA
+-- what is known about the next LSA
 pub record IsNext (n i : ℕ) (bytes : List ℕ) : Type 0 where
   pub room : 20 ≤ length bytes
   pub least : 20 ≤ size_of bytes
@@ -55,7 +55,7 @@ lsas_next n i bytes lt whole =
       after = a.1;
     }
 
--- a loop that has cut off one more
+-- a loop that has taken off one more LSA
 pub cut_step : (n i : ℕ) (bytes : List ℕ) (front after total : List (List ℕ)) (lsa : List ℕ) → i < n
     → lsa ≡ take (size_of bytes) bytes → after ≡ front ++ lsa ∷ [] → front ++ lsas_of (n - i) bytes ≡ total
     → after ++ lsas_of (n - (i + 1)) (drop (size_of bytes) bytes) ≡ total
@@ -67,7 +67,7 @@ cut_step n i bytes front after total lsa lt is pushed so_far =
     ∙ (λ j. front ++ (is j ∷ lsas_of (n - (i + 1)) (drop (size_of bytes) bytes)))
     ∙ ap (λ m. front ++ lsas_of m bytes) (sym k) ∙ so_far
 
--- the same of the first of some LSAs
+-- the same for the first of some LSAs
 pub record IsFirst (n : ℕ) (bytes : List ℕ) : Type 0 where
   pub room : 20 ≤ length bytes
   pub least : 20 ≤ size_of bytes

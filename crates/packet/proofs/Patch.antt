@@ -1,4 +1,4 @@
--- The length and the checksum put into a text that was written with 0 in their places.
+-- The length and the checksum, written into bytes that had 0 in their fields.
 use Rattle.std.proofs.Common.{◌≡◌, ℕ, ◌+◌, ◌/◌, ◌%◌, ◌<◌, ◌≤◌, List, ◌++◌, length, set, refl, sym, ap, ◌∙◌, arith}
 use Rattle.std.proofs.Math.Nat.{mod-eq_of_lt}
 use Rattle.words.specs.Fields.{fields}
@@ -7,7 +7,7 @@ use Rattle.packet.specs.declared.model.Packet.{Packet}
 use Rattle.packet.specs.Checksum.{packet_checksum}
 use Rattle.packet.specs.Text.{IsPacket, Open, PacketText, body_text, canonical, closed_fields, header, text, type_of}
 
--- the checksum doesn't cover its own place
+-- the checksum doesn't cover its own field
 pub uncovered : (o : Open) (sum : ℕ) (p : Packet) → packet_checksum (text o sum p) ≡ packet_checksum (text o 0 p)
 uncovered o sum p = refl
 
@@ -38,7 +38,7 @@ patched_text p bytes sum lt e is =
     ∙ patched (type_of p.body) (24 + length (body_text closed_fields p.body)) p.router sum (body_text closed_fields p.body) lt
     ∙ ap (λ n. text closed_fields n p) (is ∙ ap packet_checksum e)
 
--- the canonical text is a text
+-- the canonical encoding is an encoding
 pub canonical_is_text : (p : Packet) → IsPacket p → length (text closed_fields 0 p) ≤ 8192 → PacketText (canonical p) p
 unfolding canonical
 canonical_is_text p is le = record {

@@ -1,4 +1,5 @@
--- Router IDs and keys that are read are those that stand there, and what was written is read again.
+-- Router IDs and keys that are read spell the bytes that they are read from, and what was written
+-- is read back.
 use Rattle.std.proofs.Common.{◌≡◌, ℕ, ◌+◌, List, [], ◌∷◌, ◌++◌, get_or, refl, ap}
 use Rattle.words.specs.Fields.{field}
 use Rattle.words.proofs.Bytes.{fields-read_from, read_from, read_from-fields}
@@ -7,7 +8,7 @@ use Rattle.lsa.proofs.Headers.{field-below}
 use Rattle.packet.specs.Reading.{key_at, router_at}
 use Rattle.packet.specs.Text.{IsKey, IsRouter, key_fields, key_text, router_text}
 
--- the value at a place of a table
+-- the value at an index of a table
 abbrev pub value : ℕ → List (ℕ × ℕ) → ℕ
 value k fs = (get_or fs k (0, 0)).1
 

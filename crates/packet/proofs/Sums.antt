@@ -1,4 +1,4 @@
--- One's complement sums, by sums of numbers that are folded once.
+-- One's complement sums as sums of numbers that are folded once.
 use Rattle.std.proofs.Common.{◌≡◌, ℕ, zero, suc, ◌+◌, ◌-◌, ◌*◌, ◌/◌, ◌%◌, ◌<◌, ◌≤◌, true, false, cond, eqb, List, ◌∷◌, length, get_or, take, drop, fold, refl, sym, ap, ◌∙◌, arith}
 use Rattle.std.proofs.lemmas.Bool.{eqb-true, eqb-false, ltb-true, ltb-false}
 use Rattle.std.proofs.Math.Nat.{pos_of_ne-zero}
@@ -6,7 +6,7 @@ use Rattle.std.proofs.lemmas.List.{take_all}
 use Rattle.std.specs.Prelude.{nat_lt}
 use Rattle.packet.specs.Checksum.{folded, ones_plus, words_of}
 
--- a word that differs from a number by carries alone
+-- a word that differs from a number only by carries
 pub record IsFolded (n m : ℕ) : Type 0 where
   pub carries : ℕ
   pub is : n ≡ m + 65535 * carries
@@ -20,7 +20,7 @@ folded-is n =
       | false ↦ λ e. let some = pos_of_ne-zero (eqb-false n 0 e) in record { carries = (n - 1) / 65535; is = omega (arith, some); within = omega arith; positive = λ p. omega arith }
     ] refl
 
--- there is one alone
+-- there is only one
 pub folded_to : (n m : ℕ) → IsFolded n m → m ≡ folded n
 folded_to zero m h = omega (arith, h.is)
 folded_to (suc n) m h =
@@ -36,7 +36,7 @@ positive_more (suc s) r w f p = let q = f (omega arith) in omega (arith, q)
 pub folded-word : (w : ℕ) → w < 65536 → w ≡ folded w
 folded-word w small = folded_to w w (record { carries = 0; is = omega arith; within = omega arith; positive = λ p. p })
 
--- one word more
+-- one more word
 pub plus-folded : (s w : ℕ) → w < 65536 → ones_plus (folded s) w ≡ folded (s + w)
 plus-folded s w small =
     let f = folded-is s in
@@ -50,7 +50,7 @@ plus-folded s w small =
           (record { carries = f.carries + 1; is = omega (arith, f.is, high); within = omega (arith, f.within, small); positive = λ p. omega (arith, high) })
     ] refl
 
--- an upper word counts 65,536 times or once
+-- an upper word may count 65,536 times or once
 pub same_folded : (s u v x y : ℕ) → folded (s + u + v + x + y) ≡ folded (s + (65536 * u + v + (65536 * x + y)))
 same_folded s u v x y =
     let f = folded-is (s + u + v + x + y) in
@@ -66,7 +66,7 @@ four_words s u v x y ws hu hv hx hy =
     let four : ones_plus (ones_plus (ones_plus (ones_plus (folded s) u) v) x) y ≡ folded (s + u + v + x + y) = ap (λ n. ones_plus n y) three ∙ plus-folded (s + u + v + x) y hy in
     ap (λ n. fold ones_plus n ws) (sym (four ∙ same_folded s u v x y))
 
--- the first eight bytes, and what is behind them
+-- the first eight bytes and the rest
 eight : (bytes : List ℕ) → 8 ≤ length bytes
     → bytes ≡ get_or bytes 0 0 ∷ get_or bytes 1 0 ∷ get_or bytes 2 0 ∷ get_or bytes 3 0 ∷ get_or bytes 4 0 ∷ get_or bytes 5 0 ∷ get_or bytes 6 0 ∷ get_or bytes 7 0
     ∷ take (length bytes - 8) (drop 8 bytes)
@@ -74,11 +74,11 @@ eight (a ∷ b ∷ c ∷ d ∷ e ∷ f ∷ g ∷ h ∷ rest) le =
     ap (λ t. a ∷ b ∷ c ∷ d ∷ e ∷ f ∷ g ∷ h ∷ t) (sym (take_all (length (a ∷ b ∷ c ∷ d ∷ e ∷ f ∷ g ∷ h ∷ rest) - 8) rest (omega arith)))
 eight short le = absurd (omega (arith, le))
 
--- the word of two bytes at a place
+-- the word of two bytes at an index
 abbrev pub word_at : List ℕ → ℕ → ℕ
 word_at bytes i = 256 * get_or bytes i 0 + get_or bytes (i + 1) 0
 
--- eight bytes more are summed
+-- eight more bytes are added to the sum
 pub eight_summed : (s whole : ℕ) (bytes : List ℕ) → 8 ≤ length bytes
     → word_at bytes 0 < 65536 → word_at bytes 2 < 65536 → word_at bytes 4 < 65536 → word_at bytes 6 < 65536
     → fold ones_plus (folded s) (words_of bytes) ≡ whole
@@ -87,7 +87,7 @@ eight_summed s whole bytes le b0 b2 b4 b6 is =
     four_words s (word_at bytes 0) (word_at bytes 2) (word_at bytes 4) (word_at bytes 6) (words_of (take (length bytes - 8) (drop 8 bytes))) b0 b2 b4 b6
     ∙ sym (ap (λ b. fold ones_plus (folded s) (words_of b)) (eight bytes le)) ∙ is
 
--- a sum may be folded on the way
+-- a sum may be folded in between
 pub folded_twice : (s : ℕ) → folded (folded s) ≡ folded s
 folded_twice s =
     let f = folded-is s in

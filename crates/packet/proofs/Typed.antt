@@ -1,4 +1,4 @@
--- What the types keep of a packet and what is shown of it make it a packet with a text.
+-- What a packet's types ensure and what is proved of it make it a packet that can be encoded.
 use Rattle.std.proofs.Common.{ℕ, List}
 use Rattle.std.specs.List.{AllByRecursion}
 use Rattle.words.specs.Fields.{AreBytes}

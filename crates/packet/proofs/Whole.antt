@@ -1,4 +1,4 @@
--- Bytes with which nothing is wrong are a text of what they say, and nothing is wrong with a text.
+-- Bytes without a fault encode what their fields say, and encoded bytes have no fault.
 use Rattle.std.proofs.Common.{◌≡◌, ℕ, ◌+◌, ◌^◌, ◌<◌, ◌≤◌, ◌⊎◌, inl, inr, true, false, not, cond, eqb, List, [], ◌∷◌, ◌++◌, length, drop, Option, None, Some, Result, Ok, Err, refl, sym, ap, subst, ◌∙◌, arith}
 use Rattle.std.specs.Prelude.{IfOk, is_none, nat_lt}
 use Rattle.std.specs.List.{AllByRecursion}
@@ -69,7 +69,7 @@ number_lt types.Request = omega arith
 number_lt types.Update = omega arith
 number_lt types.Acknowledgment = omega arith
 
--- ---- bytes with no fault are a text
+-- ---- bytes without a fault encode a packet
 
 abbrev header_widths : List ℕ
 header_widths = 1 ∷ 1 ∷ 2 ∷ 4 ∷ 4 ∷ 2 ∷ 2 ∷ 8 ∷ []
@@ -101,7 +101,7 @@ found bytes kind fits sound =
           ∙ (λ i. fields ((1, version i) ∷ (1, number i) ∷ (2, (said ∙ size) i) ∷ (4, field bytes 4 4) ∷ (4, area i) ∷ (2, sum i) ∷ (2, auth i) ∷ (8, field bytes 16 8) ∷ []) ++ sym body.0 i);
     }
 
--- ---- a text has no fault, and says its packet
+-- ---- encoded bytes have no fault, and say their packet
 
 pub only : (bytes : List ℕ) (p : Packet) → PacketText bytes p → IsSound bytes (type_of p.body) × (p ≡ packet_as (type_of p.body) bytes)
 unfolding fault_of
@@ -161,13 +161,13 @@ only bytes p t =
       λ i. record { router = sym id i; body = sym again.read i },
     )
 
--- ---- what a read answers
+-- ---- the result of parsing
 
 pub is_found : (bytes : List ℕ) (r : Result Packet ReadError) → IsBytes bytes → Reads bytes r → IfOk r (λ p. PacketText bytes p)
 is_found bytes (Ok p) fits (kind, e) = subst (PacketText bytes) (sym e.1) (found bytes kind fits e.0)
 is_found bytes (Err e) fits h = tt
 
--- what is read of a text is its packet
+-- the bytes of a packet are parsed as that packet
 read_as : (bytes : List ℕ) (p q : Packet) (kind : PacketType) → PacketText bytes p → IsSound bytes kind → q ≡ packet_as kind bytes → p ≡ q
 read_as bytes p q kind t sound e =
     let o = only bytes p t in
@@ -189,7 +189,7 @@ one_packet bytes p q s t =
     let o = only bytes q t in
     read_as bytes p q (type_of q.body) s o.0 o.1
 
--- bytes with no fault name a type, have room for a body of it, and that fills them
+-- bytes without a fault have a known type, room for a body of it, and the body fills them
 sound : (bytes : List ℕ) → fault_of bytes ≡ None → (kind : PacketType) × IsSound bytes kind
 unfolding fault_of
 sound bytes none =

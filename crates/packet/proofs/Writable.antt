@@ -1,4 +1,4 @@
--- What is read can be written.
+-- A packet that is parsed can be written.
 use Rattle.std.proofs.Common.{◌≡◌, ℕ, ◌+◌, ◌^◌, ◌<◌, ◌≤◌, List, length, Result, Ok, Err, refl, ap, arith}
 use Rattle.std.specs.Prelude.{IfOk}
 use Rattle.packet.specs.declared.model.Body.{Body}
@@ -8,7 +8,7 @@ use Rattle.packet.specs.declared.refusal.ReadError.{ReadError}
 use Rattle.packet.specs.Text.{IsBody, Open, PacketText, body_text, closed_fields, lsa_count, text}
 use Rattle.packet.proofs.Again.{lsas_room}
 
--- what a text leaves open is as long as zeros there
+-- the open fields are as long as zeros there
 same_length : (o : Open) (b : Body) → length (body_text o b) ≡ length (body_text closed_fields b)
 same_length o (body.Hello h) = refl
 same_length o (body.Description d) = refl

@@ -1,6 +1,5 @@
--- What a Rust value of a packet keeps by the types of its fields, and what they don't keep: that
--- each LSA of an Update has room for its header and the length that it says. Together they are
--- `IsPacket`.
+-- What the field types of a packet in Rust ensure, and what they don't: that each LSA of a Link
+-- State Update has room for its header and the length that it gives. Together they are `IsPacket`.
 use Rattle.std.specs.Prelude.{◌≡◌, ◌≤◌, ℕ, List, length}
 use Rattle.std.specs.List.{AllByRecursion}
 use Rattle.words.specs.Fields.{AreBytes, field}
@@ -10,7 +9,7 @@ use Rattle.packet.specs.declared.model.Body.TheVariants as body
 use Rattle.packet.specs.declared.model.Packet.{Packet}
 use Rattle.packet.specs.Text.{IsDescription, IsHello, IsKey, IsRouter}
 
--- ---- kept by the types
+-- ---- ensured by the types
 
 abbrev pub BodyIsTyped : Body → Type 0
 BodyIsTyped (body.Hello h) = IsHello h
@@ -23,9 +22,9 @@ pub record PacketIsTyped (p : Packet) : Type 0 where
   pub router : IsRouter p.router
   pub body : BodyIsTyped p.body
 
--- ---- left to show
+-- ---- left to prove
 
--- an unread LSA has room for a header, whose length field is the number of its bytes (A.4.1)
+-- an unparsed LSA has room for a header, whose length field is its number of bytes (A.4.1)
 pub record IsWhole (lsa : List ℕ) : Type 0 where
   pub room : 20 ≤ length lsa
   pub said : field lsa 18 2 ≡ length lsa

@@ -8,7 +8,7 @@ use crate::model::PacketType;
 use crate::refusal::Fault;
 use words::{byte_at, u16_at, u32_at};
 
-/// A packet's largest length, in bytes.
+/// The greatest length of a packet, in bytes.
 const LARGEST: usize = 8192;
 
 fn least_length(kind: Option<PacketType>) -> usize
@@ -32,7 +32,7 @@ pub fn front(bytes: &[u8], count: usize) -> &[u8]
     &bytes[..count]
 }
 
-/// What follows the first `count` bytes.
+/// The bytes after the first `count`.
 pub fn behind(bytes: &[u8], count: usize) -> &[u8]
     requires { count ≤ length bytes.now }
     ensures { result.now ≡ drop count bytes.now }
@@ -40,7 +40,7 @@ pub fn behind(bytes: &[u8], count: usize) -> &[u8]
     &bytes[count..]
 }
 
-// Whether that many LSAs, cut by their length fields, fill these bytes exactly.
+// Whether that many LSAs, divided by their length fields, fill these bytes exactly.
 #[tactic(auto, using(crate::proofs::Cuts::lsas_short, crate::proofs::Cuts::lsas_cut, crate::proofs::Cuts::lsas_on))]
 fn are_lsas(count: u32, bytes: &[u8]) -> bool
     ensures { result ≡ are_lsas count bytes.now }
@@ -59,7 +59,7 @@ fn are_lsas(count: u32, bytes: &[u8]) -> bool
     rest.is_empty()
 }
 
-// Whether a body of this type fills these bytes exactly.
+// Whether a body of this type has exactly these bytes' length.
 fn is_filled(kind: PacketType, body: &[u8]) -> bool
     requires { least_length (Some kind) ≤ 24 + length body.now }
     ensures { result ≡ is_filled kind body.now }
@@ -73,7 +73,7 @@ fn is_filled(kind: PacketType, body: &[u8]) -> bool
     }
 }
 
-/// The type of the packet in the bytes, or the first thing that is wrong with them.
+/// The type of the packet in the bytes, or their first fault.
 #[tactic(auto, unfolding(crate::specs::Reading::fault_of))]
 pub fn judge(bytes: &[u8]) -> Result<PacketType, Fault>
     ensures { Judges bytes.now result }

@@ -1,17 +1,17 @@
-//! Laws of the texts of packets, for every text and packet.
+//! Laws about the encoding of packets, for all bytes and packets.
 ghost use Rattle.packet.specs.Laws.{FaultlessBytesAreTexts, TextsAreFaultless, TextsAreOfOnePacket};
 
-/// A text is of one packet.
+/// Bytes encode at most one packet.
 pub fn texts_are_of_one_packet()
     ensures { TextsAreOfOnePacket }
 {}
 
-/// Nothing is wrong with a text of a packet.
+/// Encoded bytes have no fault.
 pub fn texts_are_faultless()
     ensures { TextsAreFaultless }
 {}
 
-/// Nothing is wrong just with the bytes that are a text of some packet.
+/// Only bytes that encode some packet have no fault.
 pub fn faultless_bytes_are_texts()
     ensures { FaultlessBytesAreTexts }
 {}

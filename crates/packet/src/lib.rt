@@ -1,9 +1,8 @@
-//! OSPF packets as bytes, both ways (RFC 2328, appendix A.3), in this profile: version 2, area
-//! 0.0.0.0, AuType 0.
+//! Parses and encodes OSPF packets (RFC 2328, appendix A.3): version 2, area 0.0.0.0, AuType 0.
 //!
-//! [`read`] gives the packet whose text the bytes are, or the first thing that is wrong with them;
-//! [`write`] gives a packet's canonical text, with zeros for the authentication and for a Hello's
-//! Designated Routers.
+//! [`read`] returns the packet that the bytes encode, or the first fault; [`write`] returns a
+//! packet's canonical encoding, with zeros for the authentication and for a Hello's Designated
+//! Routers.
 #![tactic(auto)]
 
 mod checksum;

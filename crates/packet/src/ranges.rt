@@ -1,5 +1,5 @@
-//! What the types of a packet's fields keep, told to proofs: nothing here does anything when the
-//! program runs.
+//! Lemmas for proofs: the ranges that the types of a packet's fields ensure. Nothing here does
+//! anything at run time.
 ghost use Rattle.std.specs.List.{AllByRecursion};
 ghost use Rattle.words.specs.Fields.{AreBytes};
 ghost use Rattle.lsa.specs.Headers.{IsHeader};
@@ -89,11 +89,10 @@ fn check_body(body: &Body)
 }
 
 impl Packet {
-    /// Says that every field is in its range, as the fields' types keep it. It does nothing when
-    /// the program runs.
+    /// A lemma for proofs: every field is in the range of its type. It does nothing at run time.
     ///
-    /// The types don't keep that each LSA of an Update has room for its header and the length that
-    /// it says.
+    /// The types don't ensure that each LSA of a Link State Update has room for its header and the
+    /// length that it gives.
     pub fn check_ranges(&self)
         ensures { PacketIsTyped self.now }
     {

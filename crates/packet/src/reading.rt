@@ -1,4 +1,4 @@
-//! Packets out of bytes.
+//! Parses packets.
 ghost use Rattle.std.specs.Prelude.{◌≡◌, ◌≤◌, ◌<◌, ◌+◌, ◌*◌, ◌/◌, ◌^◌, ◌⊎◌, true, length, drop};
 ghost use Rattle.std.specs.Prelude.{IfOk};
 ghost use Rattle.lsa.specs.Headers.{header_at};
@@ -15,7 +15,7 @@ use lsa::{Header, header_at};
 use std::alloc::{AllocError, Global};
 use words::{Key, LinkStateId, RouterId, Sequence, byte_at, u16_at, u32_at};
 
-// The Router IDs that stand one after the other from a place on.
+// Consecutive Router IDs from index `at` on.
 fn routers(
     alloc: Global,
     bytes: &[u8],
@@ -32,7 +32,7 @@ fn routers(
     Ok(Sequence::from_vec(routers))
 }
 
-// The LSA headers that stand one after the other from a place on.
+// Consecutive LSA headers from index `at` on.
 fn headers(
     alloc: Global,
     bytes: &[u8],
@@ -60,7 +60,7 @@ fn key_at(bytes: &[u8], at: usize) -> Key
     }
 }
 
-// The keys that a Request's bytes name.
+// The keys in the body of a Link State Request.
 fn keys(alloc: Global, bytes: &[u8]) -> Result<Sequence<Key>, AllocError>
     ensures { IfOk result (λ ks. ks ≡ records key_at 12 bytes.now 0 (length bytes.now / 12)) }
 {
@@ -78,7 +78,7 @@ fn unread(alloc: Global, bytes: &[u8]) -> Result<Sequence<u8>, AllocError>
     Ok(Sequence::from_vec(Vec::from_slice(alloc, bytes)?))
 }
 
-// The LSAs that fill the bytes, unread.
+// The LSAs that fill the bytes, unparsed.
 fn lsas(alloc: Global, count: u32, bytes: &[u8]) -> Result<Sequence<Sequence<u8>>, AllocError>
     requires { are_lsas count bytes.now ≡ true }
     ensures { IfOk result (λ ls. ls ≡ lsas_of count bytes.now) }
@@ -159,20 +159,20 @@ fn outcome(alloc: Global, bytes: &[u8]) -> Result<Packet, ReadError>
     }
 }
 
-/// The packet whose text the bytes are (RFC 2328, section 8.2 and appendix A.3).
+/// Parses a packet (RFC 2328, section 8.2 and appendix A.3).
 ///
-/// Refusals are tried in the order of [`Fault`](crate::Fault); `Memory` comes only if nothing is
-/// wrong with the bytes. The authentication bytes and a Hello's two Designated Routers may be
-/// anything.
+/// Faults are reported in the order of [`Fault`](crate::Fault); `Memory` only if nothing is wrong
+/// with the bytes. The authentication bytes and a Hello's two Designated Routers may have any
+/// values.
 pub fn read(alloc: Global, bytes: &[u8]) -> Result<Packet, ReadError>
-    // What is read has these bytes as a text.
+    // The bytes encode the packet that is returned.
     ensures found { IfOk result (λ p. PacketText bytes.now p) }
-    // A text of a packet is read as that packet, unless memory runs out.
+    // The bytes of a packet are parsed as that packet, unless an allocation is refused.
     ensures only { (p : Packet) → PacketText bytes.now p → result ≡ Ok p
         ⊎ (result ≡ Err ReadError.Memory) }
-    // Which fault it is; `Memory` comes only if there is none.
+    // Which fault it is; `Memory` is returned only if there is none.
     ensures exact { Reads bytes.now result }
-    // What is read can be written.
+    // The packet can be written.
     ensures writable { IfOk result (λ p. (length (text closed_fields 0 p) ≤ 8192)
         × (lsa_count p.body < 2 ^ 32)) }
 {

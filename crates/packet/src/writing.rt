@@ -1,4 +1,4 @@
-//! Packets into bytes.
+//! Encodes packets.
 ghost use Rattle.std.specs.Prelude.{◌≡◌, ◌≤◌, ◌<◌, ◌^◌, ◌+◌, ◌*◌, ◌++◌, ℕ, List, [], ◌∷◌, length};
 ghost use Rattle.std.specs.Prelude.{IfOk, OnOk, take};
 ghost use Rattle.std.specs.List.{flat_map};
@@ -41,7 +41,7 @@ fn type_of(body: &Body) -> PacketType
     }
 }
 
-// The header, with 0 for the length and for the checksum.
+// Appends the header, with 0 for the length and the checksum.
 fn put_start(out: &mut Vec<u8>, kind: PacketType, router: RouterId) -> Result<(), AllocError>
     ensures { OnOk result (out.new.items ≡ out.old.items ++ fields (header kind 0 router 0 0)) }
 {
@@ -164,7 +164,7 @@ fn put_body(out: &mut Vec<u8>, body: &Body) -> Result<(), AllocError>
     }
 }
 
-// About how many bytes a packet has, so that its text is allocated once.
+// The approximate length of a packet, so that its encoding is allocated once.
 fn likely_length(body: &Body) -> usize {
     match body {
         Body::Hello(_) => 48,
@@ -187,7 +187,7 @@ fn lsas_length(lsas: &[Sequence<u8>]) -> usize {
     size
 }
 
-// The text with 0 for its length and its checksum.
+// The encoding with 0 for its length and its checksum.
 fn draft(alloc: Global, packet: &Packet) -> Result<Vec<u8>, AllocError>
     requires { lsa_count packet.now.body < 2 ^ 32 }
     ensures { IfOk result (λ bytes. bytes.items
@@ -200,17 +200,18 @@ fn draft(alloc: Global, packet: &Packet) -> Result<Vec<u8>, AllocError>
     Ok(out)
 }
 
-/// The packet's text, with zeros in what a text leaves open (RFC 2328, appendix A.3).
+/// The canonical encoding of the packet, with zeros in the open fields (RFC 2328, appendix A.3).
 ///
 /// Errors with `AllocError` if an allocation is refused.
 #[tactic(auto, unfolding(crate::specs::Text::canonical))]
 pub fn write(alloc: Global, packet: &Packet) -> Result<Vec<u8>, AllocError>
     // A packet has at most 8,192 bytes.
     requires size { length (text closed_fields 0 packet.now) ≤ 8192 }
-    // An Update's number of LSAs has 32 bits.
+    // The number of LSAs in a Link State Update has 32 bits.
     requires count { lsa_count packet.now.body < 2 ^ 32 }
     ensures canonical { IfOk result (λ bytes. bytes.items ≡ canonical packet.now) }
-    // It is a text if each LSA of an Update has the length that it says.
+    // The result is a valid encoding if each LSA of a Link State Update has the length that it
+    // gives.
     ensures text { LsasAreWhole packet.now.body
         → IfOk result (λ bytes. PacketText bytes.items packet.now) }
 {

@@ -1,28 +1,27 @@
--- The constants of OSPF by their names in RFC 2328, appendix B, and beside them this project's own
--- limits.
+-- The constants of OSPF with their names in RFC 2328, appendix B, and this project's own limits.
 use Rattle.std.specs.Prelude.{ℕ, ◌^◌, ℤ, pos, negsuc}
 
 -- MaxAge: at this age an LSA is no longer used, in seconds
 abbrev pub max_age : ℕ
 max_age = 3600
 
--- MaxAgeDiff: ages that differ by more are of different instances, in seconds
+-- MaxAgeDiff: instances whose ages differ by more are distinct by their ages, in seconds
 abbrev pub max_age_diff : ℕ
 max_age_diff = 900
 
--- LSRefreshTime: an own LSA of this age is originated again, in seconds
+-- LSRefreshTime: a self-originated LSA of this age is originated again, in seconds
 abbrev pub ls_refresh_time : ℕ
 ls_refresh_time = 1800
 
--- MinLSInterval: the least time between two own instances of one LSA, in seconds
+-- MinLSInterval: the least time between two originations of one LSA, in seconds
 abbrev pub min_ls_interval : ℕ
 min_ls_interval = 5
 
--- the E-bit of Options: AS-external-LSAs are flooded here (RFC 2328, section A.2)
+-- the E-bit of Options: AS-external-LSAs are flooded into the area (RFC 2328, section A.2)
 abbrev pub e_bit : ℕ
 e_bit = 2
 
--- LSInfinity: a metric of this or more announces nothing
+-- LSInfinity: a destination with this metric or more is not advertised
 abbrev pub ls_infinity : ℕ
 ls_infinity = 0xffffff
 
@@ -34,31 +33,32 @@ initial_sequence_number = negsuc 2147483646
 abbrev pub max_sequence_number : ℤ
 max_sequence_number = pos 2147483647
 
--- the most bytes of a packet (own); the MTU that Descriptions tell
+-- the greatest length of a packet in bytes (own limit); the MTU of Database Descriptions
 abbrev pub largest_packet : ℕ
 largest_packet = 8192
 
--- the most headers of one Description: 20 bytes each, after the packet's header of 24 and 8 of its
--- own (RFC 2328, section A.3.3)
+-- the most LSA headers in one Database Description: 20 bytes each, after the packet header's 24
+-- bytes and 8 of its own (RFC 2328, section A.3.3)
 abbrev pub most_headers_described : ℕ
 most_headers_described = 408
 
--- the most keys of one Request: 12 bytes each, after the packet's header of 24 (section A.3.4)
+-- the most keys in one Link State Request: 12 bytes each, after the packet header's 24 bytes
+-- (section A.3.4)
 abbrev pub most_keys_requested : ℕ
 most_keys_requested = 680
 
--- the most LSAs of a database (own)
+-- the most LSAs in a database (own limit)
 abbrev pub most_lsas : ℕ
 most_lsas = 16384
 
--- the most own AS-external-LSAs among them (own)
+-- the most self-originated AS-external-LSAs among them (own limit)
 abbrev pub most_own_externals : ℕ
 most_own_externals = 4096
 
--- the most interfaces of a router (own)
+-- the most interfaces of a router (own limit)
 abbrev pub most_interfaces : ℕ
 most_interfaces = 63
 
--- moments are below this (own)
+-- every moment is below this (own limit)
 abbrev pub clock_end : ℕ
 clock_end = 2 ^ 62

@@ -1,11 +1,11 @@
--- What a number counts, for definitions to say.
+-- Names for what a number counts, for use in definitions.
 use Rattle.std.specs.Prelude.{ℕ}
 
 -- a moment of the clock, in whole seconds
 abbrev pub Moment : Type 0
 Moment = ℕ
 
--- how long something takes, or how old it is
+-- a duration or an age
 abbrev pub Seconds : Type 0
 Seconds = ℕ
 
@@ -13,6 +13,6 @@ Seconds = ℕ
 abbrev pub RouterNumber : Type 0
 RouterNumber = ℕ
 
--- the number of an interface, from 1 on
+-- the number of an interface, from 1 up
 abbrev pub InterfaceNumber : Type 0
 InterfaceNumber = ℕ

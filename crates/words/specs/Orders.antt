@@ -1,4 +1,4 @@
--- The orders of keys, networks and kinds of routes.
+-- The orders of keys, networks and route kinds.
 use Rattle.std.specs.Prelude.{ℕ}
 use Rattle.std.specs.declared.cmp.Ordering.{Ordering}
 use Rattle.std.specs.Ordering.{nat_cmp, ordering_then}
@@ -18,7 +18,7 @@ key_cmp a b =
 abbrev pub network_cmp : Network → Network → Ordering
 network_cmp a b = ordering_then (nat_cmp a.address b.address) (nat_cmp a.length b.length)
 
--- the place of a kind, the preferred one first (RFC 2328, section 11)
+-- the rank of a kind, the preferred one first (RFC 2328, section 11)
 abbrev pub rank : RouteKind → ℕ
 rank Intra = 0
 rank Inter = 1

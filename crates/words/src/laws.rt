@@ -1,4 +1,4 @@
-//! What the constants are.
+//! The values of the constants.
 ghost use Rattle.std.specs.Prelude.{◌≡◌};
 ghost use Rattle.words.specs.Constants.{initial_sequence_number, max_sequence_number};
 
@@ -16,7 +16,8 @@ pub fn sequence_numbers() -> (SequenceNumber, SequenceNumber)
     (SequenceNumber::INITIAL, SequenceNumber::MAX)
 }
 
-/// The names that are 0.0.0.0: the backbone (RFC 2328, C.2), no router and no address.
+/// The identifiers that are 0.0.0.0: the backbone (RFC 2328, section C.2), no router and no
+/// address.
 pub fn unspecified() -> (AreaId, RouterId, Address)
     ensures backbone { result.0 ≡ 0 }
     ensures router { result.1 ≡ 0 }
@@ -29,7 +30,7 @@ pub fn unspecified() -> (AreaId, RouterId, Address)
     )
 }
 
-/// The set without an interface.
+/// The empty set of interfaces.
 pub fn no_interface() -> Hops
     ensures { result ≡ 0 }
 {

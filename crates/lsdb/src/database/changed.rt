@@ -14,7 +14,7 @@ use lsa::Body;
 use std::alloc::{AllocError, Global};
 use words::{Key, Second};
 
-// Whether these times are of MaxAge at the moment.
+// Whether these times give MaxAge at the moment.
 fn is_aged(moment: Second, times: Option<&Times>) -> bool
     ensures { result ≡ aged_at moment (option_copied times.entry) }
 {
@@ -26,11 +26,12 @@ fn is_aged(moment: Second, times: Option<&Times>) -> bool
 
 impl Lsdb {
     /// The keys whose copies don't say at the moment what the copies of these keys said when the
-    /// database was last settled, as `keeps` compares them (RFC 2328, section 13.2). A key may
-    /// stand there twice. It looks at the edits since then.
+    /// database was last settled, as `keeps` compares them (RFC 2328, section 13.2). A key may be
+    /// there twice. It visits the edits since then.
     ///
     /// # Errors
-    /// If memory for the keys, or for the texts of LSAs, to compare them, is refused.
+    /// `AllocError` if an allocation for the keys, or for the bytes of LSAs, which are compared, is
+    /// refused.
     pub fn changed_keys(&self, alloc: Global, moment: Second) -> Result<Vec<Key>, AllocError>
         ensures changed { IfOk result (λ keys. (key : KeyValue) → Contains keys.items key
             → SaysTheSame moment (finite.get self.now.settled key) (finite.get self.now.present key)
@@ -52,8 +53,8 @@ impl Lsdb {
         Ok(keys)
     }
 
-    /// What the copy of this key said when the database was last settled, if there was one below
-    /// MaxAge at the moment. It looks at the edits since then.
+    /// The body that the copy of this key had when the database was last settled, if there was one
+    /// below MaxAge at the moment. It visits the edits since then.
     pub fn settled_body_at(&self, moment: Second, key: &Key) -> Option<&Body>
         ensures { option_copied result ≡ said_by moment (finite.get self.now.settled key.now) }
     {

@@ -1,4 +1,4 @@
-//! What the database kept since it was last settled, apart from keys that don't count.
+//! Comparison of the database with its settled state, except for keys that don't count.
 ghost use Rattle.std.specs.Prelude.{◌≡◌, ◌↔◌, IfOk, IsTrue, false, slice_get, take, true};
 ghost use Rattle.std.specs.FinMap as finite;
 ghost use Rattle.keyed_map.specs.Slots.{keys_from};
@@ -13,14 +13,16 @@ use keyed_map::{ChangeTest, KeyedMap};
 use std::alloc::{AllocError, Global};
 use words::{Key, Second};
 
-/// Which keys don't count, whatever their LSAs say.
+/// A rule for the keys that don't count, whatever their LSAs say.
 pub trait KeyRule {
     ghost use Rattle.words.specs.declared.key.Key.{Key};
 
     ghost leaves_out: { Self → Key → Type 0 };
 
+    /// Whether the key doesn't count.
+    ///
     /// # Errors
-    /// If memory to find out is refused.
+    /// `AllocError` if an allocation is refused.
     fn leaves_out(&self, alloc: Global, key: &Key) -> Result<bool, AllocError>
         ensures { IfOk result (λ is. IsTrue is ↔ leaves_out self.now key.now) };
 }
@@ -33,7 +35,7 @@ pub(super) fn counts_by<T: KeyRule>(rule: &T, alloc: Global, key: &Key) -> Resul
     Ok(!rule.leaves_out(alloc, key)?)
 }
 
-// Whether the LSAs of the keys that count have the bodies that they had.
+// Whether the LSAs of the keys that count have the same bodies as before.
 #[derive(Drop)]
 struct OtherBodies<'a, T> {
     rule: &'a T,
@@ -61,7 +63,7 @@ impl<'a, T: KeyRule> ChangeTest<StoredLsa> for OtherBodies<'a, T> {
     }
 }
 
-// Whether the ages of the LSAs of the keys that count do so at the moment as those that they had.
+// Whether the times of the keys that count give the same age as before, or no MaxAge at the moment.
 #[derive(Drop)]
 struct OtherAges<'a, T> {
     rule: &'a T,
@@ -97,7 +99,7 @@ impl<'a, T: KeyRule> ChangeTest<Times> for OtherAges<'a, T> {
 }
 
 impl Lsdb {
-    // What `keeps` tells, of each copy whose key counts.
+    // `keeps` for the copies whose keys count.
     fn keeps_counted<T: KeyRule>(
         &self,
         alloc: Global,
@@ -119,13 +121,14 @@ impl Lsdb {
         self.times.keeps(alloc, &ages)
     }
 
-    /// Whether each copy whose key counts says at the moment what the copy of its key said
-    /// when the database was last settled, as `keeps` does (RFC 2328, section 13.2). A key that had
-    /// no copy then, or one of MaxAge at the moment before, may have none now, or one of MaxAge. It
-    /// looks at the edits since then.
+    /// Whether each copy whose key counts says at the moment what the copy of its key said when the
+    /// database was last settled, as `keeps` compares them (RFC 2328, section 13.2). A key that had
+    /// no copy then, or one that had MaxAge at the moment `before`, may have none now, or one at
+    /// MaxAge. It visits the edits since then.
     ///
     /// # Errors
-    /// If memory for the rule, or for the texts of LSAs, to compare them, is refused.
+    /// `AllocError` if an allocation for the rule, or for the bytes of LSAs, which are compared, is
+    /// refused.
     pub fn keeps_others<T: KeyRule>(
         &self,
         alloc: Global,
@@ -147,7 +150,10 @@ impl Lsdb {
         self.says_no_more(alloc, rule, before, moment)
     }
 
-    /// The first `count` keys from a key on, in their order.
+    /// The first `count` keys from a key on, in their order, or all if there are fewer.
+    ///
+    /// # Errors
+    /// `AllocError` if an allocation is refused.
     pub fn first_from(&self, alloc: Global, key: &Key, count: usize) -> Result<Vec<Key>, AllocError>
         ensures { IfOk result (λ keys. keys.items
             ≡ take count (keys_from key.now (finite.keys self.now.present))) }
@@ -155,7 +161,7 @@ impl Lsdb {
         self.lsas.first_from(alloc, key, count)
     }
 
-    /// The first key from a key on, if there is one.
+    /// The least key that is equal to or greater than a key, if there is one.
     pub fn next_from(&self, key: &Key) -> Option<Key>
         ensures { result ≡ slice_get (keys_from key.now (finite.keys self.now.present)) 0 }
     {

@@ -1,4 +1,4 @@
-//! Whether copies of keys that count say what they said, or nothing as before.
+//! Whether copies of keys that count say what they said, or nothing before and now.
 ghost use Rattle.std.specs.Prelude.{◌≡◌, ◌↔◌, IfOk, IsTrue, option_copied};
 ghost use Rattle.std.specs.FinMap as finite;
 ghost use Rattle.words.specs.declared.key.Key.{Key as KeyValue};
@@ -12,8 +12,8 @@ use keyed_map::{ChangeTest, KeyedMap};
 use std::alloc::{AllocError, Global};
 use words::{Key, Second};
 
-// Whether the LSAs of the keys that count have the bodies that they had, or the times that they
-// have now are silent, then as now.
+// Whether the LSAs of the keys that count have the same bodies as before, or have times now that
+// were silent then and are silent now.
 #[derive(Drop)]
 struct SameOrSilent<'a, T> {
     rule: &'a T,
@@ -52,7 +52,8 @@ impl<'a, T: KeyRule> ChangeTest<StoredLsa> for SameOrSilent<'a, T> {
     }
 }
 
-// Whether the ages of the LSAs of the keys that count do so as before, or were and are silent.
+// Whether the times of the keys that count give the same age as before, or no MaxAge, or were and
+// are silent.
 #[derive(Drop)]
 struct AlikeOrSilent<'a, T> {
     rule: &'a T,
@@ -88,7 +89,7 @@ impl<'a, T: KeyRule> ChangeTest<Times> for AlikeOrSilent<'a, T> {
     }
 }
 
-// Whether these times are of MaxAge at the moment, or there are none.
+// Whether these times give MaxAge at the moment, or there are none.
 fn is_silent(moment: Second, times: Option<&Times>) -> bool
     ensures { result ≡ is_silent moment (option_copied times.entry) }
 {
@@ -98,7 +99,8 @@ fn is_silent(moment: Second, times: Option<&Times>) -> bool
     }
 }
 
-// Whether the times then were so at the moment before, and those now are at this moment.
+// Whether the earlier times were silent at the moment `before`, and the present ones are at
+// `moment`.
 fn are_silent(before: Second, moment: Second, old: Option<&Times>, new: Option<&Times>) -> bool
     ensures { IsTrue result ↔ AreSilent before moment
         (option_copied old.entry) (option_copied new.entry) }
@@ -110,7 +112,7 @@ fn are_silent(before: Second, moment: Second, old: Option<&Times>, new: Option<&
 }
 
 impl Lsdb {
-    // Whether each copy whose key counts says what it said, or nothing as before.
+    // Whether each copy whose key counts says what it said, or nothing before and now.
     pub(crate) fn says_no_more<T: KeyRule>(
         &self,
         alloc: Global,

@@ -3,7 +3,7 @@ use Rattle.keyed_map.specs.Slots.{count_after_change}
 use Rattle.keyed_map.proofs.Orders.{len_live}
 use Rattle.keyed_map.proofs.map.count.Goals as goal
 
--- one key more has a slot too
+-- one more key has a slot too
 pub overflow_add-result : goal.overflow_add-result
 overflow_add-result g c =
     let slots = len_live c.args.slots.now.entries c.len-slots.ensures.ordered in

@@ -6,7 +6,7 @@ use Rattle.keyed_map.specs.Slots.{HasPlace, put_back, slots_of}
 use Rattle.keyed_map.proofs.Slots.{get-slots, slots_insert, slots_remove}
 use Rattle.keyed_map.proofs.map.take_back.Goals as goal
 
--- the key has its place, and only a key without one can be refused
+-- the key has its slot, and only a key without one can be refused
 pub unreachable-requires : goal.unreachable-requires
 unreachable-requires g c =
     let entries = c.args.slots.now.entries in

@@ -7,7 +7,7 @@ use Rattle.lsdb.specs.Keys.{key_cmp}
 use Rattle.lsdb.proofs.Foresight.{foresees_next, foresees_past}
 use Rattle.lsdb.proofs.ages.foresee_again.Goals as goal
 
--- before `due` the copy of no other key can have MaxAge
+-- before `due`, the copy of no other key can have MaxAge
 pub loop-key-init : goal.loop-key-init
 loop-key-init c = λ q none.
     let all = c.into_iter-key-iterator.ensures.into_iter_gives ∙ c.keys-key-items.ensures in

@@ -4,7 +4,7 @@ use Rattle.lsdb.specs.Limits.{is_own_external}
 use Rattle.lsdb.proofs.Owned.{count_most}
 use Rattle.lsdb.proofs.limits.recount.Goals as goal
 
--- one more is no more than there are LSAs
+-- one more is at most the number of LSAs
 pub overflow_add-result : goal.overflow_add-result
 overflow_add-result c =
     let own = sym c.is_own_external.ensures ∙ c.if-not-is_own_external.false in

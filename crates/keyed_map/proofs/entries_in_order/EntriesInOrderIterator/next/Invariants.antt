@@ -2,7 +2,7 @@ use Rattle.std.proofs.Common.{◌≡◌, length}
 use Rattle.keyed_map.specs.Slots.{kept}
 use Rattle.keyed_map.proofs.entries_in_order.EntriesInOrderIterator.next.Given as goal
 
--- so far nothing but places of removed keys was passed
+-- so far only slots of removed keys were passed
 abbrev pub invariant-loop-key : goal.invariant-loop-key
 invariant-loop-key g l = kept l.self-inside.slots ≡ kept l.initial.self-inside.slots
 

@@ -2,7 +2,7 @@ use Rattle.std.proofs.Common.{◌≡◌, length}
 use Rattle.keyed_map.specs.Slots.{kept_keys}
 use Rattle.keyed_map.proofs.keys_in_order.KeysInOrderIterator.next.Given as goal
 
--- so far nothing but places of removed keys was passed
+-- so far only slots of removed keys were passed
 abbrev pub invariant-loop-key : goal.invariant-loop-key
 invariant-loop-key g l = kept_keys l.self-inside.slots ≡ kept_keys l.initial.self-inside.slots
 

@@ -6,7 +6,7 @@ use Rattle.keyed_map.specs.declared.slot.Edit.{Edit}
 use Rattle.keyed_map.specs.Changes.{IsFirst, held_before}
 use Rattle.keyed_map.proofs.map.KeyedMap.keeps_at.Goals as goal
 
--- at a key that doesn't count both are the same
+-- a key that doesn't count has the same value by definition
 pub returns-then-not-branch : goal.returns-then-not-branch
 returns-then-not-branch g c edit at =
     let S = g.T.ChangeTest.same c.args.test.now in

@@ -4,7 +4,7 @@ use Rattle.std.specs.FinMap as map
 use Rattle.keyed_map.specs.Slots.{AllFit, live, slots_of, undone}
 use Rattle.keyed_map.proofs.map.KeyedMap.roll_back.Given as goal
 
--- what is left of the journal leads back to the map before it
+-- undoing the remaining edits restores the settled map
 abbrev pub invariant-loop-edit : goal.invariant-loop-edit
 invariant-loop-edit g l = record {
   fit : AllFit l.self-inside.edits.items (slots_of l.self-inside.slots.entries);

@@ -39,7 +39,7 @@ invariant_of-self-2 c =
       settled_foreseen = subst (ForeseesAll ages) (sym c.insert.ensures.settled) (λ q. c.note.ensures.more q (finite.get c.self.inside.times.settled q) (c.self.invariant.settled_foreseen q));
     }
 
--- without memory to note it, what was foreseen stays so
+-- if the allocation to note it is refused, what was foreseen stays valid
 pub invariant_of-self : goal.invariant_of-self
 invariant_of-self c = record {
   present = c.self.invariant.present;

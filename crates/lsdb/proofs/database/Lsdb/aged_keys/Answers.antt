@@ -7,7 +7,7 @@ use Rattle.lsdb.proofs.Joins.{aged_joined}
 use Rattle.lsdb.proofs.SameKeys.{keys_among}
 use Rattle.lsdb.proofs.database.Lsdb.aged_keys.Goals as goal
 
--- before `due` none but the aged keys can have MaxAge
+-- before `due`, only the aged keys can have MaxAge
 pub returns-then-lt : goal.returns-then-lt
 returns-then-lt c =
     let moment = c.args.moment in

@@ -21,7 +21,7 @@ recount-self-inside-requires c =
     ∙ counts_if_own own (finite.contains_key c.self.inside.lsas.present key) true (count_own_externals router c.self.inside.lsas.present)
     ∙ sym (λ i. cond own (count_after_change (c.holds_own-held.ensures i) true (c.self.invariant.counted i)) (c.self.invariant.counted i))
 
--- without memory for the LSA its times alone are new
+-- if the allocation for the LSA is refused, only its times are new
 pub invariant_of-self-in_err-insert-2 : goal.invariant_of-self-in_err-insert-2
 invariant_of-self-in_err-insert-2 c =
     let router = c.self.inside.router in
