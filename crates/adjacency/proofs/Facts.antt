@@ -1,4 +1,4 @@
--- Facts of a neighbor's lists that every step of its table keeps.
+-- Facts about a neighbor's lists that every step keeps.
 use Rattle.std.proofs.Common.{◌≡◌, ℕ, Bool, true, false, cond, not, ◌&&◌, ◌||◌, List, take, drop, is_some, Option, None, Some, refl, sym, ap, ◌∙◌, true≢false}
 use Rattle.std.specs.Prelude.{◌==◌}
 use Rattle.std.specs.List.{list_any}
@@ -49,7 +49,7 @@ left_out o key e =
     ∙ and_false (not (same_key q key)) _ (set.contains-empty key_cmp q)
     ∙ sym (set.contains-empty key_cmp q))
 
--- ---- what is outstanding is on the request list
+-- ---- every outstanding key is on the request list
 
 abbrev pub Requested : Fact
 Requested state s r t o = (key : Key) → set.contains o key ≡ true → finite.contains_key r key ≡ true
@@ -87,7 +87,7 @@ requested_kept = record {
   has_retransmission = λ state s r t o key x adds part h. h;
 }
 
--- ---- before Exchange there are no lists
+-- ---- before Exchange the lists are empty
 
 abbrev pub Listless : Fact
 Listless state s r t o = is_exchange_or_later state ≡ false → (s ≡ finite.empty) × (r ≡ finite.empty) × (t ≡ finite.empty) × (o ≡ set.empty)
@@ -115,7 +115,7 @@ listless_kept = record {
   has_retransmission = λ state s r t o key x adds part h e. not_both (sym part ∙ e);
 }
 
--- ---- nothing is to be requested of a Full neighbor
+-- ---- a Full neighbor requests nothing
 
 abbrev pub Bare : Fact
 Bare state s r t o = state ≡ Full → (finite.len r == 0) ≡ true
@@ -140,7 +140,7 @@ bare_kept = record {
   has_retransmission = λ state s r t o key x adds part h. h;
 }
 
--- ---- all of it
+-- ---- all facts
 
 nothing_left : (o : KeySet) (r : ByKey ListEntry) → ((key : Key) → set.contains o key ≡ true → finite.contains_key r key ≡ true) → r ≡ finite.empty → o ≡ set.empty
 nothing_left o r asked e =

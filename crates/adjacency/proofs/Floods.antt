@@ -1,4 +1,4 @@
--- Flooding's step by its tests, and a draft with one content more.
+-- The flooding step by its tests, and a draft with one more content.
 use Rattle.std.proofs.Common.{◌≡◌, ℕ, Bool, true, false, cond, [], ◌∷◌, refl, sym, ap}
 use Rattle.lsdb.specs.Headers.{Lsa}
 use Rattle.adjacency.specs.Contents.{Content, no_sends}

@@ -1,5 +1,5 @@
--- What each step of the neighbor's table keeps: a fact of a neighbor's state and lists holds after
--- every step, if it holds at the start of each exchange and the few changes of the lists keep it.
+-- A fact about a neighbor's state and lists holds after every step, if it holds at the start of
+-- each exchange and the few changes of the lists keep it.
 use Rattle.std.proofs.Common.{◌≡◌, ℕ, ◌+◌, ◌%◌, ◌^◌, Bool, true, false, cond, not, ◌&&◌, ◌||◌, List, [], ◌∷◌, map, take, Option, None, Some, refl}
 use Rattle.std.specs.Prelude.{◌==◌, nat_lt}
 use Rattle.std.specs.FinMap as finite
@@ -25,8 +25,8 @@ pub chosen : {A : Type 0} (P : A → Type 0) (b : Bool) (x y : A) → (b ≡ tru
 chosen P true x y p q = p refl
 chosen P false x y p q = q refl
 
--- ---- facts of a state and of its lists: what is to be described, requested and acknowledged, and
--- what is outstanding
+-- ---- facts about a state and its lists: the Database summary list, the request list, the
+-- retransmission list, and what is outstanding
 
 abbrev pub Fact : Type 1
 Fact = State → ByKey ListEntry → ByKey ListEntry → ByKey ListEntry → KeySet → Type 0
@@ -35,8 +35,7 @@ abbrev pub Of : Fact → Neighbor → Type 0
 Of Q n = Q n.state n.summary n.requests n.retransmissions n.outstanding
 
 -- it holds of empty lists, and each change of the lists keeps it: an exchange begins with
--- retransmissions of which `Begins` holds, and flooding puts entries of which `Adds` holds on the
--- list
+-- retransmissions of which `Begins` holds, and flooding adds entries of which `Adds` holds
 pub record IsKeptWith (Begins : ByKey ListEntry → Type 0) (Adds : Key → ListEntry → Type 0) (Q : Fact) : Type 0 where
   pub begins : Q Init finite.empty finite.empty finite.empty set.empty
   pub restarts : Q ExStart finite.empty finite.empty finite.empty set.empty
@@ -52,7 +51,7 @@ pub record IsKeptWith (Begins : ByKey ListEntry → Type 0) (Adds : Key → List
   pub has_retransmission : (state : State) (s r t : ByKey ListEntry) (o : KeySet) (key : Key) (x : ListEntry) → Adds key x → is_exchange_or_later state ≡ true → Q state s r t o
       → Q state s r (finite.insert (finite.remove t key) key x) o
 
--- whatever an exchange begins with, and whatever flooding puts on the list
+-- whatever an exchange begins with, and whatever flooding adds
 abbrev pub IsKept : Fact → Type 0
 IsKept Q = IsKeptWith (λ t. Unit {0}) (λ key x. Unit {0}) Q
 
@@ -60,7 +59,7 @@ left_true : (a b : Bool) → (a && b) ≡ true → a ≡ true
 left_true true b e = refl
 left_true false b e = e
 
--- ---- which verdicts may be given in which state
+-- ---- which verdicts are possible in which state
 
 module _ (V : Verdict → Type 0) (n : Neighbor) (d : Description) where
   negotiating_one_of : (own : ℕ) → V Verdict.Discarded → V Verdict.NegotiatedAsSlave → V Verdict.NegotiatedAsMaster → V (negotiating own n d)
@@ -106,7 +105,7 @@ module _ {Begins : ByKey ListEntry → Type 0} {Adds : Key → ListEntry → Typ
   pub named_kept : (moment : ℕ) (n : Neighbor) → Of Q n → Of Q (two_way_received moment n).neighbor
   named_kept moment n h = named_in_kept n.state moment n h
 
-  -- ---- Descriptions
+  -- ---- Database Descriptions
 
   repeat_of : (o : Option Description) (moment : ℕ) (n : Neighbor) → Of Q n → Of Q (repeat moment (record n { described = o })).neighbor
   repeat_of None moment n h = h
@@ -158,7 +157,7 @@ module _ {Begins : ByKey ListEntry → Type 0} {Adds : Key → ListEntry → Typ
       (λ e. chosen (λ (s : Step). Of Q s.neighbor) m.is_master (master_goes_on moment d m) (slave_replies moment d m) (λ e. master_kept moment d m asked) (λ e. slave_kept moment d m asked))
       (λ e. mismatched_kept moment (in_exchange n) h)
 
-  -- a verdict's step, by the state in which it is given
+  -- the step of a verdict, by the state in which it is possible
   module _ (moment : ℕ) (db : Database) (d : Description) (begun : Begins (aged_copies moment db)) where
     abbrev Keeps : Neighbor → Verdict → Type 0
     Keeps m v = Of Q (act v moment db d m).neighbor
@@ -204,7 +203,7 @@ module _ {Begins : ByKey ListEntry → Type 0} {Adds : Key → ListEntry → Typ
   description_kept own moment db d begun n h =
       chosen (λ (s : Step). Of Q s.neighbor) (nat_lt 8192 d.mtu) (no_sends n) (in_state n.state own moment db d n) (λ e. h) (λ e. stated_kept n.state own moment db d begun n h)
 
-  -- ---- Loading and Requests
+  -- ---- Loading and Link State Requests
 
   filled_in_kept : (s : State) (n : Neighbor) → Of Q (record n { state = s }) → Of Q (loading_done (record n { state = s }))
   filled_in_kept Init n h = h
@@ -265,7 +264,7 @@ module _ {Begins : ByKey ListEntry → Type 0} {Adds : Key → ListEntry → Typ
           chosen (λ (s : Step). Of Q s.neighbor) (not (finite.len m.retransmissions == 0) && has_passed m.retransmitted_at interval moment)
           (record { neighbor = record m { retransmitted_at = moment }; sends = map Updates (next_retransmissions moment db m) }) (no_sends m) (λ e. k) (λ e. k)
 
-  -- ---- times that run out
+  -- ---- timers that have expired
 
   pub old_description_kept : (moment dead : ℕ) (n : Neighbor) → Of Q n → Of Q (without_old_description moment dead n)
   old_description_kept moment dead n h = chosen (Of Q) (is_over_for moment dead n.exchanged) (record n { described = None }) n (λ e. h) (λ e. h)

@@ -11,5 +11,5 @@ pub mod Sets
 pub mod Sends
 pub mod Lists
 pub mod Timers
--- what crates above name of those below
+-- names from the crates below that crates above use
 pub use Rattle.lsdb.proofs as lsdb

@@ -1,4 +1,4 @@
--- Lists that are filled from the database, and shortened from the front.
+-- Lists that are filled from the database, and lists without their first entries.
 use Rattle.std.proofs.Common.{◌≡◌, ℕ, zero, suc, ◌+◌, ◌<◌, T, Bool, true, false, cond, ◌&&◌, ◌||◌, List, [], ◌∷◌, ◌++◌, map, length, take, drop, get_or, Option, None, Some, is_some, refl, sym, ap, subst, ◌∙◌, arith}
 use Rattle.std.proofs.lemmas.List.{take_more}
 use Rattle.std.proofs.lemmas.List.Elements.{filter_map-append}
@@ -37,17 +37,17 @@ equal Less p = absurd (subst T (sym p) tt)
 equal Equal p = refl
 equal Greater p = absurd (subst T (sym p) tt)
 
--- a key that ties with one below all others isn't among them
+-- a key that is equal to one below all others isn't among them
 absent : {X : Type 0} (q k : Key) (es : List (Key × X)) → key_cmp q k ≡ Equal → T (below_all key_cmp k es) → finite.find key_cmp q es ≡ None
 absent q k [] same all = refl
 absent q k (e ∷ es) same all =
     ap (λ r. cond (is_eq r) (Some e.1) (finite.find key_cmp q es)) (keys_total.congr q k e.0 same ∙ less (key_cmp k e.0) (first (is_lt (key_cmp k e.0)) (below_all key_cmp k es) all))
     ∙ absent q k es same (second (is_lt (key_cmp k e.0)) (below_all key_cmp k es) all)
 
--- ---- the first keys leave
+-- ---- lists without their first keys
 
 module _ {X : Type 0} where
-  -- the first key leaves
+  -- without the first key
   left_first : (e : Key × X) (es : List (Key × X)) → T (is_sorted key_cmp (e ∷ es)) → finite.remove (finite.from_entries {R = key_cmp} (e ∷ es)) e.0 ≡ finite.from_entries es
   left_first e es sorted =
       finite.same_map keys_total keys_exact _ _ (λ q.
@@ -70,7 +70,7 @@ module _ {X : Type 0} where
   of_its_entries : (m : ByKey X) → m ≡ finite.from_entries (finite.entries m)
   of_its_entries m = finite.same_map keys_total keys_exact _ _ (λ q. finite.get-entries m q ∙ sym (finite.get-from_entries keys_total (finite.entries m) q))
 
-  -- what is left without the first keys
+  -- without the first keys
   pub left_without : (n : ℕ) (m : ByKey X) → fold finite.remove m (take n (finite.keys m)) ≡ finite.from_entries (drop n (finite.entries m))
   left_without n m = left_from n (finite.entries m) m (finite.entries_sorted m) (of_its_entries m)
 
@@ -80,11 +80,11 @@ module _ {X : Type 0} where
   drop_all (e ∷ es) zero is = absurd (omega (arith, is))
   drop_all (e ∷ es) (suc n) is = drop_all es n (omega (arith, is))
 
-  -- nothing is left without all keys
+  -- without all keys
   pub left_none : (n : ℕ) (m : ByKey X) → n ≡ finite.len m → fold finite.remove m (take n (finite.keys m)) ≡ finite.empty
   left_none n m is = left_without n m ∙ ap finite.from_entries (drop_all (finite.entries m) n (is ∙ finite.len-entries m))
 
-  -- ---- what stands under the first keys
+  -- ---- the values of the first keys
 
   found_itself : (m : ByKey X) → AllByRecursion (OfEntry (λ k x. finite.get m k ≡ Some x)) (finite.entries m)
   found_itself m = entries_in (λ k x. finite.get m k ≡ Some x) m (λ key. there key (finite.get m key) refl)
@@ -102,7 +102,7 @@ module _ (moment : ℕ) (m : ByKey ListEntry) where
       ap (λ o. cons_option (entry_header moment o) (filter_map (λ (key : Key). entry_header moment (finite.get m key)) (take n (map (λ f. f.0) es)))) all.0
       ∙ ap (λ hs. aged_header moment e.1 ∷ hs) (headers_from n es all.1)
 
-  -- the headers under the first keys
+  -- the headers of the first keys
   pub headers_first : (n : ℕ) → filter_map (λ (key : Key). entry_header moment (finite.get m key)) (take n (finite.keys m)) ≡ map (λ (e : Key × ListEntry). aged_header moment e.1) (take n (finite.entries m))
   headers_first n = headers_from n (finite.entries m) (found_itself m)
 
@@ -116,7 +116,7 @@ one_more_header moment m keys i k lt =
 -- ---- the copies of the database
 
 module _ (test : DatabaseCopy → Bool) (moment : ℕ) (db : Database) where
-  -- what the list has of a copy
+  -- the list entry of a copy
   abbrev of_copy : Option DatabaseCopy → Option ListEntry
   of_copy None = None
   of_copy (Some c) = cond (test c) (Some (list_entry_of moment c)) None
@@ -192,7 +192,7 @@ module _ (test : DatabaseCopy → Bool) (moment : ℕ) (db : Database) where
       or_none None = refl
       or_none (Some x) = refl
 
-  -- the keys of the database, entered in turn into an empty list
+  -- the keys of the database, added in turn to an empty list
   pub filled_where : fold (with_key test moment db) finite.empty (finite.keys db) ≡ listed_where test moment db
   filled_where =
       finite.same_map keys_total keys_exact _ _ (λ q.

@@ -1,4 +1,4 @@
--- What holds of all that finite maps by key hold.
+-- Properties of all entries of a finite map by key.
 use Rattle.std.proofs.Common.{◌≡◌, Bool, true, false, cond, ◌&&◌, List, [], ◌∷◌, Option, None, Some, refl, sym, ap, subst, ◌∙◌}
 use Rattle.std.specs.Prelude.{T}
 use Rattle.std.specs.Cmp.{tied_itself}
@@ -18,7 +18,7 @@ abbrev pub IfThere : {X : Type 0} → (Key → X → Type 0) → Key → Option 
 IfThere P key None = Unit {0}
 IfThere P key (Some x) = P key x
 
--- it holds of each key and what stands there
+-- each key and its value have the property
 abbrev pub AllIn : {X : Type 0} → (Key → X → Type 0) → ByKey X → Type 0
 AllIn P m = (key : Key) → IfThere P key (finite.get m key)
 
@@ -86,7 +86,7 @@ module _ {X : Type 0} (P : Key → X → Type 0) where
   pub entries_in : (m : ByKey X) → AllIn P m → AllByRecursion (OfEntry P) (finite.entries m)
   entries_in m all = all_found (finite.entries m) (finite.entries_sorted m) (λ q. subst (IfThere P q) (finite.get-entries m q) (all q))
 
-  -- what holds of all entries
+  -- a property of all entries
   found_in : (es : List (Key × X)) → AllByRecursion (OfEntry P) es → (q : Key) → IfThere P q (entries.find key_cmp q es)
   found_in [] h q = tt
   found_in (e ∷ es) h q =

@@ -1,4 +1,4 @@
--- What edits of the lists make of a neighbor.
+-- A neighbor after edits of its lists.
 use Rattle.std.proofs.Common.{◌≡◌, ℕ, ◌==◌, Bool, true, false, cond, not, ◌&&◌, refl, sym, ap, ◌∙◌}
 use Rattle.std.specs.Prelude.{Option, None, Some, is_some, map as each}
 use Rattle.lsdb.proofs.Empty.{no_entries}
@@ -91,7 +91,7 @@ module _ {X : Type 0} (s : Standing) (des : Option Description) (sum req : ByKey
 pub met : (moment : ℕ) (lsa : Lsa) (n : Neighbor) (b : Bool) → b ≡ meets moment lsa (request_of n lsa) → cond b (without_request (lsa_key lsa) n) n ≡ without_met_request moment lsa n
 met moment lsa n b is = ap (λ c. cond c (without_request (lsa_key lsa) n) n) is
 
--- ---- beginning anew
+-- ---- starting over
 
 pub no_keys : (X : Type 0) → keys_of (finite.empty {X = X} {R = key_cmp}) ≡ set.empty
 no_keys X = ap (λ es. set.from_list {R = key_cmp} (each (λ (e : Key × X). e.0) es)) no_entries

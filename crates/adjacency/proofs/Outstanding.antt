@@ -1,4 +1,4 @@
--- What a Request that is sent again names.
+-- The keys of a retransmitted Link State Request.
 use Rattle.std.proofs.Common.{◌≡◌, Bool, true, false, ◌&&◌, refl, sym, ap, ◌∙◌}
 use Rattle.std.specs.Cmp.{Equal-is}
 use Rattle.std.specs.FinMap as finite

@@ -1,4 +1,4 @@
--- Each step of the neighbor's table leaves what has room in a packet, and sends what has.
+-- Each step of the neighbor state machine keeps lists that fit into packets, and sends what fits.
 use Rattle.std.proofs.Common.{◌≡◌, ◌≤◌, ℕ, zero, suc, ◌+◌, ◌-◌, ◌%◌, ◌^◌, T, Bool, true, false, cond, not, ◌&&◌, ◌||◌, List, [], ◌∷◌, ◌++◌, map, take, length, is_some, Option, None, Some, refl, sym, ap, subst, ◌∙◌, true≢false, arith, length-append}
 use Rattle.std.specs.Prelude.{◌==◌, nat_le, nat_lt}
 use Rattle.std.specs.List.{AllByRecursion, cons_option, filter, filter_map}
@@ -35,7 +35,7 @@ one_more : (b : Bool) (n m : ℕ) → n ≤ m → cond b n (n + 1) ≤ m + 1
 one_more true n m h = omega (arith, h)
 one_more false n m h = omega (arith, h)
 
--- a set made of a list has no more items than the list
+-- a set built from a list has no more items than the list
 pub made_few : (keys : List Key) → set.len (set.from_list {R = key_cmp} keys) ≤ length keys
 made_few [] = subst (λ (n : ℕ). n ≤ 0) (sym (set.len-empty key_cmp)) (omega arith)
 made_few (key ∷ keys) =
@@ -65,7 +65,7 @@ not_tied Less t = refl
 not_tied Equal t = absurd t
 not_tied Greater t = absurd t
 
--- keys behind another are apart from it
+-- removing a key doesn't change whether the set has a greater one
 apart : (key : Key) (s : KeySet) (x : Key) → T (is_lt (key_cmp key x)) → set.contains (set.remove s key) x ≡ set.contains s x
 apart key s x less =
     set.contains-remove keys_total s key x
@@ -94,7 +94,7 @@ one_and_rest e es s below without with_it true is =
     omega (arith, left, same, has_one s e.0 is (set.len s) refl, without)
 one_and_rest e es s below without with_it false is = with_it
 
--- of the keys of a map, no more are in a set than it has items
+-- the number of a map's keys that are in a set is at most the set's number of items
 chosen_few : {X : Type 0} (es : List (Key × X)) → T (is_sorted key_cmp es) → (s : KeySet) → IsWithin es s
 chosen_few [] sorted s = omega arith
 chosen_few (e ∷ es) sorted s =
@@ -104,7 +104,7 @@ chosen_few (e ∷ es) sorted s =
 pub outstanding_few : (n : Neighbor) → length (still_outstanding n) ≤ set.len n.outstanding
 outstanding_few n = chosen_few (finite.entries n.requests) (finite.entries_sorted n.requests) n.outstanding
 
--- ---- what a neighbor has room for
+-- ---- what fits
 
 abbrev pub IsShort : Option Description → Type 0
 IsShort o = (d : Description) → o ≡ Some d → length d.headers ≤ 408
@@ -180,7 +180,7 @@ hello_roomy moment from false o h =
     let n : Neighbor = with_hello_heard from moment o in
     quiet_roomy (one_way_received n) (fresh_roomy n.router n.dd_sequence_start n.last_heard)
 
--- ---- Descriptions
+-- ---- Database Descriptions
 
 repeat_of : (o : Option Description) (moment : ℕ) (n : Neighbor) → IsShort o → IsFew n.outstanding → IsRoomyStep (repeat moment (record n { described = o }))
 repeat_of None moment n short few = quiet_roomy (record n { described = None }) (roomy (record n { described = None }) short few)
@@ -248,7 +248,7 @@ pub description_roomy : (own moment : ℕ) (db : Database) (d : Description) (n 
 description_roomy own moment db d n h =
     chosen IsRoomyStep (nat_lt 8192 d.mtu) (no_sends n) (in_state n.state own moment db d n) (λ e. quiet_roomy n h) (λ e. in_state_roomy n.state own moment db d n h)
 
--- ---- Loading and Requests
+-- ---- Loading and Link State Requests
 
 filled_in_roomy : (s : State) (n : Neighbor) → HasRoomyLists n → HasRoomyLists (loading_done_in s n)
 filled_in_roomy Init n h = h
@@ -322,7 +322,7 @@ pub updates_room : (lsas : List Lsa) → AllByRecursion Fits lsas → AllByRecur
 updates_room [] all = tt
 updates_room (l ∷ ls) all = (all.0, updates_room ls all.1)
 
--- ---- what a Tick sends again
+-- ---- what a Tick retransmits
 
 pub describe_again_roomy : (moment interval : ℕ) (n : Neighbor) → HasRoomyLists n → IsRoomyStep (describe_again moment interval n)
 describe_again_roomy moment interval n h =
@@ -349,7 +349,7 @@ again_roomy moment interval db n fit h =
     (then_roomy (describe_again moment interval n) (request_again moment interval) (describe_again_roomy moment interval n h) (request_again_roomy moment interval))
     (λ m k. update_again_roomy moment interval db m fit k)
 
--- ---- times that run out
+-- ---- timers that have expired
 
 pub still_heard_roomy : (moment dead : ℕ) (o : Option Neighbor) → HasRoomyListsIfAny o → HasRoomyListsIfAny (after_inactivity_timer moment dead o)
 still_heard_roomy moment dead None h = tt

@@ -1,4 +1,4 @@
--- Contents that are drafted one after another.
+-- Contents that are drafted in turn.
 use Rattle.std.proofs.Common.{◌≡◌, ℕ, ◌+◌, ◌<◌, List, [], ◌∷◌, ◌++◌, map, length, take, get_or, sym, ap, ◌∙◌}
 use Rattle.std.proofs.lemmas.List.{map-append, take_more}
 use Rattle.std.proofs.lemmas.List.Elements.{filter_map-append}
@@ -15,7 +15,7 @@ pub drafting-append : (delay : ℕ) (xs ys : List Content) (d : Drafted) → dra
 unfolding drafting
 drafting-append delay xs ys d = sym (fold-append (adds delay) d xs ys)
 
--- the copy of one key more
+-- the copy of one more key
 pub sent_more : (delay moment : ℕ) (db : Database) (keys : List Key) (i : ℕ) (k : Key) (d : Drafted) → i < length keys
     → drafting delay (map Updates (lsas_of moment db (get_or keys i k ∷ []))) (drafting delay (map Updates (lsas_of moment db (take i keys))) d)
     ≡ drafting delay (map Updates (lsas_of moment db (take (i + 1) keys))) d

@@ -1,4 +1,4 @@
--- A set of keys that is kept as a map.
+-- A set of keys that is stored as a map.
 use Rattle.std.proofs.Common.{◌≡◌, ℕ, zero, suc, ◌<◌, ◌==◌, Bool, true, false, cond, not, ◌&&◌, ◌||◌, List, Some, None, refl, sym, ap, ◌∙◌, arith, ◌+◌, length, take, get_or}
 use mathlib.Core.Bool.{false≢true}
 use Rattle.std.proofs.lemmas.Bool.{eqb-true}
@@ -29,7 +29,7 @@ same_tests (suc a) zero f g = absurd (omega (arith, g refl))
 same_tests (suc a) (suc b) f g = grind (arith, nat_tests)
 
 module _ {X : Type 0} where
-  -- no key, no entry
+  -- without keys there are no entries
   pub keys_none : (m : ByKey X) → keys_of m ≡ set.empty → m ≡ finite.empty
   keys_none m is = finite.same_map keys_total keys_exact m finite.empty (λ q.
       none_of (finite.get m q) (sym (contains_key_of m q) ∙ ap (λ s. set.contains s q) is ∙ set.contains-empty key_cmp q) ∙ sym (finite.get-empty key_cmp q))
@@ -56,7 +56,7 @@ module _ {X : Type 0} where
 pub pushed_key : (ks : List Key) (i : ℕ) (d : Key) → i < length ks → set.insert (set.from_list {R = key_cmp} (take i ks)) (get_or ks i d) ≡ set.from_list (take (i + 1) ks)
 pushed_key ks i d lt = sym (ap (set.from_list {R = key_cmp}) (take_more ks i d lt) ∙ set.from_list_push keys_total keys_exact (take i ks) (get_or ks i d))
 
--- what may be requested waits for nothing
+-- a neighbor that may request has nothing outstanding
 last_of : (a b c : Bool) → (a && b && c) ≡ true → c ≡ true
 last_of true true c is = is
 last_of true false c is = absurd (false≢true is)

@@ -1,4 +1,4 @@
--- The neighbor's table.
+-- The neighbor state machine.
 use Rattle.std.proofs.Common.{◌≡◌, Bool, true, false, cond, Option, refl, sym, ap, ◌∙◌}
 use Rattle.lsdb.specs.Headers.{key_of}
 use Rattle.lsdb.specs.Instances.{ListEntry}

@@ -1,4 +1,4 @@
--- What a Tick makes of a neighbor, by the tests.
+-- What a Tick does to a neighbor, by the tests.
 use Rattle.std.proofs.Common.{◌≡◌, ℕ, ◌+◌, ◌==◌, Bool, true, false, cond, not, ◌&&◌, List, [], ◌∷◌, ◌++◌, map, refl, sym, ap, ◌∙◌}
 use Rattle.std.specs.Prelude.{Option, None, Some, nat_le}
 use Rattle.std.specs.List.{filter}
@@ -92,14 +92,14 @@ module _ {X : Type 0} (s : Standing) (des : Option Description) (sum req : ByKey
 
 -- ---- the LSAs that fit
 
--- one that has room
+-- one that fits
 pub fits_one : (delay used : ℕ) (l : Lsa) (rest : List Lsa) (d : Drafted) → nat_le (used + l.header.length) 8192 ≡ true
     → drafting delay (map Updates (that_fit (used + l.header.length) rest)) (drafting delay (Updates l ∷ []) d) ≡ drafting delay (map Updates (that_fit used (l ∷ rest))) d
 fits_one delay used l rest d is =
     drafting-append delay (Updates l ∷ []) (map Updates (that_fit (used + l.header.length) rest)) d
     ∙ ap (λ b. drafting delay (map Updates (cond b (l ∷ that_fit (used + l.header.length) rest) [])) d) (sym is)
 
--- one that has none
+-- one that doesn't fit
 pub fits_none : (delay used : ℕ) (l : Lsa) (rest : List Lsa) (d : Drafted) → nat_le (used + l.header.length) 8192 ≡ false
     → drafting delay [] d ≡ drafting delay (map Updates (that_fit used (l ∷ rest))) d
 fits_none delay used l rest d is = ap (λ b. drafting delay (map Updates (cond b (l ∷ that_fit (used + l.header.length) rest) [])) d) (sym is)
@@ -112,7 +112,7 @@ drafting-three delay s f g d =
     ap (drafting delay (g (f s.neighbor).neighbor).sends) (drafting-append delay s.sends (f s.neighbor).sends d)
     ∙ drafting-append delay (s.sends ++ (f s.neighbor).sends) (g (f s.neighbor).neighbor).sends d
 
--- ---- a place
+-- ---- one index
 
 module _ (moment dead : ℕ) where
   abbrev without : Neighbor → Step

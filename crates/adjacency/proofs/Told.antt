@@ -1,6 +1,5 @@
--- What each step of the neighbor's table tells and owes: if something holds of the copies of the
--- database, at every age, it holds of all that enters a retransmission list or is sent in an Update
--- or an Acknowledgment.
+-- A property of the copies of the database at every age holds of all that a step adds to a
+-- retransmission list or sends in Link State Updates and Acknowledgments.
 use Rattle.std.proofs.Common.{◌≤◌, ℕ, ◌+◌, ◌%◌, ◌^◌, Bool, true, false, cond, not, ◌&&◌, ◌||◌, List, [], ◌∷◌, ◌++◌, map, Option, None, Some}
 use Rattle.std.proofs.Math.Nat.{min-le_left}
 use Rattle.std.specs.Prelude.{◌==◌, ◌-◌, nat_le, nat_lt}
@@ -23,8 +22,8 @@ use Rattle.adjacency.specs.Retransmissions.{acknowledged_neighbor, after_acknowl
 use Rattle.adjacency.proofs.Kept.{chosen}
 use Rattle.adjacency.proofs.Maps.{AllIn, IfThere, OfEntry, entries_in, inserted_in, made_in, none_in, removed_in}
 
--- something that holds of LSAs, headers and keys, and of an LSA at any age that an LSA may have;
--- and the number of the links, which stays
+-- a property of LSAs, headers and keys, which an LSA keeps at any valid age; and the number of
+-- links, which stays the same
 pub record Telling : Type 1 where
   pub of_lsa : Lsa → Type 0
   pub of_header : Header → Type 0
@@ -44,7 +43,7 @@ OfListed t key l = t.of_header l.header
 abbrev pub OfCopies : Telling → Database → Type 0
 OfCopies t db = AllIn (OfCopy t) db
 
--- of all that the neighbor is still to acknowledge
+-- all entries of the neighbor's retransmission list have it
 abbrev pub OfOwed : Telling → Neighbor → Type 0
 OfOwed t n = AllIn (OfListed t) n.retransmissions
 
@@ -52,7 +51,7 @@ abbrev pub OfOwedIfAny : Telling → Option Neighbor → Type 0
 OfOwedIfAny t None = Unit {0}
 OfOwedIfAny t (Some n) = OfOwed t n
 
--- of what is told
+-- what is sent has it
 abbrev pub OfContent : Telling → Content → Type 0
 OfContent t (Content.SendsHello h) = Unit {0}
 OfContent t (Content.Describes d) = Unit {0}
@@ -106,7 +105,7 @@ module _ (t : Telling) where
   hello_told moment from true o h = named_told moment (with_hello_heard from moment o) (heard_told from moment o h)
   hello_told moment from false o h = quiet_told (one_way_received (with_hello_heard from moment o)) (none_in (OfListed t))
 
-  -- ---- Descriptions
+  -- ---- Database Descriptions
 
   repeat_of : (o : Option Description) (moment : ℕ) (n : Neighbor) → OfOwed t n → OfStep t (repeat moment (record n { described = o }))
   repeat_of None moment n h = quiet_told (record n { described = None }) h
@@ -184,7 +183,7 @@ module _ (t : Telling) where
       chosen (OfStep t) (nat_lt 8192 d.mtu) (no_sends n) (in_state n.state own moment db d n) (λ e. quiet_told n h)
       (λ e. in_state_told n.state own moment db d n copies h)
 
-  -- ---- Loading and Requests
+  -- ---- Loading and Link State Requests
 
   filled_in_told : (s : State) (n : Neighbor) → OfOwed t n → OfOwed t (loading_done_in s n)
   filled_in_told Init n h = h
@@ -245,7 +244,7 @@ module _ (t : Telling) where
   updates_told [] all = tt
   updates_told (l ∷ ls) all = (all.0, updates_told ls all.1)
 
-  -- ---- what a Tick sends again
+  -- ---- what a Tick retransmits
 
   describe_again_told : (moment interval : ℕ) (n : Neighbor) → OfOwed t n → OfStep t (describe_again moment interval n)
   describe_again_told moment interval n h =
@@ -272,7 +271,7 @@ module _ (t : Telling) where
       (then_told (describe_again moment interval n) (request_again moment interval) (describe_again_told moment interval n h) (request_again_told moment interval))
       (λ m k. update_again_told moment interval db m copies k)
 
-  -- ---- times that run out
+  -- ---- timers that have expired
 
   pub still_heard_told : (moment dead : ℕ) (o : Option Neighbor) → OfOwedIfAny t o → OfOwedIfAny t (after_inactivity_timer moment dead o)
   still_heard_told moment dead None h = tt

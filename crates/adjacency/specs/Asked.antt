@@ -1,4 +1,5 @@
--- What an LSA of a received Update asks of its sender, if there is one (RFC 2328, section 13).
+-- What an LSA of a received Link State Update requires to be known of its sender, if there is one
+-- (RFC 2328, section 13).
 use Rattle.std.specs.Prelude.{Bool, false, Option, None, Some}
 use Rattle.std.specs.FinMap as finite
 use Rattle.words.specs.Numbers.{Moment}
@@ -12,17 +13,17 @@ abbrev pub any_exchange_or_loading : Option Neighbor → Bool
 any_exchange_or_loading None = false
 any_exchange_or_loading (Some n) = is_exchange_or_loading n.state
 
--- the neighbor is still asked for this key
+-- the key is on the neighbor's request list
 abbrev pub was_requested : Key → Option Neighbor → Bool
 was_requested key None = false
 was_requested key (Some n) = finite.contains_key n.requests key
 
--- the neighbor is still to acknowledge an instance under this key
+-- the key is on the neighbor's retransmission list
 abbrev pub has_retransmission : Key → Option Neighbor → Bool
 has_retransmission key None = false
 has_retransmission key (Some n) = finite.contains_key n.retransmissions key
 
--- it is still to acknowledge just this instance
+-- exactly this instance is on the retransmission list
 abbrev pub has_instance : Moment → Header → Option Neighbor → Bool
 has_instance moment h None = false
 has_instance moment h (Some n) = is_entry moment h (finite.get n.retransmissions (key_of h))

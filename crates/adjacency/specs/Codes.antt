@@ -1,4 +1,4 @@
--- How a neighbor is told apart from others, as the value of a model needs it.
+-- An injective coding of neighbors, which the value of a model needs.
 use Rattle.std.specs.Prelude.{ℕ, ℤ, refl}
 use Rattle.std.specs.Coded.{Coded, code_by, coded×, coded_ℕ, coded_ℤ}
 use Rattle.std.specs.FinMap as map

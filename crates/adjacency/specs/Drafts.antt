@@ -1,4 +1,4 @@
--- What is to be sent at an interface in an event, by kinds, each in the order in which it arose.
+-- What an event sends at an interface, by packet type, each in order.
 use Rattle.std.specs.Prelude.{ℕ, ◌+◌, min, List, [], ◌∷◌, ◌++◌}
 use Rattle.std.specs.List.{fold}
 use Rattle.words.specs.Constants.{max_age}
@@ -17,7 +17,8 @@ pub record Drafted : Type 0 where
   pub updates : List Update
   pub acknowledgments : List Header
 
--- the age of a sent LSA grows by InfTransDelay, at most to MaxAge (RFC 2328, section 13.3)
+-- the age of an LSA is incremented by InfTransDelay when it is sent, up to MaxAge (RFC 2328,
+-- section 13.3)
 abbrev pub sent_lsa : ℕ → Lsa → Lsa
 sent_lsa delay lsa = lsa_aged (min max_age (lsa.header.age + delay)) lsa
 

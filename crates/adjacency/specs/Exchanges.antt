@@ -1,5 +1,4 @@
--- The exchange of Descriptions in words that the code's contracts use (RFC 2328, sections 10.6 and
--- 10.8).
+-- The database exchange in terms that the code's contracts use (RFC 2328, sections 10.6 and 10.8).
 use Rattle.std.specs.Prelude.{ℕ, ◌+◌, ◌%◌, ◌^◌, ◌==◌, Bool, true, false, not, ◌&&◌, nat_lt}
 use Rattle.std.specs.Prelude.{if◌then◌else◌, List, [], ◌∷◌, Option, None, Some}
 use Rattle.std.specs.FinMap as finite
@@ -24,7 +23,7 @@ use Rattle.adjacency.specs.Neighbors.{Neighbor}
 
 -- ---- verdicts
 
--- the definitions' verdict that the code's names
+-- the verdict of the definitions for a verdict of the code
 abbrev pub verdict_of : Said → Verdict
 verdict_of said.Discarded = Verdict.Discarded
 verdict_of said.NegotiatedAsSlave = Verdict.NegotiatedAsSlave
@@ -33,7 +32,7 @@ verdict_of said.Repeated = Verdict.Repeated
 verdict_of said.Accepted = Verdict.Accepted
 verdict_of (said.Mismatch why) = Verdict.Mismatch
 
--- why it is a mismatch, if it is one
+-- the reason of a mismatch
 abbrev pub mismatch_of : Said → Option Mismatch
 mismatch_of said.Discarded = None
 mismatch_of said.NegotiatedAsSlave = None
@@ -42,12 +41,12 @@ mismatch_of said.Repeated = None
 mismatch_of said.Accepted = None
 mismatch_of (said.Mismatch why) = Some why
 
--- the reason that the first of these tests gives
+-- the reason of the first test that succeeds
 abbrev pub first_mismatch : List (Bool × Mismatch) → Option Mismatch
 first_mismatch [] = None
 first_mismatch (t ∷ ts) = if t.0 then Some t.1 else first_mismatch ts
 
--- what a neighbor keeps beside its lists and its last Description
+-- the fields of a neighbor except its lists and its last Database Description
 abbrev pub standing_of : Neighbor → Standing
 standing_of n = record {
   router = n.router;
@@ -63,31 +62,31 @@ standing_of n = record {
   retransmitted_at = n.retransmitted_at;
 }
 
--- the verdict under a name that contracts use
+-- the verdict, under a name for contracts
 unfoldable pub verdict_of_description : RouterNumber → Neighbor → Description → Verdict
 verdict_of_description own n d = verdict own n d
 
--- the verdict on a Description from the neighbor that is there, if one is
+-- the verdict on a Database Description from the neighbor, if there is one
 abbrev pub judged_on : RouterNumber → Option Neighbor → Description → Verdict
 judged_on own None d = Verdict.Discarded
 judged_on own (Some n) d = verdict_of_description own n d
 
--- the other side follows: it has the larger Router ID and opens the exchange
+-- this router becomes the slave: the other side has the larger Router ID and starts the negotiation
 abbrev pub follows : RouterNumber → RouterNumber → Description → Bool
 follows own other d = is_initial_description d && nat_lt own other
 
--- this router leads: the other side took its number over
+-- this router becomes the master: the other side has taken over its sequence number
 abbrev pub leads : RouterNumber → RouterNumber → ℕ → Description → Bool
 leads own other sequence d =
     not d.init && not d.master && d.sequence == sequence && nat_lt other own
 
--- the number that the next Description from the other side has
+-- the sequence number of the next Database Description from the other side
 abbrev pub expected_of : Standing → ℕ
 expected_of s = if s.is_master then s.sequence else (s.sequence + 1) % 2 ^ 32
 
 -- ---- steps
 
--- a mismatch, or a Description to be accepted that has a header of an unknown type
+-- a mismatch, or an accepted Database Description with a header of an unknown LS type
 abbrev pub starts_over : Verdict → Description → Bool
 starts_over Verdict.Discarded d = false
 starts_over Verdict.NegotiatedAsSlave d = not (knows_types d)
@@ -96,14 +95,14 @@ starts_over Verdict.Repeated d = false
 starts_over Verdict.Accepted d = not (knows_types d)
 starts_over Verdict.Mismatch d = true
 
--- a Description whose headers are all of known types is accepted
+-- an accepted Database Description whose headers all have known LS types
 unfoldable pub accept_description : Moment → Database → Description → Neighbor → Step
 accept_description moment db d n =
     let m : Neighbor =
     with_requests moment db d.headers (record n { received = Some (as_received d) }) in
     if m.is_master then master_goes_on moment d m else slave_replies moment d m
 
--- the step by the verdict, but for one that starts over
+-- the step of a verdict that doesn't start over
 unfoldable pub proceeding : Verdict → Moment → Database → Description → Neighbor → Step
 proceeding Verdict.Discarded moment db d n = no_sends n
 proceeding Verdict.NegotiatedAsSlave moment db d n =
@@ -114,7 +113,7 @@ proceeding Verdict.Repeated moment db d n = repeat moment n
 proceeding Verdict.Accepted moment db d n = accept_description moment db d n
 proceeding Verdict.Mismatch moment db d n = no_sends n
 
--- the whole under a name that contracts use
+-- the complete step, under a name for contracts
 unfoldable pub judging : RouterNumber → Moment → Database → Description → Neighbor → Step
 judging own moment db d n = judge own moment db d n
 
@@ -137,7 +136,7 @@ abbrev pub entry_header : Moment → Option ListEntry → Option Header
 entry_header moment None = None
 entry_header moment (Some l) = Some (aged_header moment l)
 
--- the copy goes on the list, if there is one and it passes the test
+-- the copy is added to the list, if there is one and it passes the test
 abbrev pub with_copy : (DatabaseCopy → Bool) → Moment → Key → Option DatabaseCopy → ByKey ListEntry
     → ByKey ListEntry
 with_copy test moment key None list = list

@@ -1,4 +1,4 @@
--- Flooding's step of one neighbor (RFC 2328, section 13.3), by whether the LSA came from it.
+-- The flooding step of one neighbor (RFC 2328, section 13.3), by whether the LSA came from it.
 use Rattle.std.specs.Prelude.{ℕ, Bool, true, false, not, ◌&&◌, if◌then◌else◌, List, [], ◌∷◌, Option}
 use Rattle.std.specs.Prelude.{None, Some}
 use Rattle.lsdb.specs.Headers.{Lsa, lsa_key}
@@ -8,17 +8,17 @@ use Rattle.adjacency.specs.Neighbors.{Neighbor, is_exchange_or_loading, is_excha
 use Rattle.adjacency.specs.Requests.{requested_entry, without_request}
 use Rattle.adjacency.specs.Retransmissions.{add_retransmission, remove_retransmission}
 
--- the instance that is requested isn't newer than the LSA, so that the LSA meets the request
+-- the LSA satisfies the request: the requested instance isn't newer
 abbrev pub meets : ℕ → Lsa → Option ListEntry → Bool
 meets moment lsa None = false
 meets moment lsa (Some r) = not (older_than_listed moment lsa.header r)
 
--- nothing is requested, or the LSA is newer than what is
+-- the LSA isn't requested, or is newer than the requested instance
 abbrev pub passes : ℕ → Lsa → Option ListEntry → Bool
 passes moment lsa None = true
 passes moment lsa (Some r) = newer_than_listed moment lsa.header r
 
--- what a neighbor in Exchange or Loading is requested under the LSA's key
+-- the entry of the LSA's key on the request list of a neighbor in Exchange or Loading
 abbrev pub request_of : Neighbor → Lsa → Option ListEntry
 request_of n lsa = if is_exchange_or_loading n.state then requested_entry n (lsa_key lsa) else None
 
@@ -26,9 +26,9 @@ abbrev pub without_met_request : ℕ → Lsa → Neighbor → Neighbor
 without_met_request moment lsa n =
     if meets moment lsa (request_of n lsa) then without_request (lsa_key lsa) n else n
 
--- the request leaves once it is met; the old instance leaves the retransmission list, and the LSA
--- enters it and is sent exactly if the neighbor gets it: it isn't the one that the LSA came from,
--- and requests nothing newer
+-- a request that the LSA satisfies is removed; the old instance is removed from the retransmission
+-- list. The LSA is sent and added to that list if and only if it didn't come from this neighbor,
+-- and no instance that is the same or newer is requested of it
 abbrev pub flooded_in_exchange : ℕ → Bool → Lsa → Neighbor → Step
 flooded_in_exchange moment from lsa n =
     if not from && passes moment lsa (request_of n lsa)
@@ -42,7 +42,7 @@ abbrev pub flooding : ℕ → Bool → Lsa → Neighbor → Step
 flooding moment from lsa n =
     if is_exchange_or_later n.state then flooded_in_exchange moment from lsa n else no_sends n
 
--- the same under a name that contracts use
+-- the same, under a name for contracts
 unfoldable pub flood_step : ℕ → Bool → Lsa → Neighbor → Step
 flood_step moment from lsa n = flooding moment from lsa n
 

@@ -1,4 +1,5 @@
--- Steps of the neighbor's table under names that contracts use, and what is made of no neighbor.
+-- Steps of the neighbor state machine under names for contracts, and what they are without a
+-- neighbor.
 use Rattle.std.specs.Prelude.{Bool, false, if◌then◌else◌, List, map, Option, None, Some}
 use Rattle.std.specs.List.{filter_map, list_all}
 use Rattle.std.specs.FinMap as finite
@@ -12,12 +13,12 @@ use Rattle.adjacency.specs.declared.state.State.{State}
 use Rattle.adjacency.specs.Neighbors.{Neighbor, is_exchange_or_later}
 use Rattle.adjacency.specs.Retransmissions.{lsa_of}
 
--- the Router ID and the state of the neighbor that is there, if one is
+-- the Router ID and the state of the neighbor, if there is one
 abbrev pub named_neighbor : Option Neighbor → Option (RouterNumber × State)
 named_neighbor None = None
 named_neighbor (Some n) = Some (n.router, n.state)
 
--- the neighbor that is there, if one is, was heard
+-- a packet was received from the neighbor, if there is one
 abbrev pub heard : Moment → Option Neighbor → Option Neighbor
 heard moment None = None
 heard moment (Some n) = Some (record n { last_heard = moment })
@@ -27,7 +28,7 @@ abbrev pub any_exchange_or_later : Option Neighbor → Bool
 any_exchange_or_later None = false
 any_exchange_or_later (Some n) = is_exchange_or_later n.state
 
--- ---- Requests (section 10.7)
+-- ---- Link State Requests (section 10.7)
 
 abbrev pub is_there : Database → Key → Bool
 is_there db key = finite.contains_key db key
@@ -36,14 +37,15 @@ is_there db key = finite.contains_key db key
 abbrev pub lsas_of : Moment → Database → List Key → List Lsa
 lsas_of moment db keys = filter_map (λ (key : Key). lsa_of moment (finite.get db key)) keys
 
--- the LSAs are sent and go on no list; if one is missing, none is sent (BadLSReq)
+-- the LSAs are sent, without being put on the retransmission list; if one is missing, none is sent
+-- (BadLSReq)
 abbrev pub answer_to_request : Moment → Database → List Key → Neighbor → Step
 answer_to_request moment db keys n =
     if list_all (is_there db) keys
     then record { neighbor = n; sends = map Updates (lsas_of moment db keys) }
     else mismatch_step moment n
 
--- a Request counts from Exchange on
+-- a Link State Request is ignored before Exchange
 unfoldable pub after_request : Moment → Database → List Key → Neighbor → Step
 after_request moment db keys n =
     if is_exchange_or_later n.state then answer_to_request moment db keys n else no_sends n

@@ -1,5 +1,5 @@
--- What a Tick asks of one neighbor, under names that contracts use (RFC 2328, sections 10.3, 10.8,
--- 10.9 and 13.6).
+-- What a Tick does to one neighbor, under names for contracts (RFC 2328, sections 10.3, 10.8, 10.9
+-- and 13.6).
 use Rattle.std.specs.Prelude.{ℕ, ◌==◌, Bool, false, not, ◌&&◌, if◌then◌else◌, List, [], Option}
 use Rattle.std.specs.Prelude.{None, Some}
 use Rattle.std.specs.FinMap as finite
@@ -14,21 +14,21 @@ use Rattle.adjacency.specs.Descriptions.{without_old_description}
 use Rattle.adjacency.specs.Neighbors.{Neighbor}
 use Rattle.adjacency.specs.Retransmissions.{repeats_description, that_fit}
 
--- ---- what runs out
+-- ---- timers that have expired
 
--- there is a neighbor whose inactivity timer has run out
+-- there is a neighbor whose inactivity timer has expired
 abbrev pub is_any_inactive : Moment → (dead : Seconds) → Option Neighbor → Bool
 is_any_inactive moment dead None = false
 is_any_inactive moment dead (Some n) = has_passed n.last_heard dead moment
 
--- a neighbor whose inactivity timer has run out is Down; of any other the last Description is given
--- up, once the exchange is long done
+-- a neighbor whose inactivity timer has expired is Down; another one discards its last Database
+-- Description once RouterDeadInterval has passed since the exchange
 abbrev pub run_out : Moment → (dead : Seconds) → Option Neighbor → Option Neighbor
 run_out moment dead n =
     step_on (λ m. no_sends (without_old_description moment dead m))
     (after_inactivity_timer moment dead n)
 
--- Loading becomes Full once nothing is left to request
+-- from Loading to Full if the request list is empty
 abbrev pub full_where : State → (requests_nothing : Bool) → State
 full_where Init requests_nothing = Init
 full_where ExStart requests_nothing = ExStart
@@ -36,7 +36,7 @@ full_where Exchange requests_nothing = Exchange
 full_where Loading requests_nothing = if requests_nothing then Full else Loading
 full_where Full requests_nothing = Full
 
--- ---- what is sent again
+-- ---- what is retransmitted
 
 abbrev pub description_is_due : Moment → (interval : Seconds) → Neighbor → Bool
 description_is_due moment interval n =
@@ -50,7 +50,7 @@ abbrev pub retransmission_is_due : Moment → (interval : Seconds) → Neighbor 
 retransmission_is_due moment interval n =
     not (finite.len n.retransmissions == 0) && has_passed n.retransmitted_at interval moment
 
--- the LSAs that have room after the given number of bytes; none once one before them had no room
+-- the LSAs that fit after the given number of bytes; none after one that didn't fit
 abbrev pub that_fit_after : Option ℕ → List Lsa → List Lsa
 that_fit_after None ls = []
 that_fit_after (Some used) ls = that_fit used ls

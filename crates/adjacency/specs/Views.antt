@@ -1,4 +1,4 @@
--- A neighbor's fields as the definitions' neighbor.
+-- The neighbor of the definitions from a neighbor's fields.
 use Rattle.std.specs.Prelude.{ℕ, Bool, true, false, not, Option, None, Some}
 use Rattle.std.specs.FinMap as finite
 use Rattle.std.specs.FinSet as set
@@ -37,7 +37,7 @@ neighbor_of s described summary requests outstanding retransmissions = record {
   retransmitted_at = s.retransmitted_at;
 }
 
--- what stood there before the first change of an event, else what stands there
+-- the value before the first change in an event, else the present value
 abbrev pub settled_value : {A : Type 0} → Option A → A → A
 settled_value None present = present
 settled_value (Some before) present = before
@@ -50,7 +50,7 @@ abbrev pub settled_of : Option (Kept Neighbor) → Option Neighbor
 settled_of None = None
 settled_of (Some n) = Some n.settled
 
--- the neighbor that was moved away, if one was, else the one that is there
+-- the neighbor that was moved away, if one was, else the present one
 abbrev pub settled_among : Option (Option (Kept Neighbor)) → Option (Kept Neighbor)
     → Option Neighbor
 settled_among None there = settled_of there
@@ -86,12 +86,13 @@ started_standing moment router number last_heard = record {
   retransmitted_at = 0;
 }
 
--- what a Hello makes of a neighbor in Init
+-- the step of a neighbor in Init for a Hello
 unfoldable pub begun : ℕ → ℕ → Option ℕ → Bool → Step
 begun moment router dd_sequence_start names =
     after_hello moment router names (Some (fresh router dd_sequence_start moment))
 
--- a Hello that doesn't name this router, or the first that does, begins anew
+-- the neighbor starts over at a Hello: always in Init, and otherwise if the Hello doesn't list this
+-- router
 abbrev pub begins : State → Bool → Bool
 begins Init names = true
 begins ExStart names = not names

@@ -1,5 +1,4 @@
-//! What is asked of a received Database Description, and the verdict on it (RFC 2328, section
-//! 10.6).
+//! The tests of a received Database Description, and the verdict on it (RFC 2328, section 10.6).
 ghost use Rattle.std.specs.Prelude.{◌≡◌, not, ◌&&◌, [], ◌∷◌};
 ghost use Rattle.std.specs.List.{list_all};
 ghost use Rattle.lsa.specs.Reading.{is_known_type};
@@ -18,7 +17,7 @@ use lsa::Header;
 use packet::Description;
 use words::RouterId;
 
-/// By what the Description is known again.
+/// What identifies a duplicate of this Database Description.
 pub fn as_received(description: &Description) -> ReceivedDescription
     ensures { result ≡ as_received description.now }
 {
@@ -49,7 +48,8 @@ fn same_received(last: &ReceivedDescription, description: &Description) -> bool
     options && init && more && master && sequence
 }
 
-/// Whether it is the last one received once more: its flags, Options and number are the same.
+/// Whether it is a duplicate of the last one received: the flags, Options and DD sequence number
+/// are the same.
 pub fn is_duplicate(received: &Option<ReceivedDescription>, description: &Description) -> bool
     ensures { result ≡ is_duplicate received.now description.now }
 {
@@ -59,7 +59,7 @@ pub fn is_duplicate(received: &Option<ReceivedDescription>, description: &Descri
     }
 }
 
-/// Whether its Options are others than those of the last one received.
+/// Whether its Options differ from those of the last one received.
 pub fn changes_options(received: &Option<ReceivedDescription>, description: &Description) -> bool
     ensures { result ≡ changes_options received.now description.now }
 {
@@ -78,7 +78,7 @@ fn is_empty(headers: &[Header]) -> bool
     }
 }
 
-// Whether it opens an exchange.
+// Whether it starts a negotiation.
 fn is_initial_description(description: &Description) -> bool
     ensures { result ≡ is_initial_description description.now }
 {
@@ -86,7 +86,7 @@ fn is_initial_description(description: &Description) -> bool
     description.init && description.more && description.master && empty
 }
 
-/// The number that the next one from the other side has.
+/// The sequence number of the next Database Description from the other side.
 pub fn expected(standing: &Standing) -> u32
     ensures { result ≡ expected_of standing.now }
 {
@@ -103,7 +103,7 @@ fn is_known_type(header: &Header) -> bool
     header.ls_type >= 1 && header.ls_type <= 5
 }
 
-// Whether all these headers are of types that are known.
+// Whether all these headers have known LS types.
 fn know_types(headers: &[Header]) -> bool
     ensures { result ≡ list_all (λ (h : AnyHeader). is_known_type h.ls_type) headers.now }
 {
@@ -122,8 +122,8 @@ fn knows_types(description: &Description) -> bool
     know_types(description.headers.as_slice())
 }
 
-/// Whether the adjacency begins anew: at a mismatch, or if one that is to be accepted has a
-/// header of an unknown type.
+/// Whether the adjacency starts over: for a mismatch, or for an accepted Database Description with
+/// a header of an unknown LS type.
 pub fn starts_over(verdict: Verdict, description: &Description) -> bool
     ensures { result ≡ starts_over (verdict_of verdict) description.now }
 {
@@ -137,8 +137,8 @@ pub fn starts_over(verdict: Verdict, description: &Description) -> bool
     }
 }
 
-/// Whether this router follows: the other side opens the exchange and has the larger Router
-/// ID.
+/// Whether this router becomes the slave: the other side starts the negotiation and has the larger
+/// Router ID.
 pub fn follows(own: RouterId, other: RouterId, description: &Description) -> bool
     ensures { result ≡ follows own other description.now }
 {
@@ -146,8 +146,8 @@ pub fn follows(own: RouterId, other: RouterId, description: &Description) -> boo
     is_initial_description(description) && smaller
 }
 
-/// Whether this router leads: the other side, which has the smaller Router ID, took its
-/// number over.
+/// Whether this router becomes the master: the other side has the smaller Router ID and has taken
+/// over this router's sequence number.
 pub fn leads(own: RouterId, other: RouterId, sequence: u32, description: &Description) -> bool
     ensures { result ≡ leads own other sequence description.now }
 {
@@ -156,7 +156,7 @@ pub fn leads(own: RouterId, other: RouterId, sequence: u32, description: &Descri
     !description.init && !description.master && same && larger
 }
 
-/// The verdict in ExStart: this router is the slave if it follows, the master if it leads.
+/// The verdict in ExStart.
 pub fn negotiation(follows: bool, leads: bool) -> Verdict
     ensures { verdict_of result ≡ first_verdict
         ((follows, Judgment.NegotiatedAsSlave) ∷ (leads, Judgment.NegotiatedAsMaster) ∷ [])
@@ -171,22 +171,22 @@ pub fn negotiation(follows: bool, leads: bool) -> Verdict
     }
 }
 
-/// What a Description that is no duplicate is tested for in Exchange.
+/// The tests in Exchange of a Database Description that is no duplicate.
 #[derive(Clone, Copy, Debug)]
 pub struct ExchangeTests {
-    /// The MS bits of both sides are the same.
+    /// The MS-bits of both sides are the same.
     pub same_roles: bool,
-    /// The I bit is set.
+    /// The I-bit is set.
     pub init: bool,
-    /// The Options are others than those of the last one received.
+    /// The Options differ from those of the last one received.
     pub other_options: bool,
-    /// The sequence number is the expected one.
+    /// The DD sequence number is the expected one.
     pub expected: bool,
 }
 
 impl ExchangeTests {
-    /// The verdict: it is accepted if the MS bits of both sides differ, the I bit is clear, the
-    /// Options are those of before, and the number is the expected one.
+    /// The verdict: it is accepted if the MS-bits of both sides differ, the I-bit is clear, the
+    /// Options are unchanged, and the sequence number is the expected one.
     pub fn verdict(&self) -> Verdict
         ensures verdict { verdict_of result ≡ first_verdict
             ((self.now.same_roles, Judgment.Mismatch) ∷ (self.now.init, Judgment.Mismatch) ∷
@@ -211,8 +211,8 @@ impl ExchangeTests {
     }
 }
 
-/// The verdict on a duplicate, which the master discards, and the slave answers if its last
-/// Description is kept; else the other verdict.
+/// The verdict on a duplicate, which the master ignores, and which the slave answers if it still
+/// has its last Database Description; otherwise the given verdict.
 pub fn repetition(duplicate: bool, is_master: bool, answers: bool, otherwise: Verdict) -> Verdict
     ensures { verdict_of result ≡ first_verdict
         ((duplicate && is_master, Judgment.Discarded) ∷ (duplicate && answers, Judgment.Repeated) ∷

@@ -1,4 +1,4 @@
-//! What is sent at an interface in an event, before it is put in order and packed.
+//! What an event sends at an interface, before it is ordered and packed into packets.
 ghost use Rattle.std.specs.Prelude.{◌≡◌, ◌∷◌, [], ℕ, OnOk};
 ghost use Rattle.lsdb.specs.Copies.{lsa_now};
 ghost use Rattle.adjacency.specs.Contents.{Acknowledges, Describes, SendsHello, Requests, Updates};
@@ -11,14 +11,14 @@ use std::alloc::{AllocError, Global};
 use std::marker::Model;
 use words::{Key, MAX_AGE, Second, Sequence};
 
-/// An LSA that is sent: its key, and its text at the age that it is sent with.
+/// An LSA to be sent: its key, and its bytes with the age in the packet.
 #[derive(Debug, Drop)]
 pub struct Update {
     pub key: Key,
     pub text: Sequence<u8>,
 }
 
-/// What is to be sent at an interface, by kinds, each in the order in which it arose.
+/// What is to be sent at an interface, by packet type, each in order.
 #[derive(Drop)]
 pub struct Draft {
     hellos: Vec<Hello>,
@@ -28,16 +28,16 @@ pub struct Draft {
     acknowledgments: Vec<Header>,
 }
 
-/// What is to be sent at an interface, list by list, for whoever puts it in order and packs it.
+/// The lists of a `Draft`, which are ordered and packed elsewhere.
 #[derive(Drop)]
 pub struct DraftLists {
     pub hellos: Vec<Hello>,
     pub descriptions: Vec<Description>,
-    /// Link State Requests, each by its keys.
+    /// Link State Requests, each as its keys.
     pub requests: Vec<Sequence<Key>>,
-    /// What Updates take along.
+    /// The LSAs for Link State Updates.
     pub updates: Vec<Update>,
-    /// The instances to be acknowledged.
+    /// The headers for Link State Acknowledgments.
     pub acknowledgments: Vec<Header>,
 }
 
@@ -56,7 +56,7 @@ impl Model for Draft {
 }
 
 impl Draft {
-    /// Nothing to be sent. It wants no memory.
+    /// An empty draft. It doesn't allocate.
     pub fn new(alloc: Global) -> Self
         ensures { result ≡ record {
           hellos = [];
@@ -75,7 +75,10 @@ impl Draft {
         }
     }
 
-    /// A Hello is to be sent.
+    /// Adds a Hello.
+    ///
+    /// # Errors
+    /// `AllocError` if an allocation is refused.
     pub fn greet(&mut self, hello: Hello) -> Result<(), AllocError>
         ensures { OnOk result ((delay : ℕ) → self.new
             ≡ drafting delay (SendsHello hello ∷ []) self.old) }
@@ -84,7 +87,10 @@ impl Draft {
         Ok(())
     }
 
-    /// A Database Description is to be sent.
+    /// Adds a Database Description.
+    ///
+    /// # Errors
+    /// `AllocError` if an allocation is refused.
     pub fn describe(&mut self, description: Description) -> Result<(), AllocError>
         ensures { OnOk result ((delay : ℕ) → self.new
             ≡ drafting delay (Describes description ∷ []) self.old) }
@@ -93,7 +99,10 @@ impl Draft {
         Ok(())
     }
 
-    /// A Link State Request for these keys is to be sent.
+    /// Adds a Link State Request for these keys.
+    ///
+    /// # Errors
+    /// `AllocError` if an allocation is refused.
     pub fn request(&mut self, keys: Sequence<Key>) -> Result<(), AllocError>
         ensures { OnOk result ((delay : ℕ) → self.new
             ≡ drafting delay (Requests keys ∷ []) self.old) }
@@ -102,7 +111,11 @@ impl Draft {
         Ok(())
     }
 
-    /// An Update takes the copy along, InfTransDelay seconds older than it is at the moment.
+    /// Adds the copy to be sent in a Link State Update, its age at the moment incremented by
+    /// InfTransDelay.
+    ///
+    /// # Errors
+    /// `AllocError` if an allocation is refused.
     pub fn update(
         &mut self,
         alloc: Global,
@@ -121,7 +134,10 @@ impl Draft {
         Ok(())
     }
 
-    /// An Acknowledgment names the instance.
+    /// Adds an acknowledgment of the instance.
+    ///
+    /// # Errors
+    /// `AllocError` if an allocation is refused.
     pub fn acknowledge(&mut self, header: Header) -> Result<(), AllocError>
         ensures { OnOk result ((delay : ℕ) → self.new
             ≡ drafting delay (Acknowledges header ∷ []) self.old) }
@@ -144,28 +160,28 @@ impl Draft {
         &self.descriptions
     }
 
-    /// The Link State Requests to be sent, each by its keys.
+    /// The Link State Requests to be sent, each as its keys.
     pub fn requests(&self) -> &[Sequence<Key>]
         ensures { result.now ≡ self.now.requests }
     {
         &self.requests
     }
 
-    /// What Updates take along.
+    /// The LSAs to be sent in Link State Updates.
     pub fn updates(&self) -> &[Update]
         ensures { result.now ≡ self.now.updates }
     {
         &self.updates
     }
 
-    /// The instances to be acknowledged.
+    /// The headers to be sent in Link State Acknowledgments.
     pub fn acknowledgments(&self) -> &[Header]
         ensures { result.now ≡ self.now.acknowledgments }
     {
         &self.acknowledgments
     }
 
-    /// Hands its lists out, without memory.
+    /// Returns the lists, without allocating.
     pub fn into_lists(self) -> DraftLists
         ensures hellos { result.hellos.items ≡ self.hellos }
         ensures descriptions { result.descriptions.items ≡ self.descriptions }

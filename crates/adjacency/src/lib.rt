@@ -19,5 +19,5 @@ pub use saved::Saved;
 pub use standing::{ReceivedDescription, Standing};
 pub use state::State;
 pub use verdict::{Mismatch, Verdict};
-// What crates above name of those below.
+// Names from the crates below that crates above use.
 pub use lsdb::{DatabaseCopy, Lsdb, age_at, compare, newer};

@@ -7,8 +7,8 @@ use lsdb::{Instance, age_at};
 use std::marker::Model;
 use words::Second;
 
-/// An instance by its header, and the moment at which it had the header's age. Clauses see the
-/// definitions' record.
+/// The header of an instance, and the moment at which it had the header's age. Clauses see the
+/// record of the definitions.
 #[derive(Clone, Copy, Debug)]
 pub struct ListEntry {
     pub header: Header,
@@ -25,7 +25,7 @@ impl Model for ListEntry {
     ghost inverse = { λ e. record { header = e.header; at = e.at } };
 }
 
-/// The instance that has this header now.
+/// The instance with this header at present.
 pub fn instance_of(header: &Header) -> Instance
     ensures { result ≡ instance_of header.now }
 {

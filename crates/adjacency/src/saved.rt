@@ -3,8 +3,8 @@ ghost use Rattle.std.specs.Prelude.{◌≡◌};
 
 use std::marker::Model;
 
-/// A value, and the one that stood there when it was last settled: the first replacement moves it
-/// away, so that neither settling nor rolling back wants memory.
+/// A value, and the settled one: the first replacement moves it away, so that neither settling nor
+/// rolling back allocates.
 #[derive(Drop)]
 pub struct Saved<X> {
     value: X,
@@ -40,7 +40,7 @@ impl<X: Drop> Saved<X> {
         &self.value
     }
 
-    /// Puts another value in its place.
+    /// Replaces the value.
     pub fn set(&mut self, value: X)
         ensures { self.new ≡ record self.old { present = value } }
     {
@@ -57,7 +57,7 @@ impl<X: Drop> Saved<X> {
         self.before = None;
     }
 
-    /// Takes all changes back that were made since it was last settled.
+    /// Undoes all changes since the value was last settled.
     pub fn roll_back(&mut self)
         ensures { self.new ≡ record { present = self.old.settled; settled = self.old.settled } }
     {

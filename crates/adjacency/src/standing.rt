@@ -1,4 +1,4 @@
-//! What is kept of a neighbor beside its lists.
+//! The state of a neighbor except its lists.
 ghost use Rattle.std.specs.Prelude.{◌≡◌};
 ghost use Rattle.adjacency.specs.Views.{fresh_standing, started_standing};
 
@@ -6,8 +6,8 @@ use crate::state::State;
 use std::marker::Model;
 use words::{RouterId, Second};
 
-/// By what a Database Description is known again: its flags, its Options and its sequence number
-/// (RFC 2328, section 10.6).
+/// What identifies a duplicate Database Description: its flags, Options and sequence number (RFC
+/// 2328, section 10.6).
 #[derive(Clone, Copy, Debug)]
 pub struct ReceivedDescription {
     pub options: u8,
@@ -39,23 +39,23 @@ impl Model for ReceivedDescription {
     } };
 }
 
-/// A neighbor's names, state, numbers and times.
+/// A neighbor's Router ID, state, sequence numbers and timers.
 #[derive(Clone, Copy, Debug)]
 pub struct Standing {
     pub router: RouterId,
     pub state: State,
     /// Whether this router is the master of the exchange.
     pub is_master: bool,
-    /// The sequence number of the exchange.
+    /// The DD sequence number.
     pub sequence: u32,
-    /// The number of the last attempt at an exchange, since the neighbor was Down.
+    /// The DD sequence number of the last attempt since the neighbor was Down.
     pub dd_sequence_start: Option<u32>,
     /// The last Description received.
     pub received: Option<ReceivedDescription>,
-    /// The moment at which the exchange was done.
+    /// The moment at which the exchange was completed.
     pub exchanged: Option<Second>,
-    /// Since when the inactivity time runs, and since when those of the Description, the Request
-    /// and the retransmissions.
+    /// The starts of the inactivity timer and of the retransmission timers of the Database
+    /// Description, the Link State Request and the LSAs.
     pub last_heard: Second,
     pub described_at: Second,
     pub requested_at: Second,
@@ -63,15 +63,14 @@ pub struct Standing {
 }
 
 impl Standing {
-    /// The same once more: a `Copy` struct with a field that has a model counts as moved when it
-    /// is used.
+    /// A copy: a `Copy` struct with a field that has a model counts as moved when it is used.
     pub fn same(&self) -> Standing
         ensures { result ≡ self.now }
     {
         *self
     }
 
-    /// In Init.
+    /// A neighbor in Init.
     pub fn fresh(router: RouterId, dd_sequence_start: Option<u32>, last_heard: Second) -> Standing
         ensures { result ≡ fresh_standing router dd_sequence_start last_heard }
     {
@@ -90,7 +89,7 @@ impl Standing {
         }
     }
 
-    /// In ExStart, with the number of a new attempt.
+    /// A neighbor in ExStart, with the sequence number of a new attempt.
     pub fn started(moment: Second, router: RouterId, number: u32, last_heard: Second) -> Standing
         ensures { result ≡ started_standing moment router number last_heard }
     {

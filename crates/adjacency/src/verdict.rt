@@ -1,15 +1,15 @@
-//! What is made of a received Database Description.
+//! The verdict on a received Database Description.
 
 /// The verdict on a received Database Description (RFC 2328, section 10.6).
 #[derive(Clone, Copy, Debug, PartialEq, Eq)]
 pub enum Verdict {
-    /// Nothing is done.
+    /// It is ignored.
     Discarded,
-    /// The negotiation is done, and this router is the slave.
+    /// NegotiationDone, with this router as the slave.
     NegotiatedAsSlave,
-    /// The negotiation is done, and this router is the master.
+    /// NegotiationDone, with this router as the master.
     NegotiatedAsMaster,
-    /// It came before: the last Description is sent again.
+    /// A duplicate: the last Database Description is sent again.
     Repeated,
     /// It is the next one of the exchange.
     Accepted,
@@ -17,18 +17,18 @@ pub enum Verdict {
     Mismatch(Mismatch),
 }
 
-/// Why a Description leads to SeqNumberMismatch: the first of these tests that it fails (RFC 2328,
-/// section 10.6).
+/// Why a Database Description leads to SeqNumberMismatch: the first of these tests that it fails
+/// (RFC 2328, section 10.6).
 #[derive(Clone, Copy, Debug, PartialEq, Eq)]
 pub enum Mismatch {
-    /// The MS bits of both sides are the same.
+    /// The MS-bits of both sides are the same.
     Roles,
-    /// The I bit is set.
+    /// The I-bit is set.
     Init,
-    /// The Options are others than those of the last one received.
+    /// The Options differ from those of the last one received.
     Options,
-    /// The sequence number isn't the expected one.
+    /// The DD sequence number isn't the expected one.
     Sequence,
-    /// The exchange is over, and it is no duplicate that is answered.
+    /// The exchange is over, and this is no duplicate that the slave can answer.
     ExchangeOver,
 }

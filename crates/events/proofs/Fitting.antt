@@ -1,4 +1,4 @@
--- LSAs that fit into an Update: those that a packet brings, and this router's own.
+-- LSAs that fit into a Link State Update: those that a packet contains, and this router's own.
 use Rattle.std.proofs.Common.{◌≡◌, ◌≤◌, ℕ, zero, suc, ◌+◌, ◌-◌, ◌*◌, ◌/◌, ◌%◌, Bool, true, false, cond, not, ◌&&◌, ◌||◌, eqb, List, [], ◌∷◌, ◌++◌, length, Option, None, Some, refl, sym, ap, ◌∙◌, arith, length-append}
 use Rattle.std.specs.Prelude.{nat_le}
 use Rattle.std.specs.List.{AllByRecursion, flat_map}
@@ -54,7 +54,7 @@ all_fail (t ∷ ts) e = by_test t.0 refl e (all_fail ts)
     by_test true is some rest = absurd cc
     by_test false is none rest = (is, rest none)
 
--- ---- LSAs as they are read
+-- ---- LSAs as they are parsed
 
 length-records : {X : Type 0} (read : List ℕ → ℕ → X) (width : ℕ) (bytes : List ℕ) (at n : ℕ) → length (records read width bytes at n) ≡ n
 length-records read width bytes at zero = refl
@@ -157,7 +157,7 @@ body_filled false false true four bytes e = summary_filled bytes e
 body_filled false false false true bytes e = summary_filled bytes e
 body_filled false false false false bytes e = external_filled bytes e
 
--- bytes with no fault are as long as the text of what is read
+-- bytes without a fault are as long as the encoding of what is parsed
 read_length : (bytes : List ℕ) → fault_of bytes ≡ None → (length (text (lsa_of bytes)) ≡ length bytes) × (field bytes 18 2 ≡ length bytes)
 unfolding fault_of
 read_length bytes none =
@@ -183,12 +183,12 @@ read_fits bytes short = by_fault (fault_of bytes) refl
     by_fault None e = let sizes = read_length bytes e in (sizes.0 ∙ sym sizes.1, omega (arith, short, sizes.1))
     by_fault (Some f) e = tt
 
--- ---- the LSAs of a packet
+-- ---- the LSAs in a packet
 
 abbrev pub IsShort : List ℕ → Type 0
 IsShort bytes = 28 + length bytes ≤ 8192
 
--- each LSA of an Update has room beside what stands before it
+-- each LSA of a Link State Update fits after the bytes before it
 abbrev pub BringsShort : PacketBody → Type 0
 BringsShort (packets.Hello h) = Unit {0}
 BringsShort (packets.Description d) = Unit {0}
@@ -218,9 +218,9 @@ packet_short bytes p is =
     ∙ length-append (fields (packet_text.header (packet_text.type_of p.body) (24 + length says) p.router (packet_checksum bytes) is.filler.authentication)) says in
     brings_short is.filler p.body (omega (arith, size, is.size))
 
--- ---- the router's own
+-- ---- self-originated LSAs
 
--- a new instance has room for its body
+-- the body of a new instance fits
 abbrev pub IsFewIfAny : Option Body → Type 0
 IsFewIfAny None = Unit {0}
 IsFewIfAny (Some says) = length (body_text says) ≤ 8144
@@ -261,7 +261,7 @@ announced_few : (o : Option External) → IsFewIfAny (announced_body o)
 announced_few None = tt
 announced_few (Some e) = omega arith
 
--- what is wanted of an own LSA
+-- the wanted body of a self-originated LSA
 pub wanted_few : (r : Router) (key : Key) → length r.area.links ≤ 63 → IsFewIfAny (wanted_body r key)
 wanted_few r key few =
     chosen IsFewIfAny (same_key key (router_key r.id)) (Some (router_body r.area.links)) (announced_body (finite.get r.announced key))

@@ -1,4 +1,4 @@
--- An event has one outcome.
+-- An event has only one outcome.
 use Rattle.std.proofs.Common.{◌≡◌, ℕ, sym, ap, ◌∙◌}
 use Rattle.packet.proofs.Whole.{one_packet}
 use Rattle.events.specs.Endings.{end_event}

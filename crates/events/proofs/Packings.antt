@@ -20,7 +20,7 @@ use Rattle.events.specs.PackingLaws.{AreByInterface, AreFull, IsAscending, IsFul
 
 -- ---- the order of keys
 
--- by what two comparisons are
+-- from the results of two comparisons
 not_after_by : (r s : Ordering) (x y z : Key) → key_cmp x y ≡ r → key_cmp y z ≡ s → is_gt r ≡ false → is_gt s ≡ false → is_gt (key_cmp x z) ≡ false
 not_after_by Less Less x y z p q f g = ap is_gt (keys_total.trans x y z p q)
 not_after_by Less Equal x y z p q f g = ap (λ w. is_gt (key_cmp x w)) (sym (keys_exact y z q)) ∙ ap is_gt p
@@ -64,7 +64,7 @@ module _ {X : Type 0} (key : X → Key) where
   ascends [] = tt
   ascends (x ∷ xs) = put_ascends x (in_key_order key xs) (ascends xs)
 
-  -- two that one key ties with aren't one after the other
+  -- two keys that are equal to one key aren't one after the other
   tied_both : (k a b : Key) → same_key k a ≡ true → same_key k b ≡ true → is_after a b ≡ false
   tied_both k a b p q =
       let one : k ≡ a = keys_exact k a (equal_is (key_cmp k a) p) in
@@ -136,7 +136,7 @@ module _ {X : Type 0} (size : X → ℕ) (start : ℕ) where
       by_test true one other = one ∙ append_assoc taken (x ∷ []) xs
       by_test false one other = ap (λ rest. taken ++ rest) other
 
-  -- a packet that is being filled begins with what it has
+  -- a packet that is being filled begins with the items it has
   begins_with : (x : X) (t xs : List X) (used : ℕ) → (rest : List X) × (more : List (List X)) × (fill_on size start used (x ∷ t) xs ≡ (x ∷ rest) ∷ more)
   begins_with x t [] used = (t, [], refl)
   begins_with x t (y ∷ ys) used =

@@ -42,7 +42,7 @@ paired_all : {X : Type 0} (P Q : X → Type 0) (xs : List X) → AllByRecursion 
 paired_all P Q [] p q = tt
 paired_all P Q (x ∷ xs) p q = ((p.0, q.0), paired_all P Q xs p.1 q.1)
 
--- what holds of all items holds of all in each packet
+-- a property of all items is one of all items in each packet
 filled_all : {X : Type 0} (size : X → ℕ) (start : ℕ) (P : X → Type 0) (xs taken : List X) (used : ℕ) → AllByRecursion P taken → AllByRecursion P xs
     → AllByRecursion (λ p. AllByRecursion P p) (fill_on size start used taken xs)
 filled_all size start P [] taken used t p = (t, tt)
@@ -61,7 +61,7 @@ pub packed_all : {X : Type 0} (size : X → ℕ) (start : ℕ) (P : X → Type 0
 packed_all size start P [] p = tt
 packed_all size start P (x ∷ xs) p = filled_all size start P xs (x ∷ []) (start + size x) (p.0, tt) p.1
 
--- what an option gives of each content
+-- what is chosen from each content
 chosen_all : {Y : Type 0} (f : Content → Option Y) (P : Y → Type 0) → ((c : Content) → HasRoom c → AllByRecursion P (cons_option (f c) []))
     → (cs : List Content) → AllByRecursion HasRoom cs → AllByRecursion P (filter_map f cs)
 chosen_all {Y = Y} f P each [] p = tt
@@ -127,7 +127,7 @@ update_room (Content.Requests keys) room = tt
 update_room (Content.Updates lsa) room = (room, tt)
 update_room (Content.Acknowledges h) room = tt
 
--- a text at another age is as long
+-- an LSA at another age is as long
 sent_length : (delay : ℕ) (lsa : Lsa) → length (lsa_text.text (sent_lsa delay lsa)) ≡ length (lsa_text.text lsa)
 sent_length delay lsa =
     length-append (header_text (sent_lsa delay lsa).header) (lsa_text.body_text lsa.body) ∙ sym (length-append (header_text lsa.header) (lsa_text.body_text lsa.body))
@@ -139,7 +139,7 @@ texts_length delay (l ∷ ls) p =
     length-append (lsa_text.text (sent_lsa delay l)) (flat_map (λ (t : List ℕ). t) (map (λ (m : Lsa). lsa_text.text (sent_lsa delay m)) ls))
     ∙ (λ i. (sent_length delay l ∙ p.0.0) i + texts_length delay ls p.1 i)
 
--- no more texts than they have bytes
+-- no more encodings than they have bytes
 texts_count : (delay : ℕ) (lsas : List Lsa)
     → length (map (λ (l : Lsa). lsa_text.text (sent_lsa delay l)) lsas) ≤ length (flat_map (λ (t : List ℕ). t) (map (λ (l : Lsa). lsa_text.text (sent_lsa delay l)) lsas))
 texts_count delay [] = omega arith

@@ -1,5 +1,5 @@
--- Room in packets through whole events: what an event sends has room, since the copies of the
--- database fit and the lists of the neighbors have room, which each part of an event keeps.
+-- Sizes of packets through whole events: what an event sends fits, since the copies of the database
+-- and the lists of the neighbors do, which each part of an event keeps.
 use Rattle.std.proofs.Common.{◌≡◌, ◌≤◌, ℕ, ◌+◌, Bool, true, false, cond, ◌&&◌, List, [], ◌∷◌, map, length, Option, None, Some, refl, sym, ap, subst, ◌∙◌, arith}
 use Rattle.std.specs.Prelude.{T}
 use Rattle.std.specs.Cmp.{tied_itself}
@@ -102,7 +102,7 @@ retained_fit db p all =
     subst FitsIfThere (sym (finite.get-retain_keys db p q (λ x e. ap p (sym (keys_exact q x e)))))
     (chosen FitsIfThere (p q) (finite.get db q) None (λ is. fits_at db all q) (λ is. tt)))
 
--- ---- what holds at each point of an event
+-- ---- the invariant at each point of an event
 
 abbrev roomy : Invariant
 roomy = record {
@@ -113,7 +113,7 @@ roomy = record {
   without_room = Unit {0};
 }
 
--- ---- ages, and the router's own LSAs
+-- ---- aging, and self-originated LSAs
 
 ages_roomy : (before moment : ℕ) (es : List (Key × DatabaseCopy)) (o : Outcome) → AllByRecursion EntryFits es → IsRoomyOutcome o
     → IsRoomyOutcome (fold (with_age before moment) o es)
@@ -178,7 +178,7 @@ hello_room : (moment : ℕ) (link : Link) → AllByRecursion HasRoom (hello_sent
 hello_room moment link =
     chosen (AllByRecursion HasRoom) (hello_is_due moment link) (Content.SendsHello (hello_on link) ∷ []) [] (λ is. (one_named link.neighbor, tt)) (λ is. tt)
 
--- ---- the parts, and the whole event
+-- ---- the parts, and the complete event
 
 keys_any : (keys : List Key) → AllByRecursion (λ key. Unit {0}) keys
 keys_any [] = tt

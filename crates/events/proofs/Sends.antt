@@ -1,4 +1,4 @@
--- The outs of an event that sends nothing.
+-- The packets of an event that sends nothing.
 use Rattle.std.proofs.Common.{◌≡◌, ℕ, ◌+◌, List, [], ◌∷◌, refl}
 use Rattle.std.specs.List.{enumerate_from, flat_map}
 use Rattle.received.specs.Links.{Link}

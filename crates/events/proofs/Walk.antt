@@ -1,5 +1,5 @@
--- One walk over all parts of an event: what each part keeps holds at each point of an event, after
--- it, and so at each point of a run.
+-- An induction over all parts of an event: an invariant that each part keeps holds at each point of
+-- an event, after it, and so at each point of a run.
 use Rattle.std.proofs.Common.{◌≡◌, ℕ, ◌==◌, Bool, true, false, cond, not, ◌&&◌, List, [], ◌∷◌, map, Option, None, Some, refl, sym, subst}
 use Rattle.std.specs.Prelude.{nat_le}
 use Rattle.std.specs.List.{AllByRecursion, list_all}
@@ -37,18 +37,18 @@ use Rattle.events.specs.EventState.{EventState, flood_from_nobody, on_area, on_r
 use Rattle.events.specs.Routers.{Occurrence, Router}
 use Rattle.events.specs.Ticks.{acknowledge_all, after_tick, send_hellos, run_out, send_all_again}
 
--- ---- what is to hold
+-- ---- the invariant
 
 pub record Invariant : Type 1 where
-  -- of the links, the database and what was sent
+  -- about the links, the database and what was sent
   pub of_area : Area → List Send → Type 0
-  -- of the Router ID and of what is announced
+  -- about the Router ID and what is announced
   pub of_announced : RouterNumber → ByKey External → Type 0
-  -- of a received LSA
+  -- about a received LSA
   pub of_lsa : Lsa → Type 0
-  -- of the key of an own LSA
+  -- about the key of a self-originated LSA
   pub of_key : Key → Type 0
-  -- of originations that don't ask for room
+  -- about originations without checking for room
   pub without_room : Type 0
 
 pub record OfEvent (i : Invariant) (p : EventState) : Type 0 where
@@ -58,14 +58,14 @@ pub record OfEvent (i : Invariant) (p : EventState) : Type 0 where
 abbrev pub OfOutcome : Invariant → Outcome → Type 0
 OfOutcome i o = i.of_area o.area o.sends
 
--- a change keeps it
+-- a change keeps the invariant
 abbrev pub Keeps : Invariant → (Outcome → Outcome) → Type 0
 Keeps i f = (o : Outcome) → OfOutcome i o → OfOutcome i (f o)
 
 abbrev pub outcome : EventState → Outcome
 outcome p = record { area = p.router.area; sends = p.sends }
 
--- of the readable LSAs of a packet
+-- about the LSAs of a packet that can be parsed
 abbrev pub IfRead : (Lsa → Type 0) → Option Lsa → Type 0
 IfRead P None = Unit {0}
 IfRead P (Some lsa) = P lsa
@@ -80,15 +80,15 @@ OfBrought P (body.Request keys) = Unit {0}
 OfBrought P (body.Update lsas) = AllByRecursion (OfBytes P) lsas
 OfBrought P (body.Acknowledgment headers) = Unit {0}
 
--- there is room for an LSA of this key, or none is asked for
+-- there is room for an LSA of this key, or room isn't required
 pub data MayGrow (i : Invariant) (key : Key) (r : Router) : Type 0 where
   HasRoom : has_room key r ≡ true → MayGrow i key r
   Anyway : i.without_room → MayGrow i key r
 
--- ---- what keeps it
+-- ---- what keeps the invariant
 
 pub record IsKeptByParts (i : Invariant) : Type 0 where
-  -- ages, and the router's own LSAs
+  -- aging, and self-originated LSAs
   pub ages : (before moment : ℕ) → Keeps i (with_ages before moment)
   pub flushes : (moment : ℕ) (key : Key) (c : DatabaseCopy) (o : Outcome) → finite.get o.area.database key ≡ Some c → is_aged_out moment c ≡ false → OfOutcome i o
       → OfOutcome i (flood_from_nobody moment (lsa_aged 3600 c.lsa) (on_database (age_out moment key) o))
@@ -121,13 +121,13 @@ pub record IsKeptByParts (i : Invariant) : Type 0 where
   pub requests : (moment : ℕ) → Keeps i (request_all moment)
   pub removes : (moment : ℕ) (o : Outcome) → OfOutcome i o → OfOutcome i (on_database (λ db. finite.retain_keys db (stays moment o.area)) o)
 
--- what an event brings: the LSAs of its Update, and the key of what it announces
+-- what an event contains: the LSAs of its Link State Update, and the key of what it announces
 pub record Brings (i : Invariant) (r : Router) (event : Occurrence) : Type 0 where
   pub packet : (number : ℕ) (bytes : List ℕ) (packet : Packet) → event ≡ Occurrence.Packet number bytes → PacketText bytes packet → OfBrought i.of_lsa packet.body
   pub key : (tagged : External) (tag : ℕ) (priced : External) (price : ℕ) → event ≡ Occurrence.Redistribute tagged tag priced price
       → i.of_key (external_key r.id priced.prefix) × i.without_room
 
--- ---- the walk
+-- ---- the induction
 
 module _ (i : Invariant) (kept : IsKeptByParts i) where
   abbrev InProgress : EventState → Type 0
@@ -136,7 +136,7 @@ module _ (i : Invariant) (kept : IsKeptByParts i) where
   on_area_kept : (f : Outcome → Outcome) (p : EventState) → (i.of_area p.router.area p.sends → OfOutcome i (f (outcome p))) → InProgress p → InProgress (on_area f p)
   on_area_kept f p keeps h = record { area = keeps h.area; announced = h.announced }
 
-  -- ---- the router's own LSAs
+  -- ---- self-originated LSAs
 
   copy_flushed : (moment : ℕ) (key : Key) (c : Option DatabaseCopy) (o : Outcome) → finite.get o.area.database key ≡ c → OfOutcome i o → OfOutcome i (flush_copy moment key c o)
   copy_flushed moment key None o is h = h
@@ -321,7 +321,7 @@ module _ (i : Invariant) (kept : IsKeptByParts i) where
       let so : InProgress refilled = described_later said.router.area.links (loading_done said) (all_loaded said (described old.area.links moment (loading_done p) (all_loaded p h))) in
       record { area = aged_removed moment (request_all moment (outcome refilled)) (kept.requests moment (outcome refilled) so.area); announced = so.announced }
 
-  -- ---- the whole event
+  -- ---- the complete event
 
   begun_kept : (moment : ℕ) (r : Router) → InProgress (record { router = r; sends = [] }) → InProgress (start_event moment r)
   begun_kept moment r h = record { area = kept.ages r.moment moment (record { area = r.area; sends = [] }) h.area; announced = h.announced }

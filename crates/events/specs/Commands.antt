@@ -1,4 +1,4 @@
--- What an operator and the programs' answers make of the router.
+-- What commands of the operator and answers of programs do to the router.
 use Rattle.std.specs.Prelude.{ℕ, ◌%◌, ◌^◌, ◌==◌, Bool, true, false, ◌&&◌, nat_le, if◌then◌else◌}
 use Rattle.std.specs.Prelude.{List, Option, None, Some}
 use Rattle.std.specs.FinMap as finite
@@ -33,7 +33,7 @@ same_external a b =
     same_network a.prefix b.prefix && a.metric == b.metric && same_kind a.kind b.kind
     && a.tag == b.tag
 
--- the destination with the metric that was answered, and the low 32 bits of the tag
+-- the destination with the metric from the answer, and the low 32 bits of the tag
 abbrev pub answered_external : External → ℕ → ℕ → External
 answered_external e tag price = record e { metric = price; tag = tag % 2 ^ 32 }
 
@@ -56,7 +56,7 @@ unannounce key r = record r {
   waiting = set.remove r.waiting key;
 }
 
--- the want ends, and the LSA is flushed
+-- the destination is no longer announced, and its LSA is flushed
 abbrev pub end_want : Moment → Key → EventState → EventState
 end_want moment key p = flush moment key (on_router (unannounce key) p)
 

@@ -1,4 +1,4 @@
--- How each event begins and ends (RFC 2328, sections 10.3, 10.9, 12.4.1 and 14).
+-- The beginning and the end of each event (RFC 2328, sections 10.3, 10.9, 12.4.1 and 14).
 use Rattle.std.specs.Prelude.{◌==◌, Bool, false, not, ◌&&◌, ◌||◌, if◌then◌else◌, List, [], map}
 use Rattle.std.specs.Prelude.{Option, None, Some}
 use Rattle.std.specs.List.{fold}
@@ -21,7 +21,7 @@ use Rattle.events.specs.Routers.{Router}
 
 -- ---- ages (section 14)
 
--- a copy that has come to MaxAge since the moment before is flooded
+-- a copy that has reached MaxAge since the moment `before` is flooded
 abbrev pub with_age : (before : Moment) → (moment : Moment) → Outcome → (Key × DatabaseCopy)
     → Outcome
 with_age before moment o e =
@@ -31,7 +31,7 @@ with_age before moment o e =
 abbrev pub with_ages : (before : Moment) → (moment : Moment) → Outcome → Outcome
 with_ages before moment o = fold (with_age before moment) o (finite.entries o.area.database)
 
--- nothing was sent yet
+-- the copies that have reached MaxAge are flooded first; nothing was sent before
 abbrev pub start_event : Moment → Router → EventState
 start_event moment old = on_area (with_ages old.moment moment) (record { router = old; sends = [] })
 
@@ -52,7 +52,7 @@ loading_done p = on_area (on_links (map link_loading_done)) p
 abbrev pub same_body : Body → Body → Bool
 same_body a b = is_eq (slice_cmp nat_cmp (body_text a) (body_text b))
 
--- the router-LSA's content differs
+-- whether the bodies of the router-LSA differ
 abbrev pub links_differ : List Link → List Link → Bool
 links_differ a b = not (same_body (router_body a) (router_body b))
 
@@ -64,25 +64,25 @@ abbrev pub copy_has_body : Body → Option DatabaseCopy → Bool
 copy_has_body says None = false
 copy_has_body says (Some c) = same_body c.lsa.body says
 
--- the present links were told in an instance that was originated at this moment
+-- the copy of the router-LSA was originated at this moment and describes the present links
 abbrev pub is_current : Moment → Router → Bool
 is_current moment r =
     is_at moment (finite.get r.originated (router_key r.id))
     && copy_has_body (router_body r.area.links) (finite.get r.area.database (router_key r.id))
 
--- at once, or at a Tick, if the links have changed in this event
+-- the router-LSA is originated at once, or waits for a Tick, if the event has changed its body
 abbrev pub describe_router : List Link → Moment → EventState → EventState
 describe_router before moment p =
     if links_differ before p.router.area.links && not (is_current moment p.router)
     then originate_or_wait moment (router_key p.router.id) p else p
 
--- what changes after that waits for a Tick
+-- what changes the body after that waits for a Tick
 abbrev pub describe_router_later : List Link → EventState → EventState
 describe_router_later before p =
     if links_differ before p.router.area.links then on_router (wait (router_key p.router.id)) p
     else p
 
--- ---- requests (section 10.9)
+-- ---- Link State Requests (section 10.9)
 
 abbrev pub request_all : Moment → Outcome → Outcome
 request_all moment o = each_neighbor moment (λ number link n. request_next moment n) o
@@ -97,14 +97,14 @@ abbrev pub stays : Moment → Area → Key → Bool
 stays moment a key =
     stays_as moment (any_has_retransmission key a.links) (finite.get a.database key)
 
--- copies at MaxAge that are on no retransmission list leave, unless some neighbor is in Exchange or
--- Loading
+-- copies at MaxAge that are on no retransmission list are removed, unless some neighbor is in
+-- Exchange or Loading
 abbrev pub remove_aged : Moment → Outcome → Outcome
 remove_aged moment o =
     if any_exchange_or_loading o.area.links then o
     else on_database (λ db. finite.retain_keys db (stays moment o.area)) o
 
--- ---- the whole end
+-- ---- the complete end
 
 -- `old` is the router before the event
 abbrev pub end_event : Router → Moment → EventState → EventState

@@ -1,5 +1,4 @@
--- An event in the making: the router as it is by now, and what was sent, in the order in which it
--- arose.
+-- An event in progress: the present state of the router, and what was sent so far, in order.
 use Rattle.std.specs.Prelude.{List, None}
 use Rattle.words.specs.Numbers.{Moment}
 use Rattle.received.specs.lsdb.Headers.{Lsa}
@@ -14,12 +13,12 @@ pub record EventState : Type 0 where
 abbrev pub on_router : (Router → Router) → EventState → EventState
 on_router f p = record p { router = f p.router }
 
--- a change of the links and the database, and what it sends
+-- a change of the links and the database, with what it sends
 abbrev pub on_area : (Outcome → Outcome) → EventState → EventState
 on_area f p =
     let o : Outcome = f (record { area = p.router.area; sends = p.sends }) in
     record { router = record p.router { area = o.area }; sends = o.sends }
 
--- flooded to every neighbor, as if from nobody
+-- flooding to every neighbor of an LSA that wasn't received from one
 abbrev pub flood_from_nobody : Moment → Lsa → Outcome → Outcome
 flood_from_nobody moment lsa o = flood moment None lsa o

@@ -1,6 +1,6 @@
--- What an event makes of a router, and what the router sends: ages, the event's own part, the end
--- that all events share, and the outs. Each part is a function; only "these bytes are a text of
--- this packet" is a relation, and a text is of one packet.
+-- What an event does to a router, and what the router sends: aging, the event's own part, the end
+-- that all events share, and the packets. Each part is a function; only "these bytes encode this
+-- packet" is a relation, and bytes encode at most one packet.
 use Rattle.std.specs.Prelude.{◌≡◌, List, [], ◌∷◌}
 use Rattle.words.specs.Numbers.{Moment}
 use Rattle.packet.specs.declared.model.Packet.{Packet}
@@ -19,7 +19,7 @@ use Rattle.events.specs.Ticks.{after_tick}
 
 -- ---- an event
 
--- the event's own part: from the progress before it to the one after it
+-- the event's own part: from the state before it to the state after it
 abbrev pub OwnPart : Moment → Occurrence → EventState → EventState → Type 0
 OwnPart moment (Occurrence.Packet number bytes) before after =
     (packet : Packet) × PacketText bytes packet
@@ -34,7 +34,8 @@ OwnPart moment (Occurrence.Install answers) before after =
 OwnPart moment (Occurrence.LinkDown number) before after =
     after ≡ after_link_down number before
 
--- from old, the event at this moment sends these and leaves new
+-- from the router `old`, the event at this moment sends these packets and results in the router
+-- `new`
 pub record Happens (old : Router) (moment : Moment) (event : Occurrence)
     (outs : List Out) (new : Router) : Type 0 where
   pub after : EventState
@@ -49,13 +50,13 @@ pub record Step : Type 0 where
   pub event : Occurrence
   pub outs : List Out
 
--- events one after the other, with what each sends
+-- consecutive events, with what each sends
 abbrev pub Run : Router → List Step → Router → Type 0
 Run old [] new = new ≡ old
 Run old (s ∷ steps) new =
     (middle : Router) × Happens old s.moment s.event s.outs middle × Run middle steps new
 
--- the start: the router-LSA is originated, and there is nobody to send it to
+-- the router at its start: the router-LSA is originated, and there is no neighbor to send it to
 abbrev pub initial : Config → Router
 initial c =
     (originate_or_wait c.start (router_key c.router) (record {

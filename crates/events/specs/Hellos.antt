@@ -1,5 +1,5 @@
--- Hellos: which are accepted, when one is due, and what it says (RFC 2328, sections 8.2, 9.5 and
--- 10.5).
+-- Hellos: which are accepted, when one is due, and what it contains (RFC 2328, sections 8.2, 9.5
+-- and 10.5).
 use Rattle.std.specs.Prelude.{ℕ, Bool, true, not, ◌&&◌, ◌==◌, bit_and, if◌then◌else◌, List, [], ◌∷◌}
 use Rattle.std.specs.Prelude.{Option, None, Some}
 use Rattle.std.specs.List.{list_any}
@@ -16,11 +16,11 @@ use Rattle.received.specs.Links.{Link}
 
 -- ---- received Hellos
 
--- a packet of no router, and one of this router's own, isn't a neighbor's
+-- a packet without a Router ID or with this router's own isn't from a neighbor
 abbrev pub is_foreign : (own : RouterNumber) → (from : RouterNumber) → Bool
 is_foreign own from = not (from == 0) && not (from == own)
 
--- HelloInterval, RouterDeadInterval and the E bit are those of the interface
+-- HelloInterval, RouterDeadInterval and the E-bit are those of the interface
 abbrev pub agrees_on : Interface → Hello → Bool
 agrees_on interface h =
     h.hello_interval == interface.hello_interval
@@ -30,7 +30,7 @@ agrees_on interface h =
 abbrev pub agrees : Link → Hello → Bool
 agrees link h = agrees_on link.interface h
 
--- another router is heard only while the neighbor is Down
+-- another router becomes the neighbor only if there is none
 abbrev pub may_be : Option Neighbor → RouterNumber → Bool
 may_be None from = true
 may_be (Some n) from = n.router == from
@@ -38,7 +38,7 @@ may_be (Some n) from = n.router == from
 abbrev pub accepts : (own : RouterNumber) → (from : RouterNumber) → Hello → Link → Bool
 accepts own from h link = is_foreign own from && (agrees link h && may_be link.neighbor from)
 
--- the Hello names this router
+-- the Hello lists this router
 abbrev pub names : RouterNumber → Hello → Bool
 names own h = list_any (λ (router : ℕ). router == own) h.neighbors
 
@@ -48,7 +48,7 @@ abbrev pub is_due : Moment → Seconds → Option Moment → Bool
 is_due moment interval None = true
 is_due moment interval (Some last) = has_passed last interval moment
 
--- a Hello is sent at the first Tick, and once HelloInterval has passed since the last one
+-- a Hello is sent at the first Tick, and then whenever HelloInterval has passed since the last one
 abbrev pub hello_is_due : Moment → Link → Bool
 hello_is_due moment link = is_due moment link.interface.hello_interval link.last_hello_sent
 

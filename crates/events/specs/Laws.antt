@@ -1,4 +1,4 @@
--- Laws of events.
+-- Laws about events.
 use Rattle.std.specs.Prelude.{◌≡◌, ℕ, true, List, None}
 use Rattle.words.specs.declared.route.Route.{Route}
 use Rattle.received.specs.Cases.{Case}
@@ -10,7 +10,7 @@ use Rattle.events.specs.EventState.{EventState}
 use Rattle.events.specs.Packets.{after_unread, case_in}
 use Rattle.events.specs.Routers.{Occurrence, Router}
 
--- an event has one outcome: nothing is left to choose
+-- an event has only one outcome
 abbrev pub EventsAreDetermined : Type 0
 EventsAreDetermined =
     (old : Router) (moment : ℕ) (event : Occurrence) (sent others : List Out)
@@ -18,14 +18,15 @@ EventsAreDetermined =
     → Happens old moment event sent new → Happens old moment event others another
     → (sent ≡ others) × (new ≡ another)
 
--- the answers of the programs, a veto among them, change neither the database nor a link, and send
+-- the answers of the programs, vetoes included, change neither the database nor a link, and send
 -- nothing
 abbrev pub AnswersLeaveTheArea : Type 0
 AnswersLeaveTheArea = (answers : List (Route × ℕ)) (before : EventState)
     → ((after_install answers before).router.area ≡ before.router.area)
     × ((after_install answers before).sends ≡ before.sends)
 
--- bytes of an Update that are no LSA are skipped, and the LSAs behind them are taken
+-- bytes of a Link State Update that encode no LSA are skipped, and the LSAs after them are
+-- processed
 abbrev pub WhatIsNoLsaIsSkipped : Type 0
 WhatIsNoLsaIsSkipped = (moment number : ℕ) (before : EventState)
     → (case_in moment number None before ≡ Case.Unreadable)

@@ -14,5 +14,5 @@ pub mod Laws
 pub mod Numbers
 pub mod PackingLaws
 pub mod RoomLaws
--- what crates above name of those below
+-- names from the crates below that crates above use
 pub use Rattle.received.specs as received

@@ -1,4 +1,4 @@
--- Instances of LSAs by name, and those that packets bring and tell.
+-- Identities of LSA instances, and those in packets.
 use Rattle.std.specs.Prelude.{ℕ, ℤ, List, [], map}
 use Rattle.std.specs.List.{filter_map}
 use Rattle.words.specs.declared.key.Key.{Key}
@@ -19,11 +19,11 @@ instance_of_header h = record { key = key_of h; sequence = h.sequence; checksum 
 abbrev pub instance_of_lsa : Lsa → LsaInstance
 instance_of_lsa lsa = instance_of_header lsa.header
 
--- the readable LSAs of an Update
+-- the LSAs of a Link State Update that can be parsed
 abbrev pub instances_in_update : List (List ℕ) → List LsaInstance
 instances_in_update lsas = map instance_of_lsa (filter_map lsa_in lsas)
 
--- the instances that an Update brings
+-- the instances that a Link State Update contains
 abbrev pub instances_received : Body → List LsaInstance
 instances_received (body.Hello h) = []
 instances_received (body.Description d) = []
@@ -31,7 +31,7 @@ instances_received (body.Request keys) = []
 instances_received (body.Update lsas) = instances_in_update lsas
 instances_received (body.Acknowledgment headers) = []
 
--- the instances that an Update or an Acknowledgment names
+-- the instances that a Link State Update or Acknowledgment identifies
 abbrev pub instances_advertised : Body → List LsaInstance
 instances_advertised (body.Hello h) = []
 instances_advertised (body.Description d) = []

@@ -1,4 +1,4 @@
--- The numbers of the refusals, and what becomes of a packet that can't be read.
+-- The numbers of the refusals, and the refusal of a packet that can't be parsed.
 use Rattle.std.specs.Prelude.{ℕ}
 use Rattle.packet.specs.declared.refusal.ReadError.{ReadError}
 use Rattle.packet.specs.declared.refusal.ReadError.TheVariants as reading
@@ -19,7 +19,7 @@ core_error_number refusing.ClockBack = 4
 core_error_number refusing.Full = 5
 core_error_number refusing.Memory = 6
 
--- what the router answers to a packet that can't be read
+-- the router's error for a packet that can't be parsed
 abbrev pub core_error_of : ReadError → CoreError
 core_error_of (reading.Fault f) = refusing.BadPacket f
 core_error_of reading.Memory = refusing.Memory

@@ -1,4 +1,4 @@
--- The router's own LSAs: what is wanted, new instances, what waits for a Tick, and flushing (RFC
+-- Self-originated LSAs: which are wanted, new instances, what waits for a Tick, and flushing (RFC
 -- 2328, sections 12.1.6, 12.4, 13.4, 14 and 14.1).
 use Rattle.std.specs.Prelude.{ℤ, pos, ◌+ℤ◌, ◌==◌, Bool, true, false, not, ◌&&◌, ◌||◌, nat_le}
 use Rattle.std.specs.Prelude.{if◌then◌else◌, List, [], ◌∷◌, ◌++◌, Option, None, Some}
@@ -32,12 +32,12 @@ use Rattle.received.specs.Outcomes.{Outcome, on_database}
 use Rattle.events.specs.EventState.{EventState, flood_from_nobody, on_area, on_router}
 use Rattle.events.specs.Routers.{Router}
 
--- ---- what is wanted
+-- ---- which LSAs are wanted
 
 abbrev pub router_key : RouterNumber → Key
 router_key id = record { ls_type = 1; link_state_id = id; advertising_router = id }
 
--- the address of the destination is the Link State ID
+-- the Link State ID is the address of the destination
 abbrev pub external_key : RouterNumber → Network → Key
 external_key id prefix = record {
   ls_type = 5;
@@ -65,11 +65,12 @@ stub i = record {
   tos = [];
 }
 
--- to the neighbor, if it is Full, and then to the subnet
+-- a point-to-point link to the neighbor, if it is Full, and then a stub link to the subnet
 abbrev pub links_of : Link → List RouterLink
 links_of link = point_to_point link.interface link.neighbor ++ stub link.interface ∷ []
 
--- the router-LSA: flag E alone, and the links of each interface in order (section 12.4.1)
+-- the body of the router-LSA: only bit E is set, and it has the links of each interface in order
+-- (section 12.4.1)
 abbrev pub router_body : List Link → Body
 router_body links = body.Router (record { flags = 2; links = flat_map links_of links })
 
@@ -89,19 +90,19 @@ abbrev pub announced_body : Option External → Option Body
 announced_body None = None
 announced_body (Some e) = Some (external_body e)
 
--- what the own LSA of this key is to say, if it is wanted
+-- the body that the self-originated LSA of this key should have, if it is wanted
 abbrev pub wanted_body : Router → Key → Option Body
 wanted_body r key =
     if same_key key (router_key r.id) then Some (router_body r.area.links)
     else announced_body (finite.get r.announced key)
 
--- the keys of all own LSAs that are wanted, in their order
+-- the keys of all wanted LSAs, in order
 abbrev pub wanted_keys : Router → List Key
 wanted_keys r = router_key r.id ∷ finite.keys r.announced
 
 -- ---- a new instance
 
--- the number after that of the copy
+-- the sequence number after that of the copy
 abbrev pub next_sequence : Option DatabaseCopy → ℤ
 next_sequence None = initial_sequence_number
 next_sequence (Some c) = c.lsa.header.sequence +ℤ pos 1
@@ -110,7 +111,7 @@ abbrev pub has_max_sequence : Option DatabaseCopy → Bool
 has_max_sequence None = false
 has_max_sequence (Some c) = is_eq (int_cmp c.lsa.header.sequence max_sequence_number)
 
--- of age 0; its type, length and checksum are those of its body
+-- with age 0; its LS type, length and checksum are computed from the body
 abbrev pub new_instance : Key → Option DatabaseCopy → Body → Lsa
 new_instance key copy says = sealed_lsa (record {
   header = record {
@@ -130,7 +131,7 @@ abbrev pub install_and_flood : Moment → Lsa → Outcome → Outcome
 install_and_flood moment lsa o =
     flood_from_nobody moment lsa (on_database (install_originated moment lsa) o)
 
--- it waits for no Tick any more, and its five seconds run
+-- it no longer waits for a Tick, and MinLSInterval starts
 abbrev pub as_originated : Moment → Key → Router → Router
 as_originated moment key r = record r {
   waiting = set.remove r.waiting key;
@@ -145,7 +146,7 @@ originate moment key says p =
 
 -- ---- flushing (section 14.1)
 
--- a copy that is younger than MaxAge gets that age, and is flooded
+-- a copy that is younger than MaxAge is set to MaxAge and flooded
 abbrev pub flush_copy : Moment → Key → Option DatabaseCopy → Outcome → Outcome
 flush_copy moment key None o = o
 flush_copy moment key (Some c) o =
@@ -155,9 +156,9 @@ flush_copy moment key (Some c) o =
 abbrev pub flush : Moment → Key → EventState → EventState
 flush moment key p = on_area (flush_copy moment key (finite.get p.router.area.database key)) p
 
--- ---- when a new instance may go out
+-- ---- when a new instance may be originated
 
--- MinLSInterval, 5 seconds, has passed since the last own instance of this key
+-- MinLSInterval, 5 seconds, has passed since the last origination for this key
 abbrev pub interval_is_over : Moment → Option Moment → Bool
 interval_is_over moment None = true
 interval_is_over moment (Some last) = has_passed last min_ls_interval moment
@@ -165,15 +166,15 @@ interval_is_over moment (Some last) = has_passed last min_ls_interval moment
 abbrev pub may_originate : Moment → Key → Router → Bool
 may_originate moment key r = interval_is_over moment (finite.get r.originated key)
 
--- an LSA of this key passes no limit of the database
+-- an LSA of this key stays within the limits of the database
 abbrev pub has_room : Key → Router → Bool
 has_room key r = has_room_for r.id key r.area.database
 
 abbrev pub wait : Key → Router → Router
 wait key r = record r { waiting = set.insert r.waiting key }
 
--- at once, if `may_now` and the five seconds allow it, else at a Tick; after MaxSequenceNumber the
--- copy is flushed first, and the LSA is originated when it has left the database
+-- at once, if `may_now` and MinLSInterval allow it, else at a Tick; after MaxSequenceNumber the
+-- copy is flushed first, and the LSA is originated when the copy has been removed from the database
 abbrev pub originate_body : Bool → Moment → Key → Option Body → EventState → EventState
 originate_body may_now moment key None p = p
 originate_body may_now moment key (Some says) p =
@@ -181,18 +182,18 @@ originate_body may_now moment key (Some says) p =
     else if may_now && may_originate moment key p.router then originate moment key says p
     else on_router (wait key) p
 
--- if there is room for it
+-- now only if there is room for it
 abbrev pub originate_or_wait : Moment → Key → EventState → EventState
 originate_or_wait moment key p =
     originate_body (has_room key p.router) moment key (wanted_body p.router key) p
 
--- whether there is room or not, which a Redistribute asks afterwards
+-- even if there is no room; `Redistribute` checks the limits afterwards
 abbrev pub originate_anyway : Moment → Key → EventState → EventState
 originate_anyway moment key p = originate_body true moment key (wanted_body p.router key) p
 
 -- ---- at a Tick
 
--- the LSA has left the database, or its copy is of LSRefreshTime, 1800 seconds, or more
+-- the LSA was removed from the database, or its age is LSRefreshTime, 1800 seconds, or more
 abbrev pub is_stale : Moment → Option DatabaseCopy → Bool
 is_stale moment None = true
 is_stale moment (Some c) = nat_le ls_refresh_time (age_now moment c)
@@ -207,7 +208,7 @@ abbrev pub originate_due : Moment → List Key → EventState → EventState
 originate_due moment keys p =
     fold (λ (q : EventState) (key : Key). originate_or_wait moment key q) p keys
 
--- own originations whose five seconds are over are forgotten
+-- originations are forgotten after MinLSInterval
 abbrev pub is_recent : Moment → Option Moment → Bool
 is_recent moment at = not (interval_is_over moment at)
 
@@ -219,7 +220,7 @@ forget_originations moment r =
           (λ key. is_recent moment (finite.get r.originated key));
     }
 
--- ---- received ones (section 13.4)
+-- ---- received self-originated LSAs (section 13.4)
 
 abbrev pub is_wanted : Option Body → Bool
 is_wanted None = false
@@ -229,8 +230,8 @@ abbrev pub originate_or_flush : Bool → Moment → Key → EventState → Event
 originate_or_flush true moment key p = originate_or_wait moment key p
 originate_or_flush false moment key p = flush moment key p
 
--- a self-originated LSA that was installed: one that is wanted is originated again, one past its
--- number; any other is flushed
+-- a self-originated LSA that was received and installed: a wanted one is originated again with the
+-- next sequence number; any other is flushed
 abbrev pub receive_self_originated : Moment → Lsa → EventState → EventState
 receive_self_originated moment lsa p =
     if lsa.header.advertising_router == p.router.id

@@ -1,4 +1,4 @@
--- What a received packet makes of the router (RFC 2328, sections 8.2, 10.5 to 10.7, 13 and 13.7).
+-- What a received packet does to the router (RFC 2328, sections 8.2, 10.5 to 10.7, 13 and 13.7).
 use Rattle.std.specs.Prelude.{ℕ, ◌==◌, Bool, true, false, ◌&&◌, ◌||◌, if◌then◌else◌, List, [], ◌∷◌}
 use Rattle.std.specs.Prelude.{map, Option, None, Some}
 use Rattle.std.specs.List.{filter_map, list_all}
@@ -49,7 +49,7 @@ abbrev pub after_hello : (own : RouterNumber) → Moment → InterfaceNumber
 after_hello own moment number from h o =
     heard_on own moment number from h (link_at number o.area.links) o
 
--- ---- Requests (section 10.7)
+-- ---- Link State Requests (section 10.7)
 
 abbrev pub is_there : Database → Key → Bool
 is_there db key = finite.contains_key db key
@@ -57,7 +57,7 @@ is_there db key = finite.contains_key db key
 abbrev pub requested_lsas : Moment → Database → List Key → List Lsa
 requested_lsas moment db keys = filter_map (λ (key : Key). lsa_of moment (finite.get db key)) keys
 
--- the LSAs are sent and go on no list; if one is missing, none is sent
+-- the LSAs are sent, without being put on the retransmission list; if one is missing, none is sent
 abbrev pub requested_from : Moment → InterfaceNumber → List Key → Outcome → Outcome
 requested_from moment number keys o =
     if list_all (is_there o.area.database) keys
@@ -65,9 +65,9 @@ requested_from moment number keys o =
     (sends_at number (map Content.Updates (requested_lsas moment o.area.database keys))) o
     else one_neighbor moment number (adjacencies.mismatch_step moment) o
 
--- ---- Updates (section 13)
+-- ---- Link State Updates (section 13)
 
--- a self-originated LSA that was installed is settled
+-- a self-originated LSA that was installed is originated again or flushed
 abbrev pub after_self_originated : Case → Moment → Lsa → EventState → EventState
 after_self_originated Case.Unreadable moment lsa p = p
 after_self_originated Case.NothingToFlush moment lsa p = p
@@ -84,7 +84,7 @@ abbrev pub after_lsa : Case → Moment → InterfaceNumber → Lsa → EventStat
 after_lsa case moment number lsa p =
     after_self_originated case moment lsa (on_area (after_case case moment number lsa) p)
 
--- the case of the LSA that the bytes are: they are an LSA's text, or none's
+-- the case of the LSA in the bytes, or `Unreadable` if they encode none
 abbrev pub case_in : Moment → InterfaceNumber → Option Lsa → EventState → Case
 case_in moment number None p = Case.Unreadable
 case_in moment number (Some lsa) p = case_at moment number lsa p.router.area
@@ -94,16 +94,16 @@ after_unread moment number None p = p
 after_unread moment number (Some lsa) p =
     after_lsa (case_at moment number lsa p.router.area) moment number lsa p
 
--- the LSAs of an Update in order, up to a bad request
+-- the LSAs of a Link State Update in order, up to a bad request
 abbrev pub after_lsas : Moment → InterfaceNumber → List (List ℕ) → EventState → EventState
 after_lsas moment number [] p = p
 after_lsas moment number (bytes ∷ rest) p =
     let q : EventState = after_unread moment number (lsa_in bytes) p in
     if goes_on (case_in moment number (lsa_in bytes) p) then after_lsas moment number rest q else q
 
--- ---- the whole
+-- ---- the complete packet
 
--- the interface's neighbor is this router
+-- the packet's sender is the interface's neighbor
 abbrev pub is_from : RouterNumber → Option Neighbor → Bool
 is_from from None = false
 is_from from (Some n) = n.router == from
@@ -120,7 +120,8 @@ abbrev pub acknowledged_by : Moment → InterfaceNumber → List Header → Outc
 acknowledged_by moment number headers o =
     one_neighbor moment number (λ n. no_sends (after_acknowledgment moment headers n)) o
 
--- from the interface's neighbor; Requests, Updates and Acknowledgments count from Exchange on
+-- a packet from the interface's neighbor; Link State Requests, Updates and Acknowledgments are
+-- ignored before Exchange
 abbrev pub from_neighbor : Moment → InterfaceNumber → RouterNumber → Bool → Body → EventState
     → EventState
 from_neighbor moment number from in_exchange (body.Hello h) p =
@@ -141,8 +142,8 @@ is_hello (body.Request keys) = false
 is_hello (body.Update lsas) = false
 is_hello (body.Acknowledgment headers) = false
 
--- a packet of no router or of this one is discarded, and one other than a Hello that isn't from the
--- interface's neighbor
+-- a packet is discarded if it has no Router ID or this router's own, or if it isn't a Hello and its
+-- sender isn't the interface's neighbor
 abbrev pub is_heard : RouterNumber → Packet → Option Neighbor → Bool
 is_heard own packet n =
     is_foreign own packet.router && (is_hello packet.body || is_from packet.router n)

@@ -1,4 +1,4 @@
--- What is sent as packets: in their order, packed, and as canonical texts (RFC 2328, sections 13.3,
+-- What is sent as packets: ordered, packed, and in canonical encoding (RFC 2328, sections 13.3,
 -- 13.5 and appendix A.3).
 use Rattle.std.specs.Prelude.{ℕ, ◌+◌, Bool, nat_le, ◌==◌, min, if◌then◌else◌, List, [], ◌∷◌, ◌++◌}
 use Rattle.std.specs.Prelude.{map, Option, None, Some}
@@ -19,7 +19,7 @@ use Rattle.received.specs.Links.{Link}
 use Rattle.received.specs.Outcomes.{Send}
 use Rattle.events.specs.declared.model.Out.{Out}
 
--- ---- in the order of the keys; of equal ones the one that arose first goes first
+-- ---- in the order of the keys; items with the same key stay in their order
 
 abbrev pub is_after : Key → Key → Bool
 is_after a b = is_gt (key_cmp a b)
@@ -33,10 +33,10 @@ abbrev pub in_key_order : {X : Type 0} → (X → Key) → List X → List X
 in_key_order key [] = []
 in_key_order key (x ∷ xs) = insert_by_key key x (in_key_order key xs)
 
--- ---- as many as fit into a packet
+-- ---- as many items as fit into a packet
 
--- `taken` goes into the packet that is being filled, which has `used` bytes by now; each begins
--- with `start` bytes
+-- `taken` are the items of the packet that is being filled, which has `used` bytes so far; each
+-- packet begins with `start` bytes
 abbrev pub fill_on : {X : Type 0} → (X → ℕ) → ℕ → ℕ → List X → List X → List (List X)
 fill_on size start used taken [] = taken ∷ []
 fill_on size start used taken (x ∷ xs) =
@@ -48,7 +48,7 @@ abbrev pub packed_groups : {X : Type 0} → (X → ℕ) → ℕ → List X → L
 packed_groups size start [] = []
 packed_groups size start (x ∷ xs) = fill_on size start (start + size x) (x ∷ []) xs
 
--- ---- the packets of one interface, by their types
+-- ---- the packets of one interface by their types
 
 abbrev pub hellos : Content → Option Body
 hellos (Content.SendsHello h) = Some (body.Hello h)
@@ -85,12 +85,12 @@ acknowledgments (Content.Requests keys) = None
 acknowledgments (Content.Updates lsa) = None
 acknowledgments (Content.Acknowledges h) = Some h
 
--- a Request is ordered by its first key
+-- Link State Requests are ordered by their first keys
 abbrev pub first_key : List Key → Key
 first_key [] = record { ls_type = 0; link_state_id = 0; advertising_router = 0 }
 first_key (key ∷ keys) = key
 
--- the age of a sent LSA grows by InfTransDelay, at most to MaxAge
+-- the age of an LSA is incremented by InfTransDelay when it is sent, up to MaxAge
 abbrev pub sent_lsa : Seconds → Lsa → Lsa
 sent_lsa delay lsa = lsa_aged (min max_age (lsa.header.age + delay)) lsa
 
@@ -100,7 +100,8 @@ lsa_size lsa = lsa.header.length
 abbrev pub header_size : Header → ℕ
 header_size h = 20
 
--- an Update has 28 bytes before its first LSA, an Acknowledgment 24 before its first header
+-- a Link State Update has 28 bytes before its first LSA, a Link State Acknowledgment 24 before its
+-- first header
 abbrev pub update_of : Seconds → List Lsa → Body
 update_of delay lsas = body.Update (map (λ (l : Lsa). text (sent_lsa delay l)) lsas)
 

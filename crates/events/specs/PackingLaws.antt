@@ -1,4 +1,4 @@
--- What the order and the packing of what is sent come to.
+-- Properties of the order and the packing of what is sent.
 use Rattle.std.specs.Prelude.{◌≡◌, ◌≤◌, ◌<◌, ℕ, ◌+◌, false, List, [], ◌∷◌, length}
 use Rattle.std.specs.List.{AllByRecursion, filter, flat_map}
 use Rattle.words.specs.declared.key.Key.{Key}
@@ -16,19 +16,19 @@ use Rattle.events.specs.Packing.{packed_groups}
 
 -- ---- in the order of the keys
 
--- none stands before one of a lesser key
+-- no item is before one with a lesser key
 abbrev pub IsAscending : {X : Type 0} → (X → Key) → List X → Type 0
 IsAscending key [] = Unit {0}
 IsAscending key (x ∷ xs) =
     AllByRecursion (λ y. is_after (key x) (key y) ≡ false) xs × IsAscending key xs
 
--- the same items in the order of their keys; those of one key stay in the order in which they arose
+-- the same items in the order of their keys; those with one key stay in their order
 pub record IsInKeyOrder {X : Type 0} (key : X → Key) (xs sorted : List X) : Type 0 where
   pub ascending : IsAscending key sorted
   pub same : (k : Key) → filter (λ x. same_key k (key x)) sorted
       ≡ filter (λ x. same_key k (key x)) xs
 
--- ---- as many as fit
+-- ---- as many items as fit
 
 abbrev pub sizes : {X : Type 0} → (X → ℕ) → List X → ℕ
 sizes size [] = 0
@@ -41,7 +41,7 @@ abbrev pub first_size : {X : Type 0} → (X → ℕ) → List X → ℕ
 first_size size [] = 0
 first_size size (x ∷ xs) = size x
 
--- the first item of the packet behind this one, if there is one, had no room in it
+-- the first item of the next packet, if there is one, didn't fit into this one
 abbrev pub IsFull : {X : Type 0} → (X → ℕ) → ℕ → List X → List (List X) → Type 0
 IsFull size start xs [] = Unit {0}
 IsFull size start xs (ys ∷ rest) = 8192 < total size start xs + first_size size ys
@@ -50,15 +50,14 @@ abbrev pub AreFull : {X : Type 0} → (X → ℕ) → ℕ → List (List X) → 
 AreFull size start [] = Unit {0}
 AreFull size start (xs ∷ rest) = IsFull size start xs rest × AreFull size start rest
 
--- the items in their order, in packets of at most 8,192 bytes, each packet with as many as fit
+-- the items in their order, in packets of at most 8,192 bytes, each with as many as fit
 pub record IsPacking {X : Type 0} (size : X → ℕ) (start : ℕ) (xs : List X)
     (packets : List (List X)) : Type 0 where
   pub all : flat_map (λ p. p) packets ≡ xs
   pub within : AllByRecursion (λ p. total size start p ≤ 8192) packets
   pub full : AreFull size start packets
 
--- behind its header of 24 bytes a packet has room for what it says, and an Update for the number of
--- its LSAs
+-- the body fits into a packet after the header of 24 bytes, and the number of LSAs into its field
 pub record HasPacketRoom (says : Body) : Type 0 where
   pub bytes : 24 + length (body_text closed_fields says) ≤ 8192
   pub count : lsa_count says ≤ 8192
@@ -78,13 +77,13 @@ pub record OutsAreOrderedAndPacked : Type 0 where
   pub updates : (lsas : List Lsa) → IsInKeyOrder lsa_key lsas (in_key_order lsa_key lsas)
   pub acknowledgments : (headers : List Header)
       → IsInKeyOrder key_of headers (in_key_order key_of headers)
-  -- an Update has 28 bytes before its first LSA, and each LSA came in an Update or is a short one
-  -- of this router's own
+  -- a Link State Update has 28 bytes before its first LSA, and each LSA was received in one or is a
+  -- short one of this router's own
   pub packed_updates : (lsas : List Lsa) → AllByRecursion (λ l. 28 + lsa_size l ≤ 8192) lsas
       → IsPacking lsa_size 28 lsas (packed_groups lsa_size 28 lsas)
   pub packed_acknowledgments : (headers : List Header)
       → IsPacking header_size 24 headers (packed_groups header_size 24 headers)
-  -- what each packet says has room in it
+  -- the body of each packet fits
   pub bodies : (delay : ℕ) (contents : List Content) → AllByRecursion HasRoom contents
       → AllByRecursion HasPacketRoom (bodies delay contents)
   -- no packet has more than 8,192 bytes

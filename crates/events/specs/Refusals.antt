@@ -1,4 +1,4 @@
--- When an event is refused, and why, in the order in which the reasons are tried.
+-- When an event is refused, and why, in the order in which the reasons are checked.
 use Rattle.std.specs.Prelude.{◌≡◌, ℕ, Bool, true, false, not, ◌&&◌, ◌||◌, nat_le, nat_lt}
 use Rattle.std.specs.Prelude.{if◌then◌else◌, List, length, Option, None, Some, Result, Ok, Err}
 use Rattle.std.specs.FinMap as finite
@@ -17,7 +17,7 @@ use Rattle.received.specs.lsdb.Limits.{exceeds as database_exceeds}
 use Rattle.events.specs.Originations.{external_key}
 use Rattle.events.specs.Routers.{Occurrence, Router}
 
--- the clock goes back, or is out of range
+-- the clock went back, or is out of range
 abbrev pub is_clock_back : Moment → Router → Bool
 is_clock_back moment old = nat_lt moment old.moment || nat_le clock_end moment
 
@@ -33,7 +33,8 @@ abbrev pub is_taken : Network → Option External → Bool
 is_taken prefix None = false
 is_taken prefix (Some e) = not (is_for prefix (Some e))
 
--- the answers are on two destinations, or the Link State ID is that of another announced prefix
+-- the two answers are for different destinations, or the Link State ID is that of another announced
+-- prefix
 abbrev pub clashes : Router → External → External → Bool
 clashes old tagged priced =
     not (same_external tagged priced)
@@ -53,18 +54,18 @@ of_event old (Occurrence.Withdraw prefix) = None
 of_event old (Occurrence.Install answers) = None
 of_event old (Occurrence.LinkDown number) = no_interface number old None
 
--- the first reason that holds, the limits aside
+-- the first reason that applies, apart from the limits
 abbrev pub first_refusal : Router → Moment → Occurrence → Option CoreError
 first_refusal old moment event =
     if is_clock_back moment old then Some error.ClockBack else of_event old event
 
 -- ---- limits
 
--- more than 16,384 LSAs, or more than 4,096 own externals among them
+-- more than 16,384 LSAs, or more than 4,096 self-originated AS-external-LSAs among them
 abbrev pub exceeds : Router → Bool
 exceeds r = database_exceeds r.id r.area.database
 
--- nothing else is wrong with the event, and what it leaves would pass a limit
+-- nothing else is wrong with the event, and its result would exceed a limit
 pub record WouldExceed (old : Router) (moment : ℕ) (event : Occurrence) : Type 0 where
   pub lawful : first_refusal old moment event ≡ None
   pub outs : List Out
@@ -72,14 +73,14 @@ pub record WouldExceed (old : Router) (moment : ℕ) (event : Occurrence) : Type
   pub happens : Happens old moment event outs new
   pub too_much : exceeds new ≡ true
 
--- ---- answers
+-- ---- results
 
--- neither the clock nor the interface is refused
+-- the reason to refuse is neither the clock nor the interface
 abbrev pub MayRunOut : Option CoreError → Type 0
 MayRunOut refusal = (refusal ≡ Some error.ClockBack → ⊥) × (refusal ≡ Some error.NoInterface → ⊥)
 
--- An answer gives the reason that stands, and no reason stands if the event is taken. `Memory`
--- comes only if neither the clock nor the interface is refused.
+-- The result is the reason that applies, or `Ok` if none does. `Memory` is only possible if neither
+-- the clock nor the interface is the reason.
 abbrev pub Answers : {X : Type 0} → Router → ℕ → Occurrence → Result X CoreError → Type 0
 Answers old moment event (Ok x) =
     (first_refusal old moment event ≡ None) × (WouldExceed old moment event → ⊥)

@@ -1,4 +1,4 @@
--- What a router keeps, what may happen to it, and how it begins.
+-- The state of a router, what may happen to it, and its start.
 use Rattle.std.specs.Prelude.{ℕ, Bool, true, not, ◌&&◌, ◌==◌, nat_le, nat_lt, List, [], ◌∷◌, length}
 use Rattle.std.specs.Prelude.{map, Option, None, Some}
 use Rattle.std.specs.List.{list_all, list_any}
@@ -17,18 +17,18 @@ use Rattle.received.specs.Links.{Area, Link, neighbor_at}
 use Rattle.events.specs.declared.model.Config.{Config}
 
 pub record Router : Type 0 where
-  -- the own Router ID
+  -- the router's own Router ID
   pub id : RouterNumber
-  -- the links, interface n at place n - 1, and the database
+  -- the links, interface n at index n - 1, and the database
   pub area : Area
-  -- the external destinations that are announced, by the keys of their LSAs, with the metric and
-  -- the tag that were answered
+  -- the announced external destinations by the keys of their LSAs, with the metric and the tag from
+  -- the answers
   pub announced : ByKey External
-  -- the own LSAs that wait for a Tick
+  -- the keys of self-originated LSAs that wait for a Tick
   pub waiting : KeySet
-  -- when an own LSA was last originated, for five seconds
+  -- when each self-originated LSA was last originated, kept for MinLSInterval
   pub originated : ByKey Moment
-  -- the routes that the last Install was asked for, with the words that answer
+  -- the routes that the last `Install` offered, with the programs' answers
   pub answers : List (Route × ℕ)
   -- the moment of the last event
   pub moment : Moment
@@ -36,18 +36,18 @@ pub record Router : Type 0 where
 -- ---- what may happen
 
 pub data Occurrence : Type 0 where
-  -- these bytes came in at the interface of this number
+  -- these bytes were received at the interface with this number
   Packet : (interface : InterfaceNumber) (bytes : List ℕ) → Occurrence
   Tick : Occurrence
-  -- a destination is to be announced: a word on its tag and one on its metric, each with the
-  -- destination that it answers for
+  -- a destination is to be announced: an answer for its tag and one for its metric, each with the
+  -- destination that it is for
   Redistribute : (tagged : External) (tag : ℕ) (priced : External) (price : ℕ) → Occurrence
   Withdraw : (prefix : Network) → Occurrence
-  -- the routes that were offered, each with the word that answers for it
+  -- the routes that were offered, each with the answer for it
   Install : (answers : List (Route × ℕ)) → Occurrence
   LinkDown : (interface : InterfaceNumber) → Occurrence
 
--- ---- which configurations a router takes
+-- ---- which configurations are valid
 
 abbrev pub is_lawful : Interface → Bool
 is_lawful i =
@@ -55,7 +55,7 @@ is_lawful i =
     && nat_le 1 i.retransmit_interval
     && nat_le 1 i.delay && nat_le i.delay max_age
 
--- no two have one address
+-- no two have the same address
 abbrev pub are_distinct : List Interface → Bool
 are_distinct [] = true
 are_distinct (i ∷ others) =
@@ -69,7 +69,7 @@ in_profile c =
 
 -- ---- the start
 
--- a link on which nothing was heard or sent
+-- a link on which nothing was received or sent
 abbrev pub fresh_link : Interface → Link
 fresh_link i = record {
   interface = i;
@@ -78,7 +78,7 @@ fresh_link i = record {
   last_hello_sent = None;
 }
 
--- a router that keeps nothing but its links
+-- a router with these links and nothing else
 abbrev pub with_links : RouterNumber → List Link → Moment → Router
 with_links id links moment = record {
   id = id;
@@ -90,7 +90,7 @@ with_links id links moment = record {
   moment = moment;
 }
 
--- before it has originated anything; the start counts as the moment of a last event
+-- before it originates anything; the start counts as the moment of the last event
 abbrev pub unannounced_router : Config → Router
 unannounced_router c = with_links c.router (map fresh_link c.interfaces) c.start
 
@@ -100,7 +100,7 @@ abbrev pub id_and_state : Option Neighbor → Option (ℕ × State)
 id_and_state None = None
 id_and_state (Some n) = Some (n.router, n.state)
 
--- the Router ID and the state of the neighbor at the interface of this number, unless it is Down or
--- there is no such interface
+-- the Router ID and the state of the neighbor at the interface with this number, unless it is Down
+-- or there is no such interface
 abbrev pub shown_at : Router → InterfaceNumber → Option (ℕ × State)
 shown_at r number = id_and_state (neighbor_at number r.area.links)

@@ -1,4 +1,4 @@
--- What a Tick does, in its order (RFC 2328, sections 9.5, 10.3, 12.4, 13.5 and 13.6).
+-- What a Tick does, in order (RFC 2328, sections 9.5, 10.3, 12.4, 13.5 and 13.6).
 use Rattle.std.specs.Prelude.{ℕ, if◌then◌else◌, List, [], ◌∷◌, map, Option, None, Some}
 use Rattle.std.specs.List.{enumerate_from, flat_map}
 use Rattle.std.specs.FinMap as finite
@@ -15,13 +15,13 @@ pub use Rattle.events.specs.Hellos.{with_hello_sent, hello_is_due, hello_on, is_
 use Rattle.events.specs.Originations.{due_keys, forget_originations, originate_due}
 use Rattle.events.specs.EventState.{EventState, on_area, on_router}
 
--- ---- times that run out
+-- ---- timers that have expired
 
 abbrev pub settled_exchange : Moment → Seconds → Option Neighbor → Option Neighbor
 settled_exchange moment dead None = None
 settled_exchange moment dead (Some n) = Some (without_old_description moment dead n)
 
--- an inactive neighbor is Down; a slave gives up its last Description
+-- an inactive neighbor is Down; a slave discards its last Database Description
 abbrev pub run_out : Moment → Link → Link
 run_out moment link = record link {
   neighbor =
@@ -29,7 +29,7 @@ run_out moment link = record link {
       (after_inactivity_timer moment link.interface.dead_interval link.neighbor);
 }
 
--- ---- what is sent again
+-- ---- what is retransmitted
 
 abbrev pub again : ℕ → Outcome → Stepping
 again moment o number link n =
@@ -66,7 +66,7 @@ send_hellos moment o =
     sending moment (sends_of (hello_sent_on moment) o.area.links)
     (on_links (map (with_hello_sent moment)) o)
 
--- ---- the whole
+-- ---- the complete Tick
 
 abbrev pub after_tick : Moment → EventState → EventState
 after_tick moment p =

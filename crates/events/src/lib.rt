@@ -1,8 +1,8 @@
-//! What an event makes of a router, as definitions (RFC 2328, sections 8 to 14), and the types of
-//! how a router begins, what it sends and why it refuses.
+//! Definitions of what an event does to a router (RFC 2328, sections 8 to 14), and the types of a
+//! router's configuration, of what it sends and of its refusals.
 //!
-//! The code that does it is the crate `flood`, with the type of what a router is told; laws of runs
-//! and worked conversations stand beside it.
+//! The implementation is the crate `flood`, which also has the type of events; laws about runs and
+//! worked conversations are beside it.
 #![tactic(auto)]
 
 pub mod laws;

@@ -1,4 +1,4 @@
-//! How a router begins, what it sends, and why it refuses.
+//! A router's configuration, what it sends, and its refusals.
 ghost use Rattle.std.specs.Prelude.{◌≡◌, IfOk};
 ghost use Rattle.events.specs.Numbers.{config_error_number, core_error_number, core_error_of};
 
@@ -8,23 +8,25 @@ use std::alloc::{AllocError, AllocFailed};
 use thiserror::Error;
 use words::{RouterId, Second, Sequence};
 
-/// How a router begins (RFC 2328, appendix C).
+/// The configuration of a router (RFC 2328, appendix C).
 ///
-/// A router runs with it if the Router ID isn't 0.0.0.0, the start is below 2^62 seconds, there
-/// are 1 to 63 interfaces, no two have one address, and each interface's numbers are in the ranges
-/// that [`Interface`] names.
+/// It is valid if the Router ID isn't 0.0.0.0, the start is below 2^62 seconds, there are 1 to 63
+/// interfaces, no two have the same address, and each interface's numbers are in the ranges that
+/// [`Interface`] gives.
 #[derive(Debug, Drop)]
 pub struct Config {
-    /// The own Router ID.
+    /// The router's own Router ID.
     pub router: RouterId,
-    /// The moment of the start, from which on events may come.
+    /// The moment of the start; events come at that moment or later.
     pub start: Second,
-    /// Interface n at place n - 1.
+    /// Interface n at index n - 1.
     pub interfaces: Sequence<Interface>,
 }
 
 impl Config {
-    /// The same configuration once more. The only error is that an allocation was refused.
+    /// A copy of the configuration.
+    ///
+    /// Errors with `AllocError` if an allocation is refused.
     pub fn copy(&self) -> Result<Config, AllocError>
         ensures { IfOk result (λ copy. copy ≡ self.now) }
     {
@@ -37,18 +39,18 @@ impl Config {
     }
 }
 
-/// The text of a packet that is to be sent at the interface of this number.
+/// The bytes of a packet to be sent at the interface with this number.
 #[derive(Debug, Drop)]
 pub struct Out {
     pub interface: u16,
     pub bytes: Sequence<u8>,
 }
 
-/// Why `Core::new` made no router.
+/// Why `Core::new` refused to make a router.
 #[derive(Clone, Copy, Debug, PartialEq, Eq, Error)]
 pub enum ConfigError {
-    /// The configuration is outside of what [`Config`] allows: its Router ID, its interfaces or its
-    /// start.
+    /// The configuration isn't valid by the rules of [`Config`]: its Router ID, its interfaces or
+    /// its start.
     #[error("the configuration is not in the profile")]
     Interface,
     /// An allocation was refused; nothing is wrong with the configuration.
@@ -91,20 +93,20 @@ impl<T: Drop> From<AllocFailed<T>> for ConfigError {
 /// Why `Core::step` refused an event, which then changed nothing.
 #[derive(Clone, Copy, Debug, PartialEq, Eq, Error)]
 pub enum CoreError {
-    /// The bytes are no packet's text; this is what is wrong with them.
+    /// The bytes encode no packet, because of this fault.
     #[error("{0}")]
     BadPacket(Fault),
-    /// There is no interface of this number.
+    /// There is no interface with this number.
     #[error("there is no such interface")]
     NoInterface,
-    /// The Link State ID is that of another announced prefix, or two answers are on different
+    /// The Link State ID is that of another announced prefix, or two answers are for different
     /// destinations.
     #[error("the destination clashes with another one")]
     Clash,
     /// The moment is earlier than that of the last event, or 2^62 or more.
     #[error("the clock went back")]
     ClockBack,
-    /// The database would hold more than it may.
+    /// The database would exceed one of its limits.
     #[error("the database is full")]
     Full,
     /// An allocation was refused; nothing is wrong with the event.

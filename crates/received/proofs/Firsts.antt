@@ -1,4 +1,4 @@
--- The first test that holds.
+-- The first test that succeeds.
 use Rattle.std.proofs.Common.{◌≡◌, Bool, true, false, cond, List, [], ◌∷◌, inl, inr, refl, sym, ◌∙◌}
 use Rattle.received.specs.Cases.{Case, case_tests, first_case}
 use Rattle.received.specs.Laws.{ExactlyOneCaseApplies, IsFirstOf}

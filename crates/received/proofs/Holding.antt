@@ -1,4 +1,4 @@
--- What holds of every neighbor still holds after a step of each of them, after a change of a link,
+-- A property of every neighbor still holds after a step of each of them, after a change of a link,
 -- after flooding and after a received LSA.
 use Rattle.std.proofs.Common.{◌≡◌, ℕ, zero, suc, ◌+◌, ◌==◌, true, cond, List, [], ◌∷◌, map, Option, None, Some}
 use Rattle.std.specs.Prelude.{slice_get}
@@ -42,7 +42,7 @@ module _ (P : Neighbor → Type 0) where
   place_holds (x ∷ xs) zero h = h.0
   place_holds (x ∷ xs) (suc i) h = place_holds xs i h.1
 
-  -- of the neighbor at one interface
+  -- the neighbor at one interface has the property
   pub one_holds : (number : ℕ) (xs : List Link) → HoldsOfEach P xs → Holds P (neighbor_on (link_at number xs))
   one_holds zero xs h = tt
   one_holds (suc i) xs h = place_holds xs i h

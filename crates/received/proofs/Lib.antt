@@ -5,6 +5,6 @@ pub mod Roomy
 pub mod Told
 pub mod Examined
 pub mod Marks
--- what crates above name of those below
+-- names from the crates below that crates above use
 pub use Rattle.adjacency.proofs as adjacency
 pub use Rattle.adjacency.proofs.lsdb as lsdb

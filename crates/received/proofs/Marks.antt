@@ -1,4 +1,4 @@
--- What is sent marks the copies that Updates take along, and leaves them otherwise.
+-- What is sent marks the copies sent in Link State Updates as sent, and changes nothing else.
 use Rattle.std.proofs.Common.{◌≡◌, ℕ, Bool, true, false, cond, List, [], ◌∷◌, Option, None, Some, refl, sym, ap, ◌∙◌, true≢false}
 use Rattle.std.specs.List.{fold}
 use Rattle.std.specs.FinMap as finite
@@ -29,7 +29,7 @@ abbrev marks : ℕ → Option DatabaseCopy → Option DatabaseCopy
 marks moment None = None
 marks moment (Some c) = Some (sent_then moment c)
 
--- the copy is there, whenever it was sent
+-- the copy is in the database, whenever it was sent
 abbrev pub IsStill : Database → Key → DatabaseCopy → Type 0
 IsStill db key c = (sent : Option ℕ) × (finite.get db key ≡ Some (record c { sent = sent }))
 

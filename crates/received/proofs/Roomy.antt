@@ -1,5 +1,5 @@
--- Room in packets through what is sent, steps of the neighbors, flooding and a received LSA: the
--- copies of the database fit, the lists of each neighbor have room, and so has all that is sent.
+-- Sizes of packets after sending, steps of the neighbors, flooding and a received LSA: the copies
+-- of the database fit into packets, and so do the lists of each neighbor and all that is sent.
 use Rattle.std.proofs.Common.{◌≡◌, ◌≤◌, ℕ, ◌+◌, ◌==◌, cond, List, [], ◌∷◌, ◌++◌, map, length, Option, None, Some, refl, sym, subst, ◌∙◌}
 use Rattle.std.specs.FinMap as finite
 use Rattle.std.specs.List.{AllByRecursion, enumerate_from, flat_map, fold}
@@ -27,12 +27,12 @@ use Rattle.received.specs.Outcomes.{Outcome, Send, Stepping, each_neighbor, mark
 use Rattle.received.specs.Updates.{acknowledge_at_once, after_case, copy_of, install, send_copy}
 use Rattle.received.proofs.Holding.{changed_keeps, each_keeps}
 
--- ---- what has room
+-- ---- what fits
 
 abbrev pub SendHasRoom : Send → Type 0
 SendHasRoom s = HasRoom s.content
 
--- the copies fit, there are few links, and the lists of their neighbors have room; and so has all
+-- the copies fit, there are few enough links, the lists of their neighbors fit, and so does all
 -- that was sent
 pub record HasRoomFor (a : Area) (sends : List Send) : Type 0 where
   pub fit : AllFit a.database
@@ -69,7 +69,7 @@ abbrev changed_by : Key → (DatabaseCopy → DatabaseCopy) → Database → Opt
 changed_by key change db None = db
 changed_by key change db (Some c) = finite.insert db key (change c)
 
--- a change of a copy that leaves its LSA as long
+-- a change of a copy that keeps its LSA's length
 pub changed_fit : (key : Key) (change : DatabaseCopy → DatabaseCopy) → ((c : DatabaseCopy) → Fits c.lsa → Fits (change c).lsa)
     → (db : Database) → AllFit db → AllFit (changed_by key change db (finite.get db key))
 changed_fit key change keeps db all = by_copy (finite.get db key) (fits_at db all key)

@@ -1,6 +1,6 @@
--- What holds of all that is held and told, through what is sent, steps of the neighbors, flooding
--- and a received LSA: of the copies of the database, of what each neighbor is still to acknowledge,
--- of the acknowledgments that wait, and of what is sent.
+-- A property of all that is held and sent still holds after sending, steps of the neighbors,
+-- flooding and a received LSA: of the copies of the database, the retransmission lists, the delayed
+-- acknowledgments, and what is sent.
 use Rattle.std.proofs.Common.{◌≡◌, ℕ, zero, suc, ◌+◌, ◌==◌, cond, List, [], ◌∷◌, ◌++◌, map, length, Option, None, Some, ◌∙◌}
 use Rattle.std.specs.Prelude.{slice_get}
 use Rattle.std.specs.FinMap as finite
@@ -23,7 +23,7 @@ use Rattle.received.specs.Outcomes.{Outcome, Send, Stepping, each_neighbor, mark
 use Rattle.received.specs.Updates.{acknowledge_at_once, after_case, copy_of, install, send_copy}
 use Rattle.received.proofs.Roomy.{same_number}
 
--- ---- of what is held and told
+-- ---- what is held and sent
 
 abbrev pub OfSend : Telling → Send → Type 0
 OfSend t s = OfContent t s.content
@@ -31,7 +31,7 @@ OfSend t s = OfContent t s.content
 abbrev pub OfWaiting : Telling → Key → Header → Type 0
 OfWaiting t key h = t.of_header h
 
--- of what the neighbor is to acknowledge, and of the acknowledgments that wait
+-- the neighbor's retransmission list and the delayed acknowledgments have the property
 pub record OfLink (t : Telling) (link : Link) : Type 0 where
   pub neighbor : OfOwedIfAny t link.neighbor
   pub acknowledgments : AllIn (OfWaiting t) link.acknowledgments
@@ -125,7 +125,7 @@ module _ (t : Telling) where
   place_told (x ∷ xs) zero h = h.0.neighbor
   place_told (x ∷ xs) (suc i) h = place_told xs i h.1
 
-  -- of the neighbor at one interface
+  -- the neighbor at one interface has the property
   pub one_told : (number : ℕ) (xs : List Link) → OfLinks t xs → OfOwedIfAny t (neighbor_on (link_at number xs))
   one_told zero xs h = tt
   one_told (suc i) xs h = place_told xs i h

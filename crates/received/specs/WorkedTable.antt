@@ -1,4 +1,4 @@
--- The table of received LSAs, row by row, on instances of one LSA: what comes in has sequence
+-- The table of received LSAs, row by row, for instances of one LSA: the received one has sequence
 -- number 5 and age 10 at moment 100.
 use Rattle.std.specs.Prelude.{◌≡◌, ℤ, pos, Bool, true, false, Option, Some}
 use Rattle.words.specs.Constants.{max_age, max_sequence_number}
@@ -25,8 +25,7 @@ external_lsa says sequence age = record {
   body = says;
 }
 
--- a copy of it that flooding installed and that was sent at these moments, with its age at moment
--- 90
+-- a copy that was installed by flooding and sent at these moments, with its age at moment 90
 abbrev pub copy_of_it : Body → ℤ → Seconds → Moment → Moment → Option DatabaseCopy
 copy_of_it says sequence age installed sent =
     Some (record {
@@ -36,36 +35,37 @@ copy_of_it says sequence age installed sent =
       sent = Some sent;
     })
 
--- what comes in
+-- the received LSA
 abbrev pub arrival : Body → Lsa
 arrival says = external_lsa says (pos 5) 10
 
--- whether the sender was asked for it, and whether it has still to acknowledge this instance
+-- whether the LSA is on the sender's request list, and whether this instance is on its
+-- retransmission list
 pub record IsSender (says : Body) (from : Option Neighbor) (asked listed : Bool) : Type 0 where
   pub is_asked : was_requested from (arrival says) ≡ asked
   pub is_listed : is_on_senders_list 100 from (arrival says) ≡ listed
 
--- the case of what comes in at moment 100 from a sender, while nobody is in Exchange or Loading or
--- somebody is
+-- the case of the LSA received at moment 100 from a sender, by whether any neighbor is in Exchange
+-- or Loading
 abbrev pub comes_in : Body → Option DatabaseCopy → Option Neighbor → Bool → Case
 comes_in says copy from synchronizing = case_of_readable 100 copy from synchronizing (arrival says)
 
 pub record WorkedTable : Type 0 where
-  -- newer than a copy that was installed in this second, and than one installed ten seconds ago
+  -- newer than a copy that was installed in the same second, and than one installed ten seconds ago
   pub too_soon : (b : Body) (from : Option Neighbor) (s : Bool)
       → comes_in b (copy_of_it b (pos 4) 0 100 90) from s ≡ Case.TooSoon
   pub newer : (b : Body) (from : Option Neighbor) (s : Bool)
       → comes_in b (copy_of_it b (pos 4) 0 90 90) from s ≡ Case.Newer
-  -- not newer, and yet asked for
+  -- not newer, although it is on the request list
   pub bad_request : (b : Body) (from : Option Neighbor) (s listed : Bool)
       → IsSender b from true listed
       → comes_in b (copy_of_it b (pos 5) 0 90 90) from s ≡ Case.BadRequest
-  -- the same instance, which the sender has to acknowledge or hasn't
+  -- the same instance, on the sender's retransmission list or not
   pub implied : (b : Body) (from : Option Neighbor) (s : Bool) → IsSender b from false true
       → comes_in b (copy_of_it b (pos 5) 0 90 90) from s ≡ Case.ImpliedAcknowledgment
   pub duplicate : (b : Body) (from : Option Neighbor) (s : Bool) → IsSender b from false false
       → comes_in b (copy_of_it b (pos 5) 0 90 90) from s ≡ Case.Duplicate
-  -- the copy is newer: about to be flushed after its last number; sent in this second; neither
+  -- the copy is newer: being flushed after MaxSequenceNumber; sent in the same second; neither
   pub wraps : (b : Body) (from : Option Neighbor) (s listed : Bool) → IsSender b from false listed
       → comes_in b (copy_of_it b max_sequence_number max_age 90 100) from s ≡ Case.SequenceWraps
   pub just_sent : (b : Body) (from : Option Neighbor) (s listed : Bool)

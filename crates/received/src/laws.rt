@@ -1,38 +1,38 @@
-//! Laws of flooding, each carried by a function with an empty body.
+//! Laws about flooding, each the contract of a function with an empty body.
 ghost use Rattle.received.specs.Laws.{ExactlyOneCaseApplies, FloodingReplacesOlderInstances};
 ghost use Rattle.received.specs.Laws.{FloodingExaminesEachNeighbor};
 ghost use Rattle.received.specs.Worked.{WorkedCases};
 ghost use Rattle.received.specs.WorkedTable.{WorkedTable};
 
-/// After an LSA was flooded, the only instance of its key on the retransmission list of a neighbor
-/// in Exchange or later is the LSA itself, and exactly if the neighbor got it: no older one
-/// stays (RFC 2328, sections 13 and 13.3).
+/// After an LSA was flooded, the retransmission list of a neighbor in Exchange or later has an
+/// instance of its key if and only if the neighbor was sent the LSA, and it is the LSA itself: no
+/// older one stays (RFC 2328, sections 13 and 13.3).
 pub fn flooding_replaces_older_instances()
     ensures { FloodingReplacesOlderInstances }
 {}
 
-/// Each readable LSA of an Update is of exactly one case, the first of the table that fits (RFC
+/// Exactly one case, the first that applies, is that of a parsed LSA in a Link State Update (RFC
 /// 2328, section 13).
 pub fn exactly_one_case_applies()
     ensures { ExactlyOneCaseApplies }
 {}
 
-/// An LSA at MaxAge without a copy: acknowledged alone if all neighbors are Full, installed if one
-/// is in Loading.
+/// An LSA at MaxAge without a database copy: only acknowledged if all neighbors are Full, installed
+/// if one is in Loading.
 pub fn worked_cases()
     ensures { WorkedCases }
 {}
 
-/// The table of received LSAs, row by row, on instances of one LSA: newer than a copy of this
-/// second, newer, asked for, an implied acknowledgment, a duplicate, and a newer copy that wraps,
-/// was just sent or is sent back (RFC 2328, section 13).
+/// The table of received LSAs, row by row, for instances of one LSA: newer than a copy installed in
+/// the same second, newer, on the request list, an implied acknowledgment, a duplicate, and older
+/// than a copy that is being flushed, was just sent or is sent back (RFC 2328, section 13).
 pub fn the_table_of_received_lsas()
     ensures { WorkedTable }
 {}
 
-/// What flooding makes of each neighbor, in the words of RFC 2328, section 13.3: before Exchange
-/// nothing; a request goes unless a newer instance is requested; the LSA is sent unless it came
-/// from this neighbor or is not more recent than what is requested.
+/// The flooding step of each neighbor, in the words of RFC 2328, section 13.3: nothing before
+/// Exchange; a request is removed unless a newer instance is requested; the LSA is sent unless it
+/// came from this neighbor or is not more recent than the requested instance.
 pub fn flooding_examines_each_neighbor()
     ensures { FloodingExaminesEachNeighbor }
 {}

@@ -1,6 +1,7 @@
-//! What is done with the LSAs of a received Update, and flooding (RFC 2328, sections 13 and 13.3).
+//! Processing the LSAs of a received Link State Update, and flooding (RFC 2328, sections 13 and
+//! 13.3).
 #![tactic(auto)]
 
 pub mod laws;
-// What crates above name of those below.
+// Names from the crates below that crates above use.
 pub use adjacency::{Interface, State};
