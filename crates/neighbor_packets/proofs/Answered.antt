@@ -1,4 +1,4 @@
--- A Request to a neighbor in Exchange or later.
+-- A Link State Request from a neighbor in Exchange or later.
 use Rattle.std.proofs.Common.{◌≡◌, ℕ, ◌≤◌, Bool, true, false, cond, List, [], length, map, refl, sym, ap, ◌∙◌}
 use Rattle.std.specs.List.{list_all}
 use Rattle.std.specs.Prelude.{Option, None, Some}
@@ -16,13 +16,13 @@ use Rattle.flooding.specs.Links.{start, with_neighbor}
 use Rattle.neighbor_packets.proofs.OneLink.{leaves, link, link_is, one_neighbor_is, stays}
 use mathlib.Core.Bool.{false≢true}
 
--- from Exchange on a Request counts
+-- from Exchange on a Link State Request is answered
 counts : (moment : ℕ) (db : Database) (keys : List Key) (n : Neighbor) → is_exchange_or_later n.state ≡ true → after_request moment db keys n ≡ answer_to_request moment db keys n
 unfolding after_request
 counts moment db keys n is = ap (λ b. cond b (answer_to_request moment db keys n) (record { neighbor = n; sends = [] })) is
 
 module _ (moment k : ℕ) (a : Area) (keys : List Key) (first : 1 ≤ k) (last : k ≤ length a.links) where
-  -- what all there are says of the neighbor n
+  -- whether all copies exist decides the answer to the neighbor n
   answers_by : (n : Neighbor) (l : Link) → l ≡ link moment k a first last → l.neighbor ≡ Some n → (b : Bool)
       → leaves moment k a first last
       (cond b (record { neighbor = n; sends = map Updates (lsas_of moment a.database keys) }) (mismatch_step moment n)).sends

@@ -1,4 +1,4 @@
--- What one link does by itself is what one neighbor does.
+-- A step of one link by itself is a step of one neighbor.
 use Rattle.std.proofs.Common.{◌≡◌, ◌≢◌, ℕ, zero, suc, ◌-◌, ◌<◌, ◌≤◌, ◌==◌, cond, List, [], ◌∷◌, length, get_or, set, refl, sym, ap, ◌∙◌, arith}
 use Rattle.std.proofs.lemmas.List.{set-get_or}
 use Rattle.std.specs.List.{slice_get}
@@ -32,7 +32,7 @@ sent_acts : (f : Neighbor → Step) (k : ℕ) (l : Link) (o : Option Neighbor) �
 sent_acts f k l None = refl
 sent_acts f k l (Some n) = sym (ap (λ b. (cond b (f n) (no_sends n)).sends) (same_number k))
 
--- ---- the link of a number
+-- ---- the link with a number
 
 pub first_of : (ls : List Link) → 0 < length ls → Link
 first_of [] some = absurd (omega (arith, some))
@@ -55,7 +55,7 @@ module _ (moment k : ℕ) (a : Area) (first : 1 ≤ k) (last : k ≤ length a.li
       let next : k ≡ suc (k - 1) = omega (arith, first) in
       ap (λ m. link_at m a.links) next ∙ found a.links (k - 1) (first_of a.links some) (omega (arith, first, last))
 
-  -- this is sent at the interface, and this is the link then
+  -- this is sent at the interface, and this is the link afterwards
   abbrev pub leaves : List Content → Link → Outcome
   leaves cs l = sending moment (sends_at k cs) (record { area = record { links = set a.links (k - 1) l; database = a.database }; sends = [] })
 
@@ -90,7 +90,7 @@ module _ (moment k : ℕ) (a : Area) (first : 1 ≤ k) (last : k ≤ length a.li
   one_neighbor_is f = λ i.
       sending moment (step_sends f i) (record { area = record { links = step_links f i; database = a.database }; sends = [] })
 
-  -- a step of the neighbor that may look at the database
+  -- a step of the neighbor that may read the database
   pub steps : (f : Database → Neighbor → Step)
       → one_link moment k (λ db l. with_neighbor (neighbor.step_on (f db) l.neighbor) l) (λ db l. neighbor.sent_on (f db) l.neighbor) (start a) ≡ one_neighbor moment k (f a.database) (start a)
   steps f =

@@ -1,4 +1,4 @@
--- An Acknowledgment is answered by nothing.
+-- A Link State Acknowledgment isn't answered.
 use Rattle.std.proofs.Common.{◌≡◌, ℕ}
 use Rattle.std.specs.Prelude.{Option, None, Some}
 use Rattle.flooding.specs.adjacency.Contents.{no_sends, sent_on}

@@ -1,4 +1,4 @@
--- What a Hello makes of the link that it came in at, and what is sent there.
+-- What a Hello does to the link on which it is received, and what is sent there.
 use Rattle.std.specs.Prelude.{Bool, true, ◌==◌, if◌then◌else◌, List, [], Option}
 use Rattle.std.specs.Prelude.{None, Some}
 use Rattle.words.specs.Numbers.{Moment, RouterNumber}
@@ -10,12 +10,12 @@ use Rattle.flooding.specs.received.Links.{Link}
 use Rattle.events.specs.Hellos.{accepts, names}
 use Rattle.flooding.specs.Links.{with_neighbor}
 
--- another router is heard only while the neighbor is Down
+-- another router becomes the neighbor only if there is none
 abbrev pub may_be_named : Option (RouterNumber × State) → RouterNumber → Bool
 may_be_named None from = true
 may_be_named (Some named) from = named.0 == from
 
--- what an accepted Hello makes of the neighbor
+-- the neighbor's step for an accepted Hello
 abbrev pub heard : (own : RouterNumber) → Moment → (from : RouterNumber) → Hello → Link → Step
 heard own moment from h link =
     after_hello moment from (names own h) link.neighbor

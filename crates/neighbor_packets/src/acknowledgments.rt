@@ -38,11 +38,12 @@ impl<'a> LinkStep for Acknowledging<'a> {
     }
 }
 
-/// An Acknowledgment of these instances came from the neighbor at the interface of this number (RFC
-/// 2328, section 13.7): just these leave its retransmission list. Without a neighbor nothing
-/// happens.
+/// A Link State Acknowledgment of these instances from the neighbor at the interface with this
+/// number (RFC 2328, section 13.7): exactly these are removed from its retransmission list. Without
+/// a neighbor nothing changes.
 ///
-/// Errors with `AllocError` if an allocation is refused: roll the area back, and drop the drafts.
+/// Errors with `AllocError` if an allocation is refused; the caller then rolls the area back and
+/// drops the drafts.
 pub fn acknowledged(
     area: &mut Area,
     alloc: Global,

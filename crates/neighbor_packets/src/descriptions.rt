@@ -49,10 +49,11 @@ impl<'a> LinkStep for Describing<'a> {
     }
 }
 
-/// A Database Description came from the neighbor at the interface of this number, to the router
-/// `own` (RFC 2328, section 10.6), as `Link::description` says. Without a neighbor nothing happens.
+/// A Database Description from the neighbor at the interface with this number, to the router `own`
+/// (RFC 2328, section 10.6), as in `Link::description`. Without a neighbor nothing changes.
 ///
-/// Errors with `AllocError` if an allocation is refused: roll the area back, and drop the drafts.
+/// Errors with `AllocError` if an allocation is refused; the caller then rolls the area back and
+/// drops the drafts.
 pub fn describe(
     area: &mut Area,
     alloc: Global,

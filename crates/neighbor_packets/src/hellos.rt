@@ -12,8 +12,8 @@ use packet::Hello;
 use std::alloc::{AllocError, Global};
 use words::{E_BIT, RouterId, Second};
 
-/// Whether a packet of the router `from` may be of a neighbor: it is of some router, and not
-/// of this one, `own` (RFC 2328, section 8.2).
+/// Whether a packet with the Router ID `from` may be from a neighbor: it isn't 0.0.0.0, and not
+/// this router's own, `own` (RFC 2328, section 8.2).
 pub fn is_foreign(own: RouterId, from: RouterId) -> bool
     ensures { result ≡ is_foreign own from }
 {
@@ -44,7 +44,7 @@ fn may_be_named(neighbor: Option<(RouterId, State)>, from: RouterId) -> bool
     }
 }
 
-// Another router is heard only while the neighbor is Down.
+// Another router becomes the neighbor only if there is none.
 fn may_be(link: &Link, from: RouterId) -> bool
     ensures { result ≡ may_be link.now.present.neighbor from }
 {
@@ -72,7 +72,7 @@ fn is_among(own: RouterId, routers: &[RouterId]) -> bool
     false
 }
 
-// Whether the Hello names this router.
+// Whether the Hello lists this router.
 fn names(own: RouterId, hello: &Hello) -> bool
     ensures { result ≡ names own hello.now }
 {
@@ -110,13 +110,14 @@ impl<'a> LinkStep for Hearing<'a> {
     }
 }
 
-/// A Hello of the router `from` came in at the interface of this number, to the router `own` (RFC
-/// 2328, section 10.5). It is discarded if it is of no router or of this one, if it and the
-/// interface differ in HelloInterval, RouterDeadInterval or the E bit, or if another neighbor is
-/// heard there. Else the inactivity timer starts again, Down becomes Init, and 2-WayReceived or
-/// 1-WayReceived follows, by whether it names this router.
+/// A Hello from the router `from` at the interface with this number, to the router `own` (RFC 2328,
+/// section 10.5). It is discarded if it has no Router ID or this router's own, if it and the
+/// interface differ in HelloInterval, RouterDeadInterval or the E-bit, or if the interface has
+/// another neighbor. Otherwise the inactivity timer is restarted, Down becomes Init, and
+/// 2-WayReceived or 1-WayReceived follows, by whether it lists this router.
 ///
-/// Errors with `AllocError` if an allocation is refused: roll the area back, and drop the drafts.
+/// Errors with `AllocError` if an allocation is refused; the caller then rolls the area back and
+/// drops the drafts.
 pub fn hear(
     area: &mut Area,
     alloc: Global,

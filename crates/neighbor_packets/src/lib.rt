@@ -1,6 +1,6 @@
-//! What packets of a neighbor make of links and database (RFC 2328, sections 10.5 to 10.7 and
-//! 13.7): Hellos, Database Descriptions, Link State Requests and Acknowledgments. LSAs of an Update
-//! are `flooding::Area::receive`'s.
+//! What packets from a neighbor do to the links and the database (RFC 2328, sections 10.5 to 10.7
+//! and 13.7): Hellos, Database Descriptions, Link State Requests and Acknowledgments. The LSAs of a
+//! Link State Update are processed by `flooding::Area::receive`.
 #![tactic(auto)]
 
 mod acknowledgments;

@@ -37,11 +37,12 @@ impl<'a> LinkStep for Answering<'a> {
     }
 }
 
-/// A Link State Request for these keys came from the neighbor at the interface of this number,
-/// which is in Exchange or later (RFC 2328, section 10.7): the copies are sent, go on no list and
-/// count as sent, or, if one is missing, none is, and it is BadLSReq.
+/// A Link State Request for these keys from the neighbor at the interface with this number, which
+/// is in Exchange or later (RFC 2328, section 10.7): the copies are sent and marked as sent,
+/// without being put on the retransmission list; if one is missing, none is sent (BadLSReq).
 ///
-/// Errors with `AllocError` if an allocation is refused: roll the area back, and drop the drafts.
+/// Errors with `AllocError` if an allocation is refused; the caller then rolls the area back and
+/// drops the drafts.
 pub fn answer(
     area: &mut Area,
     alloc: Global,

@@ -1,4 +1,4 @@
--- What a Request, a Description and a mismatch come to, by the tests.
+-- The results of a Link State Request, a Database Description and a mismatch, by the tests.
 use Rattle.std.proofs.Common.{◌≡◌, ℕ, Bool, true, false, cond, List, [], map, Option, None, Some, refl, sym, ap, ◌∙◌}
 use mathlib.Core.Bool.{false≢true}
 use Rattle.std.specs.List.{list_all}
@@ -9,7 +9,7 @@ use Rattle.adjacency.specs.Contents.{Step, Updates, no_sends, sent_on, step_on}
 use Rattle.adjacency.specs.Neighbors.{Neighbor, is_exchange_or_later}
 use Rattle.adjacency.specs.Steps.{after_request, answer_to_request, any_exchange_or_later, is_there, lsas_of}
 
--- nothing happens to no neighbor
+-- without a neighbor nothing changes
 pub same_step : (F G : Neighbor → Step) (o : Option Neighbor) → ((n : Neighbor) → o ≡ Some n → F n ≡ G n) → step_on F o ≡ step_on G o
 same_step F G None is = refl
 same_step F G (Some n) is = ap (λ (s : Step). Some s.neighbor) (is n refl)

@@ -1,4 +1,4 @@
--- What a Description comes to, by its verdict.
+-- The result of a Database Description, by its verdict.
 use Rattle.std.proofs.Common.{◌≡◌, ℕ, Bool, true, false, cond, not, nat_lt, List, [], ◌++◌, Option, None, Some, refl, sym, ap, ◌∙◌}
 use mathlib.Core.Bool.{false≢true}
 use Rattle.adjacency.specs.lsdb.Copies.{Database}
@@ -22,7 +22,7 @@ unknown : (b : Bool) → not b ≡ true → b ≡ false
 unknown true is = absurd (false≢true is)
 unknown false is = refl
 
--- ---- verdicts that are given from Exchange on
+-- ---- verdicts that are possible from Exchange on
 
 is_late : Verdict → Bool
 is_late Verdict.Discarded = false
@@ -102,7 +102,7 @@ module _ (own moment : ℕ) (db : Database) (d : Description) (v : Verdict) (o :
   pub goes_on_sent : starts_over v d ≡ false → sent_on (proceeding v moment db d) o ≡ sent_on (judging own moment db d) o
   goes_on_sent is = same_sent (proceeding v moment db d) (judging own moment db d) o (λ n there. goes own moment db d n v (said ∙ ap (λ p. judged_on own p d) there) is)
 
--- ---- as a Hello that names this router
+-- ---- like a Hello that lists this router
 
 two_way_init : (moment : ℕ) (n : Neighbor) (s : State) → is_init s ≡ true → enter_exstart moment n ≡ two_way_received_in s moment n
 two_way_init moment n Init is = refl
@@ -131,7 +131,7 @@ module _ (moment : ℕ) (o : Option Neighbor) where
   pub rests_sent : any_init o ≡ false → [] ≡ sent_on (two_way_received moment) o
   rests_sent is = sends_nothing o ∙ same_sent no_sends (two_way_received moment) o (λ n there. two_way_rests moment n n.state (sym (ap any_init there) ∙ is))
 
--- ---- the whole
+-- ---- the complete step
 
 module _ (own moment : ℕ) (db : Database) (d : Description) where
   abbrev whole : Neighbor → Step

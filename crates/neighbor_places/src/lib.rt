@@ -1,5 +1,4 @@
-//! The place of a neighbor on a link: who stands there, and what an event makes of it (RFC 2328,
-//! section 10).
+//! The neighbor on a link, which may be Down, and what an event does to it (RFC 2328, section 10).
 #![tactic(auto)]
 
 mod place;

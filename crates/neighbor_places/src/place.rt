@@ -1,4 +1,4 @@
-//! The place of a neighbor on a link.
+//! The neighbor on a link, which may be Down.
 ghost use Rattle.std.specs.Prelude.{◌≡◌, ℕ, IfOk, OnOk, None, Some};
 ghost use Rattle.adjacency.specs.lsdb.Copies.{lsa_now};
 ghost use Rattle.adjacency.specs.Adjacencies.{after_hello, enter_exstart};
@@ -22,7 +22,7 @@ use std::alloc::{AllocError, Global};
 use std::marker::Model;
 use words::{RouterId, Second};
 
-/// The neighbor unless it is Down, and the one that was moved away in this event, if one was.
+/// The neighbor unless it is Down, and the one that this event replaced, if it did.
 #[derive(Drop)]
 pub struct Place {
     neighbor: Option<Neighbor>,
@@ -48,8 +48,8 @@ impl Model for Place {
     } };
 }
 
-// Whether a Hello that names this router or doesn't begins anew: all is forgotten but the number of
-// the last attempt.
+// Whether the neighbor starts over at a Hello, by whether that lists this router: nothing is kept
+// except the number of the last attempt.
 fn begins(state: State, names: bool) -> bool
     ensures { result ≡ begins state names }
 {
@@ -72,7 +72,10 @@ impl Place {
         }
     }
 
-    /// Floods the copy to the neighbor, if there is one. Returns whether an Update takes it along.
+    /// Floods the copy to the neighbor, if there is one. Returns whether it is sent in a Link State
+    /// Update.
+    ///
+    /// Errors with `AllocError` if an allocation is refused; the caller then rolls back.
     pub fn flood(
         &mut self,
         alloc: Global,
@@ -98,8 +101,9 @@ impl Place {
         }
     }
 
-    /// The same place, with nothing to be taken back. The only error is that an allocation was
-    /// refused.
+    /// A copy of the place, settled.
+    ///
+    /// Errors with `AllocError` if an allocation is refused.
     pub fn copy(&self, alloc: Global) -> Result<Self, AllocError>
         ensures present { IfOk result (λ made. made.present ≡ self.now.present) }
         ensures settled { IfOk result (λ made. made.settled ≡ self.now.present) }
@@ -127,8 +131,9 @@ impl Place {
         Some((standing.router, standing.state))
     }
 
-    /// An Acknowledgment of these instances, as `Neighbor::ack` says. Refused, the place is to be
-    /// rolled back.
+    /// A Link State Acknowledgment of these instances, as in `Neighbor::ack`.
+    ///
+    /// Errors with `AllocError` if an allocation is refused; the caller then rolls back.
     pub fn ack(&mut self, moment: Second, headers: &[Header]) -> Result<(), AllocError>
         ensures ok { OnOk result (self.new.present
             ≡ step_on (λ n. no_sends (after_acknowledgment moment headers.now n))
@@ -141,7 +146,9 @@ impl Place {
         }
     }
 
-    /// The next Request, as `Neighbor::request` says. Refused, the place is to be rolled back.
+    /// The next Link State Request, as in `Neighbor::request`.
+    ///
+    /// Errors with `AllocError` if an allocation is refused; the caller then rolls back.
     pub fn request(
         &mut self,
         alloc: Global,
@@ -160,7 +167,7 @@ impl Place {
         }
     }
 
-    // Another neighbor, or none, takes the place. The one that was there is kept until the event is
+    // Replaces the neighbor by another one or by none. The old one is kept until the event is
     // settled.
     fn replace(&mut self, neighbor: Option<Neighbor>)
         ensures { self.new ≡ record self.old { present = present_of neighbor } }
@@ -172,14 +179,14 @@ impl Place {
         self.neighbor = neighbor;
     }
 
-    /// The neighbor is Down. It wants no memory.
+    /// The neighbor goes Down. It doesn't allocate.
     pub fn go_down(&mut self)
         ensures { self.new ≡ record self.old { present = None } }
     {
         self.replace(None);
     }
 
-    // A neighbor in Init hears a Hello, which names this router or doesn't.
+    // A neighbor in Init receives a Hello, which lists this router or doesn't.
     fn begin(
         &mut self,
         alloc: Global,
@@ -208,7 +215,7 @@ impl Place {
         Ok(())
     }
 
-    // A new attempt at an exchange, into ExStart.
+    // Transition to ExStart with a new attempt.
     fn attempt(
         &mut self,
         alloc: Global,
@@ -239,8 +246,8 @@ impl Place {
         Ok(())
     }
 
-    /// Whether there is a neighbor in Exchange or later: Requests, Updates and
-    /// Acknowledgments of it count.
+    /// Whether there is a neighbor in Exchange or later: its Link State Requests, Updates and
+    /// Acknowledgments are accepted.
     pub fn is_exchange_or_later(&self) -> bool
         ensures { result ≡ any_exchange_or_later self.now.present }
     {
@@ -250,7 +257,7 @@ impl Place {
         }
     }
 
-    // The inactivity timer starts again.
+    // Restarts the inactivity timer.
     fn hear(&mut self, moment: Second)
         ensures { self.new ≡ record self.old { present = heard moment self.old.present } }
     {
@@ -259,13 +266,14 @@ impl Place {
         }
     }
 
-    /// A Hello came from this router, which names this router or doesn't (RFC 2328, section 10.5):
-    /// it was accepted, so the neighbor is Down or of this Router ID. Down becomes Init and the
-    /// inactivity timer starts again. If the Hello names this router, Init goes on to ExStart
-    /// (2-WayReceived) and the first Description of an attempt is sent; if it doesn't, each later
-    /// state goes back to Init (1-WayReceived), and the lists are cleared without a walk over them.
+    /// An accepted Hello from the router with this Router ID, which lists this router or doesn't
+    /// (RFC 2328, section 10.5). Since it was accepted, the neighbor is Down or has this Router ID.
+    /// Down becomes Init, and the inactivity timer is restarted. If the Hello lists this router,
+    /// Init becomes ExStart (2-WayReceived), and the first Database Description of an attempt is
+    /// sent. If it doesn't, each later state goes back to Init (1-WayReceived), and the lists are
+    /// cleared in constant time.
     ///
-    /// Errors with `AllocError` if an allocation is refused: roll the place back.
+    /// Errors with `AllocError` if an allocation is refused; the caller then rolls back.
     pub fn hello(
         &mut self,
         alloc: Global,

@@ -1,4 +1,4 @@
--- What the steps of an exchange make of a neighbor's fields.
+-- A neighbor's fields after the steps of an exchange.
 use Rattle.std.proofs.Common.{◌≡◌, Result, Ok, Err, OnOk, ℕ, ◌==◌, Bool, true, false, cond, nat_lt, List, [], ◌∷◌, map, take, drop, Option, None, Some, refl, sym, ap, ◌∙◌}
 use Rattle.std.specs.FinMap as finite
 use Rattle.std.specs.List.{fold}
@@ -17,13 +17,13 @@ use Rattle.adjacency.specs.Exchanges.{accept_description}
 use Rattle.adjacency.specs.Neighbors.{Neighbor, ReceivedDescription}
 use Rattle.adjacency.specs.Views.{neighbor_of}
 
--- what two facts of a call that succeeded give
+-- what follows from two facts about a call that succeeded
 pub both_ok : {A E P Q S : Type 0} (r : Result A E) → (P → Q → S) → OnOk r P → OnOk r Q → OnOk r S
 both_ok (Ok a) f p q = f p q
 both_ok (Err e) f p q = tt
 
 module _ {X : Type 0} (s : Standing) (sum req : ByKey ListEntry) (out : ByKey X) (retr : ByKey ListEntry) where
-  -- without a Description nothing is sent again
+  -- without a Database Description nothing is sent again
   pub repeats_nothing : (moment : ℕ) (des : Option Description) → des ≡ None → no_sends (neighbor_of s des sum req out retr) ≡ repeat moment (neighbor_of s des sum req out retr)
   unfolding neighbor_of
   repeats_nothing moment des is = ap (λ o. no_sends (neighbor_of s o sum req out retr)) is ∙ sym (ap (λ o. repeat moment (neighbor_of s o sum req out retr)) is)
@@ -83,13 +83,13 @@ module _ {X : Type 0} (s : Standing) (des : Option Description) (sum req : ByKey
   unfolding neighbor_of
   lists_database summary retransmissions = refl
 
-  -- the next Description by its headers
+  -- the next Database Description, from its headers
   pub described_next : (moment : ℕ) (headers : List Header) → headers ≡ map (λ (e : Key × ListEntry). aged_header moment e.1) (take 408 (finite.entries sum))
       → ◌≡◌ {A = Description} (record { mtu = 8192; options = 2; init = false; more = nat_lt 408 (finite.len sum); master = s.is_master; sequence = s.sequence; headers = headers }) (next_description moment (neighbor_of s des sum req out retr))
   unfolding neighbor_of
   described_next moment headers are = λ i. record (next_description moment (neighbor_of s des sum req out retr)) { headers = are i }
 
--- ---- an accepted Description
+-- ---- an accepted Database Description
 
 module _ (moment : ℕ) (db : Database) (d : Description) (n : Neighbor) where
   abbrev with_wanted : Neighbor

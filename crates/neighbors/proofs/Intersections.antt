@@ -1,4 +1,4 @@
--- Keys that two maps have, in their order.
+-- The keys that two maps have in common, in order.
 use Rattle.std.proofs.Common.{◌≡◌, Bool, true, false, cond, ◌&&◌, ◌||◌, T, List, [], ◌∷◌, map, refl, sym, ap, subst, ◌∙◌}
 use Rattle.std.proofs.Math.Bool.{and_comm}
 use Rattle.std.proofs.lemmas.Map.Views.{any-filter_same}
@@ -16,7 +16,7 @@ use Rattle.adjacency.proofs.lsdb.Keys.{keys_exact, keys_total}
 use Rattle.adjacency.specs.Views.{keys_of}
 use Rattle.adjacency.proofs.Neighbors.{contains_key_of}
 
--- keys with nothing at each
+-- keys with no values
 abbrev units : List Key → List (Key × Unit {0})
 units ks = map (λ k. (k, tt)) ks
 
@@ -46,7 +46,7 @@ unit_names : (ks : List Key) → names (units ks) ≡ ks
 unit_names [] = refl
 unit_names (k ∷ ks) = ap (λ l. k ∷ l) (unit_names ks)
 
--- entries in order that have the same keys have them in the same order
+-- sorted entries with the same keys have them in the same order
 same_names : {X Y : Type 0} (es : List (Key × X)) (fs : List (Key × Y)) → T (entries.is_sorted key_cmp es) → T (entries.is_sorted key_cmp fs)
     → ((q : Key) → list_any (eq_by_cmp key_cmp q) (names es) ≡ list_any (eq_by_cmp key_cmp q) (names fs)) → names es ≡ names fs
 same_names es fs sorted_es sorted_fs same =
@@ -77,7 +77,7 @@ module _ {X Y : Type 0} (a : ByKey X) (b : ByKey Y) where
       ∙ ap (λ t. finite.contains_key b q && t) (sym (finite.contains_key-keys a q))
 
 module _ {X Y : Type 0} (a : ByKey X) (b : ByKey Y) where
-  -- what stands in both, from either side
+  -- the common keys, from either map
   pub from_either : filter (finite.contains_key b) (finite.keys a) ≡ filter (finite.contains_key a) (finite.keys b)
   from_either =
       sym (names_where (finite.contains_key b) (finite.entries a))
@@ -93,7 +93,7 @@ module _ {X Y : Type 0} (a : ByKey X) (b : ByKey Y) where
   same_filter p r same [] = refl
   same_filter p r same (k ∷ ks) = λ i. cond (same k i) (k ∷ same_filter p r same ks i) (same_filter p r same ks i)
 
-  -- the keys of one that stand in the other
+  -- the keys of one map that the other has
   pub kept_in_both : keys_where (λ k x. finite.contains_key b k) (finite.entries a) ≡ filter (set.contains (keys_of a)) (finite.keys b)
   kept_in_both =
       names_where (finite.contains_key b) (finite.entries a) ∙ from_either

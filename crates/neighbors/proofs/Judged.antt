@@ -1,4 +1,4 @@
--- The verdict on a Description by the neighbor's fields.
+-- The verdict on a Database Description by the neighbor's fields.
 use Rattle.std.proofs.Common.{◌≡◌, ℕ, Bool, true, false, ◌&&◌, Option, refl, sym, ap}
 use Rattle.adjacency.specs.lsdb.Instances.{ListEntry}
 use Rattle.adjacency.specs.lsdb.Keys.{ByKey}

@@ -1,4 +1,5 @@
-//! A neighbor that isn't Down, as code: each step of the neighbor's table (RFC 2328, section 10).
+//! The implementation of the neighbor state machine (RFC 2328, section 10) for a neighbor that
+//! isn't Down.
 #![tactic(auto)]
 
 mod connectives;

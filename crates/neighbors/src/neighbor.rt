@@ -35,17 +35,17 @@ use std::cmp::Ordering;
 use std::marker::Model;
 use words::{E_BIT, RouterId, Second, Sequence};
 
-/// A neighbor (RFC 2328, section 10), and what it was when it was last settled.
+/// A neighbor (RFC 2328, section 10), and its state when it was last settled.
 #[derive(Drop)]
 pub struct Neighbor {
     standing: Standing,
     before: Standing,
-    // the last Description sent, while it may have to be sent again
+    // the last Database Description sent, as long as it may have to be sent again
     described: Saved<Option<Description>>,
-    // what is still to be described, requested and acknowledged
+    // the Database summary list, the request list and the retransmission list
     summary: KeyedMap<ListEntry>,
     requests: KeyedMap<ListEntry>,
-    // what the last Request asked for and is still on the request list
+    // the keys of the last Link State Request that are still on the request list
     outstanding: KeyedMap<()>,
     retransmissions: KeyedMap<ListEntry>,
 }
@@ -106,7 +106,7 @@ fn meets(moment: Second, copy: &DatabaseCopy<'_>, request: Option<ListEntry>) ->
     }
 }
 
-// Whether the instance is the one on the list.
+// Whether the instance is that of the list entry.
 fn is_entry(moment: Second, header: &Header, entry: Option<ListEntry>) -> bool
     ensures { result ≡ is_entry moment header.now entry }
 {
@@ -128,7 +128,7 @@ fn later(first: bool, moment: Second, before: Second) -> Second
     if first { moment } else { before }
 }
 
-// The number of the next attempt at an exchange (RFC 2328, section 10.8).
+// The DD sequence number of the next attempt (RFC 2328, section 10.8).
 pub fn next_dd_sequence_start(moment: Second, dd_sequence_start: Option<u32>) -> u32
     ensures { result ≡ next_dd_sequence_start moment dd_sequence_start }
 {
@@ -138,7 +138,8 @@ pub fn next_dd_sequence_start(moment: Second, dd_sequence_start: Option<u32>) ->
     }
 }
 
-// The empty Description with all three flags, by which a router begins. It wants no memory.
+// The empty Database Description with the I, M and MS bits set, which starts the negotiation. It
+// doesn't allocate.
 pub fn initial_description(alloc: Global, sequence: u32) -> Description
     ensures { result ≡ initial_description sequence }
 {
@@ -154,8 +155,8 @@ pub fn initial_description(alloc: Global, sequence: u32) -> Description
 }
 
 impl Neighbor {
-    /// A neighbor in Init: nothing is left of any exchange but the number of the last attempt. It
-    /// wants no memory.
+    /// A neighbor in Init: nothing is kept of an earlier exchange except the number of the last
+    /// attempt. It doesn't allocate.
     pub fn fresh(
         alloc: Global,
         router: RouterId,
@@ -182,7 +183,7 @@ impl Neighbor {
         }
     }
 
-    /// A neighbor in ExStart, with a new attempt (RFC 2328, section 10.3). It wants no memory.
+    /// A neighbor in ExStart, with a new attempt (RFC 2328, section 10.3). It doesn't allocate.
     pub fn started(
         alloc: Global,
         moment: Second,
@@ -213,14 +214,14 @@ impl Neighbor {
         }
     }
 
-    /// All but its lists and the last Description sent.
+    /// Its state except its lists and the last Database Description sent.
     pub fn standing(&self) -> Standing
         ensures { result ≡ standing_of self.now.present }
     {
         self.standing.same()
     }
 
-    /// The inactivity timer starts again.
+    /// Restarts the inactivity timer.
     pub fn hear(&mut self, moment: Second)
         ensures { self.new ≡ record self.old {
           present =
@@ -230,14 +231,14 @@ impl Neighbor {
         self.standing.last_heard = moment;
     }
 
-    /// Whether it takes part in flooding: it is in Exchange or later.
+    /// Whether it takes part in flooding: it is in Exchange or a later state.
     pub fn floods(&self) -> bool
         ensures { result ≡ is_exchange_or_later self.now.present.state }
     {
         self.standing.state.is_exchange_or_later()
     }
 
-    // What is requested under the copy's key.
+    // The entry of the copy's key on the request list.
     fn requested(&self, moment: Second, copy: &DatabaseCopy<'_>) -> Option<ListEntry>
         ensures { result ≡ request_of self.now.present (lsa_now moment copy.now) }
     {
@@ -252,7 +253,7 @@ impl Neighbor {
         None
     }
 
-    // The request of this key goes.
+    // Removes this key from the request list.
     fn withdraw(&mut self, header: &Header) -> Result<(), AllocError>
         ensures ok { OnOk result (self.new.present
             ≡ without_request (key_of header.now) self.old.present) }
@@ -262,7 +263,7 @@ impl Neighbor {
         self.outstanding.remove(&header.key())
     }
 
-    // The entry of this key leaves the retransmission list.
+    // Removes this key from the retransmission list.
     fn release(&mut self, header: &Header) -> Result<(), AllocError>
         ensures ok { OnOk result (self.new.present
             ≡ remove_retransmission (key_of header.now) self.old.present) }
@@ -271,7 +272,7 @@ impl Neighbor {
         self.retransmissions.remove(&header.key())
     }
 
-    // The instance enters the retransmission list.
+    // Adds the instance to the retransmission list.
     fn owe(&mut self, moment: Second, header: &Header) -> Result<(), AllocError>
         ensures ok { OnOk result (self.new.present
             ≡ add_retransmission moment header.now self.old.present) }
@@ -287,8 +288,8 @@ impl Neighbor {
         self.retransmissions.insert(header.key(), entry)
     }
 
-    // Drops the request that the copy meets. Returns whether the copy goes on: nothing newer was
-    // requested.
+    // Removes the request that the copy satisfies. Returns whether the copy may be sent: nothing
+    // newer or equal is requested.
     fn meet(&mut self, moment: Second, copy: &DatabaseCopy<'_>) -> Result<bool, AllocError>
         ensures ok { IfOk result (λ _. self.new.present
             ≡ without_met_request moment (lsa_now moment copy.now) self.old.present) }
@@ -339,9 +340,10 @@ impl Neighbor {
         Ok(false)
     }
 
-    /// Floods the copy to the neighbor, which is the one that it came from or isn't (RFC 2328,
-    /// section 13.3). Returns whether an Update takes it along, InfTransDelay seconds older than it
-    /// is. If memory is refused, roll the neighbor back.
+    /// Floods the copy to the neighbor, from which it came or not (RFC 2328, section 13.3). Returns
+    /// whether it is sent in a Link State Update, its age incremented by InfTransDelay.
+    ///
+    /// Errors with `AllocError` if an allocation is refused; the caller then rolls back.
     pub fn flood(
         &mut self,
         alloc: Global,
@@ -367,7 +369,7 @@ impl Neighbor {
         Ok(false)
     }
 
-    // The entry of the retransmission list under the header's key.
+    // The entry of this key on the retransmission list.
     fn entry(&self, header: &Header) -> Option<ListEntry>
         ensures { result ≡ finite.get self.now.present.retransmissions (key_of header.now) }
     {
@@ -377,7 +379,7 @@ impl Neighbor {
         }
     }
 
-    // The same instance alone is taken off the retransmission list.
+    // Removes the instance from the retransmission list if it is the same.
     fn acknowledge(&mut self, moment: Second, header: &Header) -> Result<(), AllocError>
         ensures ok { OnOk result (self.new.present
             ≡ acknowledged_neighbor moment self.old.present header.now) }
@@ -391,9 +393,10 @@ impl Neighbor {
         Ok(())
     }
 
-    /// An Acknowledgment of these instances (RFC 2328, section 13.7): each that is the same
-    /// instance as the entry of its key takes that off the retransmission list. If memory is
-    /// refused, roll the neighbor back.
+    /// A Link State Acknowledgment of these instances (RFC 2328, section 13.7): each that is the
+    /// same instance as the entry of its key removes that from the retransmission list.
+    ///
+    /// Errors with `AllocError` if an allocation is refused; the caller then rolls back.
     pub fn ack(&mut self, moment: Second, headers: &[Header]) -> Result<(), AllocError>
         ensures ok { OnOk result (self.new.present
             ≡ after_acknowledgment moment headers.now self.old.present) }
@@ -417,7 +420,7 @@ impl Neighbor {
         self.retransmissions.settle();
     }
 
-    /// Takes all changes back that were made since it was last settled.
+    /// Undoes all changes since the neighbor was last settled.
     pub fn roll_back(&mut self)
         ensures { self.new ≡ record { present = self.old.settled; settled = self.old.settled } }
     {

@@ -1,4 +1,4 @@
--- What is found of an own LSA and then done, by cases.
+-- Deciding about a self-originated LSA and carrying that out, by cases.
 use Rattle.std.proofs.Common.{◌≡◌, ℕ, Bool, true, false, cond, ◌&&◌, Option, refl}
 use Rattle.std.specs.FinMap as finite
 use Rattle.words.specs.declared.key.Key.{Key}

@@ -1,4 +1,4 @@
--- The router-LSA by which neighbors are Full.
+-- The router-LSA, by which neighbors are Full.
 use Rattle.std.proofs.Common.{◌≡◌, ◌≤◌, ◌<◌, ℕ, ◌+◌, Bool, true, false, cond, not, List, [], ◌∷◌, ◌++◌, map, length, get_or, drop, take, Option, None, Some, refl, sym, ap, ◌∙◌, arith, append_assoc}
 use Rattle.std.specs.List.{flat_map}
 use Rattle.std.specs.Cmp.Lexicographic.{slice_cmp}
@@ -53,7 +53,7 @@ body_now ls = ap body_of (described_all ls)
 pub body_then : (old : List Link) (is : List Interface) (fs : List (Option ℕ)) → interfaces old ≡ is → full_routers old ≡ fs → described_body is fs ≡ router_body old
 body_then old is fs same full = (λ i. described_body (sym same i) (sym full i)) ∙ body_now old
 
--- ---- there is room
+-- ---- the links fit
 
 abbrev full_neighbor : Option ℕ → Option Neighbor
 full_neighbor None = None
@@ -90,7 +90,7 @@ described_fits is fs says are few = router_fits (links_with is fs) says (are ∙
 pub described_size : (is : List Interface) (fs : List (Option ℕ)) (says : Body) → says ≡ described_body is fs → length is ≤ 63 → length (body_text says) ≤ 65515
 described_size is fs says are few = router_size (links_with is fs) says (are ∙ says_with is fs) (omega (arith, few_with is fs, few))
 
--- ---- one interface after the other
+-- ---- one interface after another
 
 pub described_next : (is : List Interface) (fs : List (Option ℕ)) (n : ℕ) (i : Interface) (f : Option ℕ) (said longer whole : List RouterLink)
     → n < length is → length fs ≡ length is → i ≡ get_or is n i → f ≡ get_or fs n f → longer ≡ said ++ interface_links i f
@@ -110,7 +110,7 @@ pub described_end : (is : List Interface) (fs : List (Option ℕ)) (n : ℕ) (sa
     → said ++ described_links (drop n is) (drop n fs) ≡ whole → said ≡ whole
 described_end is fs n said whole end so_far = sym (append_nothing said) ∙ ap (λ js. said ++ described_links js (drop n fs)) (sym (drop_end n is end)) ∙ so_far
 
--- ---- what the code reads at a place
+-- ---- what the code reads at an index
 
 pub interface_here : (links : List (Kept Link)) (i : ℕ) (link : Kept Link) (x : Interface) → i < length links → x ≡ link.present.interface → link ≡ get_or links i link
     → x ≡ get_or (interfaces (map present links)) i x
@@ -137,12 +137,12 @@ same_so_far xs ys i x y lt all here there same so_far =
 pub same_all : {A : Type 0} (xs ys : List A) (i : ℕ) → length xs ≤ i → length xs ≡ length ys → take i xs ≡ take i ys → xs ≡ ys
 same_all xs ys i end all so_far = sym (take_all i xs end) ∙ so_far ∙ take_all i ys (omega (arith, end, all))
 
--- ---- whether it says something else
+-- ---- whether the body has changed
 
 text_itself : (xs : List ℕ) → is_eq (slice_cmp nat_cmp xs xs) ≡ true
 text_itself xs = is_eq-slice_cmp xs xs ∙ (bytes_eq-Decides xs xs).1 refl
 
--- links with the same Full neighbors say the same
+-- links with the same Full neighbors have the same body
 pub none_differ : (old ls : List Link) → interfaces old ≡ interfaces ls → full_routers old ≡ full_routers ls → false ≡ links_differ old ls
 none_differ old ls same full =
     let says : router_body old ≡ router_body ls = sym (body_then old (interfaces ls) (full_routers ls) same full) ∙ body_now ls in

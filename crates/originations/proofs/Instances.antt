@@ -1,4 +1,4 @@
--- The instance that is made is the next one.
+-- The instance that is built is the next one.
 use Rattle.std.proofs.Common.{◌≡◌, ℤ, Bool, true, false, cond, Option, None, Some, refl, ap, ◌∙◌}
 use Rattle.words.specs.declared.key.Key.{Key}
 use Rattle.lsa.specs.Origination.{sealed_lsa}
@@ -23,7 +23,7 @@ made key sequence says = sealed_lsa (record {
   body = says;
 })
 
--- the type is that of the body
+-- the LS type is that of the body
 made_is : (key : Key) (copy : Option DatabaseCopy) (says : Body) → made key (next_sequence copy) says ≡ new_instance key copy says
 unfolding made sealed_lsa
 made_is key copy says = refl

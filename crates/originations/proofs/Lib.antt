@@ -2,5 +2,5 @@ pub mod Instances
 pub mod Links
 pub mod Decided
 pub mod FullNeighbors
--- what crates above name of those below
+-- names from the crates below that crates above use
 pub use Rattle.flooding.proofs as flooding

@@ -16,7 +16,7 @@ use Rattle.events.proofs.Fitting.{router_few}
 use Rattle.events.proofs.Rooms.{both}
 use Rattle.flooding.specs.Links.{present}
 
--- ---- one interface more
+-- ---- one more interface
 
 pub more_said : (links : List (Kept Link)) (i : ℕ) (link : Kept Link) (said longer : List RouterLink) → i < length links → link ≡ get_or links i link
     → said ≡ flat_map (λ (l : Kept Link). links_of l.present) (take i links) → longer ≡ said ++ links_of link.present
@@ -30,7 +30,7 @@ pub all_said : (links : List (Kept Link)) (i : ℕ) (said : List RouterLink) →
 all_said links i said is end =
     is ∙ ap (λ ls. flat_map (λ (l : Kept Link). links_of l.present) ls) (take_all i links end) ∙ sym (flat_map-map links_of present links)
 
--- ---- there is room
+-- ---- the links fit
 
 few_links : (link : Link) → length (links_of link) ≤ 2
 few_links link = by_neighbor link.neighbor
@@ -74,7 +74,7 @@ all_few : (links : List Link) → length (flat_map links_of links) ≤ 2 * lengt
 all_few [] = omega arith
 all_few (l ∷ ls) = omega (arith, length-append (links_of l) (flat_map links_of ls), few_links l, all_few ls)
 
--- of at most 63 interfaces
+-- for at most 63 interfaces
 pub router_fits : (links : List (Kept Link)) (says : Body) → says ≡ router_body (map present links) → length links ≤ 63 → BodyFits says
 router_fits links says is few =
     let own : List Link = map present links in

@@ -1,4 +1,4 @@
--- What becomes of an own LSA that is wanted, and of the router then.
+-- What happens to a wanted self-originated LSA, and the router afterwards.
 use Rattle.std.specs.Prelude.{Bool, ◌&&◌, if◌then◌else◌, Option, None, Some}
 use Rattle.words.specs.Numbers.{Moment}
 use Rattle.words.specs.declared.key.Key.{Key}
@@ -19,7 +19,7 @@ of_instance (Some lsa) = Originates lsa
 abbrev pub unless_flushed : Option DatabaseCopy → Origination
 unless_flushed copy = if has_max_sequence copy then Flushes else Waits
 
--- at once, if `may_now` and the five seconds since the last origination allow it, else at a Tick;
+-- at once, if `may_now` and MinLSInterval since the last origination allow it, else at a Tick;
 -- after MaxSequenceNumber the copy is flushed first
 abbrev pub origination : (may_now : Bool) → Moment → Key → Body → Option DatabaseCopy
     → (last : Option Moment) → Origination
@@ -28,7 +28,7 @@ origination may_now moment key says copy last =
     else if may_now && interval_is_over moment last then Originates (new_instance key copy says)
     else Waits
 
--- what is to be done
+-- the state after the decision is carried out
 abbrev pub after_origination : Moment → Key → Origination → EventState → EventState
 after_origination moment key Flushes p = flush moment key p
 after_origination moment key Waits p = on_router (wait key) p

@@ -1,4 +1,4 @@
--- An interface in the router-LSA, by its neighbor's Router ID, if that is Full.
+-- The links of an interface in the router-LSA, by its neighbor's Router ID, if that is Full.
 use Rattle.std.specs.Prelude.{if◌then◌else◌, List, [], ◌∷◌, ◌++◌, map, Option, None, Some}
 use Rattle.words.specs.Numbers.{RouterNumber}
 use Rattle.lsa.specs.declared.body.Body.{Body}
@@ -25,8 +25,7 @@ interface_links i (Some router) = record {
   tos = [];
 } ∷ stub i ∷ []
 
--- ---- all interfaces: which neighbors are Full is what the router-LSA says beside the
--- configuration
+-- ---- all interfaces: the router-LSA depends on the configuration and on which neighbors are Full
 
 abbrev pub interfaces : List Link → List Interface
 interfaces links = map (λ (link : Link). link.interface) links
@@ -35,11 +34,11 @@ abbrev pub full_router_on : Option Neighbor → Option RouterNumber
 full_router_on None = None
 full_router_on (Some n) = if is_full n.state then Some n.router else None
 
--- interface n at place n - 1
+-- interface n at index n - 1
 abbrev pub full_routers : List Link → List (Option RouterNumber)
 full_routers links = map (λ (link : Link). full_router_on link.neighbor) links
 
--- of these interfaces, with these neighbors Full
+-- the links for these interfaces, with these neighbors Full
 abbrev pub described_links : List Interface → List (Option RouterNumber) → List RouterLink
 described_links [] fs = []
 described_links (i ∷ is) [] = []

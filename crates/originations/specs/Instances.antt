@@ -1,4 +1,5 @@
--- Next instances of own LSAs (RFC 2328, section 12.1.6): none follows MaxSequenceNumber.
+-- The next instances of self-originated LSAs (RFC 2328, section 12.1.6): none follows
+-- MaxSequenceNumber.
 use Rattle.std.specs.Prelude.{ℤ, pos, ◌+ℤ◌, if◌then◌else◌, Option, None, Some}
 use Rattle.std.specs.Ordering.{int_cmp, is_eq}
 use Rattle.words.specs.Constants.{max_sequence_number}

@@ -1,4 +1,4 @@
--- What is found of an own LSA, and then done, is what the rules make of it.
+-- Deciding about a self-originated LSA and carrying that out is what the rules of an event say.
 use Rattle.std.specs.Prelude.{◌≡◌, ℕ, Bool, Some}
 use Rattle.std.specs.FinMap as finite
 use Rattle.words.specs.declared.key.Key.{Key}

@@ -2,5 +2,5 @@ pub mod Instances
 pub mod Described
 pub mod Decisions
 pub mod Laws
--- what crates above name of those below
+-- names from the crates below that crates above use
 pub use Rattle.flooding.specs as flooding

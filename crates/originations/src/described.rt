@@ -1,5 +1,4 @@
-//! What the router-LSA said when other neighbors were Full, and whether it says something else now
-//! (RFC 2328, section 12.4.1).
+//! Whether the router-LSA has changed since other neighbors were Full (RFC 2328, section 12.4.1).
 ghost use Rattle.std.specs.Prelude.{◌≡◌, ◌≤◌, List, length, map, IfOk, IsTrue};
 ghost use Rattle.lsa.specs.Ranges.{BodyFits};
 ghost use Rattle.lsa.specs.Text.{body_text};
@@ -21,8 +20,8 @@ use std::alloc::{AllocError, Global};
 use std::cmp::Ordering;
 use words::{E_BIT, LinkStateId, RouterId, Sequence, SequenceNumber};
 
-/// The Router IDs of the neighbors that are Full, interface n at place n - 1, None if there is
-/// none: what the router-LSA depends on beside the configuration.
+/// The Router IDs of the neighbors that are Full, interface n at index n - 1, `None` if there is
+/// none. Together with the configuration they determine the router-LSA.
 ///
 /// Errors with `AllocError` if an allocation is refused.
 pub fn full_routers(alloc: Global, links: &[Link]) -> Result<Vec<Option<RouterId>>, AllocError>
@@ -35,7 +34,7 @@ pub fn full_routers(alloc: Global, links: &[Link]) -> Result<Vec<Option<RouterId
     Ok(full)
 }
 
-// What the router-LSA of these interfaces says while these neighbors are Full.
+// The body of the router-LSA of these interfaces while these neighbors are Full.
 fn described_body(
     alloc: Global,
     links: &[Link],
@@ -56,7 +55,7 @@ fn described_body(
     }))
 }
 
-// Some LSA that says this.
+// Some LSA with this body.
 fn saying(alloc: Global, says: Body) -> Result<Lsa, AllocError>
     requires fits { BodyFits says }
     requires size { length (body_text says) ≤ 65515 }
@@ -91,7 +90,7 @@ fn described_lsa(
     saying(alloc, says)
 }
 
-// The text of what an LSA says.
+// The bytes of the LSA's body.
 fn said(alloc: Global, lsa: &Lsa) -> Result<Vec<u8>, AllocError>
     ensures { IfOk result (λ text. text.items ≡ body_text lsa.now.body) }
 {
@@ -100,7 +99,7 @@ fn said(alloc: Global, lsa: &Lsa) -> Result<Vec<u8>, AllocError>
     Ok(text)
 }
 
-// Whether both say the same.
+// Whether both have the same body.
 fn same_body(alloc: Global, a: &Lsa, b: &Lsa) -> Result<bool, AllocError>
     ensures { IfOk result (λ same. same ≡ same_body a.now.body b.now.body) }
 {
@@ -137,7 +136,7 @@ fn same_full(a: &[Option<RouterId>], b: &[Option<RouterId>]) -> bool
     true
 }
 
-// As `links_differ`, by the texts of both.
+// As `links_differ`, by the bytes of both.
 fn texts_differ(
     alloc: Global,
     links: &[Link],
@@ -157,9 +156,9 @@ fn texts_differ(
     Ok(!same)
 }
 
-/// Whether the content of the router-LSA differs from what it was for links of the same interfaces,
-/// of which just the neighbors `before` were Full, interface n at place n - 1. If the same are Full
-/// now, it looks at no text.
+/// Whether the body of the router-LSA differs from what it was for links of the same interfaces
+/// when exactly the neighbors `before` were Full, interface n at index n - 1. If the same neighbors
+/// are Full now, no bodies are compared.
 ///
 /// Errors with `AllocError` if an allocation is refused.
 pub fn links_differ(
@@ -191,7 +190,7 @@ fn lsa_says(alloc: Global, links: &[Link], lsa: &Lsa) -> Result<bool, AllocError
     Ok(same)
 }
 
-/// Whether there is a copy, and it says what the router-LSA of these links is to say.
+/// Whether there is a copy, and its body is that of the router-LSA for these links.
 ///
 /// Errors with `AllocError` if an allocation is refused.
 pub fn tells(

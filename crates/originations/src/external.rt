@@ -20,7 +20,7 @@ pub fn external_key(own: RouterId, external: &External) -> Key
     }
 }
 
-// What is said of the destination: traffic goes to this router itself.
+// The body for the destination, without a forwarding address.
 fn external_body(alloc: Global, external: &External) -> Body
     ensures { result ≡ external_body external.now }
 {
@@ -34,8 +34,8 @@ fn external_body(alloc: Global, external: &External) -> Body
     })
 }
 
-/// The instance of the own AS-external-LSA of this destination that follows the copy of the
-/// database (RFC 2328, section 12.4.4). None if the copy has MaxSequenceNumber: it is to be flushed
+/// The next instance of the self-originated AS-external-LSA for this destination after the database
+/// copy (RFC 2328, section 12.4.4); `None` if the copy has MaxSequenceNumber: it is to be flushed
 /// first.
 ///
 /// Errors with `AllocError` if an allocation is refused.

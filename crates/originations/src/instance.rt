@@ -1,4 +1,4 @@
-//! New instances.
+//! New instances of self-originated LSAs.
 ghost use Rattle.std.specs.Prelude.{◌≡◌, ◌≤◌, length, IfOk};
 ghost use Rattle.std.specs.FinMap as finite;
 ghost use Rattle.lsa.specs.Ranges.{BodyFits};
@@ -11,8 +11,8 @@ use lsa::{Body, Header, Lsa};
 use std::alloc::{AllocError, Global};
 use words::{E_BIT, Key};
 
-/// The instance of this key that follows the copy of the database and says this: of age 0, its
-/// type, length and checksum those of what it says. None if the copy has MaxSequenceNumber.
+/// The next instance of this key after the database copy, with this body: its age is 0, and its LS
+/// type, length and checksum are computed from the body. `None` if the copy has MaxSequenceNumber.
 ///
 /// Errors with `AllocError` if an allocation is refused.
 pub fn next_instance(

@@ -1,4 +1,4 @@
-//! The router's own LSAs (RFC 2328, section 12.4): what they are to say, and their next instances.
+//! Self-originated LSAs (RFC 2328, section 12.4): their bodies, and their next instances.
 #![tactic(auto)]
 
 mod described;
@@ -13,5 +13,5 @@ pub use described::{full_routers, links_differ, tells};
 pub use external::external_instance;
 pub use origination::{Origination, interval_is_over, originate_external, originate_router};
 pub use router::router_instance;
-// What crates above name of those below.
+// Names from the crates below that crates above use.
 pub use flooding::Case;

@@ -1,4 +1,4 @@
-//! When an own LSA goes out (RFC 2328, sections 12.1.6 and 12.4).
+//! When a self-originated LSA is originated (RFC 2328, sections 12.1.6 and 12.4).
 ghost use Rattle.std.specs.Prelude.{◌≡◌, ◌≤◌, ◌<◌, ◌^◌, ◌&&◌, length, map, IfOk};
 ghost use Rattle.std.specs.FinMap as finite;
 ghost use Rattle.events.specs.Originations.{
@@ -19,13 +19,13 @@ use lsa::Lsa;
 use std::alloc::{AllocError, Global};
 use words::{External, RouterId, Second};
 
-// MinLSInterval: the least seconds between two own instances of one LSA.
+// MinLSInterval: the least time between two originations of one LSA, in seconds.
 const MIN_LS_INTERVAL: u64 = 5;
 
-/// What becomes of an own LSA that is wanted.
+/// What happens to a wanted self-originated LSA.
 #[derive(Debug, Drop)]
 pub enum Origination {
-    /// The copy has MaxSequenceNumber: it is to be flushed first.
+    /// The copy has MaxSequenceNumber and is to be flushed first.
     Flushes,
     /// The LSA waits for a Tick.
     Waits,
@@ -33,8 +33,8 @@ pub enum Origination {
     Originates(Lsa),
 }
 
-/// Whether MinLSInterval, five seconds, has passed since this moment at which the LSA was
-/// last originated, if it was.
+/// Whether MinLSInterval, five seconds, has passed since `last`, when the LSA was last originated,
+/// or it wasn't.
 pub fn interval_is_over(moment: Second, last: Option<Second>) -> bool
     ensures { result ≡ interval_is_over moment last }
 {
@@ -59,7 +59,7 @@ fn of_instance(instance: Option<Lsa>) -> Origination
     }
 }
 
-// It isn't time yet.
+// It waits, unless the copy is to be flushed first.
 fn unless_flushed(copy: Option<DatabaseCopy<'_>>) -> Origination
     ensures { result ≡ unless_flushed copy.entry }
 {
@@ -69,10 +69,10 @@ fn unless_flushed(copy: Option<DatabaseCopy<'_>>) -> Origination
     }
 }
 
-/// What becomes of the router-LSA of these links, interface n at place n - 1: it goes out at once
-/// if `may_now` and MinLSInterval allow it, else at a Tick; after MaxSequenceNumber its copy is
-/// flushed first (RFC 2328, sections 12.4.1 and 12.1.6). `last` is the moment at which it was last
-/// originated, if that is known.
+/// What happens to the router-LSA for these links, interface n at index n - 1: it is originated at
+/// once if `may_now` and MinLSInterval allow it, else at a Tick; after MaxSequenceNumber its copy
+/// is flushed first (RFC 2328, sections 12.4.1 and 12.1.6). `last` is the moment of the last
+/// origination, if it is known.
 ///
 /// Errors with `AllocError` if an allocation is refused.
 pub fn originate_router(
@@ -98,8 +98,8 @@ pub fn originate_router(
     Ok(unless_flushed(database.get(&key)))
 }
 
-/// What becomes of the own AS-external-LSA of this destination, as `originate_router` says of the
-/// router-LSA (RFC 2328, section 12.4.4).
+/// What happens to the AS-external-LSA for this destination, as in `originate_router` (RFC 2328,
+/// section 12.4.4).
 ///
 /// Errors with `AllocError` if an allocation is refused.
 pub fn originate_external(

@@ -59,7 +59,7 @@ fn subnet_mask(interface: &Interface) -> u32
     }
 }
 
-// The link to the subnet.
+// The stub link to the subnet.
 fn stub(alloc: Global, interface: &Interface) -> RouterLink
     ensures { result ≡ stub interface.now }
 {
@@ -72,7 +72,10 @@ fn stub(alloc: Global, interface: &Interface) -> RouterLink
     }
 }
 
-/// The link to the neighbor, if it is Full, and then the one to the subnet.
+/// Appends the point-to-point link to the neighbor, if that is Full, and the stub link to the
+/// subnet.
+///
+/// Errors with `AllocError` if an allocation is refused.
 pub fn put_described(
     alloc: Global,
     links: &mut Vec<RouterLink>,
@@ -105,7 +108,7 @@ fn put_links(alloc: Global, links: &mut Vec<RouterLink>, link: &Link) -> Result<
     put_described(alloc, links, &interface, full)
 }
 
-// What the router-LSA says: flag E alone, and the links of each interface in order.
+// The body of the router-LSA: only bit E is set, and it has the links of each interface in order.
 fn router_body(alloc: Global, links: &[Link]) -> Result<Body, AllocError>
     ensures { IfOk result (λ body. body ≡ router_body (map present links.now)) }
 {
@@ -119,10 +122,10 @@ fn router_body(alloc: Global, links: &[Link]) -> Result<Body, AllocError>
     }))
 }
 
-/// The instance of the own router-LSA that follows the copy of the database and describes these
-/// links, interface n at place n - 1: of each the link to its neighbor, if that is Full, and the
-/// one to its subnet (RFC 2328, section 12.4.1). None if the copy has MaxSequenceNumber: it is to
-/// be flushed first.
+/// The next instance of the router-LSA after the database copy for these links, interface n at
+/// index n - 1: each has a point-to-point link to its neighbor, if that is Full, and a stub link to
+/// its subnet (RFC 2328, section 12.4.1). `None` if the copy has MaxSequenceNumber: it is to be
+/// flushed first.
 ///
 /// Errors with `AllocError` if an allocation is refused.
 pub fn router_instance(

@@ -14,7 +14,7 @@ use packet::Description;
 use std::alloc::{AllocError, Global};
 use words::{RouterId, Second};
 
-// Whether the sender's interface sends larger datagrams than this router's.
+// Whether the MTU of the sending interface is larger than this router's.
 fn is_too_large(description: &Description) -> bool
     ensures { result ≡ nat_lt 8192 description.now.mtu }
 {
@@ -47,7 +47,7 @@ impl Place {
         }
     }
 
-    // 2-WayReceived (RFC 2328, section 10.3): Init goes on to ExStart.
+    // 2-WayReceived (RFC 2328, section 10.3): from Init to ExStart.
     fn two_way(
         &mut self,
         alloc: Global,
@@ -67,7 +67,7 @@ impl Place {
         Ok(())
     }
 
-    // The verdict on a Description; without a neighbor nothing is done.
+    // The verdict on a Database Description; without a neighbor it is ignored.
     fn verdict(&self, own: RouterId, description: &Description) -> Verdict
         ensures { verdict_of result ≡ judged_on own self.now.present description.now }
     {
@@ -77,7 +77,7 @@ impl Place {
         }
     }
 
-    // What the verdict makes of the neighbor, unless it starts over.
+    // The step for the verdict, unless the adjacency starts over.
     fn proceed(
         &mut self,
         alloc: Global,
@@ -103,7 +103,7 @@ impl Place {
         }
     }
 
-    // The Description is judged as the neighbor's state is.
+    // The step for the Database Description in the neighbor's state.
     fn judge(
         &mut self,
         alloc: Global,
@@ -128,17 +128,17 @@ impl Place {
         self.proceed(alloc, verdict, moment, database, description, draft)
     }
 
-    /// A Database Description came from the neighbor, to the router of the Router ID `own` (RFC
-    /// 2328, sections 10.6 and 10.8). One whose MTU is larger than 8,192 bytes is discarded. In
-    /// Init it acts as a Hello that names this router first. The one that negotiates is then
-    /// accepted as the next in sequence. What is newer than the database has it goes on the request
-    /// list; the next Description is sent, or the last one again if this one is a duplicate; and
-    /// after the last of either side the neighbor is Loading, or Full if nothing is to be
-    /// requested. One out of sequence, or with a header of an unknown type, takes the neighbor back
-    /// to ExStart (SeqNumberMismatch). It walks over the database only when the negotiation is
-    /// done.
+    /// A Database Description from the neighbor to the router with the Router ID `own` (RFC 2328,
+    /// sections 10.6 and 10.8). One with an MTU larger than 8,192 bytes is ignored. In Init it
+    /// first acts like a Hello that lists this router. One that completes the negotiation is then
+    /// accepted as the next in sequence. The LSAs that are newer than the database copies are added
+    /// to the request list; the next Database Description is sent, or the last one again if this
+    /// one is a duplicate; and after the last one of both sides the neighbor is Loading, or Full if
+    /// the request list is empty. One out of sequence, or with a header of an unknown LS type,
+    /// takes the neighbor back to ExStart (SeqNumberMismatch). It scans the database only when the
+    /// negotiation is done.
     ///
-    /// Errors with `AllocError` if an allocation is refused: roll the place back.
+    /// Errors with `AllocError` if an allocation is refused; the caller then rolls back.
     pub fn description(
         &mut self,
         alloc: Global,

@@ -19,7 +19,7 @@ fn is_there(database: &Lsdb, key: &Key) -> bool
     }
 }
 
-// Whether the database has them all.
+// Whether the database has all of them.
 fn are_there(database: &Lsdb, keys: &[Key]) -> bool
     ensures { result ≡ list_all (is_there database.now.present) keys.now }
 {
@@ -32,7 +32,7 @@ fn are_there(database: &Lsdb, keys: &[Key]) -> bool
     true
 }
 
-// The copy of this key is sent, if there is one.
+// Sends the copy of this key, if there is one.
 fn send_copy(
     alloc: Global,
     moment: Second,
@@ -68,12 +68,12 @@ fn send_copies(
 }
 
 impl Place {
-    /// A Link State Request for these keys came from the neighbor (RFC 2328, section 10.7). It
-    /// counts from Exchange on: the copies are sent in Updates, InfTransDelay (`delay`) seconds
-    /// older than they are, and go on no list. If the database lacks one, none is sent, and the
-    /// neighbor goes back to ExStart (BadLSReq).
+    /// A Link State Request for these keys from the neighbor (RFC 2328, section 10.7), which is
+    /// ignored before Exchange. The copies are sent in Link State Updates, their ages incremented
+    /// by InfTransDelay (`delay`) seconds, without being put on the retransmission list. If the
+    /// database lacks one, none is sent, and the neighbor goes back to ExStart (BadLSReq).
     ///
-    /// Errors with `AllocError` if an allocation is refused: roll the place back.
+    /// Errors with `AllocError` if an allocation is refused; the caller then rolls back.
     pub fn answer(
         &mut self,
         alloc: Global,

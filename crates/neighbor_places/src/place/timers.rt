@@ -1,4 +1,5 @@
-//! What runs out at a Tick, and what is sent again (RFC 2328, sections 10.3, 10.8, 10.9 and 13.6).
+//! Timers that a Tick finds expired, and retransmission (RFC 2328, sections 10.3, 10.8, 10.9 and
+//! 13.6).
 ghost use Rattle.std.specs.Prelude.{◌≡◌, OnOk};
 ghost use Rattle.adjacency.specs.Adjacencies.{loading_done};
 ghost use Rattle.adjacency.specs.Contents.{no_sends, sent_on, step_on};
@@ -13,7 +14,7 @@ use std::alloc::{AllocError, Global};
 use words::Second;
 
 impl Place {
-    // There is a neighbor whose inactivity timer has run out.
+    // Whether there is a neighbor whose inactivity timer has expired.
     fn is_inactive(&self, moment: Second, dead: u32) -> bool
         ensures { result ≡ is_any_inactive moment dead self.now.present }
     {
@@ -23,7 +24,7 @@ impl Place {
         }
     }
 
-    // The last Description is given up, once the exchange is long done.
+    // Discards the last Database Description if RouterDeadInterval has passed since the exchange.
     fn give_up_description(&mut self, moment: Second, dead: u32)
         ensures { self.new ≡ record self.old {
           present = step_on
@@ -35,9 +36,10 @@ impl Place {
         }
     }
 
-    /// What runs out at a Tick (RFC 2328, sections 10.3 and 10.8): a neighbor that wasn't heard for
-    /// RouterDeadInterval (`dead`, in seconds) is Down (InactivityTimer), and so long after the
-    /// exchange was done the last Description is given up. It wants no memory.
+    /// The timers that a Tick finds expired (RFC 2328, sections 10.3 and 10.8): a neighbor from
+    /// which no Hello was received for RouterDeadInterval (`dead`, in seconds) goes Down
+    /// (InactivityTimer), and the last Database Description is discarded that long after the
+    /// exchange was completed. It doesn't allocate.
     pub fn run_out(&mut self, moment: Second, dead: u32)
         ensures { self.new ≡ record self.old { present = run_out moment dead self.old.present } }
     {
@@ -48,8 +50,8 @@ impl Place {
         self.give_up_description(moment, dead)
     }
 
-    /// LoadingDone (RFC 2328, section 10.3): a neighbor in Loading with nothing left to request
-    /// becomes Full. It wants no memory.
+    /// LoadingDone (RFC 2328, section 10.3): from Loading to Full if the request list is empty. It
+    /// doesn't allocate.
     pub fn end_loading(&mut self)
         ensures { self.new ≡ record self.old {
           present = step_on
@@ -61,8 +63,9 @@ impl Place {
         }
     }
 
-    /// What a Tick sends again, as `Neighbor::send_again` says. Refused, the place is to be rolled
-    /// back.
+    /// What a Tick retransmits, as in `Neighbor::send_again`.
+    ///
+    /// Errors with `AllocError` if an allocation is refused; the caller then rolls back.
     pub fn send_again(
         &mut self,
         alloc: Global,

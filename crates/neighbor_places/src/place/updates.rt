@@ -1,5 +1,5 @@
-//! What an LSA of a received Update asks of the place of the neighbor that sent it (RFC 2328,
-//! section 13).
+//! What an LSA of a received Link State Update requires to be known of the neighbor that sent it
+//! (RFC 2328, section 13).
 ghost use Rattle.std.specs.Prelude.{◌≡◌, ℕ, OnOk};
 ghost use Rattle.lsa.specs.Headers.{key_of};
 ghost use Rattle.adjacency.specs.Adjacencies.{mismatch_step};
@@ -26,7 +26,7 @@ impl Place {
         }
     }
 
-    /// Whether the neighbor is still asked for the LSA of this key.
+    /// Whether the key is on the neighbor's request list.
     pub fn was_requested(&self, key: &Key) -> bool
         ensures { result ≡ was_requested key.now self.now.present }
     {
@@ -46,7 +46,7 @@ impl Place {
         }
     }
 
-    /// Whether just this instance is on the neighbor's retransmission list.
+    /// Whether exactly this instance is on the neighbor's retransmission list.
     pub fn has_instance(&self, moment: Second, header: &Header) -> bool
         ensures { result ≡ has_instance moment header.now self.now.present }
     {
@@ -56,8 +56,9 @@ impl Place {
         }
     }
 
-    /// An implied acknowledgment, as `Neighbor::take_off` says. Refused, the place is to be rolled
-    /// back.
+    /// An implied acknowledgment, as in `Neighbor::take_off`.
+    ///
+    /// Errors with `AllocError` if an allocation is refused; the caller then rolls back.
     pub fn take_off(&mut self, header: &Header) -> Result<(), AllocError>
         ensures ok { OnOk result (self.new.present
             ≡ step_on (λ n. no_sends (remove_retransmission (key_of header.now) n))
@@ -73,7 +74,7 @@ impl Place {
     /// BadLSReq (RFC 2328, section 13, step 6): a neighbor in Exchange or later goes back to
     /// ExStart with a new attempt.
     ///
-    /// Errors with `AllocError` if an allocation is refused: roll the place back.
+    /// Errors with `AllocError` if an allocation is refused; the caller then rolls back.
     pub fn bad_request(
         &mut self,
         alloc: Global,

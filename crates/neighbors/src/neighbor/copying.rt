@@ -1,4 +1,4 @@
-//! A neighbor once more.
+//! Copies of neighbors.
 ghost use Rattle.std.specs.Prelude.{◌≡◌, IfOk};
 
 use super::Neighbor;
@@ -20,8 +20,9 @@ fn copy_described(kept: &Option<Description>) -> Result<Option<Description>, All
 }
 
 impl Neighbor {
-    /// The same neighbor, with nothing to be taken back. The only error is that an allocation was
-    /// refused.
+    /// A copy of the neighbor, settled.
+    ///
+    /// Errors with `AllocError` if an allocation is refused.
     pub fn copy(&self, alloc: Global) -> Result<Self, AllocError>
         ensures present { IfOk result (λ made. made.present ≡ self.now.present) }
         ensures settled { IfOk result (λ made. made.settled ≡ self.now.present) }

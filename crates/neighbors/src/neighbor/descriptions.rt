@@ -1,4 +1,4 @@
-//! The exchange of Database Descriptions (RFC 2328, sections 10.6, 10.8 and 10.3).
+//! The database exchange (RFC 2328, sections 10.6, 10.8 and 10.3).
 ghost use Rattle.std.specs.Prelude.{◌≡◌, ℕ, ◌+◌, ◌%◌, ◌^◌, false, true, if◌then◌else◌, []};
 ghost use Rattle.std.specs.Prelude.{◌∷◌, ◌++◌, take, Some, IfOk, OnOk};
 ghost use Rattle.std.specs.FinMap as finite;
@@ -35,10 +35,10 @@ use packet::Description;
 use std::alloc::{AllocError, Global};
 use words::{E_BIT, Key, Second, Sequence};
 
-/// The most headers of one Description.
+/// The most headers in one Database Description.
 const MOST_HEADERS_DESCRIBED: usize = 408;
 
-// The same Description once more.
+// A copy of the Database Description.
 pub fn copy(description: &Description) -> Result<Description, AllocError>
     ensures { IfOk result (λ made. made ≡ description.now) }
 {
@@ -54,7 +54,7 @@ pub fn copy(description: &Description) -> Result<Description, AllocError>
     })
 }
 
-// Whether this instance is newer than the copy of its key, or there is no copy.
+// Whether this instance is newer than the database copy of its key, or there is none.
 fn is_wanted(moment: Second, database: &Lsdb, header: &Header) -> bool
     ensures { result ≡ is_wanted moment database.now.present header.now }
 {
@@ -64,7 +64,7 @@ fn is_wanted(moment: Second, database: &Lsdb, header: &Header) -> bool
     }
 }
 
-// The instance goes on the request list if it is wanted.
+// Adds the instance to the request list if it is wanted.
 fn want(
     moment: Second,
     database: &Lsdb,
@@ -86,7 +86,7 @@ fn want(
     Ok(())
 }
 
-// What is wanted of these instances goes on the request list.
+// Adds the wanted ones of these instances to the request list.
 fn want_all(
     moment: Second,
     database: &Lsdb,
@@ -113,7 +113,7 @@ fn aged_header(moment: Second, entry: &ListEntry) -> Header
     }
 }
 
-// The header under this key, if there is one, is the next.
+// Appends the header of this key, if there is one.
 fn push_header(
     moment: Second,
     list: &KeyedMap<ListEntry>,
@@ -132,7 +132,7 @@ fn push_header(
     Ok(())
 }
 
-// The headers under these keys, with their ages at the moment.
+// The headers of these keys, with their ages at the moment.
 fn headers_of(
     alloc: Global,
     moment: Second,
@@ -149,7 +149,7 @@ fn headers_of(
     Ok(headers)
 }
 
-// Full if nothing is to be requested: the databases are synchronized.
+// `Full` if the request list is empty: the databases are synchronized then.
 fn done_state(nothing: bool) -> State
     ensures { result ≡ (if nothing then State.Full else State.Loading) }
 {
@@ -157,8 +157,9 @@ fn done_state(nothing: bool) -> State
 }
 
 impl Neighbor {
-    /// The Description that was sent last is sent again, if it is kept (RFC 2328, section 10.8).
-    /// Refused, the neighbor is to be rolled back.
+    /// Sends the last Database Description again, if it is kept (RFC 2328, section 10.8).
+    ///
+    /// Errors with `AllocError` if an allocation is refused; the caller then rolls back.
     pub fn repeat(&mut self, moment: Second, draft: &mut Draft) -> Result<(), AllocError>
         ensures ok { OnOk result (self.new.present ≡ (repeat moment self.old.present).neighbor) }
         ensures draft { OnOk result ((delay : ℕ) → draft.new
@@ -173,7 +174,7 @@ impl Neighbor {
         draft.describe(again)
     }
 
-    // This Description is known again from now on.
+    // Keeps what identifies a duplicate of this Database Description.
     fn receive(&mut self, description: &Description)
         ensures { self.new ≡ record self.old {
           present =
@@ -184,7 +185,7 @@ impl Neighbor {
         self.standing.received = Some(received);
     }
 
-    // The exchange goes on with this sequence number.
+    // The exchange continues with this DD sequence number.
     fn count_on(&mut self, sequence: u32)
         ensures { self.new ≡ record self.old {
           present =
@@ -194,7 +195,7 @@ impl Neighbor {
         self.standing.sequence = sequence;
     }
 
-    // The number of the exchange.
+    // The DD sequence number.
     fn sequence(&self) -> u32
         ensures { result ≡ self.now.present.sequence }
     {
@@ -218,7 +219,7 @@ impl Neighbor {
         self.standing.exchanged = Some(moment);
     }
 
-    // What is wanted of these instances goes on the request list.
+    // Adds the wanted ones of these instances to the request list.
     fn request_wanted(
         &mut self,
         moment: Second,
@@ -232,7 +233,7 @@ impl Neighbor {
         want_all(moment, database, &mut self.requests, headers)
     }
 
-    // The keys of the headers that the next Description has room for.
+    // The keys of the headers that fit into the next Database Description.
     fn first_described(&self, alloc: Global) -> Result<Vec<Key>, AllocError>
         ensures { IfOk result (λ keys. keys.items
             ≡ take most_headers_described (finite.keys self.now.present.summary)) }
@@ -240,7 +241,7 @@ impl Neighbor {
         self.summary.first(alloc, MOST_HEADERS_DESCRIBED)
     }
 
-    // The next Description, whose headers are those of these keys.
+    // The next Database Description, with the headers of these keys.
     fn next_description(
         &self,
         alloc: Global,
@@ -265,7 +266,7 @@ impl Neighbor {
         })
     }
 
-    // What was described needn't be again.
+    // Removes these keys from the Database summary list.
     fn shorten(&mut self, keys: &[Key]) -> Result<(), AllocError>
         requires { keys.now ≡ take most_headers_described (finite.keys self.old.present.summary) }
         ensures ok { OnOk result (self.new.present
@@ -275,7 +276,7 @@ impl Neighbor {
         remove_keys(&mut self.summary, keys)
     }
 
-    // The Description is kept, as it may have to be sent again.
+    // Keeps the Database Description, which may have to be sent again.
     fn keep(&mut self, moment: Second, description: &Description) -> Result<(), AllocError>
         ensures ok { OnOk result (self.new.present ≡ record self.old.present {
           described = Some description.now;
@@ -289,7 +290,7 @@ impl Neighbor {
         Ok(())
     }
 
-    // The next Description is sent (RFC 2328, section 10.8).
+    // Sends the next Database Description (RFC 2328, section 10.8).
     fn describe(
         &mut self,
         alloc: Global,
@@ -308,7 +309,7 @@ impl Neighbor {
         draft.describe(next)
     }
 
-    // Whether the last one sent announced more.
+    // Whether the last one sent had the M-bit set.
     fn announced_more(&self) -> bool
         ensures { result ≡ announced_more self.now.present.described }
     {
@@ -318,7 +319,7 @@ impl Neighbor {
         }
     }
 
-    // The master goes on, unless neither side has more.
+    // The master sends the next one, unless neither side has more.
     fn master_goes_on(
         &mut self,
         alloc: Global,
@@ -345,7 +346,8 @@ impl Neighbor {
         Ok(())
     }
 
-    // The slave takes the number over and replies; it is done if neither side has more.
+    // The slave takes over the DD sequence number and replies; if neither side has more, its
+    // exchange is done.
     fn slave_replies(
         &mut self,
         alloc: Global,
@@ -371,7 +373,7 @@ impl Neighbor {
         Ok(())
     }
 
-    // A Description whose headers are all of known types is accepted.
+    // Accepts a Database Description whose headers all have known LS types.
     fn accept(
         &mut self,
         alloc: Global,
@@ -397,7 +399,7 @@ impl Neighbor {
         self.slave_replies(alloc, moment, description, draft)
     }
 
-    // The negotiation is done, and this router is the slave.
+    // NegotiationDone, with this router as the slave.
     fn follow(
         &mut self,
         alloc: Global,
@@ -420,7 +422,7 @@ impl Neighbor {
         self.accept(alloc, moment, database, description, draft)
     }
 
-    // The negotiation is done, and this router is the master.
+    // NegotiationDone, with this router as the master.
     fn lead(
         &mut self,
         alloc: Global,
@@ -444,8 +446,10 @@ impl Neighbor {
         self.accept(alloc, moment, database, description, draft)
     }
 
-    /// What the verdict on a received Description makes of the neighbor, unless it starts over.
-    /// Refused, the neighbor is to be rolled back.
+    /// The step for the verdict on a received Database Description, unless the adjacency starts
+    /// over.
+    ///
+    /// Errors with `AllocError` if an allocation is refused; the caller then rolls back.
     pub fn proceed(
         &mut self,
         alloc: Global,

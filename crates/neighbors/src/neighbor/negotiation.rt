@@ -1,5 +1,4 @@
-//! What is to be described once master and slave are agreed upon (RFC 2328, section 10.3,
-//! NegotiationDone).
+//! The lists after the negotiation (RFC 2328, section 10.3, NegotiationDone).
 ghost use Rattle.std.specs.Prelude.{◌≡◌, OnOk};
 ghost use Rattle.std.specs.FinMap as finite;
 ghost use Rattle.std.specs.List.{fold};
@@ -13,7 +12,7 @@ use keyed_map::KeyedMap;
 use std::alloc::{AllocError, Global};
 use words::{Key, Second};
 
-// These keys leave the list.
+// Removes these keys from the list.
 pub fn remove_keys(list: &mut KeyedMap<ListEntry>, keys: &[Key]) -> Result<(), AllocError>
     ensures ok { OnOk result (list.new.present ≡ fold finite.remove list.old.present keys.now) }
     ensures settled { list.new.settled ≡ list.old.settled }
@@ -24,7 +23,7 @@ pub fn remove_keys(list: &mut KeyedMap<ListEntry>, keys: &[Key]) -> Result<(), A
     Ok(())
 }
 
-// All keys leave the list.
+// Removes all keys from the list.
 fn clear(alloc: Global, list: &mut KeyedMap<ListEntry>) -> Result<(), AllocError>
     ensures ok { OnOk result (list.new.present ≡ finite.empty) }
     ensures settled { list.new.settled ≡ list.old.settled }
@@ -33,8 +32,8 @@ fn clear(alloc: Global, list: &mut KeyedMap<ListEntry>) -> Result<(), AllocError
     remove_keys(list, &keys)
 }
 
-// The copy of this key, if there is one, goes on the list on which it belongs: at MaxAge it is to
-// be acknowledged, before to be described.
+// Adds the copy of this key, if there is one, to its list: to the retransmission list if it is at
+// MaxAge, else to the Database summary list.
 fn list_copy(
     moment: Second,
     database: &Lsdb,
@@ -63,7 +62,7 @@ fn list_copy(
     young.insert(key, entry)
 }
 
-// Each copy of the database goes on the list on which it belongs. It looks at each once.
+// Adds each copy of the database to its list. It visits each once.
 fn list_copies(
     moment: Second,
     database: &Lsdb,
@@ -84,7 +83,7 @@ fn list_copies(
 }
 
 impl Neighbor {
-    // The two lists are those of the database.
+    // Fills the Database summary list and the retransmission list from the database.
     fn list_database(
         &mut self,
         alloc: Global,
@@ -107,7 +106,7 @@ impl Neighbor {
         )
     }
 
-    // Exchange begins, with this router as the master or the slave.
+    // Transition to Exchange, with this router as the master or the slave.
     fn enter_exchange(&mut self, moment: Second, is_master: bool, sequence: u32)
         ensures { self.new ≡ record self.old {
           present = record self.old.present {
@@ -124,8 +123,10 @@ impl Neighbor {
         self.standing.retransmitted_at = moment;
     }
 
-    /// NegotiationDone: what is to be described are the copies of the database, but for those at
-    /// MaxAge, which are to be acknowledged. Refused, the neighbor is to be rolled back.
+    /// NegotiationDone: the Database summary list gets the copies of the database, except those at
+    /// MaxAge, which go on the retransmission list.
+    ///
+    /// Errors with `AllocError` if an allocation is refused; the caller then rolls back.
     pub fn negotiate(
         &mut self,
         alloc: Global,

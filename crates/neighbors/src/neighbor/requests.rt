@@ -13,10 +13,10 @@ use keyed_map::KeyedMap;
 use std::alloc::{AllocError, Global};
 use words::{Key, Second, Sequence};
 
-/// The most keys of one Request.
+/// The most keys in one Link State Request.
 const MOST_KEYS_REQUESTED: usize = 680;
 
-// Puts the keys into an empty set.
+// Adds the keys to an empty set.
 fn put_keys(keys_set: &mut KeyedMap<()>, keys: &[Key]) -> Result<(), AllocError>
     requires { keys_set.old.present ≡ finite.empty }
     ensures ok { OnOk result (keys_of keys_set.new.present ≡ set.from_list keys.now) }
@@ -35,7 +35,7 @@ fn all_hold(synchronizing: bool, unrequested: bool, unasked: bool) -> bool
 }
 
 impl Neighbor {
-    // Something is to be requested, and nothing is outstanding.
+    // Whether the request list isn't empty, and nothing is outstanding.
     fn may_request(&self) -> bool
         ensures { result ≡ may_request self.now.present }
     {
@@ -45,7 +45,7 @@ impl Neighbor {
         all_hold(synchronizing, unrequested, unasked)
     }
 
-    // Requests the first keys that one Request has room for.
+    // Requests the first keys that fit into one Link State Request.
     fn request_first(
         &mut self,
         alloc: Global,
@@ -67,9 +67,10 @@ impl Neighbor {
         draft.request(Sequence::from_vec(keys))
     }
 
-    /// In Exchange or Loading, with nothing outstanding, a Request for the first keys of the
-    /// request list is to be sent (RFC 2328, section 10.9). Refused, the neighbor is to be rolled
-    /// back.
+    /// In Exchange or Loading, if nothing is outstanding, sends a Link State Request for the first
+    /// keys of the request list (RFC 2328, section 10.9).
+    ///
+    /// Errors with `AllocError` if an allocation is refused; the caller then rolls back.
     pub fn request(
         &mut self,
         alloc: Global,

@@ -1,4 +1,5 @@
-//! What runs out at a Tick, and what is sent again (RFC 2328, sections 10.3, 10.8, 10.9 and 13.6).
+//! Timers that a Tick finds expired, and retransmission (RFC 2328, sections 10.3, 10.8, 10.9 and
+//! 13.6).
 ghost use Rattle.std.specs.Prelude.{◌≡◌, ◌==◌, ℕ, not, ◌&&◌, List, [], ◌∷◌, map, IfOk, OnOk};
 ghost use Rattle.std.specs.FinMap as finite;
 ghost use Rattle.std.specs.FinSet as set;
@@ -24,13 +25,13 @@ use keyed_map::{KeyTest, KeyedMap};
 use std::alloc::{AllocError, Global};
 use words::{Key, Second, Sequence};
 
-/// The bytes of an Update before its LSAs: the packet's header, and how many LSAs there are.
+/// The bytes of a Link State Update before its LSAs: the packet header and the number of LSAs.
 const BEFORE_LSAS: u16 = 28;
 
-/// The bytes of the largest packet.
+/// The greatest length of a packet, in bytes.
 const LARGEST_PACKET: u32 = 8192;
 
-// Whether at least `interval` seconds lie between the start and the moment.
+// Whether at least `interval` seconds have passed from the start to the moment.
 fn has_passed(start: Second, interval: u32, moment: Second) -> bool
     ensures { result ≡ has_passed start interval moment }
 {
@@ -46,7 +47,7 @@ fn is_over_for(moment: Second, dead: u32, exchanged: Option<Second>) -> bool
     }
 }
 
-// Loading with nothing left to request becomes Full.
+// From Loading to Full if the request list is empty.
 fn full_where(state: State, unrequested: bool) -> State
     ensures { result ≡ full_where state unrequested }
 {
@@ -65,8 +66,8 @@ fn full_where(state: State, unrequested: bool) -> State
     }
 }
 
-// Whether a Description is sent again in this state: that of ExStart, and the master's of
-// Exchange.
+// Whether the last Database Description is retransmitted in this state: in ExStart, and by the
+// master in Exchange.
 fn repeats_description(state: State, is_master: bool) -> bool
     ensures { result ≡ repeats_description state is_master }
 {
@@ -79,7 +80,7 @@ fn repeats_description(state: State, is_master: bool) -> bool
     }
 }
 
-// Which keys are still on the request list.
+// Selects the keys that are still on the request list.
 #[derive(Drop)]
 struct StillRequested<'a> {
     requests: &'a KeyedMap<ListEntry>,
@@ -93,8 +94,8 @@ impl<'a> KeyTest<()> for StillRequested<'a> {
     }
 }
 
-// Sends the copy if it has room after the given number of bytes of an Update. Returns the number of
-// bytes then, or None if it has no room.
+// Sends the copy if it fits into a Link State Update after the given number of bytes. Returns the
+// number of bytes then, or `None` if it doesn't fit.
 fn send_if_it_fits(
     alloc: Global,
     moment: Second,
@@ -117,7 +118,7 @@ fn send_if_it_fits(
     Ok(None)
 }
 
-// The same of the copy of this key, if there is one.
+// The same for the copy of this key, if there is one.
 fn send_key_if_it_fits(
     alloc: Global,
     moment: Second,
@@ -139,8 +140,8 @@ fn send_key_if_it_fits(
     }
 }
 
-// Sends the copies of the entries' keys, in their order, as many as one Update has room for. It
-// looks no further.
+// Sends the copies of the entries' keys in order, as many as fit into one Link State Update, and
+// stops there.
 fn send_that_fit(
     alloc: Global,
     moment: Second,
@@ -165,24 +166,24 @@ fn send_that_fit(
 }
 
 impl Neighbor {
-    // ---- what runs out
+    // ---- timers that have expired
 
-    /// Whether the inactivity timer has run out: RouterDeadInterval (`dead`, in seconds) has
-    /// passed since it started.
+    /// Whether the inactivity timer has expired: RouterDeadInterval (`dead`, in seconds) has passed
+    /// since it started.
     pub fn is_inactive(&self, moment: Second, dead: u32) -> bool
         ensures { result ≡ has_passed self.now.present.last_heard dead moment }
     {
         has_passed(self.standing.last_heard, dead, moment)
     }
 
-    // The exchange was done RouterDeadInterval ago.
+    // Whether RouterDeadInterval has passed since the exchange was completed.
     fn is_exchange_over(&self, moment: Second, dead: u32) -> bool
         ensures { result ≡ is_over_for moment dead self.now.present.exchanged }
     {
         is_over_for(moment, dead, self.standing.exchanged)
     }
 
-    // The last Description isn't kept any longer. It wants no memory.
+    // Discards the last Database Description. It doesn't allocate.
     fn forget_description(&mut self)
         ensures { self.new ≡ record self.old {
           present =
@@ -192,8 +193,8 @@ impl Neighbor {
         self.described.set(None);
     }
 
-    /// RouterDeadInterval (`dead`, in seconds) after the exchange was done the last Description is
-    /// given up (RFC 2328, section 10.8). It wants no memory.
+    /// Discards the last Database Description if RouterDeadInterval (`dead`, in seconds) has passed
+    /// since the exchange was completed (RFC 2328, section 10.8). It doesn't allocate.
     pub fn give_up_description(&mut self, moment: Second, dead: u32)
         ensures { self.new ≡ record self.old {
           present = without_old_description moment dead
@@ -206,8 +207,8 @@ impl Neighbor {
         }
     }
 
-    /// LoadingDone (RFC 2328, section 10.3): Loading with nothing left to request becomes Full. It
-    /// wants no memory.
+    /// LoadingDone (RFC 2328, section 10.3): from Loading to Full if the request list is empty. It
+    /// doesn't allocate.
     pub fn end_loading(&mut self)
         ensures { self.new ≡ record self.old { present = loading_done self.old.present } }
     {
@@ -215,9 +216,9 @@ impl Neighbor {
         self.standing.state = full_where(self.standing.state, unrequested);
     }
 
-    // ---- what is sent again
+    // ---- what is retransmitted
 
-    // The last Description is to be sent again.
+    // Whether the last Database Description is to be retransmitted.
     fn description_is_due(&self, moment: Second, interval: u16) -> bool
         ensures { result ≡ description_is_due moment interval self.now.present }
     {
@@ -226,7 +227,7 @@ impl Neighbor {
         both(repeats, passed)
     }
 
-    // The last Request is to be sent again.
+    // Whether the last Link State Request is to be retransmitted.
     fn request_is_due(&self, moment: Second, interval: u16) -> bool
         ensures { result ≡ request_is_due moment interval self.now.present }
     {
@@ -235,7 +236,7 @@ impl Neighbor {
         both(!none, passed)
     }
 
-    // Retransmissions are to be sent again.
+    // Whether LSAs are to be retransmitted.
     fn retransmission_is_due(&self, moment: Second, interval: u16) -> bool
         ensures { result ≡ retransmission_is_due moment interval self.now.present }
     {
@@ -244,7 +245,8 @@ impl Neighbor {
         both(!none, passed)
     }
 
-    // The last Description is sent again once RxmtInterval (`interval`, in seconds) has passed.
+    // Retransmits the last Database Description if RxmtInterval (`interval`, in seconds) has
+    // passed.
     fn describe_again(
         &mut self,
         moment: Second,
@@ -264,7 +266,7 @@ impl Neighbor {
         Ok(())
     }
 
-    // What is outstanding and still on the request list.
+    // The outstanding keys that are still on the request list.
     fn still_outstanding(&self, alloc: Global) -> Result<Vec<Key>, AllocError>
         ensures { IfOk result (λ keys. keys.items ≡ still_outstanding self.now.present) }
     {
@@ -274,7 +276,7 @@ impl Neighbor {
         self.outstanding.keys_where(alloc, &requested)
     }
 
-    // Requests what is still outstanding.
+    // Requests the outstanding keys.
     fn request_outstanding(
         &mut self,
         alloc: Global,
@@ -292,8 +294,7 @@ impl Neighbor {
         draft.request(Sequence::from_vec(keys))
     }
 
-    // What is still outstanding is requested again once RxmtInterval (`interval`, in seconds) has
-    // passed.
+    // Requests the outstanding keys again if RxmtInterval (`interval`, in seconds) has passed.
     fn request_again(
         &mut self,
         alloc: Global,
@@ -314,7 +315,7 @@ impl Neighbor {
         Ok(())
     }
 
-    // Sends the first of the retransmission list.
+    // Sends the first LSAs of the retransmission list.
     fn retransmit(
         &mut self,
         alloc: Global,
@@ -334,8 +335,8 @@ impl Neighbor {
         send_that_fit(alloc, moment, delay, database, &self.retransmissions, draft)
     }
 
-    // The first of the retransmission list is sent again once RxmtInterval (`interval`, in seconds)
-    // has passed.
+    // Retransmits the first LSAs of the retransmission list if RxmtInterval (`interval`, in
+    // seconds) has passed.
     fn update_again(
         &mut self,
         alloc: Global,
@@ -359,10 +360,12 @@ impl Neighbor {
         Ok(())
     }
 
-    /// What a Tick sends again once RxmtInterval (`interval`, in seconds) has passed since it was
-    /// sent: the Description, the Request for what is still outstanding, and the first of the
-    /// retransmission list in key order, as many as one Update has room for (RFC 2328, sections
-    /// 10.8, 10.9 and 13.6). Refused, the neighbor is to be rolled back.
+    /// What a Tick retransmits if RxmtInterval (`interval`, in seconds) has passed since it was
+    /// sent: the Database Description, the Link State Request for the outstanding keys, and the
+    /// first LSAs of the retransmission list in key order, as many as fit into one Link State
+    /// Update (RFC 2328, sections 10.8, 10.9 and 13.6).
+    ///
+    /// Errors with `AllocError` if an allocation is refused; the caller then rolls back.
     pub fn send_again(
         &mut self,
         alloc: Global,

@@ -1,4 +1,5 @@
-//! What an LSA of a received Update asks of the neighbor that sent it (RFC 2328, section 13).
+//! What an LSA of a received Link State Update requires to be known of the neighbor that sent it
+//! (RFC 2328, section 13).
 ghost use Rattle.std.specs.Prelude.{◌≡◌, OnOk};
 ghost use Rattle.std.specs.FinMap as finite;
 ghost use Rattle.lsa.specs.Headers.{key_of};
@@ -11,7 +12,7 @@ use std::alloc::AllocError;
 use words::{Key, Second};
 
 impl Neighbor {
-    /// Whether it is in Exchange or Loading, so that its database isn't synchronized yet.
+    /// Whether it is in Exchange or Loading, so that the databases aren't synchronized yet.
     pub fn is_exchange_or_loading(&self) -> bool
         ensures { result ≡ is_exchange_or_loading self.now.present.state }
     {
@@ -32,8 +33,7 @@ impl Neighbor {
         self.retransmissions.contains(key)
     }
 
-    /// Whether just this instance is on the retransmission list (RFC 2328, section 13, step
-    /// 7a).
+    /// Whether exactly this instance is on the retransmission list (RFC 2328, section 13, step 7a).
     pub fn has_instance(&self, moment: Second, header: &Header) -> bool
         ensures { result ≡ is_entry moment header.now
             (finite.get self.now.present.retransmissions (key_of header.now)) }
@@ -42,8 +42,10 @@ impl Neighbor {
         is_entry(moment, header, entry)
     }
 
-    /// An implied acknowledgment (RFC 2328, section 13, step 7a): the header's key leaves the
-    /// retransmission list. Refused, the neighbor is to be rolled back.
+    /// An implied acknowledgment (RFC 2328, section 13, step 7a): removes the header's key from the
+    /// retransmission list.
+    ///
+    /// Errors with `AllocError` if an allocation is refused; the caller then rolls back.
     pub fn take_off(&mut self, header: &Header) -> Result<(), AllocError>
         ensures ok { OnOk result (self.new.present
             ≡ remove_retransmission (key_of header.now) self.old.present) }

@@ -60,8 +60,8 @@ impl Neighbor {
         repetition(duplicate, standing.is_master, kept, over)
     }
 
-    /// The verdict on a Description from the neighbor, whose MTU isn't too large (RFC 2328, section
-    /// 10.6).
+    /// The verdict on a Database Description from the neighbor whose MTU isn't too large (RFC 2328,
+    /// section 10.6).
     pub fn verdict(&self, own: RouterId, description: &Description) -> Verdict
         ensures { verdict_of result ≡ verdict_of_description own self.now.present description.now }
     {

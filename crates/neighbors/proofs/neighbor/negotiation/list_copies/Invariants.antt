@@ -5,7 +5,7 @@ use Rattle.adjacency.specs.lsdb.Copies.{is_aged_out}
 use Rattle.adjacency.specs.Exchanges.{is_young, with_key}
 use Rattle.neighbors.proofs.neighbor.negotiation.list_copies.Given as goal
 
--- what going on to the end gives
+-- the result of continuing to the end
 abbrev pub invariant-loop-key : goal.invariant-loop-key
 invariant-loop-key l = record {
   young : fold (with_key (is_young l.moment) l.moment l.database.present) l.young.present l.key-iterator ≡ fold (with_key (is_young l.moment) l.moment l.database.present) finite.empty (finite.keys l.database.present);

@@ -6,7 +6,7 @@ use Rattle.adjacency.specs.Retransmissions.{that_fit}
 use Rattle.adjacency.specs.Steps.{lsas_of}
 use Rattle.neighbors.proofs.neighbor.timers.send_that_fit.Given as goal
 
--- what going on from here gives is what is to be given
+-- continuing from here gives the whole result
 abbrev pub invariant-loop-key : goal.invariant-loop-key
 invariant-loop-key l =
     drafting l.delay (map Updates (that_fit l.used (lsas_of l.moment l.database.present l.key-iterator))) l.draft
