@@ -1,4 +1,4 @@
--- Delayed acknowledgments that are sent, and leave.
+-- Delayed acknowledgments that are sent and cleared.
 use Rattle.std.proofs.Common.{◌≡◌, ℕ, zero, suc, ◌+◌, ◌<◌, List, [], ◌∷◌, length, map, take, get_or, refl, sym, ap, ◌∙◌, arith}
 use Rattle.std.specs.List.{AllByRecursion, cons_option, filter_map, fold}
 use Rattle.std.specs.Prelude.{Option, None, Some}
@@ -12,7 +12,7 @@ use Rattle.adjacency.proofs.Floods.{drafting-none}
 use Rattle.adjacency.proofs.Lists.{left_none}
 use Rattle.adjacency.proofs.Maps.{IfThere, OfEntry, entries_in}
 
--- the items from the place of this number on
+-- the items from this index on
 abbrev pub from : {X : Type 0} → ℕ → List X → List X
 from zero xs = xs
 from (suc i) [] = []
@@ -35,13 +35,13 @@ from_end zero (x ∷ xs) all = absurd (omega (arith, all))
 from_end (suc i) [] all = refl
 from_end (suc i) (x ∷ xs) all = from_end i xs (omega (arith, all))
 
--- one Acknowledgment more
+-- one more acknowledgment
 pub drafting-more : (delay : ℕ) (c : Content) (cs : List Content) (d : Drafted) → drafting delay (c ∷ cs) d ≡ drafting delay cs (drafting delay (c ∷ []) d)
 unfolding drafting
 drafting-more delay c cs d = refl
 
 module _ (m : ByKey Header) where
-  -- what the keys from one on name
+  -- what the keys from one on acknowledge
   abbrev pub named_from : ℕ → List Key → List Content
   named_from i keys = map Acknowledges (filter_map (finite.get m) (from i keys))
 
@@ -88,7 +88,7 @@ module _ (m : ByKey Header) where
   keys_count f [] = refl
   keys_count f (x ∷ xs) = ap suc (keys_count f xs)
 
-  -- what all keys name are all values
+  -- all keys give all values
   pub all_named : (keys : List Key) (n : ℕ) → n ≡ finite.len m → keys ≡ take n (finite.keys m) → filter_map (finite.get m) keys ≡ finite.values m
   all_named keys n count is =
       ap (filter_map (finite.get m)) (is ∙ take_all n (finite.keys m) (count ∙ finite.len-entries m ∙ sym (keys_count (λ e. e.0) (finite.entries m))))

@@ -1,5 +1,5 @@
--- A change of each link, and a step of each link that sends: nothing is done yet, and the loops'
--- invariants.
+-- A change of each link, and a step in which each link may send: the start and the invariants of
+-- the loops.
 use Rattle.std.proofs.Common.{◌≡◌, ℕ, ◌+◌, Bool, false, List, [], ◌∷◌, map, refl, sym, ap, ◌∙◌}
 use Rattle.adjacency.specs.Contents.{Content}
 use Rattle.adjacency.specs.Drafts.{Drafted, drafting}
@@ -16,7 +16,7 @@ pub changes_begin : {N L : Type 0} (f : N → L) (a : L → L) (ns : List N) →
 changes_begin f a [] = refl
 changes_begin f a (n ∷ ns) = ap (λ ls. a (f n) ∷ ls) (changes_begin f a ns)
 
--- A is what the step makes of a link, S what is sent there
+-- A is the link after the step, S what is sent there
 module _ (A : Link → Link) (S : Link → List Content) where
   abbrev pub after : ℕ → Link → Link
   after n l = A l
@@ -27,7 +27,7 @@ module _ (A : Link → Link) (S : Link → List Content) where
   abbrev pub after_draft : ℕ → Link → Drafted → Drafted
   after_draft n l d = drafting l.interface.delay (S l) d
 
-  -- nothing is counted
+  -- nothing counts
   abbrev pub counts : ℕ → Link → Bool
   counts n l = false
 

@@ -1,4 +1,4 @@
--- Flooding's loop over the links.
+-- The flooding loop over the links.
 use Rattle.std.proofs.Common.{◌≡◌, ℕ, ◌+◌, Bool, true, false, cond, not, ◌&&◌, ◌||◌, List, [], ◌∷◌, map, refl, sym, ap, ◌∙◌}
 use Rattle.std.specs.Prelude.{Option, None, Some}
 use Rattle.std.specs.List.{fold}
@@ -20,7 +20,7 @@ use Rattle.flooding.proofs.Finish.{Finishes, finish_counts, finish_drafts, items
 use Rattle.flooding.proofs.Sends.{any_from, any_is, draft_from, drafts_are}
 use Rattle.flooding.proofs.Marks.{marks_all}
 
--- ---- a neighbor's step is the definition's, by whether the link is the sender's
+-- ---- a neighbor's step is that of the definition, by whether the link is the sender's
 
 pub flooded_to : (moment : ℕ) (sender : Option ℕ) (lsa : Lsa) (number : ℕ) (link : Link) (n : Neighbor)
     → flood_to moment sender lsa number link n ≡ flood_step moment (is_sender sender number) lsa n
@@ -37,7 +37,7 @@ pub sent_is : (moment : ℕ) (sender : Option ℕ) (lsa : Lsa) (number : ℕ) (l
 sent_is moment sender lsa number link None = refl
 sent_is moment sender lsa number link (Some n) = ap (λ (s : Step). s.sends) (sym (flooded_to moment sender lsa number link n))
 
--- ---- an Update to each neighbor, or nothing
+-- ---- a Link State Update to each neighbor, or nothing
 
 one_by : (lsa : Lsa) (n m r : Neighbor) (part gets : Bool)
     → (cond part (cond gets (record { neighbor = m; sends = Updates lsa ∷ [] }) (no_sends r)) (no_sends n)).sends
@@ -68,7 +68,7 @@ module _ (moment : ℕ) (sender : Option ℕ) (lsa : Lsa) where
       let m = without_met_request moment lsa n in
       one_by lsa n (add_retransmission moment lsa.header m) (remove_retransmission (lsa_key lsa) m) (is_exchange_or_later n.state) (not (is_sender sender number) && passes moment lsa (request_of n lsa))
 
-  -- an Update to each neighbor, or nothing
+  -- a Link State Update to each neighbor, or nothing
   pub one : (number : ℕ) (link : Link) → sent_at number link ≡ cond (is_any (sent_at number link)) (Updates lsa ∷ []) []
   one number link = one_on number link link.neighbor
 
@@ -93,7 +93,7 @@ module _ (moment : ℕ) (sender : Option ℕ) (lsa : Lsa) where
     counts_is = counts_all 1 xs ∙ any_is sent_at 1 (map present xs);
   }
 
-  -- the marks of all Updates are one
+  -- the marks of all Link State Updates are one mark
   pub marks_once : (links : List Link) (d : Database)
       → fold (λ (db : Database) (s : Send). marked_database moment db s.content) d (stepping_sends step links) ≡ cond (is_any (stepping_sends step links)) (mark_sent moment (lsa_key lsa) d) d
   marks_once links d = marks_all sent_at moment lsa one 1 links d

@@ -1,4 +1,4 @@
--- The copy of a key that Updates take along is marked once, or not at all.
+-- The copy of a key that is sent in Link State Updates is marked once, or not at all.
 use Rattle.std.proofs.Common.{◌≡◌, ℕ, ◌+◌, Bool, true, false, cond, List, [], ◌∷◌, ◌++◌, refl, sym, ap, ◌∙◌}
 use Rattle.std.specs.List.{fold}
 use Rattle.std.specs.Prelude.{Option, None, Some}
@@ -22,7 +22,7 @@ over : (b : Bool) (c : DatabaseCopy) (o : Option DatabaseCopy) → cond b (Some 
 over true c o = refl
 over false c o = refl
 
--- marked again, it is as it was
+-- marking a copy again changes nothing
 twice_by : (moment : ℕ) (k : Key) (d : Database) (o : Option DatabaseCopy) → finite.get d k ≡ o → mark_sent moment k (mark_sent moment k d) ≡ mark_sent moment k d
 twice_by moment k d None is =
     let once : mark_sent moment k d ≡ d = change_is k (λ c. record c { sent = Some moment }) d None is in
@@ -55,7 +55,7 @@ module _ (S : ℕ → Link → List Content) (moment : ℕ) (lsa : Lsa) (one : (
   by_sent n true rest d so = so (mark_sent moment (lsa_key lsa) d) ∙ same_either (is_any rest) d
   by_sent n false rest d so = so d
 
-  -- a run over all links
+  -- all links in turn
   pub marks_all : (n : ℕ) (links : List Link) (d : Database) → marks_on d (sends_from S n links) ≡ cond (is_any (sends_from S n links)) (mark_sent moment (lsa_key lsa) d) d
   marks_all n [] d = refl
   marks_all n (l ∷ ls) d =

@@ -8,14 +8,14 @@ module _ {N : Type 0} (p : N → Link) (change : Link → Link) where
   abbrev pub changed : ℕ → ℕ → List Link → List Link
   changed n number ls = map (λ (e : ℕ × Link). cond (e.0 == number) (change e.1) e.1) (enumerate_from n ls)
 
-  -- a number before those of the links
+  -- a number before those of the links changes nothing
   pub changed_before : (n number : ℕ) (ls : List Link) → number < n → changed n number ls ≡ ls
   changed_before n number [] lt = refl
   changed_before n number (l ∷ ls) lt =
       ap (λ b. cond b (change l) l ∷ changed (n + 1) number ls) (other_number n number (λ is. absurd (omega (arith, lt, is))))
       ∙ ap (λ zs. l ∷ zs) (changed_before (n + 1) number ls (omega (arith, lt)))
 
-  -- a number after those of the links
+  -- nor does a number after those of the links
   pub changed_after : (n number : ℕ) (ls : List Link) → n + length ls ≤ number → changed n number ls ≡ ls
   changed_after n number [] le = refl
   changed_after n number (l ∷ ls) le =

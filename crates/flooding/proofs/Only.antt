@@ -1,4 +1,4 @@
--- What is done at one interface alone.
+-- A step at only one interface.
 use Rattle.std.proofs.Common.{◌≡◌, ◌≢◌, ℕ, zero, suc, ◌+◌, ◌<◌, ◌==◌, cond, List, [], ◌∷◌, ◌++◌, length, map, get_or, set, refl, sym, ap, ◌∙◌, arith}
 use Rattle.std.proofs.lemmas.List.{get_or-map, length-map, map-set}
 use Rattle.std.specs.List.{enumerate_from, filter_map}
@@ -15,7 +15,7 @@ use Rattle.flooding.specs.Drafted.{at_interface, drafts_with, drafted_from}
 use Rattle.flooding.specs.Links.{present, with_neighbor}
 use Rattle.flooding.proofs.Sends.{append_none, other_number, picked_elsewhere, picked_here, same_number, sends_from}
 
--- g changes the item of number k alone
+-- g changes only the item with number k
 module _ {L : Type 0} (g : ℕ → L → L) (k : ℕ) (rest : (p : ℕ) (x : L) → p ≢ k → g p x ≡ x) where
   rest_stays : (n : ℕ) (xs : List L) → k < n → xs ≡ map (λ (e : ℕ × L). g e.0 e.1) (enumerate_from n xs)
   rest_stays n [] lt = refl
@@ -30,7 +30,7 @@ module _ {L : Type 0} (g : ℕ → L → L) (k : ℕ) (rest : (p : ℕ) (x : L) 
       let away : n ≢ k = λ e. absurd (omega (arith, at, e)) in
       λ j. sym (rest n x away) j ∷ set_only i (n + 1) xs y d (omega (arith, lt)) (omega (arith, at)) is j
 
--- S sends at number k alone
+-- S sends only at number k
 module _ (S : ℕ → Link → List Content) (k : ℕ) (rest : (p : ℕ) (l : Link) → p ≢ k → S p l ≡ []) where
   none_later : (n : ℕ) (ls : List Link) → k < n → sends_from S n ls ≡ []
   none_later n [] lt = refl
@@ -45,7 +45,7 @@ module _ (S : ℕ → Link → List Content) (k : ℕ) (rest : (p : ℕ) (l : Li
   sends_only (suc i) n (l ∷ ls) d lt at =
       ap (λ cs. sends_at n cs ++ sends_from S (n + 1) ls) (rest n l (λ e. absurd (omega (arith, at, e)))) ∙ sends_only i (n + 1) ls d (omega (arith, lt)) (omega (arith, at))
 
--- what is sent at number k lands in its draft alone
+-- what is sent at number k changes only its draft
 drafts_rest : (k n : ℕ) (cs : List Content) (ls : List Link) (ds : List Drafted) → k < n → ds ≡ drafted_from n (sends_at k cs) ls ds
 drafts_rest k n cs [] ds lt = refl
 drafts_rest k n cs (l ∷ ls) [] lt = refl
@@ -83,7 +83,7 @@ sent_acts : (f : Neighbor → Step) (k : ℕ) (l : Link) (o : Option Neighbor) �
 sent_acts f k l None = refl
 sent_acts f k l (Some n) = sym (ap (λ b. (cond b (f n) (no_sends n)).sends) (same_number k))
 
--- the links as they are shown, after one of them changed
+-- the view of the links after one of them changed
 shown_set : (ls : List (Kept Link)) (i : ℕ) (y : Kept Link) → map present (set ls i y) ≡ set (map present ls) i y.present
 shown_set ls i y = map-set present ls i y
 
@@ -123,7 +123,7 @@ module _ (ls : List (Kept Link)) (i k : ℕ) (y d : Kept Link) (lt : i < length 
       drafted_only i 1 k cs (map present ls) ds d.present e dd (shown_within ls i lt) lt_d at
       (is ∙ ap (λ (l : Link). drafting l.interface.delay cs (get_or ds i dd)) (sym shown))
 
--- if the draft's text needs no delay, any link's will do
+-- if what is drafted doesn't depend on the delay, that of any link may be used
 pub drafts_at : (ls : List (Kept Link)) (i k : ℕ) → i < length ls → k ≡ 1 + i → (cs : List Content) (ds : List Drafted) (e dd : Drafted) → i < length ds
     → ((d : Kept Link) → e ≡ drafting d.present.interface.delay cs (get_or ds i dd)) → set ds i e ≡ drafts_with (sends_at k cs) (map present ls) ds
 drafts_at [] i k lt at cs ds e dd lt_d is = absurd (omega (arith, lt))

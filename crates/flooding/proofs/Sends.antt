@@ -37,13 +37,13 @@ pub append_none : {A : Type 0} (xs : List A) → xs ++ [] ≡ xs
 append_none [] = refl
 append_none (x ∷ xs) = ap (λ zs. x ∷ zs) (append_none xs)
 
--- if nothing is sent, each draft stays
+-- if nothing is sent, each draft stays the same
 pub drafted_none : (n : ℕ) (links : List Link) (ds : List Drafted) → ds ≡ drafted_from n [] links ds
 drafted_none n [] ds = refl
 drafted_none n (l ∷ ls) [] = refl
 drafted_none n (l ∷ ls) (d ∷ ds) = λ i. drafting-none l.interface.delay d i ∷ drafted_none (n + 1) ls ds i
 
--- S is what is sent on a link of this number
+-- S is what is sent on a link with this number
 module _ (S : ℕ → Link → List Content) where
   abbrev pub sends_from : ℕ → List Link → List Send
   sends_from n links = flat_map (λ (e : ℕ × Link). sends_at e.0 (S e.0 e.1)) (enumerate_from n links)
@@ -85,7 +85,7 @@ module _ (S : ℕ → Link → List Content) where
       ∙ ap (λ zs. drafting l.interface.delay (S n l) d ∷ drafted_from (n + 1) zs ls ds) whole
       ∙ ap (λ zs. drafting l.interface.delay (S n l) d ∷ zs) rest
 
-  -- what arises in one run over all links lands in the draft of its link
+  -- what is sent by all links in turn goes to the drafts of the links
   pub drafts_are : (links : List Link) (ds : List Drafted) → drafted_from 1 (sends_from 1 links) links ds ≡ draft_from 1 links ds
   drafts_are links ds = drafts_behind 1 [] links ds (λ k le. refl)
 

@@ -1,4 +1,4 @@
--- What a link shows of its neighbor, as the definitions look for it.
+-- The neighbor's state in a link's view, as the definitions read it.
 use Rattle.std.proofs.Common.{◌≡◌, ℕ, zero, suc, ◌+◌, ◌<◌, List, [], ◌∷◌, ◌||◌, length, map, get_or, refl, ap, ◌∙◌, arith}
 use Rattle.std.specs.List.{list_any, slice_get}
 use Rattle.std.specs.Prelude.{Option, None, Some}

@@ -1,4 +1,4 @@
--- The marks of what is sent are those of the keys that the draft has got.
+-- The marks of what is sent are those of the keys that were added to the draft.
 use Rattle.std.proofs.Common.{◌≡◌, ℕ, zero, suc, ◌+◌, ◌<◌, ◌≤◌, List, [], ◌∷◌, ◌++◌, drop, length, map, get_or, refl, sym, ap, ◌∙◌, arith, append_assoc}
 use Rattle.std.specs.List.{slice_get}
 use Rattle.std.specs.Prelude.{Some}
@@ -15,7 +15,7 @@ use Rattle.flooding.specs.Steps.{key_of_update, mark_each}
 use Rattle.flooding.proofs.Marking.{marks}
 use Rattle.flooding.proofs.Sends.{append_none}
 
--- ---- lists from a place on
+-- ---- lists from an index on
 
 drop_step : {X : Type 0} (i : ℕ) (xs : List X) (d : X) → i < length xs → drop i xs ≡ get_or xs i d ∷ drop (suc i) xs
 drop_step zero [] d lt = absurd (omega (arith, lt))
@@ -38,9 +38,9 @@ behind_all : (us : List Update) (more : List Update) → drop (length us) (us ++
 behind_all [] more = refl
 behind_all (u ∷ us) more = behind_all us more
 
--- ---- what Updates take along
+-- ---- the Link State Updates
 
--- the Updates among the contents, as a draft has them
+-- the Link State Updates among the contents, as a draft has them
 abbrev pub updates_of : ℕ → List Content → List Update
 updates_of delay [] = []
 updates_of delay (SendsHello h ∷ cs) = updates_of delay cs
@@ -69,12 +69,12 @@ marks_of moment delay n (Requests ks ∷ cs) db = marks_of moment delay n cs db
 marks_of moment delay n (Updates lsa ∷ cs) db = marks_of moment delay n cs (mark_sent moment (lsa_key lsa) db)
 marks_of moment delay n (Acknowledges h ∷ cs) db = marks_of moment delay n cs db
 
--- what stands in the draft behind what it had
+-- what was added to the draft
 pub marks_behind : (moment delay n : ℕ) (cs : List Content) (db : Database) (d : Drafted)
     → mark_each moment db (map key_of_update (drop (length d.updates) (drafting delay cs d).updates)) ≡ marks moment db (sends_at n cs)
 marks_behind moment delay n cs db d = ap (λ us. mark_each moment db (map key_of_update us)) (new_updates delay cs d) ∙ sym (marks_of moment delay n cs db)
 
--- ---- the link of a number
+-- ---- the link with a number
 
 shown_get : (ls : List (Kept Link)) (i : ℕ) (d : Kept Link) → i < length ls → Some (get_or ls i d).present ≡ slice_get (map present ls) i
 shown_get [] i d lt = absurd (omega (arith, lt))

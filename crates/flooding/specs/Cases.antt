@@ -1,4 +1,4 @@
--- The cases of received LSAs as the code names them, and the tests that tell them apart.
+-- The cases of received LSAs with their names in the code, and the tests that distinguish them.
 use Rattle.std.specs.Prelude.{Bool, List, [], ◌∷◌}
 use Rattle.received.specs.Cases.{Case}
 use Rattle.flooding.specs.declared.cases.Case.{Case as Named}
@@ -17,7 +17,7 @@ case_of named.SequenceWraps = Case.SequenceWraps
 case_of named.SentJustNow = Case.SentJustNow
 case_of named.Older = Case.Older
 
--- the tests in their order, each with its case
+-- the tests in order, each with its case
 abbrev pub tests_of : Tests → List (Bool × Case)
 tests_of t =
     (t.nothing_to_flush, Case.NothingToFlush)

@@ -1,4 +1,4 @@
--- What is sent at each interface goes into its draft.
+-- The drafts of the interfaces with what is sent there.
 use Rattle.std.specs.Prelude.{◌+◌, ◌==◌, if◌then◌else◌, List, [], ◌∷◌}
 use Rattle.std.specs.Prelude.{Option, None, Some}
 use Rattle.std.specs.List.{filter_map}
@@ -15,13 +15,13 @@ abbrev pub drafted_at : InterfaceNumber → List Send → Link → Drafted → D
 drafted_at number sends link d =
     drafting link.interface.delay (filter_map (at_interface number) sends) d
 
--- the first link has this number
+-- `n` is the number of the first link
 abbrev pub drafted_from : InterfaceNumber → List Send → List Link → List Drafted → List Drafted
 drafted_from n sends [] ds = ds
 drafted_from n sends (l ∷ ls) [] = []
 drafted_from n sends (l ∷ ls) (d ∷ ds) =
     drafted_at n sends l d ∷ drafted_from (n + 1) sends ls ds
 
--- interface n is at place n - 1
+-- interface n is at index n - 1
 abbrev pub drafts_with : List Send → List Link → List Drafted → List Drafted
 drafts_with sends links ds = drafted_from 1 sends links ds

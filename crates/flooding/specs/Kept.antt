@@ -1,11 +1,11 @@
--- Links and database of a router, and what they were when they were last settled.
+-- Links and database of a router, and their state when they were last settled.
 use Rattle.std.specs.Prelude.{ℕ, refl}
 use Rattle.std.specs.Coded.{Coded, code_by, coded×, coded_ℕ}
 use Rattle.words.specs.Numbers.{RouterNumber}
 use Rattle.received.specs.Links.{Area}
 
 pub record RouterArea : Type 0 where
-  -- the router's own ID
+  -- the router's own Router ID
   pub router : RouterNumber
   pub present : Area
   pub settled : Area

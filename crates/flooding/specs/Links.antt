@@ -1,4 +1,4 @@
--- Links by now and when they were last settled, and flooding of what the database has.
+-- Links and their settled state, and flooding of database copies.
 use Rattle.std.specs.Prelude.{if◌then◌else◌, List, [], map, Option, None, Some}
 use Rattle.std.specs.FinMap as finite
 use Rattle.words.specs.Numbers.{InterfaceNumber, Moment}
@@ -20,7 +20,7 @@ present l = l.present
 abbrev pub settled_link : Kept Link → Link
 settled_link l = l.settled
 
--- the neighbor is Down, and nothing was sent yet
+-- the neighbor is Down, and nothing was sent
 abbrev pub unused_link : Interface → Link
 unused_link interface = record {
   interface = interface;
@@ -38,32 +38,32 @@ without_neighbor link = record link { neighbor = None }
 abbrev pub area_of : List (Kept Link) → Database → Area
 area_of links db = record { links = map present links; database = db }
 
--- nothing is sent yet
+-- nothing was sent so far
 abbrev pub start : Area → Outcome
 start a = record { area = a; sends = [] }
 
--- flooding of a copy, if there is one
+-- flooding the copy, if there is one
 abbrev pub flooded_copy : Moment → Option InterfaceNumber → Option DatabaseCopy → Outcome
     → Outcome
 flooded_copy moment sender None o = o
 flooded_copy moment sender (Some c) o = flood moment sender (lsa_now moment c) o
 
--- flooding of the copy of this key, if there is one
+-- flooding the copy of this key, if there is one
 abbrev pub flooded_key : Moment → Option InterfaceNumber → Key → Area → Outcome
 flooded_key moment sender key a = flooded_copy moment sender (finite.get a.database key) (start a)
 
--- flooding brought the LSA: it is installed, and flooded
+-- the LSA was received by flooding: it is installed and flooded
 abbrev pub install_outcome : Moment → Option InterfaceNumber → Lsa → Area → Outcome
 install_outcome moment sender lsa a =
     flood moment sender lsa (on_database (install_flooded moment lsa) (start a))
 
--- this router originated the LSA: it is installed, and flooded as if from nobody
+-- this router originated the LSA: it is installed and flooded to every neighbor
 abbrev pub originate_outcome : Moment → Lsa → Area → Outcome
 originate_outcome moment lsa a =
     flood moment None lsa (on_database (install_originated moment lsa) (start a))
 
--- premature aging (section 14.1): a copy that is younger than MaxAge gets that age, and is flooded
--- as if from nobody
+-- premature aging (section 14.1): a copy that is younger than MaxAge is set to MaxAge and flooded
+-- to every neighbor
 abbrev pub flushed_copy : Moment → Key → Option DatabaseCopy → Outcome → Outcome
 flushed_copy moment key None o = o
 flushed_copy moment key (Some c) o =
@@ -73,7 +73,8 @@ flushed_copy moment key (Some c) o =
 abbrev pub flush_outcome : Moment → Key → Area → Outcome
 flush_outcome moment key a = flushed_copy moment key (finite.get a.database key) (start a)
 
--- a copy that has come to MaxAge since the moment before is flooded as if from nobody (section 14)
+-- a copy that has reached MaxAge since the moment `before` is flooded to every neighbor (section
+-- 14)
 abbrev pub come_of_age_copy : (before : Moment) → (moment : Moment) → Option DatabaseCopy → Outcome
     → Outcome
 come_of_age_copy before moment None o = o

@@ -1,4 +1,4 @@
--- What each link sends by itself, and what one link does by itself.
+-- A step of each link, and a step of one link.
 use Rattle.std.specs.Prelude.{ℕ, List, [], Option, None, Some}
 use Rattle.std.specs.List.{enumerate_from, flat_map, fold}
 use Rattle.words.specs.Numbers.{InterfaceNumber, Moment}
@@ -12,13 +12,13 @@ use Rattle.received.specs.Outcomes.{Outcome, Send, sends_at, on_links, sending}
 abbrev pub sends_of : (Link → List Content) → List Link → List Send
 sends_of f links = flat_map (λ (e : ℕ × Link). sends_at e.0 (f e.1)) (enumerate_from 1 links)
 
--- what the link that is there sends, if one is
+-- what the link sends, if there is one
 abbrev pub sent_by : (Link → List Content) → Option Link → List Content
 sent_by f None = []
 sent_by f (Some link) = f link
 
--- the link of this number alone takes a step, with the database as it was before, and what Updates
--- take along counts as sent
+-- the link with this number takes a step, which reads the database before it, and the copies that
+-- it sends in Link State Updates are marked as sent
 abbrev pub one_link : Moment → InterfaceNumber → (after : Database → Link → Link)
     → (sends : Database → Link → List Content) → Outcome → Outcome
 one_link moment number after sends o =
@@ -26,11 +26,11 @@ one_link moment number after sends o =
     sending moment (sends_at number (sent_by (sends db) (link_at number o.area.links)))
     (on_links (change_link number (after db)) o)
 
--- ---- marks
+-- ---- marks of what was sent
 
 abbrev pub key_of_update : Update → Key
 key_of_update u = u.key
 
--- the copies of these keys count as sent
+-- the copies of these keys are marked as sent
 abbrev pub mark_each : Moment → Database → List Key → Database
 mark_each moment db keys = fold (λ (d : Database) (key : Key). mark_sent moment key d) db keys

@@ -21,7 +21,7 @@ use std::alloc::{AllocError, Global};
 use std::marker::Model;
 use words::{Key, RouterId, Second};
 
-/// The links of a router and its database, and what they were when they were last settled.
+/// The links of a router and its database, and their state when they were last settled.
 #[derive(Drop)]
 pub struct Area {
     links: Vec<Link>,
@@ -57,8 +57,8 @@ impl Model for Area {
 }
 
 impl Area {
-    /// These links, interface n at place n - 1, and an empty database of this router. It wants no
-    /// memory.
+    /// These links, interface n at index n - 1, and an empty database of this router. It doesn't
+    /// allocate.
     pub fn new(alloc: Global, router: RouterId, links: Vec<Link>) -> Self
         ensures { result ≡ record {
           router = router;
@@ -72,7 +72,7 @@ impl Area {
         }
     }
 
-    /// The links, interface n at place n - 1.
+    /// The links, interface n at index n - 1.
     pub fn links(&self) -> &[Link]
         ensures present { map present result.now ≡ self.now.present.links }
         ensures settled { map settled_link result.now ≡ self.now.settled.links }
@@ -91,12 +91,12 @@ impl Area {
         &self.database
     }
 
-    /// Floods the copy of this key over all links (RFC 2328, section 13.3), each Update into the
-    /// draft of its interface. It came in at the sender's interface, if it came from anybody. An
-    /// Update that takes it along marks it as sent. Without a copy nothing happens.
+    /// Floods the copy of this key over all links (RFC 2328, section 13.3), adding each Link State
+    /// Update to the draft of its interface. `sender` is the interface where it was received, if it
+    /// was. The copy is marked as sent if it is sent. Without a copy nothing changes.
     ///
-    /// Errors with `AllocError` if an allocation is refused: roll the area back, and drop the
-    /// drafts.
+    /// Errors with `AllocError` if an allocation is refused; the caller then rolls the area back
+    /// and drops the drafts.
     pub fn flood(
         &mut self,
         alloc: Global,
@@ -125,15 +125,15 @@ impl Area {
         )
     }
 
-    /// Receives an LSA of an Update that came in at the interface of this number, 1 or more (RFC
-    /// 2328, section 13): returns which case it is, and does what the case says. A newer LSA is
-    /// installed and flooded, and its acknowledgment waits for a Tick; a duplicate is acknowledged
-    /// at once; the same instance as the sender is to acknowledge leaves its retransmission list;
-    /// an LSA that was asked for and isn't newer is BadLSReq; a newer copy goes to the sender. What
-    /// the router makes of an LSA of its own is no part of it.
+    /// Processes an LSA of a Link State Update that was received at the interface with this number,
+    /// 1 or greater (RFC 2328, section 13), and returns its case. A newer LSA is installed and
+    /// flooded, and its acknowledgment is delayed; a duplicate is acknowledged directly; the same
+    /// instance as on the sender's retransmission list is removed from there; an LSA that is on the
+    /// request list but not newer is BadLSReq; if the copy is newer, it is sent to the sender.
+    /// Processing self-originated LSAs further is up to the caller.
     ///
-    /// Errors with `AllocError` if an allocation is refused: roll the area back, and drop the
-    /// drafts.
+    /// Errors with `AllocError` if an allocation is refused; the caller then rolls the area back
+    /// and drops the drafts.
     pub fn receive(
         &mut self,
         alloc: Global,
@@ -165,11 +165,11 @@ impl Area {
         )
     }
 
-    /// This router originated the LSA (RFC 2328, section 12.4): it takes the place of its copy, and
-    /// is flooded as if from nobody.
+    /// Installs an LSA that this router originated (RFC 2328, section 12.4), and floods it to every
+    /// neighbor.
     ///
-    /// Errors with `AllocError` if an allocation is refused: roll the area back, and drop the
-    /// drafts.
+    /// Errors with `AllocError` if an allocation is refused; the caller then rolls the area back
+    /// and drops the drafts.
     pub fn originate(
         &mut self,
         alloc: Global,
@@ -196,11 +196,11 @@ impl Area {
         )
     }
 
-    /// Premature aging (RFC 2328, section 14.1): a copy of this key that is younger than MaxAge
-    /// gets that age, and is flooded as if from nobody. Without such a copy nothing happens.
+    /// Premature aging (RFC 2328, section 14.1): a copy of this key that is younger than MaxAge is
+    /// set to MaxAge and flooded to every neighbor. Without such a copy nothing changes.
     ///
-    /// Errors with `AllocError` if an allocation is refused: roll the area back, and drop the
-    /// drafts.
+    /// Errors with `AllocError` if an allocation is refused; the caller then rolls the area back
+    /// and drops the drafts.
     pub fn flush(
         &mut self,
         alloc: Global,
@@ -227,11 +227,11 @@ impl Area {
         )
     }
 
-    /// A copy of this key that has come to MaxAge since the moment before is flooded as if from
-    /// nobody (RFC 2328, section 14). Without such a copy nothing happens.
+    /// Floods a copy of this key that has reached MaxAge since the moment `before` to every
+    /// neighbor (RFC 2328, section 14). Without such a copy nothing changes.
     ///
-    /// Errors with `AllocError` if an allocation is refused: roll the area back, and drop the
-    /// drafts.
+    /// Errors with `AllocError` if an allocation is refused; the caller then rolls the area back
+    /// and drops the drafts.
     pub fn come_of_age(
         &mut self,
         alloc: Global,
@@ -260,7 +260,7 @@ impl Area {
         )
     }
 
-    /// Makes the changes so far final. It wants no memory.
+    /// Makes the changes so far final. It doesn't allocate.
     pub fn settle(&mut self)
         ensures { self.new ≡ record self.old { settled = self.old.present } }
     {
@@ -268,9 +268,9 @@ impl Area {
         self.database.settle();
     }
 
-    /// As `settle`, and the database looks at each copy if one may have come of age by this moment,
-    /// as `Lsdb::settle_at` says. If memory for what it finds is refused, it looks again the next
-    /// time.
+    /// Like `settle`, and the database scans its copies if one may have reached MaxAge by this
+    /// moment, as in `Lsdb::settle_at`. If an allocation for that is refused, it tries again the
+    /// next time.
     pub fn settle_at(&mut self, alloc: Global, moment: Second)
         ensures { self.new ≡ record self.old { settled = self.old.present } }
     {
@@ -278,7 +278,7 @@ impl Area {
         self.database.settle_at(alloc, moment);
     }
 
-    /// Takes all changes back that were made since it was last settled. It wants no memory.
+    /// Undoes all changes since the area was last settled. It doesn't allocate.
     pub fn roll_back(&mut self)
         ensures { self.new ≡ record self.old { present = self.old.settled } }
     {

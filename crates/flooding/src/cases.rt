@@ -1,4 +1,4 @@
-//! Which case an LSA of a received Update is (RFC 2328, section 13).
+//! The case of an LSA in a received Link State Update (RFC 2328, section 13).
 ghost use Rattle.std.specs.Prelude.{◌≡◌, ◌&&◌, not};
 ghost use Rattle.adjacency.specs.lsdb.Copies.{in_this_second, installed_just_now, newer_than_copy};
 ghost use Rattle.adjacency.specs.lsdb.Copies.{same_as_copy, sent_just_now};
@@ -12,25 +12,26 @@ use lsa::{Header, Lsa};
 use std::cmp::Ordering;
 use words::{MAX_AGE, Second, SequenceNumber};
 
-/// Which case an LSA of a received Update is: the first of the table that fits (RFC 2328, section
-/// 13).
+/// The case of an LSA in a received Link State Update: the first of the table that applies (RFC
+/// 2328, section 13).
 #[derive(Clone, Copy, Debug)]
 pub enum Case {
-    /// Its text is no LSA's.
+    /// The bytes encode no LSA.
     Unreadable,
-    /// At MaxAge, without a copy, and nobody is in Exchange or Loading: there is nothing to flush.
+    /// At MaxAge, without a database copy, and no neighbor is in Exchange or Loading: nothing to
+    /// flush.
     NothingToFlush,
     /// Newer than a copy that flooding installed less than a second ago.
     TooSoon,
-    /// There is no copy, or it is newer.
+    /// Newer than the copy, or there is none.
     Newer,
-    /// Not newer, and yet the sender was asked for it.
+    /// Not newer, although it is on the sender's request list.
     BadRequest,
-    /// The same instance as the sender was to acknowledge: an implied acknowledgment.
+    /// The same instance as on the sender's retransmission list: an implied acknowledgment.
     ImpliedAcknowledgment,
     /// The same instance.
     Duplicate,
-    /// The copy is newer, at MaxAge and at MaxSequenceNumber: it is about to be flushed.
+    /// The copy is newer, with MaxAge and MaxSequenceNumber: it is being flushed.
     SequenceWraps,
     /// The copy is newer, and was sent less than a second ago.
     SentJustNow,
@@ -38,7 +39,7 @@ pub enum Case {
     Older,
 }
 
-/// The tests that tell the cases apart, in their order.
+/// The tests that distinguish the cases, in order.
 #[derive(Clone, Copy, Debug)]
 pub struct Tests {
     nothing_to_flush: bool,
@@ -75,7 +76,7 @@ fn same_as_copy(moment: Second, header: &Header, copy: &Option<DatabaseCopy<'_>>
     }
 }
 
-// Less than a second ago, which over whole seconds means in this second (MinLSArrival).
+// Less than a second ago, which for whole seconds means in the same second (MinLSArrival).
 fn in_this_second(moment: Second, then: Option<Second>) -> bool
     ensures { result ≡ in_this_second moment then }
 {
@@ -103,7 +104,7 @@ fn sent_just_now(moment: Second, copy: &Option<DatabaseCopy<'_>>) -> bool
     }
 }
 
-// The copy is at MaxAge and has MaxSequenceNumber.
+// Whether the copy has MaxAge and MaxSequenceNumber.
 fn is_wrapping(moment: Second, copy: &Option<DatabaseCopy<'_>>) -> bool
     ensures { result ≡ is_wrapping moment copy.now }
 {
@@ -118,8 +119,8 @@ fn is_wrapping(moment: Second, copy: &Option<DatabaseCopy<'_>>) -> bool
 }
 
 impl Tests {
-    /// The tests of an LSA that came in at this link, by the copy of its key and by whether any
-    /// neighbor is in Exchange or Loading.
+    /// The tests of an LSA that was received on this link, by the copy of its key and by whether
+    /// any neighbor is in Exchange or Loading.
     pub fn of_received(
         moment: Second,
         copy: &Option<DatabaseCopy<'_>>,
@@ -149,7 +150,7 @@ impl Tests {
         }
     }
 
-    /// The case of the first test that holds.
+    /// The case of the first test that succeeds.
     pub fn case(&self) -> Case
         ensures { case_of result ≡ first_case (tests_of self.now) Row.Older }
     {

@@ -1,4 +1,4 @@
-//! Flooding over links and database, as parts that the caller holds apart.
+//! Flooding over links and database, which the caller passes separately.
 ghost use Rattle.std.specs.Prelude.{◌≡◌, ◌||◌, IfOk, OnOk, length, map};
 ghost use Rattle.adjacency.specs.lsdb.Copies.{has_just_aged_out, lsa_now};
 ghost use Rattle.adjacency.specs.Floods.{is_any};
@@ -24,15 +24,15 @@ fn is_sender(sender: Option<usize>, number: usize) -> bool
     }
 }
 
-// Whether an Update was sent, over a link before this one or over this one.
+// Whether a Link State Update was sent over an earlier link or over this one.
 fn was_sent(before: bool, here: bool) -> bool
     ensures { result ≡ (before || here) }
 {
     before || here
 }
 
-// Floods the copy over all links, each Update into the draft of its interface. Returns whether one
-// was sent.
+// Floods the copy over all links, adding each Link State Update to the draft of its interface.
+// Returns whether any was sent.
 fn flood_links(
     alloc: Global,
     moment: Second,
@@ -63,8 +63,7 @@ fn flood_links(
     Ok(sent)
 }
 
-// Floods the copy of this key over all links, if there is one, and marks it as sent if an Update
-// takes it along.
+// Floods the copy of this key over all links, if there is one, and marks it as sent if it was.
 pub fn flood(
     alloc: Global,
     moment: Second,
@@ -97,7 +96,7 @@ pub fn flood(
     Ok(())
 }
 
-// Installs the LSA that flooding brought, and floods it.
+// Installs the LSA that was received by flooding, and floods it.
 pub fn install(
     alloc: Global,
     moment: Second,
@@ -125,7 +124,7 @@ pub fn install(
     flood(alloc, moment, sender, &key, links, database, drafts)
 }
 
-// Installs an LSA that this router originated, and floods it as if from nobody.
+// Installs an LSA that this router originated, and floods it to every neighbor.
 pub fn originate(
     alloc: Global,
     moment: Second,
@@ -151,7 +150,7 @@ pub fn originate(
     flood(alloc, moment, None, &key, links, database, drafts)
 }
 
-// A copy that is younger than MaxAge gets that age, and is flooded as if from nobody.
+// Sets a copy that is younger than MaxAge to MaxAge, and floods it to every neighbor.
 pub fn flush(
     alloc: Global,
     moment: Second,
@@ -187,7 +186,7 @@ fn has_just_aged_out(before: Second, moment: Second, copy: &DatabaseCopy<'_>) ->
     copy.is_aged_out(moment) && !copy.is_aged_out(before)
 }
 
-// A copy that has come to MaxAge since the moment before is flooded as if from nobody.
+// Floods a copy that has reached MaxAge since the moment `before` to every neighbor.
 pub fn come_of_age(
     alloc: Global,
     before: Second,

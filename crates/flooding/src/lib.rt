@@ -1,5 +1,5 @@
-//! Flooding over all links of an area, and what is done with a received LSA (RFC 2328, sections 13
-//! and 13.3).
+//! Flooding over all links of an area, and processing received LSAs (RFC 2328, sections 13 and
+//! 13.3).
 #![tactic(auto)]
 
 mod area;
@@ -14,5 +14,5 @@ pub use area::Area;
 pub use cases::Case;
 pub use link::Link;
 pub use steps::{LinkChange, LinkStep};
-// What crates above name of those below.
+// Names from the crates below that crates above use.
 pub use adjacency::{DatabaseCopy, Draft, Interface, Lsdb, Saved, State, Update};

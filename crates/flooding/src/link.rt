@@ -1,4 +1,4 @@
-//! Interfaces with what is kept of each.
+//! Interfaces with their state.
 ghost use Rattle.std.specs.Prelude.{◌≡◌, ℕ, IfOk, OnOk};
 ghost use Rattle.lsa.specs.Headers.{key_of};
 ghost use Rattle.adjacency.specs.lsdb.Copies.{lsa_now};
@@ -27,13 +27,13 @@ use std::alloc::{AllocError, Global};
 use std::marker::Model;
 use words::{Key, RouterId, Second};
 
-/// An interface with its neighbor, the acknowledgments that wait for a Tick, and when the last
-/// Hello was sent; and what they were when they were last settled.
+/// An interface with its neighbor, the delayed acknowledgments, and the moment of the last Hello
+/// that was sent; and their state when they were last settled.
 #[derive(Drop)]
 pub struct Link {
     interface: Interface,
     place: Place,
-    // one a key, the latest
+    // the latest one for each key
     acknowledgments: KeyedMap<Header>,
     last_hello_sent: Saved<Option<Second>>,
 }
@@ -65,7 +65,7 @@ impl Model for Link {
 }
 
 impl Link {
-    /// An interface whose neighbor is Down, on which nothing was sent yet. It wants no memory.
+    /// An interface whose neighbor is Down and on which nothing was sent. It doesn't allocate.
     pub fn new(alloc: Global, interface: Interface) -> Self
         ensures { result ≡ record {
           present = unused_link interface;
@@ -95,11 +95,10 @@ impl Link {
         self.place.neighbor()
     }
 
-    /// Floods the copy to the neighbor, which is the one that it came from or isn't. Returns
-    /// whether an Update takes it along, InfTransDelay seconds older than it is (RFC 2328, section
-    /// 13.3).
+    /// Floods the copy to the neighbor, from which it came or not. Returns whether it is sent in a
+    /// Link State Update, its age incremented by InfTransDelay (RFC 2328, section 13.3).
     ///
-    /// Errors with `AllocError` if an allocation is refused: roll the link back.
+    /// Errors with `AllocError` if an allocation is refused; the caller then rolls the link back.
     pub fn flood(
         &mut self,
         alloc: Global,
@@ -132,24 +131,24 @@ impl Link {
         self.place.is_exchange_or_loading()
     }
 
-    /// Whether the LSA of this key is on the neighbor's request list.
+    /// Whether the key is on the neighbor's request list.
     pub fn was_requested(&self, key: &Key) -> bool
         ensures { result ≡ was_requested key.now self.now.present.neighbor }
     {
         self.place.was_requested(key)
     }
 
-    /// Whether the neighbor has still to acknowledge just this instance.
+    /// Whether exactly this instance is on the neighbor's retransmission list.
     pub fn has_instance(&self, moment: Second, header: &Header) -> bool
         ensures { result ≡ has_instance moment header.now self.now.present.neighbor }
     {
         self.place.has_instance(moment, header)
     }
 
-    /// BadLSReq (RFC 2328, section 10.3): from Exchange on the neighbor goes back to ExStart, and
-    /// the first Description of a new attempt is sent.
+    /// BadLSReq (RFC 2328, section 10.3): from Exchange on, the neighbor goes back to ExStart, and
+    /// the first Database Description of a new attempt is sent.
     ///
-    /// Errors with `AllocError` if an allocation is refused: roll the link back.
+    /// Errors with `AllocError` if an allocation is refused; the caller then rolls the link back.
     pub fn bad_request(
         &mut self,
         alloc: Global,
@@ -166,9 +165,9 @@ impl Link {
         self.place.bad_request(alloc, moment, draft)
     }
 
-    /// The entry of the header's key leaves the neighbor's retransmission list.
+    /// Removes the header's key from the neighbor's retransmission list.
     ///
-    /// Errors with `AllocError` if an allocation is refused: roll the link back.
+    /// Errors with `AllocError` if an allocation is refused; the caller then rolls the link back.
     pub fn take_off(&mut self, header: &Header) -> Result<(), AllocError>
         ensures ok { OnOk result (self.new.present
             ≡ with_neighbor
@@ -180,9 +179,9 @@ impl Link {
         self.place.take_off(header)
     }
 
-    /// The next Request, if the neighbor is to be sent one (RFC 2328, section 10.9).
+    /// The next Link State Request, if one is to be sent to the neighbor (RFC 2328, section 10.9).
     ///
-    /// Errors with `AllocError` if an allocation is refused: roll the link back.
+    /// Errors with `AllocError` if an allocation is refused; the caller then rolls the link back.
     pub fn request(
         &mut self,
         alloc: Global,
@@ -199,10 +198,10 @@ impl Link {
         self.place.request(alloc, moment, draft)
     }
 
-    /// The instance is acknowledged at the next Tick, in the place of an earlier one of its key
-    /// (RFC 2328, section 13.5).
+    /// Adds a delayed acknowledgment of the instance, which replaces an earlier one of its key (RFC
+    /// 2328, section 13.5).
     ///
-    /// Errors with `AllocError` if an allocation is refused: roll the link back.
+    /// Errors with `AllocError` if an allocation is refused; the caller then rolls the link back.
     pub fn acknowledge_later(&mut self, header: Header) -> Result<(), AllocError>
         ensures ok { OnOk result (self.new.present ≡ acknowledge_later header self.old.present) }
         ensures settled { self.new.settled ≡ self.old.settled }
@@ -219,7 +218,7 @@ impl Link {
         self.last_hello_sent.settle();
     }
 
-    /// Takes all changes back that were made since it was last settled.
+    /// Undoes all changes since the link was last settled.
     pub fn roll_back(&mut self)
         ensures { self.new ≡ record { present = self.old.settled; settled = self.old.settled } }
     {

@@ -1,5 +1,5 @@
-//! What is done with an LSA of a received Update (RFC 2328, section 13), over links and database as
-//! parts that the caller holds apart.
+//! Processing an LSA of a received Link State Update (RFC 2328, section 13), over links and
+//! database, which the caller passes separately.
 ghost use Rattle.std.specs.Prelude.{◌≡◌, ◌≤◌, Some, IfOk, OnOk, length, map};
 ghost use Rattle.std.specs.FinMap as finite;
 ghost use Rattle.received.specs.Updates.{after_case, case_at, install, send_copy};
@@ -18,7 +18,7 @@ use lsa::Lsa;
 use std::alloc::{AllocError, Global};
 use words::{Key, Second};
 
-/// The case of an LSA that came in at this interface.
+/// The case of an LSA that was received at this interface.
 pub fn case_at(moment: Second, number: usize, lsa: &Lsa, links: &[Link], database: &Lsdb) -> Case
     requires first { 1 ≤ number }
     requires last { number ≤ length links.now }
@@ -34,7 +34,7 @@ pub fn case_at(moment: Second, number: usize, lsa: &Lsa, links: &[Link], databas
     tests.case()
 }
 
-// The LSA is installed and flooded, and its acknowledgment waits for a Tick.
+// Installs the LSA and floods it, with a delayed acknowledgment.
 fn install_received(
     alloc: Global,
     moment: Second,
@@ -62,7 +62,8 @@ fn install_received(
     acknowledge_later(number, header, links)
 }
 
-// The copy of this key goes to the sender, if there is one, and on no list.
+// Sends the copy of this key, if there is one, to the sender, without putting it on the
+// retransmission list.
 fn send_copy(
     alloc: Global,
     moment: Second,
@@ -94,7 +95,7 @@ fn send_copy(
     database.mark_sent(moment, &sent_key)
 }
 
-// What is done with an LSA of this case.
+// Processes an LSA of this case.
 fn after_case(
     alloc: Global,
     case: Case,
@@ -137,7 +138,8 @@ fn after_case(
     }
 }
 
-/// Receives an LSA of an Update at this interface: tells its case, and does what the case says.
+/// Processes an LSA of a Link State Update that was received at this interface, and returns its
+/// case.
 pub fn receive(
     alloc: Global,
     moment: Second,

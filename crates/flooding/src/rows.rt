@@ -1,4 +1,4 @@
-//! What the cases of a received LSA make of links and drafts, as parts that the caller holds apart.
+//! What the cases of a received LSA do to links and drafts, which the caller passes separately.
 ghost use Rattle.std.specs.Prelude.{◌≡◌, ◌≤◌, OnOk, [], ◌∷◌, length, map};
 ghost use Rattle.std.specs.List.{list_any};
 ghost use Rattle.lsa.specs.Headers.{key_of};
@@ -39,7 +39,7 @@ pub fn any_exchange_or_loading(links: &[Link]) -> bool
     some_is_exchange_or_loading(links)
 }
 
-/// BadLSReq at one interface: from Exchange on the neighbor goes back to ExStart.
+/// BadLSReq at one interface: from Exchange on, the neighbor goes back to ExStart.
 pub fn mismatch(
     alloc: Global,
     moment: Second,
@@ -62,7 +62,7 @@ pub fn mismatch(
     links[i].bad_request(alloc, moment, &mut drafts[i])
 }
 
-/// The entry of the header's key leaves the retransmission list of the neighbor at one interface.
+/// Removes the header's key from the retransmission list of the neighbor at one interface.
 pub fn release(number: usize, header: &Header, links: &mut [Link]) -> Result<(), AllocError>
     requires first { 1 ≤ number }
     requires last { number ≤ length links.old }
@@ -76,7 +76,7 @@ pub fn release(number: usize, header: &Header, links: &mut [Link]) -> Result<(),
     links[i].take_off(header)
 }
 
-/// An acknowledgment that waits for a Tick, at one interface.
+/// Adds a delayed acknowledgment at one interface.
 pub fn acknowledge_later(
     number: usize,
     header: Header,
@@ -92,7 +92,7 @@ pub fn acknowledge_later(
     links[i].acknowledge_later(header)
 }
 
-/// An acknowledgment that is sent at one interface.
+/// Sends a direct acknowledgment at one interface.
 pub fn acknowledge(
     number: usize,
     header: Header,
@@ -110,7 +110,7 @@ pub fn acknowledge(
     drafts[i].acknowledge(header)
 }
 
-/// The copy is sent in an Update at one interface.
+/// Sends the copy in a Link State Update at one interface.
 pub fn update(
     alloc: Global,
     moment: Second,

@@ -1,4 +1,4 @@
-//! What is done on each link, and what each link sends.
+//! Changes of links, and steps in which links may send.
 ghost use Rattle.std.specs.Prelude.{◌≡◌, ◌≤◌, OnOk, drop, length, map};
 ghost use Rattle.received.specs.Links.{change_link};
 ghost use Rattle.flooding.specs.Drafted.{drafts_with};
@@ -10,7 +10,7 @@ use adjacency::{Draft, Lsdb, Update};
 use std::alloc::{AllocError, Global};
 use words::Second;
 
-/// A change of a link that sends nothing and wants no memory.
+/// A change of a link that sends nothing and doesn't allocate.
 pub trait LinkChange {
     ghost use Rattle.received.specs.Links.{Link as Shown};
 
@@ -57,7 +57,7 @@ pub fn change_links<C: LinkChange>(change: &C, links: &mut [Link])
     }
 }
 
-// Each link takes the step; what it sends goes into the draft of its interface.
+// Each link takes the step; what it sends is added to the draft of its interface.
 pub fn step_links<S: LinkStep>(
     alloc: Global,
     step: &S,
@@ -79,7 +79,7 @@ pub fn step_links<S: LinkStep>(
     Ok(())
 }
 
-// The copies that Updates after the first `count` take along count as sent.
+// Marks the copies of the Link State Updates after the first `count` as sent.
 fn mark_behind(
     moment: Second,
     count: usize,
@@ -97,8 +97,8 @@ fn mark_behind(
     Ok(())
 }
 
-// The link of this number takes the step; what it sends goes into the draft of its interface, and
-// what Updates take along counts as sent.
+// The link with this number takes the step; what it sends is added to the draft of its interface,
+// and the copies that it sends in Link State Updates are marked as sent.
 pub fn step_link<S: LinkStep>(
     alloc: Global,
     moment: Second,
@@ -129,7 +129,7 @@ pub fn step_link<S: LinkStep>(
     mark_behind(moment, count, draft.updates(), database)
 }
 
-// The neighbor on the link of this number is Down, if there is such a link.
+// The neighbor on the link with this number goes Down, if there is such a link.
 pub fn take_link_down(number: usize, links: &mut [Link])
     ensures present { map present links.new
         ≡ change_link number without_neighbor (map present links.old) }

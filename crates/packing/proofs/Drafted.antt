@@ -1,4 +1,4 @@
--- What the packets of the draft of some contents say is what the contents' packets say.
+-- The bodies of the packets of a draft are those of the contents.
 use Rattle.std.proofs.Common.{◌≡◌, ◌≤◌, ℕ, ◌+◌, Bool, true, false, cond, List, [], ◌∷◌, ◌++◌, map, length, refl, sym, ap, subst, ◌∙◌, append_assoc, append-nil, length-append}
 use Rattle.std.specs.List.{AllByRecursion, fold, filter_map}
 use Rattle.std.proofs.lemmas.List.{map-append}
@@ -21,7 +21,7 @@ use Rattle.packing.specs.Bodies.{IsShort, drafted_bodies, text_size, texts, upda
 use Rattle.packing.specs.Drafts.{IsDraftAt, nothing_drafted}
 use Rattle.packing.proofs.Packs.{packed_map}
 
--- ---- what a draft has of its contents
+-- ---- what a draft has from its contents
 
 module _ (delay : ℕ) {Y : Type 0} (get : Drafted → List Y) (all : List Content → List Y) (more : (d : Drafted) (c : Content) (cs : List Content) → get (adds delay d c) ++ all cs ≡ get d ++ all (c ∷ cs)) (none : [] ≡ all []) where
   has_all : (cs : List Content) (d : Drafted) → get (fold (adds delay) d cs) ≡ get d ++ all cs
@@ -70,7 +70,7 @@ module _ (delay : ℕ) where
   more_acknowledgments d (Content.Updates x) cs = refl
   more_acknowledgments d (Content.Acknowledges h) cs = append_assoc d.acknowledgments (h ∷ []) (filter_map acknowledgments cs)
 
--- ---- ordered, and then mapped
+-- ---- sorted, and then mapped
 
 module _ {X Y : Type 0} (f : X → Y) (key : Y → Key) where
   put_map : (x : X) (xs : List X) → insert_by_key key (f x) (map f xs) ≡ map f (insert_by_key (λ y. key (f y)) x xs)
@@ -90,9 +90,9 @@ map_twice : {X Y Z : Type 0} (g : Y → Z) (f : X → Y) (xs : List X) → map g
 map_twice g f [] = refl
 map_twice g f (x ∷ xs) = ap (λ zs. g (f x) ∷ zs) (map_twice g f xs)
 
--- ---- Updates
+-- ---- Link State Updates
 
--- what is said of an LSA that fits
+-- the sizes of an LSA that fits
 abbrev pub IsSized : Lsa → Type 0
 IsSized lsa = (length (lsa_text.text lsa) ≡ lsa_size lsa) × (28 + lsa_size lsa ≤ 8192)
 
@@ -126,7 +126,7 @@ updates_packed delay lsas sized =
     ∙ ap (λ ps. map body.Update ps) (packed_map (sent_text delay) lsa_size text_size 28 sorted (all_sized delay sorted all))
     ∙ map_twice body.Update (λ p. map (sent_text delay) p) (packed_groups lsa_size 28 sorted)
 
--- ---- the whole draft
+-- ---- the complete draft
 
 drafted_are : (delay : ℕ) (cs : List Content) → AllByRecursion HasRoom cs → drafted_bodies (drafting delay cs nothing_drafted) ≡ bodies delay cs
 unfolding drafting
@@ -146,7 +146,7 @@ pub draft_says : (number : ℕ) (link : Link) (sends : List Send) (d : Drafted) 
 draft_says number link sends d is =
     ap drafted_bodies is.drafted ∙ drafted_are link.interface.delay (filter_map (at_interface number) sends) (there number sends is.room)
 
--- an Update has room for each text
+-- the bytes of each fit into a Link State Update
 texts_room : (delay : ℕ) (lsas : List Lsa) → AllByRecursion IsSized lsas → AllByRecursion IsShort (map (drafts.update_of delay) lsas)
 texts_room delay [] is = tt
 texts_room delay (l ∷ ls) is = (subst (λ n. 28 + n ≤ 8192) (sym (sent_size delay l is.0)) is.0.1, texts_room delay ls is.1)
@@ -166,7 +166,7 @@ draft_bodies_room number link sends d is =
     subst (λ bs. AllByRecursion HasPacketRoom bs) (sym (draft_says number link sends d is))
     (ordered_and_packed.bodies link.interface.delay (filter_map (at_interface number) sends) (there number sends is.room))
 
--- ---- texts
+-- ---- encodings
 
 texts_short : (us : List Update) → AllByRecursion IsShort us → AllByRecursion (λ t. 28 + text_size t ≤ 8192) (texts us)
 texts_short [] short = tt

@@ -1,4 +1,4 @@
--- The stable order by keys is the only one.
+-- The stable order by keys is unique.
 use Rattle.std.proofs.Common.{◌≡◌, ◌<◌, ℕ, suc, ◌+◌, Bool, true, false, cond, not, ◌&&◌, List, [], ◌∷◌, length, get_or, refl, sym, ap, subst, ◌∙◌, arith}
 use Rattle.std.specs.List.{AllByRecursion, filter}
 use Rattle.std.specs.List.Sorted.{IsSortedByKey, IsStableByKey, ties}
@@ -24,7 +24,7 @@ below_by Less k a b p q e = keys_total.trans k a b p q
 below_by Equal k a b p q e = ap (λ c. key_cmp k c) (sym (keys_exact a b q)) ∙ p
 below_by Greater k a b p q e = absurd (cc)
 
--- before all that don't stand before one behind it
+-- less than all keys that aren't less than a greater one
 below : (k a b : Key) → key_cmp k a ≡ Less → is_after a b ≡ false → key_cmp k b ≡ Less
 below k a b p e = below_by (key_cmp a b) k a b p refl e
 
@@ -125,7 +125,7 @@ module _ {X : Type 0} (key : X → Key) where
           let less : key_cmp (key z) (key y) ≡ Less = less_by (key_cmp (key z) (key y)) (sym (keys_total.antisymm (key y) (key z)) ∙ e) in
           absurd (apart z y zs ys less up (sym (same z)))
 
-  -- ---- what a stable sort leaves
+  -- ---- the result of a stable sort
 
   ascending : (xs : List X) → IsSortedByKey key key_cmp xs → IsAscending key xs
   ascending [] up = tt

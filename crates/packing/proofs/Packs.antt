@@ -1,11 +1,11 @@
--- One item after the other goes into packets.
+-- Items are packed in turn.
 use Rattle.std.proofs.Common.{◌≡◌, ◌≤◌, ℕ, ◌+◌, Bool, true, false, cond, List, [], ◌∷◌, ◌++◌, map, refl, sym, ap, ◌∙◌, arith, append_assoc, append-nil, length, subst}
 use Rattle.std.specs.Prelude.{nat_le}
 use Rattle.std.specs.List.{AllByRecursion}
 use Rattle.events.specs.Packing.{fill_on, packed_groups}
 use Rattle.packing.specs.Fillings.{IsFilling, IsPackedSoFar, finished_packets}
 
--- ---- one item after the other
+-- ---- one item after another
 
 module _ {X : Type 0} (size : X → ℕ) (begin : ℕ) (all : List X) where
   pub nothing_packed : (start used : ℕ) (packets : List (List X)) (taken rest : List X) → start ≡ begin → used ≡ begin → packets ≡ [] → taken ≡ [] → rest ≡ all

@@ -1,4 +1,4 @@
--- The LSAs of what is sent have the length that they say.
+-- The LSAs that are sent have the length that they give.
 use Rattle.std.proofs.Common.{◌≡◌, ◌<◌, ◌^◌, ℕ, List, [], ◌∷◌, map, sym, subst, ◌∙◌, arith, length-append}
 use Rattle.std.specs.List.{AllByRecursion, filter_map}
 use Rattle.byteorder.specs.Numbers.{big_number-reads_back}
@@ -40,7 +40,7 @@ texts_whole : (delay : ℕ) (lsas : List Lsa) → AllByRecursion IsSized lsas �
 texts_whole delay [] is = tt
 texts_whole delay (l ∷ ls) is = (text_whole delay l is.0, texts_whole delay ls is.1)
 
--- ---- what the packets say
+-- ---- the bodies
 
 hellos_whole : (cs : List Content) → AllByRecursion LsasAreWhole (filter_map hellos cs)
 hellos_whole [] = tt

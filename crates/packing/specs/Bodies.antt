@@ -1,4 +1,4 @@
--- What the packets of a draft say: in their order, packed (RFC 2328, sections 13.3, 13.5).
+-- The bodies of the packets of a draft: ordered and packed (RFC 2328, sections 13.3, 13.5).
 use Rattle.std.specs.Prelude.{ℕ, List, ◌++◌, ◌+◌, ◌≤◌, length, map}
 use Rattle.std.specs.List.{AllByRecursion}
 use Rattle.words.specs.declared.key.Key.{Key}
@@ -18,7 +18,7 @@ texts updates = map (λ (u : Update). u.text) updates
 abbrev pub text_size : List ℕ → ℕ
 text_size text = length text
 
--- an Update has room for each, behind the 28 bytes before its first LSA
+-- each fits into a Link State Update, after the 28 bytes before its first LSA
 abbrev pub IsShort : Update → Type 0
 IsShort u = 28 + length u.text ≤ 8192
 

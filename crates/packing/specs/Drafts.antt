@@ -12,8 +12,8 @@ abbrev pub nothing_drafted : Drafted
 nothing_drafted =
     record { hellos = []; descriptions = []; requests = []; updates = []; acknowledgments = [] }
 
--- of all that is sent, each with room in a packet, what goes to the interface of this number, which
--- is that of the link
+-- the draft of what is sent at the interface with this number, which is the link's; each content
+-- fits into a packet
 pub record IsDraftAt (number : InterfaceNumber) (link : Link) (sends : List Send)
     (draft : Drafted) : Type 0 where
   pub drafted : draft

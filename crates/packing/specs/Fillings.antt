@@ -3,25 +3,25 @@ use Rattle.std.specs.Prelude.{◌≡◌, ◌≤◌, ℕ, ◌+◌, List, [], ◌�
 use Rattle.std.specs.List.{AllByRecursion}
 use Rattle.events.specs.Packing.{fill_on, packed_groups}
 
--- the packet that is being filled, which begins with `start` bytes, has room for the `used` ones;
--- without an item it has no more than it begins with
+-- the packet that is being filled begins with `start` bytes and has `used` bytes so far; without an
+-- item it has no more than it begins with
 pub record IsFilling {X : Type 0} (start used : ℕ) (taken : List X) : Type 0 where
   pub room : used ≤ 8192
   pub fresh : taken ≡ [] → used ≡ start
 
--- the packets from the one that is being filled on, once the rest is packed too
+-- the packets from the one that is being filled on, when the rest is packed too
 abbrev pub filled_packets : {X : Type 0} → (X → ℕ) → ℕ → ℕ → List X → List X → List (List X)
 filled_packets size start used [] rest = packed_groups size start rest
 filled_packets size start used (t ∷ taken) rest = fill_on size start used (t ∷ taken) rest
 
--- all packets, once the rest is packed too
+-- all packets, when the rest is packed too
 abbrev pub finished_packets : {X : Type 0} → (X → ℕ) → ℕ → ℕ → List (List X) → List X → List X
     → List (List X)
 finished_packets size start used packets taken rest = packets
     ++ filled_packets size start used taken rest
 
--- what was taken up of all items is packed, or in the packet that is being filled; the rest is
--- still to come, each with room in a packet of its own
+-- the items so far are packed, or in the packet that is being filled; each of the rest fits into a
+-- packet of its own
 pub record IsPackedSoFar {X : Type 0} (size : X → ℕ) (begin : ℕ) (all : List X) (start used : ℕ)
     (packets : List (List X)) (taken rest : List X) : Type 0 where
   pub filling : IsFilling start used taken

@@ -1,4 +1,4 @@
--- What a packet says, as it is sent.
+-- The bodies of packets that are sent.
 use Rattle.words.specs.Numbers.{RouterNumber}
 use Rattle.packet.specs.declared.model.Body.{Body}
 use Rattle.packet.specs.Ranges.{LsasAreWhole}
@@ -6,10 +6,10 @@ use Rattle.packet.specs.Text.{PacketText, canonical}
 use Rattle.events.specs.Packing.{packet_of}
 use Rattle.events.specs.PackingLaws.{HasPacketRoom}
 
--- it has room in a packet, and each LSA of an Update has the length that it says
+-- it fits into a packet, and each LSA of a Link State Update has the length that it gives
 abbrev pub CanBeSent : Body → Type 0
 CanBeSent says = HasPacketRoom says × LsasAreWhole says
 
--- what is sent for it is a text of a packet from this router that says so
+-- the bytes that are sent encode a packet from this router with this body
 abbrev pub IsSentText : RouterNumber → Body → Type 0
 IsSentText own says = PacketText (canonical (packet_of own says)) (packet_of own says)

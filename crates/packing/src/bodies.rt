@@ -1,4 +1,4 @@
-//! What the packets say, in their order.
+//! The bodies of the packets, in order.
 ghost use Rattle.std.specs.Prelude.{◌≡◌, ◌++◌, map, IfOk, OnOk};
 ghost use Rattle.packing.specs.Bodies.{
   AllShort,
@@ -17,7 +17,7 @@ use packet::Body;
 use std::alloc::{AllocError, Global};
 use words::Sequence;
 
-// Each fills a packet of its own.
+// Each item is a packet of its own.
 fn put_bodies<X: Says + Drop>(bodies: &mut Vec<Body>, items: Vec<X>) -> Result<(), AllocError>
     ensures { OnOk result (bodies.new.items ≡ bodies.old.items ++ map X.says items.items) }
 {
@@ -27,7 +27,7 @@ fn put_bodies<X: Says + Drop>(bodies: &mut Vec<Body>, items: Vec<X>) -> Result<(
     Ok(())
 }
 
-// The texts alone.
+// The bytes of the LSAs.
 fn texts(alloc: Global, updates: Vec<Update>) -> Result<Vec<Sequence<u8>>, AllocError>
     ensures { IfOk result (λ made. made.items ≡ texts updates.items) }
 {
@@ -38,7 +38,7 @@ fn texts(alloc: Global, updates: Vec<Update>) -> Result<Vec<Sequence<u8>>, Alloc
     Ok(made)
 }
 
-// An Update has 28 bytes before its first LSA.
+// A Link State Update has 28 bytes before its first LSA.
 fn put_updates(
     alloc: Global,
     bodies: &mut Vec<Body>,
@@ -54,7 +54,7 @@ fn put_updates(
     put_bodies(bodies, packets)
 }
 
-// An Acknowledgment has 24 bytes before its first header.
+// A Link State Acknowledgment has 24 bytes before its first header.
 fn put_acknowledgments(
     alloc: Global,
     bodies: &mut Vec<Body>,
@@ -68,12 +68,12 @@ fn put_acknowledgments(
     put_bodies(bodies, packets)
 }
 
-/// What the packets say that are to be sent: Hellos, Database Descriptions, Link State Requests,
+/// The bodies of the packets to be sent: Hellos, Database Descriptions, Link State Requests,
 /// Updates and Acknowledgments.
 ///
 /// Errors with `AllocError` if an allocation is refused.
 pub fn bodies(alloc: Global, draft: Draft) -> Result<Vec<Body>, AllocError>
-    // An Update has room for each LSA.
+    // Each LSA fits into a Link State Update.
     requires { AllShort draft.updates }
     ensures { IfOk result (λ bodies. bodies.items ≡ drafted_bodies draft) }
 {

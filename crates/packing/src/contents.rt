@@ -1,5 +1,4 @@
-//! What is sent, by what its packets need of it: the key that it is ordered by, its size in a
-//! packet, and what the packet then says.
+//! What packing needs to know of an item: its key, its size in a packet, and the packet's body.
 ghost use Rattle.std.specs.Prelude.{◌≡◌};
 
 use adjacency::Update;
@@ -7,7 +6,7 @@ use lsa::{HEADER_LENGTH, Header};
 use packet::{Body, Description, Hello};
 use words::{Key, LinkStateId, RouterId, Sequence};
 
-/// What stands in the order of keys.
+/// An item that is sorted by a key.
 pub trait HasKey {
     ghost use Rattle.words.specs.declared.key.Key.{Key};
 
@@ -35,7 +34,7 @@ impl HasKey for Header {
     }
 }
 
-/// A Request is ordered by its first key.
+/// Link State Requests are sorted by their first keys.
 impl HasKey for Sequence<Key> {
     ghost use Rattle.events.specs.Packing.{first_key};
 
@@ -53,7 +52,7 @@ impl HasKey for Sequence<Key> {
     }
 }
 
-/// What goes into a packet behind others of its kind.
+/// An item that is packed with others of its kind.
 pub trait HasSize {
     ghost use Rattle.std.specs.Prelude.{ℕ};
 
@@ -63,7 +62,7 @@ pub trait HasSize {
         ensures { result ≡ size self.now };
 }
 
-/// The text of an LSA.
+/// The bytes of an LSA.
 impl HasSize for Sequence<u8> {
     ghost use Rattle.std.specs.Prelude.{length};
 
@@ -84,7 +83,7 @@ impl HasSize for Header {
     }
 }
 
-/// What fills a packet.
+/// The contents of a packet.
 pub trait Says {
     ghost use Rattle.packet.specs.declared.model.Body.{Body};
 

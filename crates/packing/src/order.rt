@@ -1,11 +1,11 @@
-//! The order of keys.
+//! Sorting by keys.
 ghost use Rattle.std.specs.Prelude.{◌≡◌, OnOk};
 ghost use Rattle.events.specs.Packing.{in_key_order};
 
 use crate::contents::HasKey;
 use std::alloc::AllocError;
 
-/// Puts the items into the order of their keys; those of one key stay as they stand.
+/// Sorts the items by their keys; those with one key stay in their order.
 ///
 /// Errors with `AllocError` if an allocation is refused.
 pub fn sort_by_keys<X: HasKey + Drop>(items: &mut Vec<X>) -> Result<(), AllocError>

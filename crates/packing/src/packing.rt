@@ -1,4 +1,4 @@
-//! As many items in a packet as have room.
+//! As many items in each packet as fit.
 ghost use Rattle.std.specs.Prelude.{◌≡◌, ◌≤◌, ◌+◌, List, [], ◌∷◌, ◌++◌};
 ghost use Rattle.std.specs.Prelude.{IfOk, OnOk};
 ghost use Rattle.std.specs.List.{AllByRecursion};
@@ -9,15 +9,15 @@ use crate::contents::HasSize;
 use std::alloc::{AllocError, Global};
 use words::Sequence;
 
-// The most bytes that a packet has.
+// The greatest length of a packet, in bytes.
 const LARGEST_PACKET: usize = 8192;
 
-// The items of the packets that are full, and of the one that is being filled.
+// The items of the full packets, and of the one that is being filled.
 #[derive(Drop)]
 struct Filling<X> {
     packets: Vec<Sequence<X>>,
     taken: Vec<X>,
-    // what a packet has before its first item, and what the one that is being filled has by now
+    // the bytes of a packet before its first item, and those of the one that is being filled so far
     start: usize,
     used: usize,
 }
@@ -37,7 +37,7 @@ impl<X: HasSize + Drop> Filling<X> {
         }
     }
 
-    // The packet is full.
+    // Completes the packet that is being filled.
     fn close(&mut self, alloc: Global) -> Result<(), AllocError>
         ensures packets { OnOk result (self.new.packets.items
             ≡ self.old.packets.items ++ self.old.taken.items ∷ []) }
@@ -51,7 +51,7 @@ impl<X: HasSize + Drop> Filling<X> {
         Ok(())
     }
 
-    // The item goes into the packet that is being filled.
+    // Adds the item to the packet that is being filled.
     fn add(&mut self, item: X) -> Result<(), AllocError>
         requires { self.old.used + X.size item ≤ 8192 }
         ensures packets { OnOk result (self.new.packets.items ≡ self.old.packets.items) }
@@ -64,7 +64,7 @@ impl<X: HasSize + Drop> Filling<X> {
         Ok(())
     }
 
-    // The item goes into the packet that is being filled, or into the next one if it has no room.
+    // Adds the item to the packet that is being filled, or to the next one if it doesn't fit.
     fn take(&mut self, alloc: Global, item: X) -> Result<(), AllocError>
         requires filling { IsFilling self.old.start self.old.used self.old.taken.items }
         requires room { self.old.start + X.size item ≤ 8192 }
@@ -84,7 +84,7 @@ impl<X: HasSize + Drop> Filling<X> {
         self.add(item)
     }
 
-    // All packets, the one that is being filled too.
+    // All packets, including the one that is being filled.
     fn finish(mut self, alloc: Global) -> Result<Vec<Sequence<X>>, AllocError>
         ensures { IfOk result (λ packets. packets.items
             ≡ finished_packets X.size self.start self.used self.packets.items self.taken.items []) }
@@ -96,8 +96,7 @@ impl<X: HasSize + Drop> Filling<X> {
     }
 }
 
-/// The items in their order, as many in each packet as have room behind the bytes that it begins
-/// with.
+/// The items in order, as many in each packet as fit after its first `start` bytes.
 ///
 /// Errors with `AllocError` if an allocation is refused.
 pub fn packed<X: HasSize + Drop>(
@@ -106,7 +105,7 @@ pub fn packed<X: HasSize + Drop>(
     items: Vec<X>,
 ) -> Result<Vec<Sequence<X>>, AllocError>
     requires start { start ≤ 8192 }
-    // Each has room in a packet of its own.
+    // Each fits into a packet of its own.
     requires room { AllByRecursion (λ item. start + X.size item ≤ 8192) items.items }
     ensures { IfOk result (λ packets. packets.items ≡ packed_groups X.size start items.items) }
 {

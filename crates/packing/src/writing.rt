@@ -1,4 +1,4 @@
-//! Packets as bytes.
+//! Encodes packets.
 ghost use Rattle.std.specs.Prelude.{◌≡◌, ◌∷◌, [], ◌++◌, List, OnOk};
 ghost use Rattle.received.specs.Links.{Link};
 ghost use Rattle.received.specs.Outcomes.{Send};
@@ -16,7 +16,7 @@ use packet::{Body, Packet, write};
 use std::alloc::{AllocError, Global};
 use words::{RouterId, Sequence};
 
-// One packet more.
+// Adds one more packet.
 fn put_out(
     alloc: Global,
     outs: &mut Vec<Out>,
@@ -38,12 +38,14 @@ fn put_out(
     Ok(())
 }
 
-/// Puts behind the others what the router of this Router ID sends at the interface of this number:
-/// Hellos, Database Descriptions, Link State Requests, Updates, Acknowledgments. Requests stand in
-/// the order of their first keys, LSAs and acknowledged headers in that of their keys, those of one
-/// key as they arose; each Update and each Acknowledgment has as many as fit into 8,192 bytes.
+/// Appends the packets that the router with this Router ID sends at the interface with this number:
+/// Hellos, Database Descriptions, Link State Requests, Updates, Acknowledgments. Requests are in
+/// the order of their first keys, LSAs and acknowledged headers in the order of their keys, those
+/// with one key as they arose; each Update and each Acknowledgment has as many as fit into 8,192
+/// bytes.
 ///
-/// The only error is that an allocation was refused: some of the packets may be there then.
+/// Errors with `AllocError` if an allocation is refused; some of the packets may have been appended
+/// then.
 pub fn put_outs(
     alloc: Global,
     outs: &mut Vec<Out>,
@@ -51,11 +53,11 @@ pub fn put_outs(
     interface: u16,
     draft: Draft,
 ) -> Result<(), AllocError>
-    // The draft is that of what an event sends, each thing of which has room in a packet.
+    // The draft is that of an event's contents, each of which fits into a packet.
     requires { (link : Link) × (sends : List Send) × IsDraftAt interface link sends draft }
     ensures outs { (link : Link) (sends : List Send) → IsDraftAt interface link sends draft
         → OnOk result (outs.new.items ≡ outs.old.items ++ outs_at own sends interface link) }
-    // The bytes of each are a text of a packet from this router that says so.
+    // The bytes of each encode a packet from this router with its body.
     ensures texts { (link : Link) (sends : List Send) → IsDraftAt interface link sends draft
         → OnOk result (AllByRecursion (IsSentText own)
         (bodies link.interface.delay (filter_map (at_interface interface) sends))) }

@@ -1,8 +1,8 @@
--- The keys that are due, one after the other.
+-- The keys that are due, in turn.
 use Rattle.std.proofs.Common.{◌≡◌, Bool, true, false, cond, List, [], ◌∷◌, ◌++◌, refl, ap, ◌∙◌, append_assoc}
 use Rattle.std.specs.List.{filter}
 
--- what is found and what is still to come
+-- the keys found so far and those still to be tested
 pub next_filtered : {X : Type 0} (test : X → Bool) (x : X) (found longer rest : List X) → longer ≡ found ++ cond (test x) (x ∷ []) []
     → longer ++ filter test rest ≡ found ++ filter test (x ∷ rest)
 next_filtered test x found longer rest is =

@@ -1,4 +1,4 @@
--- What is found of an own LSA, and what is done then.
+-- The decision about a self-originated LSA, and carrying it out.
 use Rattle.std.proofs.Common.{◌≡◌, ℕ, Bool, true, false, cond, List, Option, None, Some, sym, ap, ◌∙◌}
 use Rattle.std.specs.FinMap as finite
 use Rattle.words.specs.declared.key.Key.{Key}
@@ -17,7 +17,7 @@ use Rattle.router_state.specs.Owned.{AreOwn}
 use Rattle.procedures.specs.Wanted.{originate_wanted, wanted_origination}
 use Rattle.procedures.proofs.Keys.{tied_key}
 
--- ---- what is wanted
+-- ---- which LSAs are wanted
 
 abbrev wanted_by : Router → Key → Bool → Option Body
 wanted_by r key b = cond b (Some (router_body r.area.links)) (announced_body (finite.get r.announced key))
@@ -46,12 +46,12 @@ found_external may_now moment key r own e d last found id test announced own_key
     ∙ ap (λ o. wanted_origination may_now moment key r (announced_body o)) (sym announced)
     ∙ ap (wanted_origination may_now moment key r) (by_own_id r key own false id test)
 
--- ---- what is done then
+-- ---- carrying out the decision
 
 same_found : (a b : Origination) → Some a ≡ Some b → a ≡ b
 same_found a b e = cc
 
--- at a router that is known
+-- for a given router
 at_router : (may_now : Bool) (moment : ℕ) (key : Key) (p : EventState) (found : Origination) (wanted : Option Body)
     → Some found ≡ wanted_origination may_now moment key p.router wanted
     → after_origination moment key found p ≡ originate_body may_now moment key wanted p

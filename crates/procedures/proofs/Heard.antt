@@ -1,4 +1,4 @@
--- A packet by the Router ID and the state of the neighbor at its interface.
+-- A received packet, by the Router ID and the state of the neighbor at its interface.
 use Rattle.std.proofs.Common.{◌≡◌, ℕ, Bool, true, false, List, refl, sym, ap, ◌∙◌}
 use Rattle.std.specs.Prelude.{Option, None, Some}
 use Rattle.adjacency.specs.lsdb.Headers.{Header}

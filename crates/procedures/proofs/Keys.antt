@@ -1,4 +1,4 @@
--- Keys that compare equal are one key.
+-- Keys that compare as equal are the same.
 use Rattle.std.proofs.Common.{◌≡◌, true, refl}
 use Rattle.std.specs.declared.cmp.Ordering.{Ordering}
 use Rattle.std.specs.declared.cmp.Ordering.TheVariants.{Less, Equal, Greater}

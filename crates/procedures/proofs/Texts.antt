@@ -1,4 +1,4 @@
--- The LSAs of an Update, one after the other.
+-- The LSAs of a Link State Update, in turn.
 use Rattle.std.proofs.Common.{◌≡◌, ℕ, ◌+◌, ◌≤◌, Bool, true, false, cond, List, ◌∷◌, drop, length, Ok, Err, refl, sym, ap, subst, ◌∙◌}
 use Rattle.std.specs.Prelude.{Option, None, Some}
 use mathlib.Core.Bool.{false≢true}
@@ -19,7 +19,7 @@ use Rattle.procedures.specs.Making.{Makes}
 use Rattle.procedures.proofs.Making.{makes_nothing, makes_same, makes_then}
 use Rattle.procedures.specs.Received.{goes_on_at, is_newer}
 
--- ---- what bytes are read as
+-- ---- what bytes are parsed as
 
 abbrev read_unless : List ℕ → Option Fault → Option Lsa
 read_unless bytes None = Some (lsa_of bytes)
@@ -75,7 +75,7 @@ module _ (moment number : ℕ) (lsa : Lsa) (c : Case) where
 pub text_skipped : (moment number : ℕ) (r : Router) (ds : List Drafted) → Makes (after_unread moment number None) r r ds ds
 text_skipped moment number r ds = makes_same (λ p _. refl) (makes_nothing r ds)
 
--- ---- one after the other
+-- ---- one after another
 
 module _ (moment number : ℕ) where
   goes_here : (o : Option Lsa) (p : EventState) (r : Router) → p.router ≡ r → goes_on (case_in moment number o p) ≡ goes_on_at moment number o r
@@ -89,7 +89,7 @@ module _ (moment number : ℕ) where
       (sym (goes_here (lsa_in bytes) p r here ∙ is))
 
   module _ (lsas : List (List ℕ)) (start : Router) (first : List Drafted) where
-    -- what going on with the rest makes of all
+    -- the result of continuing with the rest
     abbrev pub Going : ℕ → Router → List Drafted → Type 0
     Going i r ds =
         (new : Router) (after : List Drafted) → Makes (after_lsas moment number (drop i lsas)) r new ds after

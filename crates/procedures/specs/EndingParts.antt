@@ -1,4 +1,4 @@
--- The parts of an event's end: `end_event` is one after the other.
+-- The parts of an event's end, which make up `end_event`.
 use Rattle.std.specs.Prelude.{List}
 use Rattle.words.specs.Numbers.{Moment}
 use Rattle.events.specs.received.Links.{Link}
@@ -7,11 +7,11 @@ use Rattle.events.specs.Endings.{remove_aged, request_all}
 use Rattle.events.specs.EventState.{EventState, on_area}
 use Rattle.events.specs.Routers.{Router}
 
--- Loading becomes Full, and the router-LSA tells what has changed since the links were `before`
+-- from Loading to Full, and the router-LSA is originated if the links have changed since `before`
 abbrev pub fill : List Link → Moment → EventState → EventState
 fill before moment p = describe_router before moment (loading_done p)
 
--- Loading becomes Full once more, and what changes by that waits for a Tick
+-- from Loading to Full once more, and what that changes waits for a Tick
 abbrev pub refill : EventState → EventState
 refill p = describe_router_later p.router.area.links (loading_done p)
 

@@ -1,2 +1,2 @@
--- Which neighbors are Full: what the router-LSA says beside the configuration.
+-- Which neighbors are Full: together with the configuration, they determine the router-LSA.
 pub use Rattle.originations.specs.Described.{full_routers}

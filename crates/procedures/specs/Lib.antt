@@ -1,4 +1,4 @@
--- what a part of an event makes of the router, for those above
+-- parts of an event, for the crates above
 pub use Rattle.router_state.specs.Making
 pub mod Wanted
 pub mod Received

@@ -1,4 +1,4 @@
--- What is asked of a packet and of the LSAs of an Update.
+-- Tests of a packet and of the LSAs of a Link State Update.
 use Rattle.std.specs.Prelude.{Bool, true, false, ◌==◌, [], Option, None, Some}
 use Rattle.words.specs.Numbers.{InterfaceNumber, Moment, RouterNumber}
 use Rattle.adjacency.specs.lsdb.Headers.{Lsa}
@@ -19,7 +19,7 @@ abbrev pub is_from_named : (from : RouterNumber) → Option (RouterNumber × Sta
 is_from_named from None = false
 is_from_named from (Some named) = named.0 == from
 
--- ---- LSAs of an Update
+-- ---- LSAs of a Link State Update
 
 abbrev pub is_newer : Case → Bool
 is_newer Case.Unreadable = false
@@ -33,7 +33,7 @@ is_newer Case.SequenceWraps = false
 is_newer Case.SentJustNow = false
 is_newer Case.Older = false
 
--- the Update goes on after this LSA, or after bytes that are none's
+-- the Link State Update is processed further after this LSA, or after bytes that encode none
 abbrev pub goes_on_at : Moment → InterfaceNumber → Option Lsa → Router → Bool
 goes_on_at moment number unread r =
     goes_on (case_in moment number unread (record { router = r; sends = [] }))

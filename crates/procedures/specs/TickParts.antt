@@ -1,4 +1,4 @@
--- The three parts of a Tick: `after_tick` is one after the other.
+-- The three parts of a Tick, which make up `after_tick`.
 use Rattle.std.specs.Prelude.{map}
 use Rattle.words.specs.Numbers.{Moment}
 use Rattle.events.specs.received.Outcomes.{on_links}

@@ -1,4 +1,4 @@
--- What becomes of the own LSA of a key, if it is wanted (RFC 2328, section 12.4).
+-- What happens to the self-originated LSA of a key, if it is wanted (RFC 2328, section 12.4).
 use Rattle.std.specs.Prelude.{Bool, Option, None, Some}
 use Rattle.std.specs.FinMap as finite
 use Rattle.words.specs.Numbers.{Moment}
@@ -10,7 +10,7 @@ use Rattle.events.specs.Routers.{Router}
 use Rattle.originations.specs.Decisions.{origination}
 use Rattle.originations.specs.declared.origination.Origination.{Origination}
 
--- with what the LSA is to say
+-- with this body of the LSA
 abbrev pub wanted_origination : (may_now : Bool) → Moment → Key → Router → Option Body
     → Option Origination
 wanted_origination may_now moment key r None = None

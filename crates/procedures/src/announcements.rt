@@ -1,4 +1,4 @@
-//! External destinations that an operator announces and withdraws (RFC 2328, section 12.4.4).
+//! External destinations that an operator redistributes and withdraws (RFC 2328, section 12.4.4).
 ghost use Rattle.std.specs.Prelude.{◌≡◌, ◌<◌, ◌^◌, OnOk, length, option_copied};
 ghost use Rattle.events.specs.Commands.{after_redistribute, after_withdraw, announce_as};
 ghost use Rattle.events.specs.Commands.{answered_external, end_want, is_announced_as, is_for};
@@ -12,10 +12,10 @@ use router_state::Router;
 use std::alloc::{AllocError, Global};
 use words::{External, ExternalType, Key, LinkStateId, Prefix, RouterId, Second};
 
-// LSInfinity: a metric of this or more announces nothing.
+// LSInfinity: a destination with this metric or more is not advertised.
 const LS_INFINITY: u64 = 0xffffff;
 
-/// What names the AS-external-LSA of a destination: its address is the Link State ID (RFC 2328,
+/// The key of the AS-external-LSA for a destination, whose address is the Link State ID (RFC 2328,
 /// section 12.4.4).
 pub fn external_key(own: RouterId, prefix: Prefix) -> Key
     ensures { result ≡ external_key own prefix }
@@ -27,7 +27,7 @@ pub fn external_key(own: RouterId, prefix: Prefix) -> Key
     }
 }
 
-/// Whether two prefixes are the same: of one address and one length.
+/// Whether two prefixes are the same: one address and one length.
 pub fn same_network(a: Prefix, b: Prefix) -> bool
     ensures { result ≡ same_network a b }
 {
@@ -49,7 +49,7 @@ fn same_kind(a: ExternalType, b: ExternalType) -> bool
     }
 }
 
-/// Whether two destinations are the same in each part: prefix, metric, type and tag.
+/// Whether two destinations are the same in each field: prefix, metric, type and tag.
 pub fn same_external(a: &External, b: &External) -> bool
     ensures { result ≡ same_external a.now b.now }
 {
@@ -77,7 +77,7 @@ fn is_for(prefix: Prefix, announced: Option<&External>) -> bool
     same_network(prefix, announced.prefix)
 }
 
-// The destination with the metric that was answered, and the low 32 bits of the tag.
+// The destination with the metric from the answer, and the low 32 bits of the tag.
 fn answered(external: External, tag: u64, price: u32) -> External
     ensures { result ≡ answered_external external tag price }
 {
@@ -88,7 +88,7 @@ fn answered(external: External, tag: u64, price: u32) -> External
     }
 }
 
-// The want ends, and the LSA is flushed.
+// The destination is no longer announced, and its LSA is flushed.
 fn end_want(
     router: &mut Router,
     alloc: Global,
@@ -106,7 +106,7 @@ fn end_want(
     router.flush(alloc, moment, key, drafts)
 }
 
-// The destination is announced, unless it is announced just so.
+// Announces the destination, unless the same is announced already.
 fn announce_as(
     router: &mut Router,
     alloc: Global,
@@ -131,11 +131,12 @@ fn announce_as(
     originate_anyway(router, alloc, moment, key, drafts)
 }
 
-/// The destination is to be announced with these words on its tag and its metric: of the tag the
-/// low 32 bits count, and a metric of LSInfinity, 0xffffff, or more withholds it and flushes an own
-/// LSA that stands. What is announced already just so is left alone.
+/// Announces the destination with the programs' answers for its tag and its metric. Only the low 32
+/// bits of the tag count; a metric of LSInfinity, 0xffffff, or more withholds the destination and
+/// flushes its LSA, if there is one. If exactly the same is announced already, nothing changes.
 ///
-/// Errors with `AllocError` if an allocation is refused: roll the router back, and drop the drafts.
+/// Errors with `AllocError` if an allocation is refused; the caller then rolls the router back and
+/// drops the drafts.
 pub fn redistribute(
     router: &mut Router,
     alloc: Global,
@@ -159,10 +160,11 @@ pub fn redistribute(
     announce_as(router, alloc, moment, &key, external, drafts)
 }
 
-/// The destination of this prefix is announced no longer, and its LSA is flushed (RFC 2328, section
-/// 14.1). Without such a destination nothing happens.
+/// The destination with this prefix is no longer announced, and its LSA is flushed (RFC 2328,
+/// section 14.1). Without such a destination nothing changes.
 ///
-/// Errors with `AllocError` if an allocation is refused: roll the router back, and drop the drafts.
+/// Errors with `AllocError` if an allocation is refused; the caller then rolls the router back and
+/// drops the drafts.
 pub fn withdraw(
     router: &mut Router,
     alloc: Global,

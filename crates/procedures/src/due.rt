@@ -1,4 +1,4 @@
-//! The own LSAs that a Tick originates.
+//! The self-originated LSAs that a Tick originates.
 ghost use Rattle.std.specs.Prelude.{◌≡◌, ◌++◌, [], ◌∷◌, IfOk, OnOk, if◌then◌else◌, length};
 ghost use Rattle.events.specs.Originations.{due_keys, is_due, is_stale, originate_due};
 ghost use Rattle.router_state.specs.Making.{Makes};
@@ -10,7 +10,7 @@ use router_state::Router;
 use std::alloc::{AllocError, Global};
 use words::{Key, Second};
 
-// LSRefreshTime: the age in seconds at which an own LSA is originated again.
+// LSRefreshTime: the age in seconds at which a self-originated LSA is originated again.
 const LS_REFRESH_TIME: u16 = 1800;
 
 fn is_stale(moment: Second, copy: Option<DatabaseCopy<'_>>) -> bool
@@ -39,9 +39,9 @@ fn put_due(router: &Router, moment: Second, key: Key, due: &mut Vec<Key>) -> Res
     Ok(())
 }
 
-/// The keys of the own LSAs that are wanted and due at this moment, in their order: each waits for
-/// a Tick, has left the database, or is of LSRefreshTime, 1800 seconds, or more (RFC 2328, section
-/// 12.4).
+/// The keys of the wanted LSAs that are due at this moment, in order: each waits for a Tick, was
+/// removed from the database, or has an age of LSRefreshTime, 1800 seconds, or more (RFC 2328,
+/// section 12.4).
 ///
 /// Errors with `AllocError` if an allocation is refused.
 pub fn due_keys(router: &Router, alloc: Global, moment: Second) -> Result<Vec<Key>, AllocError>
@@ -55,9 +55,10 @@ pub fn due_keys(router: &Router, alloc: Global, moment: Second) -> Result<Vec<Ke
     Ok(due)
 }
 
-/// New instances of the own LSAs of these keys, one after the other, as `originate_or_wait` says.
+/// Originates the LSAs of these keys in turn, as in `originate_or_wait`.
 ///
-/// Errors with `AllocError` if an allocation is refused: roll the router back, and drop the drafts.
+/// Errors with `AllocError` if an allocation is refused; the caller then rolls the router back and
+/// drops the drafts.
 pub fn originate_due(
     router: &mut Router,
     alloc: Global,

@@ -1,4 +1,4 @@
-//! The end of an event, part by part.
+//! The end of an event in its parts.
 ghost use Rattle.std.specs.Prelude.{◌≡◌, List, OnOk, length};
 ghost use Rattle.adjacency.specs.Drafts.{Drafted};
 ghost use Rattle.events.specs.received.Links.{Link};
@@ -14,7 +14,7 @@ use router_state::Router;
 use std::alloc::{AllocError, Global};
 use words::{RouterId, Second};
 
-// The router-LSA goes out, at once or at a Tick, if its content has changed in this event.
+// Originates the router-LSA, at once or at a Tick, if this event has changed its body.
 fn describe_router(
     router: &mut Router,
     alloc: Global,
@@ -40,7 +40,7 @@ fn describe_router(
     originate_or_wait(router, alloc, moment, &key, drafts)
 }
 
-// If the content of the router-LSA has changed, it waits for a Tick.
+// If the body of the router-LSA has changed, it waits for a Tick.
 fn describe_router_later(
     router: &mut Router,
     alloc: Global,
@@ -64,8 +64,8 @@ fn describe_router_later(
     router.wait(&key)
 }
 
-// Loading becomes Full if nothing is left to request, and the router-LSA tells what has changed in
-// this event.
+// LoadingDone for each neighbor whose request list is empty, and the router-LSA is originated if
+// this event has changed its body.
 fn fill(
     router: &mut Router,
     alloc: Global,
@@ -87,8 +87,8 @@ fn fill(
     describe_router(router, alloc, moment, before, drafts)
 }
 
-// Loading becomes Full once more, since flooding the router-LSA may have met requests; what changes
-// by that waits for a Tick.
+// LoadingDone once more, since flooding the router-LSA may have satisfied requests; what that
+// changes waits for a Tick.
 fn refill(router: &mut Router, alloc: Global) -> Result<(), AllocError>
     ensures makes { OnOk result ((drafts : List Drafted)
         → Makes refill router.old.present router.new.present drafts drafts) }
@@ -101,7 +101,8 @@ fn refill(router: &mut Router, alloc: Global) -> Result<(), AllocError>
     describe_router_later(router, alloc, &before)
 }
 
-// Requests go out, and copies at MaxAge that nobody has still to acknowledge leave.
+// Sends Link State Requests, and removes copies at MaxAge that are on no retransmission list,
+// unless some neighbor is in Exchange or Loading.
 fn request_and_remove(
     router: &mut Router,
     alloc: Global,
@@ -118,12 +119,14 @@ fn request_and_remove(
     router.remove_aged(alloc, moment, drafts)
 }
 
-/// The end of an event: Loading becomes Full if nothing is left to request; if the content of the
-/// router-LSA has changed since the event began, it is originated again; Requests go out; copies at
-/// MaxAge that nobody has still to acknowledge leave the database; the moment is the last one.
-/// `before` are the neighbors that were Full when the event began.
+/// The end of an event: each neighbor goes from Loading to Full if its request list is empty; the
+/// router-LSA is originated again if its body has changed since the event began; Link State
+/// Requests are sent; copies at MaxAge that are on no retransmission list are removed from the
+/// database, unless some neighbor is in Exchange or Loading; the moment is noted. `before` are the
+/// neighbors that were Full when the event began.
 ///
-/// Errors with `AllocError` if an allocation is refused: roll the router back, and drop the drafts.
+/// Errors with `AllocError` if an allocation is refused; the caller then rolls the router back and
+/// drops the drafts.
 pub fn end_event(
     router: &mut Router,
     alloc: Global,

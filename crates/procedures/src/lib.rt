@@ -1,8 +1,8 @@
-//! What the procedures of RFC 2328 make of a router, each a part of an event: a received packet
-//! (sections 8.2, 10.5 to 10.7, 13 and 13.7), a Tick (sections 9.5, 10.3, 12.4, 13.5 and 13.6), own
-//! LSAs that come back, wait or are due (sections 12.4, 13.4 and 14.1), external destinations that
-//! an operator announces and withdraws (section 12.4.4), and the end that all events share
-//! (sections 10.3, 10.9, 12.4.1 and 14).
+//! The procedures of RFC 2328 on a router, each a part of an event: a received packet (sections
+//! 8.2, 10.5 to 10.7, 13 and 13.7), a Tick (sections 9.5, 10.3, 12.4, 13.5 and 13.6),
+//! self-originated LSAs that are received, wait or are due (sections 12.4, 13.4 and 14.1), external
+//! destinations that an operator redistributes and withdraws (section 12.4.4), and the end that all
+//! events share (sections 10.3, 10.9, 12.4.1 and 14).
 #![tactic(auto)]
 
 mod announcements;

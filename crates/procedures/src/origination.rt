@@ -1,4 +1,4 @@
-//! New instances of own LSAs.
+//! New instances of self-originated LSAs.
 ghost use Rattle.std.specs.Prelude.{◌≡◌, OnOk, length};
 ghost use Rattle.events.specs.Originations.{
   originate_anyway,
@@ -18,7 +18,7 @@ use router_state::Router;
 use std::alloc::{AllocError, Global};
 use words::{Key, Second};
 
-// The instance is installed and flooded, and its five seconds run.
+// Installs and floods the instance, and MinLSInterval starts.
 fn put_out(
     router: &mut Router,
     alloc: Global,
@@ -54,7 +54,7 @@ fn put_off(
     router.wait(key)
 }
 
-// What was found of the LSA is done.
+// Carries out what was decided for the LSA.
 fn carry_out(
     router: &mut Router,
     alloc: Global,
@@ -98,11 +98,12 @@ fn originate(
     carry_out(router, alloc, moment, key, found, drafts)
 }
 
-/// A new instance of the own LSA of this key, if it is wanted: at once if there is room for it in
-/// the database and MinLSInterval allows it, else at a Tick; after MaxSequenceNumber the copy is
-/// flushed first (RFC 2328, sections 12.1.6 and 12.4).
+/// Originates the LSA of this key, if it is wanted: at once if the database has room for it and
+/// MinLSInterval allows it, else at a Tick; after MaxSequenceNumber the copy is flushed first (RFC
+/// 2328, sections 12.1.6 and 12.4).
 ///
-/// Errors with `AllocError` if an allocation is refused: roll the router back, and drop the drafts.
+/// Errors with `AllocError` if an allocation is refused; the caller then rolls the router back and
+/// drops the drafts.
 pub fn originate_or_wait(
     router: &mut Router,
     alloc: Global,
@@ -120,9 +121,10 @@ pub fn originate_or_wait(
     originate(router, alloc, has_room, moment, key, drafts)
 }
 
-/// As `originate_or_wait`, whether there is room in the database or not.
+/// Like `originate_or_wait`, whether or not the database has room.
 ///
-/// Errors with `AllocError` if an allocation is refused: roll the router back, and drop the drafts.
+/// Errors with `AllocError` if an allocation is refused; the caller then rolls the router back and
+/// drops the drafts.
 pub fn originate_anyway(
     router: &mut Router,
     alloc: Global,
@@ -139,11 +141,12 @@ pub fn originate_anyway(
     originate(router, alloc, true, moment, key, drafts)
 }
 
-/// A self-originated LSA with this header was received and installed (RFC 2328, section 13.4): one
-/// that is wanted is originated again, one past its number; any other is flushed. An LSA of another
-/// router's changes nothing.
+/// Processes a self-originated LSA with this header that was received and installed (RFC 2328,
+/// section 13.4): a wanted one is originated again with the next sequence number; any other is
+/// flushed. An LSA of another router changes nothing.
 ///
-/// Errors with `AllocError` if an allocation is refused: roll the router back, and drop the drafts.
+/// Errors with `AllocError` if an allocation is refused; the caller then rolls the router back and
+/// drops the drafts.
 pub fn receive_self_originated(
     router: &mut Router,
     alloc: Global,

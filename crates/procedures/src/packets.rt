@@ -1,4 +1,4 @@
-//! Packets by their types.
+//! Received packets by their types.
 ghost use Rattle.std.specs.Prelude.{◌≡◌, ◌≤◌, OnOk, false, length, true};
 ghost use Rattle.adjacency.specs.Steps.{named_neighbor};
 ghost use Rattle.events.specs.received.Links.{neighbor_at};
@@ -45,7 +45,7 @@ fn is_from_named(from: RouterId, neighbor: Option<(RouterId, State)>) -> bool
     }
 }
 
-// The neighbor at the interface of this number, unless it is Down.
+// The neighbor at the interface with this number, unless it is Down.
 fn neighbor_at(router: &Router, number: usize) -> Option<(RouterId, State)>
     requires first { 1 ≤ number }
     requires last { number ≤ length router.now.present.area.links }
@@ -56,7 +56,7 @@ fn neighbor_at(router: &Router, number: usize) -> Option<(RouterId, State)>
     links[i].neighbor()
 }
 
-// Whether the neighbor at the interface of this number is in Exchange or later.
+// Whether the neighbor at the interface with this number is in Exchange or later.
 fn is_in_exchange(router: &Router, number: usize) -> bool
     requires first { 1 ≤ number }
     requires last { number ≤ length router.now.present.area.links }
@@ -66,7 +66,7 @@ fn is_in_exchange(router: &Router, number: usize) -> bool
     is_in_exchange_named(neighbor)
 }
 
-// Whether this is the Router ID of the neighbor at the interface of this number.
+// Whether this is the Router ID of the neighbor at the interface with this number.
 fn is_from(from: RouterId, router: &Router, number: usize) -> bool
     requires first { 1 ≤ number }
     requires last { number ≤ length router.now.present.area.links }
@@ -76,7 +76,7 @@ fn is_from(from: RouterId, router: &Router, number: usize) -> bool
     is_from_named(from, neighbor)
 }
 
-// Whether the packet is of another router, and a Hello or from the interface's neighbor.
+// Whether the packet is from another router, and a Hello or from the interface's neighbor.
 fn is_heard(packet: &Packet, router: &Router, number: usize) -> bool
     requires first { 1 ≤ number }
     requires last { number ≤ length router.now.present.area.links }
@@ -91,7 +91,7 @@ fn is_heard(packet: &Packet, router: &Router, number: usize) -> bool
     foreign && (hello || from_neighbor)
 }
 
-// Takes a packet from a neighbor in Exchange or later.
+// Processes a packet from a neighbor in Exchange or later.
 fn from_neighbor_in_exchange(
     router: &mut Router,
     alloc: Global,
@@ -127,8 +127,8 @@ fn from_neighbor_in_exchange(
     }
 }
 
-// Takes a packet from a neighbor before Exchange: Requests, Updates and Acknowledgments are
-// discarded.
+// Processes a packet from a neighbor before Exchange: Link State Requests, Updates and
+// Acknowledgments are discarded.
 fn from_neighbor_before_exchange(
     router: &mut Router,
     alloc: Global,
@@ -158,11 +158,13 @@ fn from_neighbor_before_exchange(
     }
 }
 
-/// This packet came in at the interface of this number (RFC 2328, section 8.2). A packet of no
-/// router or of this one is discarded, and so is one other than a Hello that isn't from the
-/// interface's neighbor; Requests, Updates and Acknowledgments count from Exchange on.
+/// Processes a packet that was received at the interface with this number (RFC 2328, section 8.2).
+/// It is discarded if it has no Router ID or this router's own, or if it isn't a Hello and its
+/// sender isn't the interface's neighbor. Link State Requests, Updates and Acknowledgments are
+/// discarded before Exchange.
 ///
-/// Errors with `AllocError` if an allocation is refused: roll the router back, and drop the drafts.
+/// Errors with `AllocError` if an allocation is refused; the caller then rolls the router back and
+/// drops the drafts.
 pub fn receive_packet(
     router: &mut Router,
     alloc: Global,

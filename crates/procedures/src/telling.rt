@@ -1,4 +1,4 @@
-//! Whether the router-LSA is to tell of a change (RFC 2328, section 12.4.1).
+//! Whether the router-LSA has changed (RFC 2328, section 12.4.1).
 ghost use Rattle.std.specs.Prelude.{◌≡◌, ◌&&◌, List, IfOk, length, not};
 ghost use Rattle.events.specs.received.Links.{Link};
 ghost use Rattle.events.specs.Endings.{is_at, is_current, links_differ};
@@ -10,8 +10,8 @@ use router_state::Router;
 use std::alloc::{AllocError, Global};
 use words::{Key, LinkStateId, RouterId, Second};
 
-/// The Router IDs of the neighbors that are Full, interface n at place n - 1, None if there is
-/// none: what the router-LSA depends on beside the configuration.
+/// The Router IDs of the neighbors that are Full, interface n at index n - 1, `None` if there is
+/// none. Together with the configuration they determine the router-LSA.
 ///
 /// Errors with `AllocError` if an allocation is refused.
 pub fn full_routers(router: &Router, alloc: Global) -> Result<Vec<Option<RouterId>>, AllocError>
@@ -20,7 +20,7 @@ pub fn full_routers(router: &Router, alloc: Global) -> Result<Vec<Option<RouterI
     originations::full_routers(alloc, router.area().links())
 }
 
-// What names the router-LSA of this router.
+// The key of this router's router-LSA.
 pub fn router_key(own: RouterId) -> Key
     ensures { result ≡ router_key own }
 {
@@ -40,7 +40,7 @@ fn is_at(moment: Second, at: Option<Second>) -> bool
     at == moment
 }
 
-// Whether the present links were told in an instance that was originated at this moment.
+// Whether the copy of the router-LSA was originated at this moment and describes the present links.
 fn is_current(router: &Router, alloc: Global, moment: Second) -> Result<bool, AllocError>
     ensures { IfOk result (λ current. current ≡ is_current moment router.now.present) }
 {
@@ -54,8 +54,8 @@ fn is_current(router: &Router, alloc: Global, moment: Second) -> Result<bool, Al
     originations::tells(alloc, area.links(), copy)
 }
 
-/// Whether the content of the router-LSA differs from what it was when just the neighbors
-/// `before` were Full.
+/// Whether the body of the router-LSA differs from what it was when exactly the neighbors `before`
+/// were Full.
 ///
 /// Errors with `AllocError` if an allocation is refused.
 pub fn has_changed(
@@ -73,8 +73,8 @@ pub fn has_changed(
     originations::links_differ(alloc, area.links(), before)
 }
 
-/// Whether the content of the router-LSA differs from what it was when just the neighbors
-/// `before` were Full, and isn't told yet in an instance of this moment.
+/// Whether the body of the router-LSA differs from what it was when exactly the neighbors `before`
+/// were Full, and no instance of this moment has it yet.
 ///
 /// Errors with `AllocError` if an allocation is refused.
 pub fn is_untold(

@@ -11,8 +11,7 @@ use router_state::Router;
 use std::alloc::{AllocError, Global};
 use words::Second;
 
-// Times run out: inactive neighbors are Down, and own originations whose five seconds are over are
-// forgotten.
+// Expired timers: inactive neighbors go Down, and originations are forgotten after MinLSInterval.
 fn run_out(
     router: &mut Router,
     alloc: Global,
@@ -30,8 +29,8 @@ fn run_out(
     router.forget_originations(alloc, moment)
 }
 
-// Own LSAs that wait or are to be refreshed are originated; which, is found before the first of
-// them is.
+// Originates LSAs that wait or are to be refreshed. Their keys are determined before the first one
+// is originated.
 fn originate_what_is_due(
     router: &mut Router,
     alloc: Global,
@@ -48,8 +47,7 @@ fn originate_what_is_due(
     originate_due(router, alloc, moment, &keys, drafts)
 }
 
-// Retransmissions whose RxmtInterval has passed; then delayed acknowledgments, then Hellos that are
-// due.
+// Sends what is due: retransmissions after RxmtInterval, then delayed acknowledgments, then Hellos.
 fn send_what_is_due(
     router: &mut Router,
     alloc: Global,
@@ -67,11 +65,12 @@ fn send_what_is_due(
     router.send_hellos(alloc, moment, drafts)
 }
 
-/// What a Tick does, in its order: inactive neighbors are Down; own LSAs that wait or are to be
-/// refreshed are originated; what was sent RxmtInterval ago is sent again; delayed acknowledgments
-/// and Hellos that are due are sent.
+/// What a Tick does, in order: inactive neighbors go Down; LSAs that wait or are to be refreshed
+/// are originated; what was sent RxmtInterval ago is retransmitted; delayed acknowledgments and due
+/// Hellos are sent.
 ///
-/// Errors with `AllocError` if an allocation is refused: roll the router back, and drop the drafts.
+/// Errors with `AllocError` if an allocation is refused; the caller then rolls the router back and
+/// drops the drafts.
 pub fn tick(
     router: &mut Router,
     alloc: Global,

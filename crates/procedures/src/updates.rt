@@ -1,4 +1,4 @@
-//! The LSAs of an Update, one after the other (RFC 2328, section 13).
+//! The LSAs of a received Link State Update in turn (RFC 2328, section 13).
 ghost use Rattle.std.specs.Prelude.{◌≡◌, ◌≤◌, IfOk, OnOk, length};
 ghost use Rattle.lsa.specs.Reading.{lsa_in};
 ghost use Rattle.events.specs.received.Updates.{case_at, goes_on};
@@ -32,7 +32,7 @@ fn is_newer(case: Case) -> bool
     }
 }
 
-// After a bad request the rest of the Update is dropped.
+// After a bad request (BadLSReq) the rest of the Link State Update is dropped.
 fn goes_on(case: Case) -> bool
     ensures { result ≡ goes_on (case_of case) }
 {
@@ -50,7 +50,7 @@ fn goes_on(case: Case) -> bool
     }
 }
 
-// The LSA whose text the bytes are, if they are an LSA's.
+// The LSA in the bytes, if they encode one.
 fn read_lsa(alloc: Global, bytes: &[u8]) -> Result<Option<Lsa>, AllocError>
     ensures { IfOk result (λ lsa. lsa ≡ lsa_in bytes.now) }
 {
@@ -61,8 +61,8 @@ fn read_lsa(alloc: Global, bytes: &[u8]) -> Result<Option<Lsa>, AllocError>
     }
 }
 
-// An LSA of the Update: tells which case it is. One of this router's own that was installed is
-// settled.
+// Processes an LSA of the Link State Update and returns its case. A self-originated one that was
+// installed is originated again or flushed.
 fn receive_lsa(
     router: &mut Router,
     alloc: Global,
@@ -91,7 +91,8 @@ fn receive_lsa(
     Ok(case)
 }
 
-// The text of an LSA, or bytes that are none's. Returns whether the Update goes on.
+// Processes the bytes of an LSA, or bytes that encode none. Returns whether the rest of the Link
+// State Update is processed.
 fn receive_text(
     router: &mut Router,
     alloc: Global,
@@ -120,10 +121,12 @@ fn receive_text(
     }
 }
 
-/// The texts of LSAs in an Update that came in at the interface of this number, from a neighbor in
-/// Exchange or later: one after the other, up to a bad request. A text that is no LSA's is skipped.
+/// Processes the LSAs of a Link State Update that was received at the interface with this number,
+/// from a neighbor in Exchange or later: in turn, up to a bad request. Bytes that encode no LSA are
+/// skipped.
 ///
-/// Errors with `AllocError` if an allocation is refused: roll the router back, and drop the drafts.
+/// Errors with `AllocError` if an allocation is refused; the caller then rolls the router back and
+/// drops the drafts.
 pub fn receive_lsas(
     router: &mut Router,
     alloc: Global,

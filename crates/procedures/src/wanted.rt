@@ -1,4 +1,4 @@
-//! Which own LSAs are wanted, and what becomes of them.
+//! Which self-originated LSAs are wanted, and what happens to them.
 ghost use Rattle.std.specs.Prelude.{◌≡◌, IfOk};
 ghost use Rattle.keyed_map.specs.Keys.{same_key};
 ghost use Rattle.events.specs.Originations.{is_wanted, router_key, wanted_body};
@@ -9,7 +9,7 @@ use router_state::Router;
 use std::alloc::{AllocError, Global};
 use words::{Key, LinkStateId, RouterId, Second};
 
-/// What names the router-LSA of this router (RFC 2328, section 12.4.1).
+/// The key of this router's router-LSA (RFC 2328, section 12.4.1).
 pub fn router_key(own: RouterId) -> Key
     ensures { result ≡ router_key own }
 {
@@ -33,8 +33,8 @@ fn names_router_lsa(own: RouterId, key: &Key) -> bool
     is_same(key, &own_key)
 }
 
-/// Whether the own LSA of this key is wanted: it is the router-LSA, or that of a destination
-/// that is announced.
+/// Whether the LSA of this key is wanted: it is the router-LSA, or that of an announced
+/// destination.
 pub fn is_wanted(router: &Router, key: &Key) -> bool
     ensures { result ≡ is_wanted (wanted_body router.now.present key.now) }
 {
@@ -44,7 +44,7 @@ pub fn is_wanted(router: &Router, key: &Key) -> bool
     router.announced().contains(key)
 }
 
-/// What becomes of the own LSA of this key; None, if it isn't wanted.
+/// What happens to the self-originated LSA of this key; `None` if it isn't wanted.
 ///
 /// Errors with `AllocError` if an allocation is refused.
 pub fn wanted_origination(

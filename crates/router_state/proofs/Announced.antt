@@ -1,4 +1,4 @@
--- What is announced stands under its own keys, after each edit.
+-- Announced destinations have their own keys, also after each edit.
 use Rattle.std.proofs.Common.{◌≡◌, T, Bool, true, false, cond, not, ◌&&◌, Option, None, Some, refl, sym, ap, subst, ◌∙◌}
 use mathlib.Core.Bool.{false≢true}
 use Rattle.std.specs.Prelude.{is_some}

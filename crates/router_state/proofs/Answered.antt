@@ -1,4 +1,4 @@
--- What a call on links and database answers, as a part of an event: `shown` is the router from its
+-- The result of a call on links and database, as a part of an event: `shown` is the router from its
 -- fields.
 use Rattle.std.proofs.Common.{◌≡◌, ℕ, suc, ◌+◌, List, [], ◌∷◌, length, Result, Ok, Err, OnOk, IfOk, refl, sym, ap, ◌∙◌, arith}
 use Rattle.std.proofs.lemmas.List.{length-map}
@@ -47,7 +47,7 @@ pub if_on : {A E : Type 0} {P Q : A → Type 0} {S : Type 0} (r : Result A E) �
 if_on (Ok a) f p q = f a p q
 if_on (Err e) f p q = tt
 
--- if nothing is sent, each draft stays
+-- if nothing is sent, each draft stays the same
 module _ (F : Outcome → Outcome) (appends : Appends F) (keeps : KeepsInterfaces F) (shown old : Router) (a : Area) where
   pub makes_alone : shown ≡ old → a ≡ (F (start shown.area)).area → (F (start shown.area)).sends ≡ [] → (first : List Drafted)
       → Makes (on_area F) old (record shown { area = a }) first first

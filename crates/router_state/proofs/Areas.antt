@@ -1,4 +1,4 @@
--- Changes of links and database that look at nothing that was sent, and leave the interfaces.
+-- Changes of links and database that don't depend on what was sent, and keep the interfaces.
 use Rattle.std.proofs.Common.{◌≡◌, ℕ, ◌+◌, ◌==◌, Bool, true, false, cond, List, [], ◌∷◌, map, Option, None, Some, refl, sym, ap, ◌∙◌, append_assoc}
 use Rattle.std.specs.List.{enumerate_from}
 use Rattle.timers.specs.lsdb.Copies.{Database}
@@ -48,7 +48,7 @@ pub appends_maybe : {X : Type 0} (F : X → Outcome → Outcome) (x : Option X) 
 appends_maybe F None by none some appends o = none o ∙ appends_nothing o ∙ ap (outcomes_in_turn o) (sym (none (start o.area)))
 appends_maybe F (Some x) by none some appends o = some x o ∙ appends x o ∙ ap (outcomes_in_turn o) (sym (some x (start o.area)))
 
--- ---- the interfaces stay
+-- ---- the interfaces stay the same
 
 pub keeps_then : (F G : Outcome → Outcome) → Appends G → KeepsInterfaces F → KeepsInterfaces G → KeepsInterfaces (λ o. G (F o))
 keeps_then F G appends first second a =

@@ -1,5 +1,5 @@
--- What packets of a neighbor make of links and database: what is sent comes after what was sent
--- before, and the interfaces stay.
+-- What packets from a neighbor do to links and database: what is sent comes after what was sent
+-- before, and the interfaces stay the same.
 use Rattle.std.proofs.Common.{◌≡◌, ℕ, Bool, true, false, cond, List, map, refl}
 use Rattle.std.specs.Prelude.{Option, None, Some}
 use Rattle.std.specs.List.{list_all}
@@ -60,7 +60,7 @@ module _ (own moment number : ℕ) (d : Description) where
   pub keeps_description : KeepsInterfaces (describe_to own moment number d)
   keeps_description a = keeps_neighbors moment (only_at number (after_description own moment a.database d)) a
 
--- ---- Requests
+-- ---- Link State Requests
 
 module _ (moment number : ℕ) (keys : List Key) where
   abbrev sent : Database → Outcome → Outcome
@@ -83,7 +83,7 @@ module _ (moment number : ℕ) (keys : List Key) where
   pub keeps_request : KeepsInterfaces (requested_from moment number keys)
   keeps_request a = requested_keeps a (list_all (is_there a.database) keys)
 
--- ---- Acknowledgments
+-- ---- Link State Acknowledgments
 
 module _ (moment number : ℕ) (headers : List Header) where
   pub appends_acknowledgment : Appends (acknowledged_by moment number headers)

@@ -1,5 +1,4 @@
--- What is sent after something else is drafted after it, and of a link drafts read the interface
--- alone.
+-- What is sent later is drafted later, and drafts depend only on the interface of a link.
 use Rattle.std.proofs.Common.{◌≡◌, ℕ, ◌+◌, ◌==◌, Bool, true, false, cond, List, [], ◌∷◌, ◌++◌, None, Some, refl, sym, ap, ◌∙◌}
 use Rattle.std.specs.List.{cons_option, filter_map}
 use Rattle.timers.specs.adjacency.Contents.{Content}

@@ -1,4 +1,5 @@
--- Without each key whose five seconds are over, the originations are those that are recent.
+-- Without the keys since whose origination MinLSInterval has passed, the originations are the
+-- recent ones.
 use Rattle.std.proofs.Common.{◌≡◌, ℕ, T, Bool, true, false, cond, not, ◌&&◌, ◌||◌, List, [], ◌∷◌, map, Option, None, Some, refl, sym, ap, subst, ◌∙◌}
 use Rattle.std.specs.List.{filter, fold, list_any}
 use Rattle.std.specs.FinMap as finite
@@ -31,7 +32,7 @@ equal Equal p = refl
 equal Greater p = absurd (subst T (sym p) tt)
 
 module _ {X : Type 0} where
-  -- a key that ties with one below all others isn't among them
+  -- a key that is equal to one below all others isn't among them
   absent : (q k : Key) (es : List (Key × X)) → key_cmp q k ≡ Equal → T (below_all key_cmp k es) → finite.find key_cmp q es ≡ None
   absent q k [] same all = refl
   absent q k (e ∷ es) same all =
@@ -70,7 +71,7 @@ module _ {X : Type 0} where
   again false true o = refl
   again false false o = refl
 
-  -- a key leaves if it is among them
+  -- a key is removed if it is among them
   pub left : (q : Key) (keys : List Key) (m : ByKey X) → finite.get (fold finite.remove m keys) q ≡ cond (list_any (eq_by_cmp key_cmp q) keys) None (finite.get m q)
   left q [] m = refl
   left q (k ∷ ks) m =

@@ -1,5 +1,5 @@
--- The changes of links and database that a router takes: what each sends comes after what was sent
--- before, and the interfaces stay.
+-- The changes of links and database that a router makes: what each sends comes after what was sent
+-- before, and the interfaces stay the same.
 use Rattle.std.proofs.Common.{◌≡◌, ℕ, Bool, true, false, cond, List, [], ◌∷◌, map, refl, ◌∙◌}
 use Rattle.std.specs.Prelude.{Option, None, Some}
 use Rattle.std.specs.List.{fold}
@@ -28,7 +28,7 @@ use Rattle.router_state.specs.Making.{interfaces_of}
 use Rattle.router_state.proofs.Making.{Appends, KeepsInterfaces}
 use Rattle.router_state.proofs.Areas.{appends_links, appends_nothing, appends_then, change_interfaces, keeps_neighbors, map_interfaces}
 
--- ---- own LSAs
+-- ---- self-originated LSAs
 
 pub appends_install : (moment : ℕ) (lsa : Lsa) → Appends (install_and_flood moment lsa)
 appends_install moment lsa o = refl
@@ -97,7 +97,7 @@ module _ (moment number : ℕ) (lsa : Lsa) where
   keeps_case Case.SentJustNow a = refl
   keeps_case Case.Older a = keeps_copy (copy_of lsa a) a
 
--- ---- ages
+-- ---- aging
 
 module _ (before moment : ℕ) where
   abbrev aged : (Key × DatabaseCopy) → Outcome → Outcome
@@ -129,7 +129,7 @@ module _ (before moment : ℕ) where
   pub keeps_ages : KeepsInterfaces (with_ages before moment)
   keeps_ages a = keeps_each (finite.entries a.database) (start a)
 
--- ---- times
+-- ---- timers
 
 module _ (moment : ℕ) where
   pub appends_requests : Appends (request_all moment)

@@ -1,4 +1,4 @@
--- The parts of an event one after the other, and what a part is at one router.
+-- The parts of an event in turn, and one part at one router.
 use Rattle.std.proofs.Common.{◌≡◌, Bool, true, false, cond, List, [], ◌∷◌, ◌++◌, refl, sym, ap, subst, ◌∙◌}
 use Rattle.std.specs.List.{fold}
 use Rattle.timers.specs.adjacency.Drafts.{Drafted}
@@ -13,12 +13,12 @@ use Rattle.timers.specs.Aging.{outcomes_in_turn}
 use Rattle.router_state.specs.Making.{IsMaking, Makes, interfaces_of}
 use Rattle.router_state.proofs.Drafts.{drafted_append, drafted_same}
 
--- ---- an event begins: the drafts are what nothing was sent into yet
+-- ---- the start of an event: nothing was drafted yet
 
 pub making_starts : (r : Router) (ds : List Drafted) → IsMaking (record { router = r; sends = [] }) ds r ds
 making_starts r ds = record { router = refl; drafts = drafted_none 1 r.area.links ds }
 
--- ---- one part after the other
+-- ---- one part after another
 
 pub makes_nothing : (r : Router) (ds : List Drafted) → Makes (λ p. p) r r ds ds
 makes_nothing r ds = record { interfaces = refl; part = λ p first is. is }
@@ -30,7 +30,7 @@ makes_then {f} {g} {old} {middle} {new} {before} {between} {after} a b = record 
   part = λ p first is. b.part (f p) first (a.part p first is);
 }
 
--- parts that agree at this router
+-- parts that agree for this router
 pub makes_same : {f g : EventState → EventState} {old new : Router} {before after : List Drafted}
     → ((p : EventState) → p.router ≡ old → f p ≡ g p) → Makes f old new before after → Makes g old new before after
 makes_same {f} {g} {old} {new} {before} {after} agree a = record {
@@ -46,13 +46,13 @@ pub makes_if_false : (f g : EventState → EventState) {old new : Router} {befor
     → Makes g old new before after → Makes (λ p. cond (test p.router) (f p) (g p)) old new before after
 makes_if_false f g {old} {new} {before} {after} test fails a = makes_same (λ p is. ap (λ b. cond b (f p) (g p)) (sym (ap test is ∙ fails))) a
 
--- what the code answered on the router that the definition tests
+-- the code's test of the router is that of the definition
 pub makes_by_test : (f g : EventState → EventState) {old new : Router} {before after : List Drafted} (test : Router → Bool) (b : Bool) → test old ≡ b
     → Makes (cond b f g) old new before after → Makes (λ p. cond (test p.router) (f p) (g p)) old new before after
 makes_by_test f g test true is a = makes_if_true f g test is a
 makes_by_test f g test false is a = makes_if_false f g test is a
 
--- ---- the same values by other names
+-- ---- the same values under other names
 
 pub makes_from : {f : EventState → EventState} {old new r s : Router} {before after ds es : List Drafted}
     → r ≡ old → s ≡ new → ds ≡ before → es ≡ after → Makes f old new before after → Makes f r s ds es
@@ -76,7 +76,7 @@ module _ {X : Type 0} (step : EventState → X → EventState) where
       → Makes (each xs) old middle before between → Makes (λ p. step p x) middle new between after → Makes (each (xs ++ x ∷ [])) old new before after
   makes_last xs x a b = makes_same (λ p is. sym (fold_append xs (x ∷ []) p)) (makes_then a b)
 
--- ---- a change of the router that leaves the interfaces of its links
+-- ---- a change of the router that keeps the interfaces of its links
 
 pub makes_on_router : (f : Router → Router) (old new : Router) (ds : List Drafted) → interfaces_of (f old).area.links ≡ interfaces_of old.area.links → new ≡ f old
     → Makes (on_router f) old new ds ds
@@ -93,7 +93,7 @@ makes_on_router f old new ds stays is = record {
 
 -- ---- a change of links and database
 
--- what is sent comes after what was sent before, which is not looked at
+-- what is sent comes after what was sent before, and doesn't depend on it
 abbrev pub Appends : (Outcome → Outcome) → Type 0
 Appends F = (o : Outcome) → F o ≡ outcomes_in_turn o (F (start o.area))
 

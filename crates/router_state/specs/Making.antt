@@ -1,4 +1,4 @@
--- An event in the making, as a router and one draft for each of its interfaces.
+-- An event in progress, as a router and one draft for each of its interfaces.
 use Rattle.std.specs.Prelude.{◌≡◌, List, map}
 use Rattle.timers.specs.adjacency.Drafts.{Drafted}
 use Rattle.timers.specs.adjacency.declared.interface.Interface.{Interface}
@@ -7,8 +7,8 @@ use Rattle.timers.specs.flooding.Drafted.{drafts_with}
 use Rattle.timers.specs.events.EventState.{EventState}
 use Rattle.timers.specs.events.Routers.{Router}
 
--- the router is that of the event as it is by now, and the drafts, which began as `first`, have
--- what was sent
+-- the router is that of the event so far, and the drafts, which began as `first`, have what was
+-- sent
 pub record IsMaking (p : EventState) (first : List Drafted) (r : Router) (ds : List Drafted)
     : Type 0 where
   pub router : r ≡ p.router
@@ -17,8 +17,7 @@ pub record IsMaking (p : EventState) (first : List Drafted) (r : Router) (ds : L
 abbrev pub interfaces_of : List Link → List Interface
 interfaces_of links = map (λ (link : Link). link.interface) links
 
--- from the old router and the drafts before to the new router and the drafts after: this part of an
--- event, wherever in an event it comes
+-- the function f, as a part of any event, leads from the old router and drafts to the new ones
 pub record Makes (f : EventState → EventState) (old new : Router) (before after : List Drafted)
     : Type 0 where
   pub interfaces : interfaces_of new.area.links ≡ interfaces_of old.area.links

@@ -1,4 +1,4 @@
--- What a router keeps of the external destinations that it announces.
+-- The external destinations that a router announces.
 use Rattle.std.specs.Prelude.{◌≡◌, ◌<◌, ◌^◌, Some}
 use Rattle.std.specs.FinMap as finite
 use Rattle.words.specs.Numbers.{RouterNumber}
@@ -7,7 +7,7 @@ use Rattle.words.specs.declared.route.External.{External}
 use Rattle.timers.specs.lsdb.Keys.{ByKey}
 use Rattle.timers.specs.events.Originations.{external_key}
 
--- a destination stands under the key of its own AS-external-LSA, with a metric of 24 bits
+-- the destination has the key of its AS-external-LSA, and a metric of 24 bits
 pub record IsOwn (id : RouterNumber) (k : Key) (e : External) : Type 0 where
   pub key : k ≡ external_key id e.prefix
   pub metric : e.metric < 2 ^ 24

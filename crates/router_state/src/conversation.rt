@@ -1,4 +1,4 @@
-//! What packets of a neighbor make of the conversation with it (RFC 2328, sections 10.5 to 10.7 and
+//! What packets from a neighbor do to the conversation with it (RFC 2328, sections 10.5 to 10.7 and
 //! 13.7).
 ghost use Rattle.std.specs.Prelude.{◌≡◌, ◌≤◌, OnOk, length, true};
 ghost use Rattle.timers.specs.received.Links.{neighbor_at};
@@ -17,12 +17,12 @@ use timers::Draft;
 use words::{Key, RouterId, Second};
 
 impl Router {
-    /// A Hello of the router `from` came in at the interface of this number (RFC 2328, section
-    /// 10.5). It is discarded if the interface and it differ in HelloInterval, RouterDeadInterval
-    /// or the E bit, or if another neighbor is heard there.
+    /// A Hello from the router `from` at the interface with this number (RFC 2328, section 10.5).
+    /// It is discarded if the interface and it differ in HelloInterval, RouterDeadInterval or the
+    /// E-bit, or if the interface has another neighbor.
     ///
-    /// Errors with `AllocError` if an allocation is refused: roll the router back, and drop the
-    /// drafts.
+    /// Errors with `AllocError` if an allocation is refused; the caller then rolls the router back
+    /// and drops the drafts.
     pub fn hear(
         &mut self,
         alloc: Global,
@@ -54,11 +54,11 @@ impl Router {
         )
     }
 
-    /// A Database Description came from the neighbor at the interface of this number (RFC 2328,
+    /// A Database Description from the neighbor at the interface with this number (RFC 2328,
     /// section 10.6).
     ///
-    /// Errors with `AllocError` if an allocation is refused: roll the router back, and drop the
-    /// drafts.
+    /// Errors with `AllocError` if an allocation is refused; the caller then rolls the router back
+    /// and drops the drafts.
     pub fn describe(
         &mut self,
         alloc: Global,
@@ -88,12 +88,12 @@ impl Router {
         )
     }
 
-    /// A Link State Request for these keys came from the neighbor at the interface of this number,
-    /// which is in Exchange or later (RFC 2328, section 10.7): the copies are sent and count as
-    /// sent, or, if one is missing, none is, and it is BadLSReq.
+    /// A Link State Request for these keys from the neighbor at the interface with this number,
+    /// which is in Exchange or later (RFC 2328, section 10.7): the copies are sent and marked as
+    /// sent; if one is missing, none is sent (BadLSReq).
     ///
-    /// Errors with `AllocError` if an allocation is refused: roll the router back, and drop the
-    /// drafts.
+    /// Errors with `AllocError` if an allocation is refused; the caller then rolls the router back
+    /// and drops the drafts.
     pub fn answer(
         &mut self,
         alloc: Global,
@@ -116,11 +116,11 @@ impl Router {
         answer(&mut self.area, alloc, moment, number, keys, drafts)
     }
 
-    /// An Acknowledgment of these instances came from the neighbor at the interface of this number
-    /// (RFC 2328, section 13.7).
+    /// A Link State Acknowledgment of these instances from the neighbor at the interface with this
+    /// number (RFC 2328, section 13.7).
     ///
-    /// Errors with `AllocError` if an allocation is refused: roll the router back, and drop the
-    /// drafts.
+    /// Errors with `AllocError` if an allocation is refused; the caller then rolls the router back
+    /// and drops the drafts.
     pub fn acknowledged(
         &mut self,
         alloc: Global,

@@ -1,4 +1,4 @@
-//! A router once more.
+//! Copies of routers.
 ghost use Rattle.std.specs.Prelude.{◌≡◌, IfOk};
 
 use crate::router::Router;
@@ -23,7 +23,7 @@ fn copy_moment(saved: &Saved<Second>) -> Saved<Second>
 }
 
 impl Router {
-    /// The same router, with nothing to be taken back.
+    /// A copy of the router, settled.
     ///
     /// Errors with `AllocError` if an allocation is refused.
     pub fn copy(&self, alloc: Global) -> Result<Self, AllocError>

@@ -1,4 +1,5 @@
-//! What a router announces, which own LSAs wait for a Tick, and when they were last originated.
+//! What a router announces, which self-originated LSAs wait for a Tick, and when they were last
+//! originated.
 ghost use Rattle.std.specs.Prelude.{◌≡◌, ◌<◌, ◌^◌, OnOk};
 ghost use Rattle.std.specs.List.{fold};
 ghost use Rattle.std.specs.FinMap as finite;
@@ -11,7 +12,7 @@ use keyed_map::{KeyTest, KeyedMap};
 use std::alloc::{AllocError, Global};
 use words::{External, Key, Second};
 
-// Whether the five seconds of an own origination are over (RFC 2328, section 12.4, MinLSInterval).
+// Selects the originations since which MinLSInterval has passed (RFC 2328, section 12.4).
 #[derive(Drop)]
 struct IsOver {
     moment: Second,
@@ -28,7 +29,7 @@ impl KeyTest<Second> for IsOver {
     }
 }
 
-// What stands under these keys leaves.
+// Removes these keys.
 fn remove_each(keys: &[Key], moments: &mut KeyedMap<Second>) -> Result<(), AllocError>
     ensures ok { OnOk result (moments.new.present
         ≡ fold finite.remove moments.old.present keys.now) }
@@ -41,9 +42,9 @@ fn remove_each(keys: &[Key], moments: &mut KeyedMap<Second>) -> Result<(), Alloc
 }
 
 impl Router {
-    /// The destination is announced from now on, under the key of its AS-external-LSA.
+    /// Announces the destination from now on, under the key of its AS-external-LSA.
     ///
-    /// Errors with `AllocError` if an allocation is refused: roll the router back.
+    /// Errors with `AllocError` if an allocation is refused; the caller then rolls the router back.
     pub fn announce(&mut self, key: &Key, external: External) -> Result<(), AllocError>
         requires key { key.now ≡ external_key self.old.present.id external.prefix }
         // A metric has 24 bits.
@@ -54,9 +55,9 @@ impl Router {
         self.announced.insert(*key, external)
     }
 
-    /// The destination of this key is announced no longer, and its LSA waits no longer.
+    /// The destination of this key is no longer announced, and its LSA no longer waits.
     ///
-    /// Errors with `AllocError` if an allocation is refused: roll the router back.
+    /// Errors with `AllocError` if an allocation is refused; the caller then rolls the router back.
     pub fn unannounce(&mut self, key: &Key) -> Result<(), AllocError>
         ensures ok { OnOk result (self.new.present ≡ unannounce key.now self.old.present) }
         ensures settled { self.new.settled ≡ self.old.settled }
@@ -65,9 +66,9 @@ impl Router {
         self.waiting.remove(key)
     }
 
-    /// The own LSA of this key waits for a Tick.
+    /// The self-originated LSA of this key waits for a Tick.
     ///
-    /// Errors with `AllocError` if an allocation is refused: roll the router back.
+    /// Errors with `AllocError` if an allocation is refused; the caller then rolls the router back.
     pub fn wait(&mut self, key: &Key) -> Result<(), AllocError>
         ensures ok { OnOk result (self.new.present ≡ wait key.now self.old.present) }
         ensures settled { self.new.settled ≡ self.old.settled }
@@ -75,10 +76,10 @@ impl Router {
         self.waiting.insert(*key, ())
     }
 
-    /// The own LSA of this key was originated at this moment: it waits no longer, and its five
-    /// seconds run.
+    /// Notes that the LSA of this key was originated at this moment: it no longer waits, and
+    /// MinLSInterval starts.
     ///
-    /// Errors with `AllocError` if an allocation is refused: roll the router back.
+    /// Errors with `AllocError` if an allocation is refused; the caller then rolls the router back.
     pub fn note_originated(&mut self, moment: Second, key: &Key) -> Result<(), AllocError>
         ensures ok { OnOk result (self.new.present
             ≡ as_originated moment key.now self.old.present) }
@@ -88,9 +89,9 @@ impl Router {
         self.originated.insert(*key, moment)
     }
 
-    /// Own originations whose five seconds are over are forgotten.
+    /// Forgets the originations since which MinLSInterval has passed.
     ///
-    /// Errors with `AllocError` if an allocation is refused: roll the router back.
+    /// Errors with `AllocError` if an allocation is refused; the caller then rolls the router back.
     pub fn forget_originations(&mut self, alloc: Global, moment: Second) -> Result<(), AllocError>
         ensures ok { OnOk result (self.new.present
             ≡ forget_originations moment self.old.present) }

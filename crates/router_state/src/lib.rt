@@ -1,8 +1,9 @@
-//! A router as one value that an event changes and can take back: its links and database, what it
-//! announces, which own LSAs wait, and when they were last originated (RFC 2328, section 5).
+//! A router as one value, which an event changes and may roll back: its links and database, what it
+//! announces, which self-originated LSAs wait, and when they were last originated (RFC 2328,
+//! section 5).
 //!
-//! Each call that is a part of an event says which part it is by `Makes`: wherever in an event it
-//! comes, it makes of the router, and of what was sent, what the rules' part makes.
+//! Each call that is a part of an event says by `Makes` which part it is: wherever in an event it
+//! comes, it does to the router, and adds to what was sent, what that part of the rules does.
 #![tactic(auto)]
 
 mod conversation;

@@ -1,4 +1,4 @@
-//! What a router does with its own LSAs in links and database (RFC 2328, sections 12.4 and 14.1).
+//! Self-originated LSAs in links and database (RFC 2328, sections 12.4 and 14.1).
 ghost use Rattle.std.specs.Prelude.{◌≡◌, ◌≤◌, OnOk, length};
 ghost use Rattle.timers.specs.events.EventState.{on_area};
 ghost use Rattle.timers.specs.events.Originations.{flush, install_and_flood};
@@ -11,11 +11,10 @@ use timers::Draft;
 use words::{Key, Second};
 
 impl Router {
-    /// This router originated the LSA: it takes the place of its copy, and is flooded as if from
-    /// nobody.
+    /// Installs an LSA that this router originated, and floods it to every neighbor.
     ///
-    /// Errors with `AllocError` if an allocation is refused: roll the router back, and drop the
-    /// drafts.
+    /// Errors with `AllocError` if an allocation is refused; the caller then rolls the router back
+    /// and drops the drafts.
     pub fn install_and_flood(
         &mut self,
         alloc: Global,
@@ -33,11 +32,11 @@ impl Router {
         self.area.originate(alloc, moment, lsa, drafts)
     }
 
-    /// Premature aging (RFC 2328, section 14.1): a copy of this key that is younger than MaxAge
-    /// gets that age, and is flooded as if from nobody. Without such a copy nothing happens.
+    /// Premature aging (RFC 2328, section 14.1): a copy of this key that is younger than MaxAge is
+    /// set to MaxAge and flooded to every neighbor. Without such a copy nothing changes.
     ///
-    /// Errors with `AllocError` if an allocation is refused: roll the router back, and drop the
-    /// drafts.
+    /// Errors with `AllocError` if an allocation is refused; the caller then rolls the router back
+    /// and drops the drafts.
     pub fn flush(
         &mut self,
         alloc: Global,

@@ -1,4 +1,4 @@
-//! What is done with an LSA of a received Update (RFC 2328, section 13).
+//! Processing an LSA of a received Link State Update (RFC 2328, section 13).
 ghost use Rattle.std.specs.Prelude.{◌≡◌, ◌≤◌, IfOk, OnOk, length};
 ghost use Rattle.timers.specs.received.Updates.{after_case, case_at};
 ghost use Rattle.timers.specs.events.EventState.{on_area};
@@ -12,11 +12,11 @@ use timers::{Case, Draft};
 use words::Second;
 
 impl Router {
-    /// An LSA of an Update came in at the interface of this number: returns which case it is, and
-    /// does what the case says. What the router makes of an LSA of its own is no part of it.
+    /// Processes an LSA of a Link State Update that was received at the interface with this number,
+    /// and returns its case. Processing self-originated LSAs further is up to the caller.
     ///
-    /// Errors with `AllocError` if an allocation is refused: roll the router back, and drop the
-    /// drafts.
+    /// Errors with `AllocError` if an allocation is refused; the caller then rolls the router back
+    /// and drops the drafts.
     pub fn receive(
         &mut self,
         alloc: Global,

@@ -12,18 +12,18 @@ use std::marker::Model;
 use timers::{Area, Link, Saved};
 use words::{External, Key, Route, RouterId, Second, Sequence};
 
-/// A router between and within events, and what it was when it was last settled.
+/// A router between and within events, and its state when it was last settled.
 #[derive(Drop)]
 pub struct Router {
     pub(crate) id: RouterId,
     pub(crate) area: Area,
-    // the external destinations that are announced, by the keys of their LSAs
+    // the announced external destinations by the keys of their LSAs
     pub(crate) announced: KeyedMap<External>,
-    // the own LSAs that wait for a Tick
+    // the keys of self-originated LSAs that wait for a Tick
     pub(crate) waiting: KeyedMap<()>,
-    // when an own LSA was last originated, for five seconds
+    // when each self-originated LSA was last originated, kept for MinLSInterval
     pub(crate) originated: KeyedMap<Second>,
-    // the routes that the last Install was asked for, with the words that answer
+    // the routes that the last `Install` offered, with the programs' answers
     pub(crate) answers: Saved<Sequence<(Route, u64)>>,
     pub(crate) moment: Saved<Second>,
 }
@@ -83,7 +83,8 @@ impl Model for Router {
 }
 
 impl Router {
-    /// A router that keeps nothing but its links, interface n at place n - 1. It wants no memory.
+    /// A router with these links, interface n at index n - 1, and nothing else. It doesn't
+    /// allocate.
     pub fn new(alloc: Global, id: RouterId, links: Vec<Link>, moment: Second) -> Self
         requires few { length links.items ≤ 63 }
         ensures present { result.present ≡ with_links id (map present links.items) moment }
@@ -100,7 +101,7 @@ impl Router {
         }
     }
 
-    /// The own Router ID.
+    /// The router's own Router ID.
     pub fn id(&self) -> RouterId
         ensures { result ≡ self.now.present.id }
     {
@@ -120,7 +121,7 @@ impl Router {
         &self.area
     }
 
-    /// The external destinations that are announced, by the keys of their LSAs.
+    /// The announced external destinations by the keys of their LSAs.
     pub fn announced(&self) -> &KeyedMap<External>
         ensures parts { result.now ≡ record {
           present = self.now.present.announced;
@@ -131,14 +132,15 @@ impl Router {
         &self.announced
     }
 
-    /// Whether the own LSA of this key waits for a Tick.
+    /// Whether the self-originated LSA of this key waits for a Tick.
     pub fn is_waiting(&self, key: &Key) -> bool
         ensures { result ≡ set.contains self.now.present.waiting key.now }
     {
         self.waiting.contains(key)
     }
 
-    /// When the own LSA of this key was last originated, if that was in the last five seconds.
+    /// When the self-originated LSA of this key was last originated, if that is known: a Tick drops
+    /// what is older than MinLSInterval.
     pub fn originated(&self, key: &Key) -> Option<Second>
         ensures { result ≡ finite.get self.now.present.originated key.now }
     {
@@ -148,7 +150,7 @@ impl Router {
         }
     }
 
-    /// The routes that the last Install was asked for, with the words that answer.
+    /// The routes that the last `Install` offered, with the programs' answers.
     pub fn answers(&self) -> &[(Route, u64)]
         ensures { result.now ≡ self.now.present.answers }
     {
@@ -162,7 +164,7 @@ impl Router {
         *self.moment.get()
     }
 
-    /// An event is over: its moment is the last one. It wants no memory.
+    /// Sets the moment of the last event. It doesn't allocate.
     pub fn set_moment(&mut self, moment: Second)
         ensures { self.new ≡ record self.old {
           present = record self.old.present { moment = moment };
@@ -171,8 +173,7 @@ impl Router {
         self.moment.set(moment);
     }
 
-    /// The routes that an Install was asked for, with the words that answer, in the place of those
-    /// of the last one. It wants no memory.
+    /// Replaces the routes and the programs' answers of the last `Install`. It doesn't allocate.
     pub fn install(&mut self, answers: Sequence<(Route, u64)>)
         ensures { self.new ≡ record self.old {
           present = record self.old.present { answers = answers };
@@ -181,7 +182,7 @@ impl Router {
         self.answers.set(answers);
     }
 
-    /// Makes the changes so far final. It wants no memory.
+    /// Makes the changes so far final. It doesn't allocate.
     pub fn settle(&mut self)
         ensures { self.new ≡ record { present = self.old.present; settled = self.old.present } }
     {
@@ -194,9 +195,9 @@ impl Router {
         self.moment.settle();
     }
 
-    /// As `settle`, and the database looks at each copy if one may have come of age by this moment,
-    /// so that the next event needn't. If memory for what it finds is refused, it looks again the
-    /// next time.
+    /// Like `settle`, and the database scans its copies if one may have reached MaxAge by this
+    /// moment, so that the next event needn't. If an allocation for that is refused, it tries again
+    /// the next time.
     pub fn settle_at(&mut self, alloc: Global, moment: Second)
         ensures { self.new ≡ record { present = self.old.present; settled = self.old.present } }
     {
@@ -209,7 +210,7 @@ impl Router {
         self.moment.settle();
     }
 
-    /// Takes all changes back that were made since it was last settled. It wants no memory.
+    /// Undoes all changes since the router was last settled. It doesn't allocate.
     pub fn roll_back(&mut self)
         ensures { self.new ≡ record { present = self.old.settled; settled = self.old.settled } }
     {
@@ -221,7 +222,7 @@ impl Router {
         self.moment.roll_back();
     }
 
-    /// Lets the router go. A function above that lets one go by itself has the letting-go of each
-    /// of its parts to prove once more.
+    /// Drops the router. A function above that drops one itself would have to prove the drop of
+    /// each part again.
     pub fn close(self) {}
 }

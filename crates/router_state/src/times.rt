@@ -1,4 +1,4 @@
-//! What runs out, what is requested and what is sent again (RFC 2328, sections 9.5, 10.3, 10.8,
+//! Expired timers, Link State Requests, and retransmission (RFC 2328, sections 9.5, 10.3, 10.8,
 //! 10.9, 13.5, 13.6 and 14).
 ghost use Rattle.std.specs.Prelude.{◌≡◌, List, OnOk, length, map};
 ghost use Rattle.timers.specs.adjacency.Drafts.{Drafted};
@@ -15,11 +15,11 @@ use timers::Draft;
 use words::Second;
 
 impl Router {
-    /// Each copy that has come to MaxAge since the moment before is flooded as if from nobody (RFC
+    /// Floods each copy that has reached MaxAge since the moment `before` to every neighbor (RFC
     /// 2328, section 14).
     ///
-    /// Errors with `AllocError` if an allocation is refused: roll the router back, and drop the
-    /// drafts.
+    /// Errors with `AllocError` if an allocation is refused; the caller then rolls the router back
+    /// and drops the drafts.
     pub fn age(
         &mut self,
         alloc: Global,
@@ -37,11 +37,11 @@ impl Router {
         timers::with_ages(&mut self.area, alloc, before, moment, drafts)
     }
 
-    /// What is next is requested of each neighbor of which nothing is outstanding (RFC 2328,
+    /// Requests the next LSAs from each neighbor for which nothing is outstanding (RFC 2328,
     /// section 10.9).
     ///
-    /// Errors with `AllocError` if an allocation is refused: roll the router back, and drop the
-    /// drafts.
+    /// Errors with `AllocError` if an allocation is refused; the caller then rolls the router back
+    /// and drops the drafts.
     pub fn request_all(
         &mut self,
         alloc: Global,
@@ -58,11 +58,10 @@ impl Router {
         timers::request_all(&mut self.area, alloc, moment, drafts)
     }
 
-    /// What a Tick sends again once RxmtInterval has passed (RFC 2328, sections 10.8, 10.9 and
-    /// 13.6).
+    /// What a Tick retransmits if RxmtInterval has passed (RFC 2328, sections 10.8, 10.9 and 13.6).
     ///
-    /// Errors with `AllocError` if an allocation is refused: roll the router back, and drop the
-    /// drafts.
+    /// Errors with `AllocError` if an allocation is refused; the caller then rolls the router back
+    /// and drops the drafts.
     pub fn send_all_again(
         &mut self,
         alloc: Global,
@@ -79,10 +78,10 @@ impl Router {
         timers::send_all_again(&mut self.area, alloc, moment, drafts)
     }
 
-    /// Each link's delayed acknowledgments are sent (RFC 2328, section 13.5).
+    /// Sends each link's delayed acknowledgments (RFC 2328, section 13.5).
     ///
-    /// Errors with `AllocError` if an allocation is refused: roll the router back, and drop the
-    /// drafts.
+    /// Errors with `AllocError` if an allocation is refused; the caller then rolls the router back
+    /// and drops the drafts.
     pub fn acknowledge_all(
         &mut self,
         alloc: Global,
@@ -99,11 +98,11 @@ impl Router {
         timers::acknowledge_all(&mut self.area, alloc, moment, drafts)
     }
 
-    /// A Hello is sent at each interface at which none was sent for HelloInterval (RFC 2328,
-    /// section 9.5).
+    /// Sends a Hello at each interface at which none was sent for HelloInterval (RFC 2328, section
+    /// 9.5).
     ///
-    /// Errors with `AllocError` if an allocation is refused: roll the router back, and drop the
-    /// drafts.
+    /// Errors with `AllocError` if an allocation is refused; the caller then rolls the router back
+    /// and drops the drafts.
     pub fn send_hellos(
         &mut self,
         alloc: Global,
@@ -120,11 +119,11 @@ impl Router {
         timers::send_hellos(&mut self.area, alloc, moment, drafts)
     }
 
-    /// Copies at MaxAge that are on no retransmission list leave the database, unless some neighbor
-    /// is in Exchange or Loading (RFC 2328, section 14).
+    /// Removes copies at MaxAge that are on no retransmission list from the database, unless some
+    /// neighbor is in Exchange or Loading (RFC 2328, section 14).
     ///
-    /// Errors with `AllocError` if an allocation is refused: roll the router back, and drop the
-    /// drafts.
+    /// Errors with `AllocError` if an allocation is refused; the caller then rolls the router back
+    /// and drops the drafts.
     pub fn remove_aged(
         &mut self,
         alloc: Global,
@@ -142,8 +141,9 @@ impl Router {
         timers::remove_aged(&mut self.area, alloc, moment)
     }
 
-    /// What runs out at a Tick: a neighbor that wasn't heard for RouterDeadInterval is Down, and a
-    /// last Description is given up. It wants no memory.
+    /// The timers that a Tick finds expired: a neighbor from which no Hello was received for
+    /// RouterDeadInterval goes Down, and the last Database Description is discarded that long after
+    /// the exchange. It doesn't allocate.
     pub fn run_out(&mut self, moment: Second)
         ensures makes { (first : List Drafted)
             → Makes (on_area (on_links (map (run_out moment)))) self.old.present self.new.present
@@ -155,8 +155,8 @@ impl Router {
         timers::run_out(&mut self.area, moment);
     }
 
-    /// LoadingDone (RFC 2328, section 10.3): each neighbor in Loading with nothing left to request
-    /// becomes Full. It wants no memory.
+    /// LoadingDone (RFC 2328, section 10.3): each neighbor goes from Loading to Full if its request
+    /// list is empty. It doesn't allocate.
     pub fn end_loading(&mut self)
         ensures makes { (first : List Drafted)
             → Makes loading_done self.old.present self.new.present first first }
@@ -167,7 +167,7 @@ impl Router {
         timers::end_loading(&mut self.area);
     }
 
-    /// The neighbor at the interface of this number is Down. It wants no memory.
+    /// The neighbor at the interface with this number goes Down. It doesn't allocate.
     pub fn take_down(&mut self, number: usize)
         ensures makes { (first : List Drafted)
             → Makes (after_link_down number) self.old.present self.new.present first first }

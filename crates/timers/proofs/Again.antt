@@ -1,4 +1,4 @@
--- The marks of what is sent again are those of the keys that the drafts have got.
+-- The marks of what is retransmitted are those of the keys that were added to the drafts.
 use Rattle.std.proofs.Common.{◌≡◌, ℕ, zero, suc, ◌+◌, ◌<◌, ◌≤◌, List, [], ◌∷◌, ◌++◌, drop, length, map, get_or, refl, sym, ap, ◌∙◌, arith, append_assoc}
 use Rattle.std.specs.List.{enumerate_from, flat_map}
 use Rattle.words.specs.declared.key.Key.{Key}
@@ -13,7 +13,7 @@ use Rattle.flooding.proofs.Sends.{draft_from}
 use Rattle.timers.specs.Marks.{key_of_update, keys_behind, mark_each, update_count}
 use Rattle.timers.proofs.Stepped.{marks, marks-append}
 
--- ---- lists from a place on
+-- ---- lists from an index on
 
 drop_step : {X : Type 0} (i : ℕ) (xs : List X) (d : X) → i < length xs → drop i xs ≡ get_or xs i d ∷ drop (suc i) xs
 drop_step zero [] d lt = absurd (omega (arith, lt))
@@ -40,9 +40,9 @@ pub mark_each-append : (moment : ℕ) (xs ys : List Key) (d : Database) → mark
 mark_each-append moment [] ys d = refl
 mark_each-append moment (x ∷ xs) ys d = mark_each-append moment xs ys (mark_sent moment x d)
 
--- ---- what Updates take along
+-- ---- the Link State Updates
 
--- the Updates among the contents, as a draft has them
+-- the Link State Updates among the contents, as a draft has them
 abbrev pub updates_of : ℕ → List Content → List Update
 updates_of delay [] = []
 updates_of delay (SendsHello h ∷ cs) = updates_of delay cs

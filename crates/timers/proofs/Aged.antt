@@ -1,4 +1,4 @@
--- The copies at MaxAge that are on no list, one after the other, are those that don't stay.
+-- The copies at MaxAge that are on no list, in turn, are those that don't stay.
 use Rattle.std.proofs.Common.{◌≡◌, ℕ, T, Bool, true, false, cond, not, ◌&&◌, ◌||◌, List, [], ◌∷◌, map, Option, None, Some, refl, sym, ap, subst, ◌∙◌}
 use Rattle.std.specs.List.{filter, list_any}
 use Rattle.std.specs.FinMap as finite
@@ -32,7 +32,7 @@ equal Less p = absurd (subst T (sym p) tt)
 equal Equal p = refl
 equal Greater p = absurd (subst T (sym p) tt)
 
--- a key that ties with one below all others isn't among them
+-- a key that is equal to one below all others isn't among them
 absent : (q k : Key) (es : List (Key × DatabaseCopy)) → key_cmp q k ≡ Equal → T (below_all key_cmp k es) → finite.find key_cmp q es ≡ None
 absent q k [] same all = refl
 absent q k (e ∷ es) same all =
@@ -65,7 +65,7 @@ module _ (t : DatabaseCopy → Bool) (q : Key) where
       (among_is es (second (below_all key_cmp e.0 es) (is_sorted key_cmp es) sorted))
       (λ tied. absent q e.0 es (equal (key_cmp q e.0) tied) (first (below_all key_cmp e.0 es) (is_sorted key_cmp es) sorted))
 
--- a key leaves if it is among them, and is on no list
+-- a key is removed if it is among them and on no list
 module _ (links : List Link) (q : Key) where
   abbrev on_list : Bool
   on_list = any_has_retransmission q links

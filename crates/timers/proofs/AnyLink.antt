@@ -15,7 +15,7 @@ pub retransmits_is : (key : Key) (o : Option Neighbor) → neighbor.has_retransm
 retransmits_is key None = refl
 retransmits_is key (Some n) = refl
 
--- p shows an item, t tests what is shown
+-- p is the view of an item, t the test of the view
 module _ {X L : Type 0} (p : X → L) (t : L → Bool) where
   -- some item from this one on passes
   abbrev pub any_from : ℕ → List X → Bool

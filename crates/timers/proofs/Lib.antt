@@ -7,7 +7,7 @@ pub mod Aged
 pub mod Again
 pub mod OfAge
 mod Within
--- what crates above name of those below
+-- names from the crates below that crates above use
 pub use Rattle.flooding.proofs.adjacency as adjacency
 pub use Rattle.flooding.proofs as flooding
 pub use Rattle.flooding.proofs.lsdb as lsdb

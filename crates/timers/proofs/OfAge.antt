@@ -1,4 +1,5 @@
--- The keys of the copies at MaxAge, one after the other, flood what all entries of the database do.
+-- Flooding the copies with the keys at MaxAge, in turn, is flooding for all entries of the
+-- database.
 use Rattle.std.proofs.Common.{◌≡◌, ℕ, suc, ◌+◌, ◌==◌, Bool, true, false, cond, not, ◌&&◌, List, [], ◌∷◌, ◌++◌, length, map, Option, None, Some, refl, sym, ap, ◌∙◌, arith, append_assoc}
 use Rattle.std.specs.List.{AllByRecursion, cons_option, enumerate_from, filter, filter_map, fold}
 use Rattle.std.specs.FinMap as finite
@@ -20,7 +21,7 @@ use Rattle.flooding.proofs.Sends.{append_none, drafted_none}
 use Rattle.timers.specs.Aging.{each_come_of_age, outcomes_in_turn}
 use Rattle.timers.proofs.Stepped.{marks}
 
--- ---- the copies stay what they were, whenever they were sent
+-- ---- the copies stay the same, except for when they were sent
 
 abbrev StillThere : Database → (Key × DatabaseCopy) → Type 0
 StillThere db e = IsStill db e.0 e.1
@@ -105,7 +106,7 @@ unfolding drafting
 drafting_append delay [] ys d = refl
 drafting_append delay (x ∷ xs) ys d = drafting_append delay xs ys (adds delay d x)
 
--- N is the neighbor that a link has by then
+-- N is the neighbor of a link so far
 module _ (N : ℕ → Link → Option Neighbor) where
   abbrev by_then : ℕ → List Link → List Link
   by_then n ls = map (λ (e : ℕ × Link). record e.1 { neighbor = N e.0 e.1 }) (enumerate_from n ls)

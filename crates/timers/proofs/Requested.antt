@@ -1,4 +1,4 @@
--- Requests mark nothing, nor do Acknowledgments and Hellos.
+-- Link State Requests, Acknowledgments and Hellos mark nothing.
 use Rattle.std.proofs.Common.{◌≡◌, ℕ, Bool, true, false, cond, List, [], ◌∷◌, map, refl}
 use Rattle.std.specs.FinSet as set
 use Rattle.std.specs.Prelude.{Option, None, Some}

@@ -1,4 +1,4 @@
--- What runs out on a link, and the end of Loading, as the definitions of an event say it.
+-- Expired timers of a link, and the end of Loading, as the definitions of an event say.
 use Rattle.std.proofs.Common.{◌≡◌, ℕ, refl, ap}
 use Rattle.std.specs.Prelude.{Option, None, Some}
 use Rattle.flooding.specs.adjacency.Adjacencies.{after_inactivity_timer, loading_done}

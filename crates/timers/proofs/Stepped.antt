@@ -1,4 +1,4 @@
--- A step of every neighbor, as the definitions of an event say it.
+-- A step of every neighbor, as the definitions of an event say.
 use Rattle.std.proofs.Common.{◌≡◌, ℕ, ◌+◌, List, [], ◌∷◌, ◌++◌, map, refl, ap, ◌∙◌}
 use Rattle.std.specs.List.{enumerate_from, flat_map, fold}
 use Rattle.std.specs.Prelude.{Option, None, Some}
@@ -42,7 +42,7 @@ module _ (F : Link → Neighbor → Step) where
   sends_are n [] = refl
   sends_are n (l ∷ ls) = λ i. sends_at n (sent_is (F l) l.neighbor i) ++ sends_are (n + 1) ls i
 
--- if nothing that a link sends is marked, the database stays
+-- if nothing that a link sends is marked, the database stays the same
 module _ (moment : ℕ) (S : Link → List Content) (none : (n : ℕ) (l : Link) (d : Database) → marks moment d (sends_at n (S l)) ≡ d) where
   pub marks_none : (n : ℕ) (ls : List Link) (d : Database) → marks moment d (flat_map (λ (e : ℕ × Link). sends_at e.0 (S e.1)) (enumerate_from n ls)) ≡ d
   marks_none n [] d = refl

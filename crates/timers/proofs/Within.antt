@@ -1,4 +1,4 @@
--- Within one moment nothing comes of age.
+-- If the moment is the same, no copy reaches MaxAge.
 use Rattle.std.proofs.Common.{◌≡◌, ℕ, Bool, true, false, not, ◌&&◌, cond, List, [], ◌∷◌, refl, subst, ap, ◌∙◌}
 use Rattle.std.specs.List.{fold}
 use Rattle.std.specs.FinMap as finite

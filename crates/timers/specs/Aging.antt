@@ -1,5 +1,5 @@
--- Copies that have come to MaxAge are flooded, and leave the database once every neighbor has
--- acknowledged them.
+-- Copies that have reached MaxAge are flooded, and removed from the database once every neighbor
+-- has acknowledged them.
 use Rattle.std.specs.Prelude.{if◌then◌else◌, List, [], ◌∷◌, ◌++◌}
 use Rattle.std.specs.List.{fold}
 use Rattle.std.specs.FinMap as finite
@@ -17,12 +17,11 @@ without_acknowledged links db key =
 abbrev pub without_each : List Link → Database → List Key → Database
 without_each links db keys = fold (without_acknowledged links) db keys
 
--- what was sent, and what was sent after it
+-- what was sent first, and what was sent after it
 abbrev pub outcomes_in_turn : Outcome → Outcome → Outcome
 outcomes_in_turn p q = record { area = q.area; sends = p.sends ++ q.sends }
 
--- the copies of these keys that have come to MaxAge since the moment before are flooded, one after
--- the other
+-- the copies of these keys that have reached MaxAge since the moment `before` are flooded in turn
 abbrev pub each_come_of_age : (before : Moment) → (moment : Moment) → List Key → Area → Outcome
 each_come_of_age before moment [] a = start a
 each_come_of_age before moment (key ∷ keys) a =

@@ -1,4 +1,4 @@
--- The routers that a Hello names.
+-- The routers that a Hello lists.
 use Rattle.std.specs.Prelude.{List, [], ◌∷◌, Option, None, Some}
 use Rattle.words.specs.Numbers.{RouterNumber}
 use Rattle.flooding.specs.adjacency.declared.state.State.{State}

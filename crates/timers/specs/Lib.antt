@@ -1,7 +1,7 @@
 pub mod Aging
 pub mod Greetings
 pub mod Marks
--- what crates above name of those below
+-- names from the crates below that crates above use
 pub use Rattle.flooding.specs.adjacency as adjacency
 pub use Rattle.events.specs as events
 pub use Rattle.flooding.specs as flooding

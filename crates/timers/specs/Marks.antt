@@ -1,4 +1,4 @@
--- What a link sends again, and the marks of what its Updates take along.
+-- What a link retransmits, and the marks of the Link State Updates.
 use Rattle.std.specs.Prelude.{ℕ, List, [], ◌∷◌, ◌++◌, drop, length, map}
 use Rattle.words.specs.Numbers.{Moment}
 use Rattle.words.specs.declared.key.Key.{Key}
@@ -22,7 +22,7 @@ sent_again moment db link =
 abbrev pub update_count : Drafted → ℕ
 update_count d = length d.updates
 
--- the keys of the Updates of each draft that come after its first ones
+-- the keys of the Link State Updates of each draft after its first ones
 abbrev pub keys_behind : List ℕ → List Drafted → List Key
 keys_behind [] ds = []
 keys_behind (c ∷ cs) [] = []

@@ -29,10 +29,11 @@ impl LinkStep for Acknowledgments {
     }
 }
 
-/// Each link's delayed acknowledgments go into the draft of its interface, in the order of their
-/// keys, and none is left (RFC 2328, section 13.5). The moment is that of the Tick.
+/// Adds each link's delayed acknowledgments to the draft of its interface, in the order of their
+/// keys, and clears them (RFC 2328, section 13.5). The moment is that of the Tick.
 ///
-/// Errors with `AllocError` if an allocation is refused: roll the area back, and drop the drafts.
+/// Errors with `AllocError` if an allocation is refused; the caller then rolls the area back and
+/// drops the drafts.
 pub fn acknowledge_all(
     area: &mut Area,
     alloc: Global,

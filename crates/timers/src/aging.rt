@@ -1,4 +1,4 @@
-//! Copies that have come to MaxAge (RFC 2328, section 14).
+//! Copies that have reached MaxAge (RFC 2328, section 14).
 ghost use Rattle.std.specs.Prelude.{◌≡◌, OnOk, length};
 ghost use Rattle.flooding.specs.Drafted.{drafts_with};
 ghost use Rattle.flooding.specs.Links.{start};
@@ -10,7 +10,7 @@ use flooding::{Area, Draft};
 use std::alloc::{AllocError, Global};
 use words::{Key, Second};
 
-// The copy of this key leaves, unless some neighbor has still to acknowledge it.
+// Removes the copy of this key unless it is on some retransmission list.
 fn remove_acknowledged(area: &mut Area, key: &Key) -> Result<(), AllocError>
     ensures ok { OnOk result (area.new.present ≡ record area.old.present {
       database = without_acknowledged area.old.present.links area.old.present.database key.now;
@@ -25,7 +25,7 @@ fn remove_acknowledged(area: &mut Area, key: &Key) -> Result<(), AllocError>
     area.remove(key)
 }
 
-// The copies of these keys leave, but those that some neighbor has still to acknowledge.
+// Removes the copies of these keys that are on no retransmission list.
 fn remove_each(area: &mut Area, keys: &[Key]) -> Result<(), AllocError>
     ensures ok { OnOk result (area.new.present ≡ record area.old.present {
       database = without_each area.old.present.links area.old.present.database keys.now;
@@ -39,12 +39,12 @@ fn remove_each(area: &mut Area, keys: &[Key]) -> Result<(), AllocError>
     Ok(())
 }
 
-/// Copies at MaxAge that are on no retransmission list leave the database, unless some neighbor is
-/// in Exchange or Loading (RFC 2328, section 14).
+/// Removes copies at MaxAge that are on no retransmission list from the database, unless some
+/// neighbor is in Exchange or Loading (RFC 2328, section 14).
 ///
-/// It looks at each copy only if one may have come of age since the database last looked, as
-/// `Lsdb::aged_keys` says. Errors with `AllocError` if an allocation is refused: roll the area
-/// back.
+/// It visits all copies only if one may have reached MaxAge since the database last scanned them,
+/// as in `Lsdb::aged_keys`. Errors with `AllocError` if an allocation is refused; the caller then
+/// rolls the area back.
 pub fn remove_aged(area: &mut Area, alloc: Global, moment: Second) -> Result<(), AllocError>
     ensures ok { OnOk result (area.new.present
         ≡ (remove_aged moment (start area.old.present)).area) }
@@ -59,8 +59,7 @@ pub fn remove_aged(area: &mut Area, alloc: Global, moment: Second) -> Result<(),
     remove_each(area, &keys)
 }
 
-// The copies of these keys that have come to MaxAge since the moment before are flooded, one after
-// the other.
+// Floods in turn the copies of these keys that have reached MaxAge since the moment `before`.
 fn each_come_of_age(
     area: &mut Area,
     alloc: Global,
@@ -84,12 +83,12 @@ fn each_come_of_age(
     Ok(())
 }
 
-/// Each copy that has come to MaxAge since the moment before is flooded as if from nobody
-/// (RFC 2328, section 14), in the order of their keys, into the draft of each interface.
+/// Floods each copy that has reached MaxAge since the moment `before` to every neighbor (RFC 2328,
+/// section 14), in the order of their keys, adding to the draft of each interface.
 ///
-/// It looks at no copy within one moment, and else at each only if one may have come of age since
-/// the database last looked, as `Lsdb::aged_keys` says. Errors with `AllocError` if an allocation
-/// is refused: roll the area back, and drop the drafts.
+/// If the moment is the same, it visits no copy, and otherwise all only if one may have reached
+/// MaxAge since the database last scanned them, as in `Lsdb::aged_keys`. Errors with `AllocError`
+/// if an allocation is refused; the caller then rolls the area back and drops the drafts.
 pub fn with_ages(
     area: &mut Area,
     alloc: Global,

@@ -1,4 +1,4 @@
-//! What is asked of all links.
+//! Questions about all links.
 ghost use Rattle.std.specs.Prelude.{◌≡◌, map};
 ghost use Rattle.flooding.specs.received.Links.{any_exchange_or_loading, any_has_retransmission};
 ghost use Rattle.flooding.specs.Links.{present};
@@ -37,7 +37,7 @@ pub fn any_exchange_or_loading(area: &Area) -> bool
     is_exchange_or_loading_on(area.links())
 }
 
-/// Whether some neighbor has still to acknowledge an instance of this key.
+/// Whether the key is on some neighbor's retransmission list.
 pub fn any_has_retransmission(area: &Area, key: &Key) -> bool
     ensures { result ≡ any_has_retransmission key.now area.now.present.links }
 {

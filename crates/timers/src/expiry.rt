@@ -1,4 +1,4 @@
-//! What runs out, and the end of Loading: without sends and without memory.
+//! Expired timers, and the end of Loading: nothing is sent or allocated.
 ghost use Rattle.std.specs.Prelude.{◌≡◌, map};
 ghost use Rattle.flooding.specs.received.Outcomes.{on_links};
 ghost use Rattle.flooding.specs.Links.{start};
@@ -36,9 +36,10 @@ impl LinkChange for EndLoading {
     }
 }
 
-/// What runs out at a Tick: a neighbor that wasn't heard for RouterDeadInterval is Down (RFC 2328,
-/// section 10.3, InactivityTimer), and RouterDeadInterval after the exchange was done the last
-/// Description is given up (section 10.8). It wants no memory.
+/// The timers that a Tick finds expired: a neighbor from which no Hello was received for
+/// RouterDeadInterval goes Down (RFC 2328, section 10.3, InactivityTimer), and the last Database
+/// Description is discarded that long after the exchange was completed (section 10.8). It doesn't
+/// allocate.
 pub fn run_out(area: &mut Area, moment: Second)
     ensures { area.new ≡ record area.old {
       present = (on_links (map (run_out moment)) (start area.old.present)).area;
@@ -47,8 +48,8 @@ pub fn run_out(area: &mut Area, moment: Second)
     area.change_links(&RunOut { moment });
 }
 
-/// LoadingDone (RFC 2328, section 10.3): each neighbor in Loading with nothing left to request
-/// becomes Full. It wants no memory.
+/// LoadingDone (RFC 2328, section 10.3): each neighbor goes from Loading to Full if its request
+/// list is empty. It doesn't allocate.
 pub fn end_loading(area: &mut Area)
     ensures { area.new ≡ record area.old {
       present = (on_links (map link_loading_done) (start area.old.present)).area;

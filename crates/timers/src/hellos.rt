@@ -13,7 +13,7 @@ use packet::Hello;
 use std::alloc::{AllocError, Global};
 use words::{E_BIT, RouterId, Second, Sequence};
 
-// Whether at least `interval` seconds lie between the start and the moment.
+// Whether at least `interval` seconds have passed from the start to the moment.
 fn has_passed(start: Second, interval: u16, moment: Second) -> bool
     ensures { result ≡ has_passed start interval moment }
 {
@@ -44,7 +44,7 @@ fn mask_within(length: u8) -> u32
     ((1u64 << 32) - (1u64 << (32 - u32::from(length)))) as u32
 }
 
-// The mask of a prefix of this length; more than 32 counts as 32.
+// The mask of this prefix length; more than 32 counts as 32.
 fn mask(length: u8) -> u32
     ensures { result ≡ mask_of length }
 {
@@ -121,9 +121,11 @@ impl LinkStep for Greeting {
 }
 
 /// Sends a Hello at each interface at which none was sent for HelloInterval (RFC 2328, section
-/// 9.5), into its draft: it names the neighbor that is heard, and the interface's mask and timers.
+/// 9.5), adding it to its draft: it lists the neighbor, if there is one, and has the interface's
+/// mask and intervals.
 ///
-/// Errors with `AllocError` if an allocation is refused: roll the area back, and drop the drafts.
+/// Errors with `AllocError` if an allocation is refused; the caller then rolls the area back and
+/// drops the drafts.
 pub fn send_hellos(
     area: &mut Area,
     alloc: Global,

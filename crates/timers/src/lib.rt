@@ -17,5 +17,5 @@ pub use expiry::{end_loading, run_out};
 pub use hellos::send_hellos;
 pub use requests::request_all;
 pub use retransmissions::send_all_again;
-// What crates above name of those below.
+// Names from the crates below that crates above use.
 pub use flooding::{Area, Case, Draft, Link, Saved};

@@ -1,4 +1,4 @@
-//! What is requested next of each neighbor (RFC 2328, section 10.9).
+//! The next Link State Requests (RFC 2328, section 10.9).
 ghost use Rattle.std.specs.Prelude.{◌≡◌, OnOk, length};
 ghost use Rattle.flooding.specs.Drafted.{drafts_with};
 ghost use Rattle.flooding.specs.Links.{start};
@@ -34,10 +34,12 @@ impl LinkStep for NextRequest {
     }
 }
 
-/// Requests what is next of each neighbor of which nothing is outstanding (RFC 2328, section 10.9):
-/// a Request for the first keys of its request list into the draft of its interface.
+/// Requests the next LSAs from each neighbor for which nothing is outstanding (RFC 2328, section
+/// 10.9): a Link State Request for the first keys of its request list is added to the draft of its
+/// interface.
 ///
-/// Errors with `AllocError` if an allocation is refused: roll the area back, and drop the drafts.
+/// Errors with `AllocError` if an allocation is refused; the caller then rolls the area back and
+/// drops the drafts.
 pub fn request_all(
     area: &mut Area,
     alloc: Global,

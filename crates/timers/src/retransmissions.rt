@@ -1,4 +1,4 @@
-//! What a Tick sends again (RFC 2328, sections 10.8, 10.9 and 13.6).
+//! What a Tick retransmits (RFC 2328, sections 10.8, 10.9 and 13.6).
 ghost use Rattle.std.specs.Prelude.{◌≡◌, IfOk, OnOk, drop, length, map};
 ghost use Rattle.flooding.specs.Drafted.{drafts_with};
 ghost use Rattle.flooding.specs.Links.{start};
@@ -32,7 +32,7 @@ impl LinkStep for Again {
     }
 }
 
-// How many Updates each draft has.
+// The number of Link State Updates in each draft.
 fn update_counts(alloc: Global, drafts: &[Draft]) -> Result<Vec<usize>, AllocError>
     ensures { IfOk result (λ counts. counts.items ≡ map update_count drafts.now) }
 {
@@ -43,7 +43,7 @@ fn update_counts(alloc: Global, drafts: &[Draft]) -> Result<Vec<usize>, AllocErr
     Ok(counts)
 }
 
-// The copies that Updates after the first `count` take along count as sent.
+// Marks the copies of the Link State Updates after the first `count` as sent.
 fn mark_behind(
     area: &mut Area,
     moment: Second,
@@ -63,7 +63,7 @@ fn mark_behind(
     Ok(())
 }
 
-// The copies that Updates after the first ones of each draft take along count as sent.
+// Marks the copies of the Link State Updates after the first ones of each draft as sent.
 fn mark_all(
     area: &mut Area,
     moment: Second,
@@ -83,12 +83,13 @@ fn mark_all(
     Ok(())
 }
 
-/// What a Tick sends again once RxmtInterval has passed since it was sent: the Description of
-/// ExStart and the master's of Exchange, what is still requested, and the LSAs of each
-/// retransmission list that have room in one Update (RFC 2328, sections 10.8, 10.9 and 13.6), into
-/// the draft of each interface. What an Update takes along counts as sent.
+/// What a Tick retransmits if RxmtInterval has passed since it was sent: the Database Description
+/// in ExStart and the master's in Exchange, the outstanding Link State Request, and the LSAs of
+/// each retransmission list that fit into one Link State Update (RFC 2328, sections 10.8, 10.9 and
+/// 13.6). It is added to the draft of each interface, and the LSAs' copies are marked as sent.
 ///
-/// Errors with `AllocError` if an allocation is refused: roll the area back, and drop the drafts.
+/// Errors with `AllocError` if an allocation is refused; the caller then rolls the area back and
+/// drops the drafts.
 pub fn send_all_again(
     area: &mut Area,
     alloc: Global,

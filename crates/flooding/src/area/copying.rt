@@ -1,4 +1,4 @@
-//! Links and database once more.
+//! Copies of links and database.
 ghost use Rattle.std.specs.Prelude.{◌≡◌, IfOk, map};
 ghost use Rattle.flooding.specs.Links.{present, settled_link};
 
@@ -18,8 +18,9 @@ fn copy_links(alloc: Global, links: &[Link]) -> Result<Vec<Link>, AllocError>
 }
 
 impl Area {
-    /// The same links and the same database, with nothing to be taken back. The only error is that
-    /// an allocation was refused.
+    /// A copy of the links and the database, settled.
+    ///
+    /// Errors with `AllocError` if an allocation is refused.
     pub fn copy(&self, alloc: Global) -> Result<Self, AllocError>
         ensures { IfOk result (λ made. made ≡ record self.now { settled = self.now.present }) }
     {

@@ -1,4 +1,4 @@
-//! What is done on each link of an area.
+//! Changes and steps of the links of an area.
 ghost use Rattle.std.specs.Prelude.{◌≡◌, ◌≤◌, OnOk, length, map};
 ghost use Rattle.std.specs.FinMap as finite;
 ghost use Rattle.adjacency.specs.lsdb.Copies.{mark_sent};
@@ -14,7 +14,7 @@ use std::alloc::{AllocError, Global};
 use words::{Key, Second};
 
 impl Area {
-    /// Changes each link. It wants no memory.
+    /// Changes each link. It doesn't allocate.
     pub fn change_links<C: LinkChange>(&mut self, change: &C)
         ensures { self.new ≡ record self.old {
           present = record self.old.present {
@@ -25,8 +25,8 @@ impl Area {
         change_links(change, &mut self.links);
     }
 
-    /// The neighbor on the link of this number is Down. It takes no memory. If there is no such
-    /// link, nothing happens.
+    /// The neighbor on the link with this number goes Down. It doesn't allocate. If there is no
+    /// such link, nothing changes.
     pub fn take_down(&mut self, number: usize)
         ensures { self.new ≡ record self.old {
           present = record self.old.present {
@@ -37,10 +37,10 @@ impl Area {
         take_link_down(number, &mut self.links);
     }
 
-    /// Each link takes the step; what it sends goes into the draft of its interface.
+    /// Each link takes the step; what it sends is added to the draft of its interface.
     ///
-    /// Errors with `AllocError` if an allocation is refused: roll the area back, and drop the
-    /// drafts.
+    /// Errors with `AllocError` if an allocation is refused; the caller then rolls the area back
+    /// and drops the drafts.
     pub fn step_links<S: LinkStep>(
         &mut self,
         alloc: Global,
@@ -61,11 +61,12 @@ impl Area {
         step_links(alloc, step, &self.database, &mut self.links, drafts)
     }
 
-    /// The link of this number takes the step; what it sends goes into the draft of its interface,
-    /// and each copy that an Update takes along counts as sent at this moment.
+    /// The link with this number takes the step; what it sends is added to the draft of its
+    /// interface, and each copy that it sends in a Link State Update is marked as sent at this
+    /// moment.
     ///
-    /// Errors with `AllocError` if an allocation is refused: roll the area back, and drop the
-    /// drafts.
+    /// Errors with `AllocError` if an allocation is refused; the caller then rolls the area back
+    /// and drops the drafts.
     pub fn step_link<S: LinkStep>(
         &mut self,
         alloc: Global,
@@ -97,9 +98,10 @@ impl Area {
         )
     }
 
-    /// An Update took the copy of this key along at this moment. Without a copy nothing happens.
+    /// Marks the copy of this key as sent in a Link State Update at this moment. Without a copy
+    /// nothing changes.
     ///
-    /// Errors with `AllocError` if an allocation is refused: roll the area back.
+    /// Errors with `AllocError` if an allocation is refused; the caller then rolls the area back.
     pub fn mark_sent(&mut self, moment: Second, key: &Key) -> Result<(), AllocError>
         ensures ok { OnOk result (self.new.present ≡ record self.old.present {
           database = mark_sent moment key.now self.old.present.database;
@@ -110,9 +112,9 @@ impl Area {
         self.database.mark_sent(moment, key)
     }
 
-    /// The copy of this key leaves the database, if there is one.
+    /// Removes the copy of this key from the database, if there is one.
     ///
-    /// Errors with `AllocError` if an allocation is refused: roll the area back.
+    /// Errors with `AllocError` if an allocation is refused; the caller then rolls the area back.
     pub fn remove(&mut self, key: &Key) -> Result<(), AllocError>
         ensures ok { OnOk result (self.new.present ≡ record self.old.present {
           database = finite.remove self.old.present.database key.now;

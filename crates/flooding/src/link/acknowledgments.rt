@@ -1,4 +1,4 @@
-//! Delayed acknowledgments that are sent (RFC 2328, section 13.5).
+//! Sending delayed acknowledgments (RFC 2328, section 13.5).
 ghost use Rattle.std.specs.Prelude.{◌≡◌, ℕ, OnOk, [], map};
 ghost use Rattle.std.specs.List.{cons_option, filter_map, fold};
 ghost use Rattle.std.specs.FinMap as finite;
@@ -12,7 +12,7 @@ use lsa::Header;
 use std::alloc::{AllocError, Global};
 use words::Key;
 
-// An Acknowledgment names what stands under the key, if anything does.
+// Drafts an acknowledgment of the header of this key, if there is one.
 fn draft_header(key: &Key, headers: &KeyedMap<Header>, draft: &mut Draft) -> Result<(), AllocError>
     ensures { OnOk result ((delay : ℕ) → draft.new ≡ drafting delay
         (map Acknowledges (cons_option (finite.get headers.now.present key.now) [])) draft.old) }
@@ -23,7 +23,7 @@ fn draft_header(key: &Key, headers: &KeyedMap<Header>, draft: &mut Draft) -> Res
     draft.acknowledge(*header)
 }
 
-// An Acknowledgment names what stands under these keys.
+// Drafts acknowledgments of the headers of these keys.
 fn draft_headers(
     keys: &[Key],
     headers: &KeyedMap<Header>,
@@ -38,7 +38,7 @@ fn draft_headers(
     Ok(())
 }
 
-// What stands under these keys leaves.
+// Removes these keys.
 fn remove_headers(keys: &[Key], headers: &mut KeyedMap<Header>) -> Result<(), AllocError>
     ensures ok { OnOk result (headers.new.present
         ≡ fold finite.remove headers.old.present keys.now) }
@@ -51,10 +51,10 @@ fn remove_headers(keys: &[Key], headers: &mut KeyedMap<Header>) -> Result<(), Al
 }
 
 impl Link {
-    /// The delayed acknowledgments go into the draft, in the order of their keys, and none is left
+    /// Adds the delayed acknowledgments to the draft in the order of their keys, and clears them
     /// (RFC 2328, section 13.5).
     ///
-    /// Errors with `AllocError` if an allocation is refused: roll the link back.
+    /// Errors with `AllocError` if an allocation is refused; the caller then rolls the link back.
     pub fn acknowledge(&mut self, alloc: Global, draft: &mut Draft) -> Result<(), AllocError>
         ensures ok { OnOk result (self.new.present
             ≡ record self.old.present { acknowledgments = finite.empty }) }

@@ -1,4 +1,4 @@
-//! A link once more.
+//! Copies of links.
 ghost use Rattle.std.specs.Prelude.{◌≡◌, IfOk};
 
 use super::Link;
@@ -6,8 +6,9 @@ use adjacency::Saved;
 use std::alloc::{AllocError, Global};
 
 impl Link {
-    /// The same link, with nothing to be taken back. The only error is that an allocation was
-    /// refused.
+    /// A copy of the link, settled.
+    ///
+    /// Errors with `AllocError` if an allocation is refused.
     pub fn copy(&self, alloc: Global) -> Result<Self, AllocError>
         ensures present { IfOk result (λ made. made.present ≡ self.now.present) }
         ensures settled { IfOk result (λ made. made.settled ≡ self.now.present) }

@@ -1,4 +1,4 @@
-//! What the Hello of an interface needs (RFC 2328, section 9.5).
+//! The last Hello of an interface (RFC 2328, section 9.5).
 ghost use Rattle.std.specs.Prelude.{◌≡◌, Some};
 
 use super::Link;
@@ -12,7 +12,7 @@ impl Link {
         *self.last_hello_sent.get()
     }
 
-    /// A Hello was sent at this moment. It wants no memory.
+    /// Notes that a Hello was sent at this moment. It doesn't allocate.
     pub fn hello_sent(&mut self, moment: Second)
         ensures { self.new ≡ record self.old {
           present = record self.old.present { last_hello_sent = Some moment };

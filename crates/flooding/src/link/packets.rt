@@ -1,4 +1,4 @@
-//! What packets of the neighbor make of the conversation with it (RFC 2328, sections 10.5 to 10.7
+//! What packets from the neighbor do to the conversation with it (RFC 2328, sections 10.5 to 10.7
 //! and 13.7).
 ghost use Rattle.std.specs.Prelude.{◌≡◌, ℕ, OnOk, Some};
 ghost use Rattle.adjacency.specs.Adjacencies.{after_hello};
@@ -17,11 +17,11 @@ use std::alloc::{AllocError, Global};
 use words::{Key, RouterId, Second};
 
 impl Link {
-    /// A Hello came from this router, which names this router or doesn't (RFC 2328, section 10.5):
-    /// it was accepted, so the neighbor is Down or of this Router ID. It does what `Place::hello`
-    /// says.
+    /// An accepted Hello from the router with this Router ID, which lists this router or doesn't
+    /// (RFC 2328, section 10.5), as in `Place::hello`. Since it was accepted, the neighbor is Down
+    /// or has this Router ID.
     ///
-    /// Errors with `AllocError` if an allocation is refused: roll the link back.
+    /// Errors with `AllocError` if an allocation is refused; the caller then rolls the link back.
     pub fn hello(
         &mut self,
         alloc: Global,
@@ -42,10 +42,10 @@ impl Link {
         self.place.hello(alloc, moment, from, names, draft)
     }
 
-    /// A Database Description came from the neighbor, to the router of the Router ID `own` (RFC
-    /// 2328, section 10.6). It does what `Place::description` says.
+    /// A Database Description from the neighbor to the router with the Router ID `own` (RFC 2328,
+    /// section 10.6), as in `Place::description`.
     ///
-    /// Errors with `AllocError` if an allocation is refused: roll the link back.
+    /// Errors with `AllocError` if an allocation is refused; the caller then rolls the link back.
     pub fn description(
         &mut self,
         alloc: Global,
@@ -71,10 +71,10 @@ impl Link {
             .description(alloc, own, moment, database, description, draft)
     }
 
-    /// A Link State Request for these keys came from the neighbor (RFC 2328, section 10.7). It does
-    /// what `Place::answer` says, by the interface's InfTransDelay.
+    /// A Link State Request for these keys from the neighbor (RFC 2328, section 10.7), as in
+    /// `Place::answer`, with the interface's InfTransDelay.
     ///
-    /// Errors with `AllocError` if an allocation is refused: roll the link back.
+    /// Errors with `AllocError` if an allocation is refused; the caller then rolls the link back.
     pub fn answer(
         &mut self,
         alloc: Global,
@@ -96,10 +96,10 @@ impl Link {
             .answer(alloc, moment, delay, database, keys, draft)
     }
 
-    /// An Acknowledgment of these instances came from the neighbor (RFC 2328, section 13.7). It
-    /// does what `Place::ack` says.
+    /// A Link State Acknowledgment of these instances from the neighbor (RFC 2328, section 13.7),
+    /// as in `Place::ack`.
     ///
-    /// Errors with `AllocError` if an allocation is refused: roll the link back.
+    /// Errors with `AllocError` if an allocation is refused; the caller then rolls the link back.
     pub fn acknowledged(&mut self, moment: Second, headers: &[Header]) -> Result<(), AllocError>
         ensures ok { OnOk result (self.new.present ≡ with_neighbor
             (step_on (λ n. no_sends (after_acknowledgment moment headers.now n))

@@ -1,5 +1,5 @@
-//! What runs out on a link, and what is requested and sent again there (RFC 2328, sections 10.3,
-//! 10.8, 10.9 and 13.6).
+//! Timers that have expired on a link, and what is requested and retransmitted there (RFC 2328,
+//! sections 10.3, 10.8, 10.9 and 13.6).
 ghost use Rattle.std.specs.Prelude.{◌≡◌, OnOk, None};
 ghost use Rattle.adjacency.specs.Adjacencies.{loading_done};
 ghost use Rattle.adjacency.specs.Asked.{has_retransmission};
@@ -15,15 +15,15 @@ use std::alloc::{AllocError, Global};
 use words::{Key, Second};
 
 impl Link {
-    /// Whether the neighbor has still to acknowledge an instance of this key.
+    /// Whether the key is on the neighbor's retransmission list.
     pub fn has_retransmission(&self, key: &Key) -> bool
         ensures { result ≡ has_retransmission key.now self.now.present.neighbor }
     {
         self.place.has_retransmission(key)
     }
 
-    /// What runs out at a Tick, as `Place::run_out` says, by the interface's RouterDeadInterval. It
-    /// wants no memory.
+    /// The timers that a Tick finds expired, as in `Place::run_out`, with the interface's
+    /// RouterDeadInterval. It doesn't allocate.
     pub fn run_out(&mut self, moment: Second)
         ensures { self.new ≡ record self.old {
           present = with_neighbor
@@ -34,7 +34,7 @@ impl Link {
         self.place.run_out(moment, self.interface.dead_interval);
     }
 
-    /// LoadingDone (RFC 2328, section 10.3), as `Place::end_loading` says. It wants no memory.
+    /// LoadingDone (RFC 2328, section 10.3), as in `Place::end_loading`. It doesn't allocate.
     pub fn end_loading(&mut self)
         ensures { self.new ≡ record self.old {
           present = with_neighbor
@@ -45,7 +45,7 @@ impl Link {
         self.place.end_loading();
     }
 
-    /// The neighbor is Down. It wants no memory.
+    /// The neighbor goes Down. It doesn't allocate.
     pub fn take_down(&mut self)
         ensures { self.new ≡ record self.old {
           present = record self.old.present { neighbor = None };
@@ -54,10 +54,10 @@ impl Link {
         self.place.go_down();
     }
 
-    /// What a Tick sends again to the neighbor, as `Place::send_again` says, by the interface's
+    /// What a Tick retransmits to the neighbor, as in `Place::send_again`, with the interface's
     /// RxmtInterval and InfTransDelay.
     ///
-    /// Errors with `AllocError` if an allocation is refused: roll the link back.
+    /// Errors with `AllocError` if an allocation is refused; the caller then rolls the link back.
     pub fn send_again(
         &mut self,
         alloc: Global,

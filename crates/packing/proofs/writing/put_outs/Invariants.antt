@@ -5,7 +5,7 @@ use Rattle.events.specs.Packing.{out_of}
 use Rattle.packing.specs.Texts.{CanBeSent, IsSentText}
 use Rattle.packing.proofs.writing.put_outs.Given as goal
 
--- once the rest is sent too, all is
+-- sending the rest gives the whole result
 abbrev pub invariant-loop-body : goal.invariant-loop-body
 invariant-loop-body l =
     (l.outs.items ++ map (out_of l.own l.interface) (into_iter_items l.body-iterator) ≡ l.fn.outs.items ++ map (out_of l.own l.interface) (into_iter_items l.initial.body-iterator))

@@ -3,7 +3,7 @@ use Rattle.std.specs.List.{filter}
 use Rattle.events.specs.Originations.{due_keys, is_due}
 use Rattle.procedures.proofs.due.due_keys.Given as goal
 
--- what was found, and of the keys that are still to come those that are due
+-- the keys found so far, and the due ones of the keys still to be tested
 abbrev pub invariant-loop-key : goal.invariant-loop-key
 invariant-loop-key l =
     l.due.items ++ filter (is_due l.moment l.router.present) l.key-iterator ≡ due_keys l.moment l.router.present
