@@ -1,4 +1,4 @@
--- The lines of a text, one after the other.
+-- The lines of a text, in turn.
 use Rattle.std.proofs.Common.{◌≡◌, ◌≢◌, ℕ, ◌+◌, ◌<◌, ◌≤◌, zero, suc, List, [], ◌∷◌, ◌++◌, length, take, Bool, true, false, not, ◌||◌, eqb, refl, sym, ap, ◌∙◌, subst, arith}
 use Rattle.std.specs.Prelude.{map, ◌==◌}
 use Rattle.std.specs.List.{list_any}
@@ -32,7 +32,7 @@ unended [] h = refl
 unended (c ∷ []) h = rw (ne_eqb c 10 (λ e. h [] (ap (λ d. d ∷ []) e))) refl
 unended (c ∷ d ∷ rest) h = ap (λ (tail : List ℕ). c ∷ tail) (unended (d ∷ rest) (λ front e. h (c ∷ front) (ap (λ (tail : List ℕ). c ∷ tail) e)))
 
--- ---- one line more
+-- ---- one more line
 
 pub say_more : (n k : ℕ) (lines : List Line) (cs : List ConfiguredInterface) (line : Line) (c : ConfiguredInterface) → SayInterfaces n lines cs → n + length cs ≡ k
     → SaysInterface k line c → SayInterfaces n (lines ++ line ∷ []) (cs ++ c ∷ [])
@@ -82,12 +82,12 @@ apart_more (d ∷ cs) c h e =
     let front = any_more d.interface.address cs c (not_true _ two.0) free.0 in
     rw front (apart_more cs c two.1 free.1)
 
--- ---- a line that says an interface
+-- ---- a line that spells an interface
 
 third : List Word → Word
 third words = get_or words 2 []
 
--- a line says one address
+-- a line spells one address
 same_address : (number : ℕ) (line : Line) (c d : ConfiguredInterface) → SaysInterface number line c → SaysInterface number line d → c.interface.address ≡ d.interface.address
 unfolding third
 same_address number line c d s t =
@@ -131,6 +131,6 @@ next_said ws d i cs c lt said s =
     let at : SaysInterface (length cs + 1) (get_or (views ws) i []) c = subst (λ (line : Line). SaysInterface (length cs + 1) line c) (view_at ws d i lt) s in
     subst (λ (lines : List Line). SayInterfaces 1 lines (cs ++ c ∷ [])) (sym (take_more (views ws) i [] within)) (say_more 1 (length cs + 1) (take i (views ws)) cs (get_or (views ws) i []) c said (omega arith) at)
 
--- the number that a refusal has
+-- the line number of a refusal
 pub numbered : {A : Type 0} (m n : ℕ) → ◌≡◌ {A = Result A ConfigurationError} (Err (errors.Line m)) (Err (errors.Line n)) → m ≡ n
 numbered m n e = cc

@@ -1,4 +1,4 @@
--- Numbers with commas between them.
+-- Numbers separated by commas.
 use Rattle.std.proofs.Common.{◌≡◌, ℕ, zero, suc, ◌+◌, add-one, arith, List, [], ◌∷◌, ◌++◌, Bool, true, false, refl, ap, ◌∙◌, sym, append_assoc, if◌then◌else◌}
 use Rattle.std.specs.Prelude.{decimal, filter}
 use Rattle.std.specs.List.{range_with_len}
@@ -9,7 +9,7 @@ abbrev pub is_empty : List ℕ → Bool
 is_empty [] = true
 is_empty (x ∷ xs) = false
 
--- a number as it stands behind those that are written
+-- a number after those that are written
 abbrev pub next_text : List ℕ → ℕ → List ℕ
 next_text numbers n = if is_empty numbers then decimal n else 44 ∷ decimal n
 
@@ -34,7 +34,7 @@ range_more : (a n j : ℕ) → a + n ≡ j → range_with_len a (suc n) ≡ rang
 range_more a zero j e = ap (λ k. k ∷ []) (let same : a ≡ j = omega arith in same)
 range_more a (suc n) j e = ap (λ rest. a ∷ rest) (range_more (a + 1) n j (omega arith))
 
--- one interface more
+-- one more interface
 pub interfaces_more : (n hops : ℕ) → interfaces_below (n + 1) hops ≡ (if has_interface hops n then interfaces_below n hops ++ n ∷ [] else interfaces_below n hops)
 interfaces_more n hops =
     let more : range_with_len 0 (n + 1) ≡ range_with_len 0 n ++ n ∷ [] = rw (add-one n) (range_more 0 n n (omega arith)) in
@@ -44,7 +44,7 @@ empty_more : (numbers : List ℕ) (n : ℕ) → is_empty (numbers ++ n ∷ []) �
 empty_more [] n = refl
 empty_more (a ∷ rest) n = refl
 
--- what is written of the interfaces below n, and then of n
+-- what is written for the interfaces below n, and then for n
 pub written_more : (n hops : ℕ) (old mid new : List ℕ) (first : Bool) → has_interface hops n ≡ true → mid ≡ old ++ numbers_text (interfaces_below n hops)
     → first ≡ is_empty (interfaces_below n hops) → new ≡ mid ++ (if first then decimal n else 44 ∷ decimal n)
     → (new ≡ old ++ numbers_text (interfaces_below (n + 1) hops)) × (false ≡ is_empty (interfaces_below (n + 1) hops))

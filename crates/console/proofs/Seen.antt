@@ -5,7 +5,7 @@ use denote.Ref.{Bor}
 use Rattle.console.specs.Words.{Word}
 use Rattle.console.specs.Views.{views}
 
--- what stands behind a slice's end
+-- what is after a slice's end
 abbrev pub none : Bor Word
 none = record { ref_ptr = (0, 0); now = [] }
 
@@ -18,7 +18,7 @@ words_behind : (w d : Bor Word) (ws : List (Bor Word)) (i k : ℕ) → words_at 
 words_behind w d ws i zero = refl
 words_behind w d ws i (suc k) = ap (λ rest. (get_or ws i d).now ∷ rest) (words_behind w d ws (suc i) k)
 
--- what a slice of the given number of words is seen as
+-- a slice with the given number of words is seen as these
 pub seen : (ws : List (Bor Word)) (d : Bor Word) (k : ℕ) → length ws ≡ k → views ws ≡ words_at ws d 0 k
 seen [] d zero e = refl
 seen [] d (suc k) e = absurd (omega arith)
@@ -35,14 +35,14 @@ view_at [] d k lt = absurd (omega arith)
 view_at (w ∷ ws) d zero lt = refl
 view_at (w ∷ ws) d (suc k) lt = view_at ws d k (omega arith)
 
--- the word at a place, if all of them are known
+-- the word at an index, if all of them are known
 pub word_at : (ws : List (Bor Word)) (d : Bor Word) (k : ℕ) (words : List Word) → k < length ws → views ws ≡ words → (get_or ws k d).now ≡ get_or words k []
 word_at ws d k words lt e = view_at ws d k lt ∙ ap (λ (ls : List Word). get_or ls k []) e
 
 pub both : {A : Type 0} {x y : A} {xs ys : List A} → x ≡ y → xs ≡ ys → x ∷ xs ≡ y ∷ ys
 both {A} {x} {y} {xs} {ys} e f = ap (λ (z : A). z ∷ xs) e ∙ ap (λ (zs : List A). y ∷ zs) f
 
--- nothing is told if nothing may be
+-- nothing is returned if nothing may be
 pub told_nothing : {X : Type 0} (r : Option X) (N : Type 0) (S : X → Type 0) → r ≡ None → N → MatchOption r N S
 told_nothing None N S is n = n
 told_nothing (Some x) N S is n = absurd cc

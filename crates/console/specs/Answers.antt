@@ -1,4 +1,4 @@
--- What the console answers: lines, each with a line feed (10) at its end.
+-- The console's answers: lines, each ended by a line feed (10).
 use Rattle.std.specs.Prelude.{ℕ, ◌+◌, List, [], ◌∷◌, ◌++◌, Option, None, Some, codes, decimal}
 use Rattle.std.specs.Prelude.{filter, map, if◌then◌else◌, nat_lt}
 use Rattle.std.specs.List.{join_with_byte, range_with_len}
@@ -19,19 +19,19 @@ kind_name Inter = codes "inter"
 kind_name External1 = codes "ext1"
 kind_name External2 = codes "ext2"
 
--- the interfaces of a set that are below this number, ascending
+-- the interfaces of a set that are below this number, in ascending order
 abbrev pub interfaces_below : (end : ℕ) (hops : ℕ) → List ℕ
 interfaces_below end hops = filter (has_interface hops) (range_with_len 0 end)
 
--- numbers in decimal, with commas (44) between them
+-- numbers in decimal, separated by commas (44)
 abbrev pub numbers_text : List ℕ → List ℕ
 numbers_text numbers = join_with_byte 44 (map decimal numbers)
 
--- the interfaces of a set, of which there are 64
+-- the interfaces of a set, which are below 64
 unfoldable pub hops_text : ℕ → List ℕ
 hops_text hops = numbers_text (interfaces_below 64 hops)
 
--- one route: its destination, its kind, its cost and the interfaces by which it leaves
+-- one route: its destination, its kind, its cost and its outgoing interfaces
 abbrev pub route_text : Route → List ℕ
 route_text r =
     prefix_text r.prefix ++ (codes " " ++ (kind_name r.kind ++ (codes " " ++ (decimal r.cost
@@ -56,7 +56,7 @@ state_name Exchange = codes "Exchange"
 state_name Loading = codes "Loading"
 state_name Full = codes "Full"
 
--- the neighbor of this interface, by its Router ID and its state; one that is Down has no line
+-- the neighbor of this interface, by its Router ID and its state; there is no line if it is Down
 abbrev pub neighbor_line : InterfaceNumber → Option (RouterNumber × State) → List ℕ
 neighbor_line interface None = []
 neighbor_line interface (Some (router, state)) =
@@ -68,7 +68,7 @@ neighbor_lines interface [] = []
 neighbor_lines interface (neighbor ∷ neighbors) =
     neighbor_line interface neighbor ++ neighbor_lines (interface + 1) neighbors
 
--- those of all interfaces, of which the first is 1
+-- the neighbors of all interfaces, numbered from 1
 abbrev pub neighbors_text : List (Option (RouterNumber × State)) → List ℕ
 neighbors_text neighbors = neighbor_lines 1 neighbors ++ codes "end\n"
 

@@ -1,4 +1,4 @@
--- The lines of the console: what each command is written as.
+-- The lines of the console: how each command is written.
 use Rattle.std.specs.Prelude.{◌≡◌, ◌≢◌, ◌<◌, ◌^◌, List, ℕ, [], ◌∷◌, codes, decimal}
 use Rattle.isa.specs.Hooks.{hook_name}
 use Rattle.words.specs.Constants.{ls_infinity}
@@ -29,24 +29,24 @@ command_words commands.Neighbors = codes "neighbors" ∷ []
 command_words commands.Counters = codes "counters" ∷ []
 command_words commands.Quit = codes "quit" ∷ []
 
--- a destination that a router may announce: its host bits are 0 and its metric is below LSInfinity
+-- a destination that a router may announce: its host bits are 0, and its metric is below LSInfinity
 pub record IsDestination (external : External) : Type 0 where
   pub network : IsNetwork external.prefix
   pub metric : external.metric < ls_infinity
   pub tag : external.tag < 2 ^ 32
 
--- what each command is about: a path isn't empty, and host bits are 0
+-- the arguments of each command are valid: a path isn't empty, and host bits are 0
 abbrev pub IsMeant : Command → Type 0
 IsMeant (commands.Attach path) = path.now ≢ []
 IsMeant (commands.Add external) = IsDestination external
 IsMeant (commands.Withdraw prefix) = IsNetwork prefix
 IsMeant other = Unit {0}
 
--- the words ask for the command
+-- the words spell the command
 pub record Asks (words : List Word) (command : Command) : Type 0 where
   pub written : words ≡ command_words command
   pub meant : IsMeant command
 
--- so does the line that has them
+-- the line spells the command
 abbrev pub LineAsks : List ℕ → Command → Type 0
 LineAsks line command = Asks (words_in line) command

@@ -1,5 +1,5 @@
 -- The text of a configuration: a line for the router, then one for each interface (RFC 2328,
--- appendices C.1 and C.3).
+-- sections C.1 and C.3).
 use Rattle.std.specs.Prelude.{◌≡◌, ℕ, ◌+◌, ◌<◌, ◌≤◌, ◌^◌, ◌==◌, true, false, List, [], ◌∷◌, codes}
 use Rattle.std.specs.Prelude.{decimal, length, map, slice_get, Some, take, ◌⊎◌, if◌then◌else◌}
 use Rattle.std.specs.List.{list_any, slice_split}
@@ -31,15 +31,15 @@ interface_words number c =
     ∷ codes "port" ∷ decimal c.port
     ∷ codes "peer" ∷ decimal c.peer ∷ []
 
--- a Router ID that a router may have
+-- a valid Router ID
 abbrev pub IsRouter : RouterNumber → Type 0
 IsRouter router = (1 ≤ router) × (router < 2 ^ 32)
 
--- a UDP port that a datagram can come from and go to
+-- a UDP port that datagrams can be sent from and to
 abbrev pub IsPort : ℕ → Type 0
 IsPort port = (1 ≤ port) × (port < 2 ^ 16)
 
--- an interface whose numbers are lawful and fit the fields that packets have for them
+-- an interface whose numbers are valid and fit into the fields that packets have for them
 pub record IsInterface (c : ConfiguredInterface) : Type 0 where
   pub address : c.interface.address < 2 ^ 32
   pub length : c.interface.length ≤ 32
@@ -52,20 +52,20 @@ pub record IsInterface (c : ConfiguredInterface) : Type 0 where
   pub port : IsPort c.port
   pub peer : IsPort c.peer
 
--- the line says the interface of this number
+-- the line spells the interface with this number
 pub record SaysInterface (number : InterfaceNumber) (line : Line) (c : ConfiguredInterface)
     : Type 0 where
   pub written : words_in line ≡ interface_words number c
   pub lawful : IsInterface c
 
--- the line says the router
+-- the line spells the router
 pub record SaysRouter (line : Line) (router : RouterNumber) : Type 0 where
   pub written : words_in line ≡ router_words router
   pub lawful : IsRouter router
 
 -- ---- all lines
 
--- each line says one of these interfaces, from this number on
+-- the lines spell these interfaces in turn, from this number on
 abbrev pub SayInterfaces : InterfaceNumber → List Line → List ConfiguredInterface → Type 0
 SayInterfaces number [] [] = Unit {0}
 SayInterfaces number [] (c ∷ cs) = ⊥
@@ -76,24 +76,24 @@ SayInterfaces number (line ∷ lines) (c ∷ cs) =
 abbrev pub interface_of : ConfiguredInterface → Interface
 interface_of c = c.interface
 
--- no two have one address
+-- no two have the same address
 abbrev pub AreApart : List ConfiguredInterface → Type 0
 AreApart cs = are_distinct (map interface_of cs) ≡ true
 
--- the interface may stand behind these: there are not too many, and none of them has its address
+-- the interface may follow these: there aren't too many, and none of them has its address
 pub record MayFollow (before : List ConfiguredInterface) (c : ConfiguredInterface) : Type 0 where
   pub room : length before < most_interfaces
   pub apart : list_any (λ other. other.interface.address == c.interface.address) before ≡ false
 
--- the lines behind the router's say these interfaces, at least one
+-- the lines after the router's spell these interfaces, at least one
 pub record AreInterfaces (lines : List Line) (cs : List ConfiguredInterface) : Type 0 where
   pub said : SayInterfaces 1 lines cs
   pub some : 1 ≤ length cs
   pub few : length cs ≤ most_interfaces
   pub apart : AreApart cs
 
--- Of the lines behind the router's, the one at this index is the first that is wrong: those before
--- it say interfaces, and it says none that may follow them.
+-- Of the lines after the router's, the one at this index is the first wrong one: those before it
+-- spell interfaces, and it spells none that may follow them.
 pub record IsFirstWrong (lines : List Line) (index : ℕ) : Type 0 where
   pub before : List ConfiguredInterface
   pub said : SayInterfaces 1 (take index lines) before
@@ -103,13 +103,13 @@ pub record IsFirstWrong (lines : List Line) (index : ℕ) : Type 0 where
   pub there : slice_get lines index ≡ Some line
   pub wrong : (c : ConfiguredInterface) → SaysInterface (index + 1) line c → MayFollow before c → ⊥
 
--- The number of the first line that is wrong, the router's line being 1; or, if there is no
--- interface, of the line that is missing.
+-- The number of the first wrong line, the router's line being 1; or, if there is no interface, that
+-- of the missing line.
 abbrev pub RefusesInterfaces : List Line → (number : ℕ) → Type 0
 RefusesInterfaces lines number =
     ((lines ≡ []) × (number ≡ 2)) ⊎ ((index : ℕ) × (number ≡ index + 2) × IsFirstWrong lines index)
 
--- what the lines of a configuration say
+-- the lines of a configuration
 pub record AreLines (lines : List Line) (c : Configured) : Type 0 where
   pub first : Line
   pub others : List Line
@@ -117,7 +117,7 @@ pub record AreLines (lines : List Line) (c : Configured) : Type 0 where
   pub router : SaysRouter first c.router
   pub interfaces : AreInterfaces others c.interfaces
 
--- and which line is the first that is wrong or missing
+-- the number of the first line that is wrong or missing
 abbrev pub RefusesLines : List Line → (number : ℕ) → Type 0
 RefusesLines [] number = number ≡ 1
 RefusesLines (first ∷ others) number =
@@ -132,14 +132,14 @@ without_last_feed [] = []
 without_last_feed (byte ∷ []) = if byte == 10 then [] else byte ∷ []
 without_last_feed (byte ∷ next ∷ rest) = byte ∷ without_last_feed (next ∷ rest)
 
--- the lines of a text stand between its line feeds
+-- the lines of a text, which its line feeds separate
 abbrev pub lines_in : List ℕ → List Line
 lines_in text = slice_split (λ byte. byte == 10) (without_last_feed text)
 
--- the text says the configuration
+-- the text spells the configuration
 abbrev pub Says : List ℕ → Configured → Type 0
 Says text c = AreLines (lines_in text) c
 
--- the line of this number is the first that is wrong or missing
+-- the line with this number is the first that is wrong or missing
 abbrev pub Refuses : List ℕ → (number : ℕ) → Type 0
 Refuses text number = RefusesLines (lines_in text) number

@@ -1,4 +1,4 @@
--- What a configuration's text says is what a router takes.
+-- The configuration that a text spells is valid for a router.
 use Rattle.std.specs.Prelude.{◌≡◌, ℕ, ◌<◌, true, List, map}
 use Rattle.words.specs.Constants.{clock_end}
 use Rattle.words.specs.Numbers.{Moment}
@@ -7,7 +7,7 @@ use Rattle.events.specs.declared.model.Config.{Config}
 use Rattle.console.specs.Configurations.{Says, interface_of}
 use Rattle.console.specs.declared.configuration.Configured.{Configured}
 
--- the router of what was read, from a moment on
+-- the router's configuration from what was read, with a moment of start
 abbrev pub config_from : Moment → Configured → Config
 config_from start c = record {
   router = c.router;
@@ -15,7 +15,7 @@ config_from start c = record {
   interfaces = map interface_of c.interfaces;
 }
 
--- whatever a text says, a router takes it, from any moment of the clock on
+-- whatever a text spells is valid for a router, with any moment of the clock as its start
 abbrev pub ConfigurationsAreInProfile : Type 0
 ConfigurationsAreInProfile =
     (text : List ℕ) → (c : Configured) → (start : Moment) → start < clock_end

@@ -1,4 +1,4 @@
--- What contracts see of words that point into a text.
+-- How contracts see words that point into a text.
 use Rattle.std.specs.Prelude.{List, map}
 use Rattle.console.specs.Words.{Word}
 use denote.Ref.{Bor}

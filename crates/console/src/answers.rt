@@ -1,4 +1,4 @@
-//! The lines that the console answers.
+//! The lines of the console's answers.
 ghost use Rattle.std.specs.Prelude.{◌≡◌, ◌≤◌, ◌∷◌, ◌++◌, IfOk, OnOk, decimal, if◌then◌else◌};
 ghost use Rattle.std.specs.Prelude.{string_bytes};
 ghost use Rattle.console.specs.Answers.{counter_line, counter_lines, counters_text, hops_text};
@@ -22,7 +22,7 @@ fn kind_name(kind: RouteKind) -> &'static str
     }
 }
 
-/// Adds a number, after a comma if it isn't the first.
+/// Appends a number, after a comma if it isn't the first.
 fn push_number(text: &mut String, is_first: bool, number: u8) -> Result<(), AllocError>
     ensures { OnOk result (string_bytes text.new
         ≡ string_bytes text.old ++ (if is_first then decimal number else 44 ∷ decimal number)) }
@@ -34,7 +34,7 @@ fn push_number(text: &mut String, is_first: bool, number: u8) -> Result<(), Allo
     }
 }
 
-/// Adds the interfaces of a set that are below `end`, ascending, with commas between them.
+/// Appends the interfaces of a set that are below `end`, in ascending order, separated by commas.
 fn push_hops_below(text: &mut String, end: u8, hops: Hops) -> Result<(), AllocError>
     requires { end ≤ 64 }
     ensures { OnOk result (string_bytes text.new
@@ -50,14 +50,14 @@ fn push_hops_below(text: &mut String, end: u8, hops: Hops) -> Result<(), AllocEr
     Ok(())
 }
 
-/// Adds the interfaces of a set, ascending, with commas between them.
+/// Appends the interfaces of a set in ascending order, separated by commas.
 fn push_hops(text: &mut String, hops: Hops) -> Result<(), AllocError>
     ensures { OnOk result (string_bytes text.new ≡ string_bytes text.old ++ hops_text hops) }
 {
     push_hops_below(text, 64, hops)
 }
 
-/// Adds what a route's line has before its interfaces.
+/// Appends the part of a route's line before its interfaces.
 fn push_route_text(text: &mut String, route: &Route) -> Result<(), AllocError>
     ensures { OnOk result (string_bytes text.new
         ≡ string_bytes text.old ++ route_text route.now) }
@@ -68,7 +68,7 @@ fn push_route_text(text: &mut String, route: &Route) -> Result<(), AllocError>
     write!(text, "{prefix} {kind} {cost} via ")
 }
 
-/// Adds the line of a route.
+/// Appends the line of a route.
 #[tactic(auto, using(crate::proofs::Pieces::three_pieces))]
 fn push_route(text: &mut String, route: &Route) -> Result<(), AllocError>
     ensures { OnOk result (string_bytes text.new
@@ -79,7 +79,7 @@ fn push_route(text: &mut String, route: &Route) -> Result<(), AllocError>
     text.push_str("\n")
 }
 
-/// Adds the lines of routes.
+/// Appends the lines of routes.
 fn push_routes(text: &mut String, routes: &[Route]) -> Result<(), AllocError>
     ensures { OnOk result (string_bytes text.new
         ≡ string_bytes text.old ++ route_lines routes.now) }
@@ -114,7 +114,7 @@ fn state_name(state: State) -> &'static str
     }
 }
 
-/// Adds the line of an interface's neighbor, if it isn't Down.
+/// Appends the line of an interface's neighbor, if it isn't Down.
 fn push_neighbor(
     text: &mut String,
     interface: usize,
@@ -130,7 +130,7 @@ fn push_neighbor(
     Ok(())
 }
 
-/// Adds the lines of neighbors, the first of which is that of interface 1.
+/// Appends the lines of neighbors, the first of which is that of interface 1.
 fn push_neighbors(
     text: &mut String,
     neighbors: &[Option<(RouterId, State)>],
@@ -145,7 +145,7 @@ fn push_neighbors(
 }
 
 /// The lines of the neighbors at interfaces 1, 2, .., `neighbor I A.B.C.D STATE` for each that
-/// isn't Down (None), and `end`.
+/// isn't Down (`None`), and `end`.
 ///
 /// Errors with `AllocError` if an allocation is refused.
 pub fn neighbors_text(
@@ -160,7 +160,7 @@ pub fn neighbors_text(
     Ok(text)
 }
 
-/// Adds the line of a counter, if it is above 0.
+/// Appends the line of a counter, if it is above 0.
 fn push_counter(text: &mut String, index: usize, sum: u64) -> Result<(), AllocError>
     ensures { OnOk result (string_bytes text.new
         ≡ string_bytes text.old ++ counter_line index sum) }
@@ -171,7 +171,7 @@ fn push_counter(text: &mut String, index: usize, sum: u64) -> Result<(), AllocEr
     Ok(())
 }
 
-/// Adds the lines of counters.
+/// Appends the lines of counters.
 fn push_counters(text: &mut String, sums: &[u64]) -> Result<(), AllocError>
     ensures { OnOk result (string_bytes text.new
         ≡ string_bytes text.old ++ counter_lines 0 sums.now) }

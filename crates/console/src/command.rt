@@ -12,16 +12,16 @@ use isa::Hook;
 use std::alloc::{AllocError, Global};
 use words::{External, ExternalType, Prefix};
 
-/// What an operator asks for.
+/// A command of the operator.
 #[derive(Clone, Copy, Debug, PartialEq, Eq)]
 pub enum Command<'a> {
-    /// Publish the program of the object file at this path at its hook.
+    /// Attach the program in the object file at this path to its hook.
     Attach(&'a str),
-    /// Leave the hook without a program.
+    /// Detach the hook's program.
     Detach(Hook),
     /// Announce an external destination.
     Add(External),
-    /// Announce the external destination no longer.
+    /// Withdraw the external destination.
     Withdraw(Prefix),
     /// Print the routing table.
     Table,
@@ -29,11 +29,11 @@ pub enum Command<'a> {
     Neighbors,
     /// Print the counters.
     Counters,
-    /// End.
+    /// End the program.
     Quit,
 }
 
-/// What a line of one word asks for.
+/// The command of a line with one word.
 fn one(a: &str) -> Option<Command<'_>>
     ensures { MatchOption result
         ((command : Command) → Asks (a.now ∷ []) command → ⊥) (Asks (a.now ∷ [])) }
@@ -82,7 +82,7 @@ fn withdraw<'a>(prefix: &str) -> Option<Command<'a>>
     Some(Command::Withdraw(prefix))
 }
 
-/// What a line of two words asks for.
+/// The command of a line with two words.
 fn two<'a>(a: &str, b: &'a str) -> Option<Command<'a>>
     ensures { MatchOption result
         ((command : Command) → Asks (a.now ∷ b.now ∷ []) command → ⊥) (Asks (a.now ∷ b.now ∷ [])) }
@@ -114,7 +114,7 @@ fn read_type(word: &str) -> Option<ExternalType>
     None
 }
 
-/// What a line of five words asks for.
+/// The command of a line with five words.
 fn five<'a>(a: &str, b: &str, c: &str, d: &str, e: &str) -> Option<Command<'a>>
     ensures { MatchOption result
         ((command : Command) → Asks (a.now ∷ b.now ∷ c.now ∷ d.now ∷ e.now ∷ []) command → ⊥)
@@ -135,7 +135,7 @@ fn five<'a>(a: &str, b: &str, c: &str, d: &str, e: &str) -> Option<Command<'a>>
     }))
 }
 
-/// What the words of a line ask for.
+/// The command of a line with these words.
 fn command_of<'a>(words: &[&'a str]) -> Option<Command<'a>>
     ensures { MatchOption result
         ((command : Command) → Asks (views words.now) command → ⊥) (Asks (views words.now)) }
@@ -148,13 +148,13 @@ fn command_of<'a>(words: &[&'a str]) -> Option<Command<'a>>
     }
 }
 
-/// What a line of the console asks for, without its line feed; None if it is no command.
+/// The command of a console line, without its line feed; `None` if it is no command.
 ///
-/// A line is a command's words with one space between them and nothing else beside them: no space
-/// before, behind or twice, no carriage return. Numbers are decimal, with neither a sign nor a
-/// leading zero. A path is one word, so a path with a space in it can't be written. `add` takes a
-/// prefix whose host bits are 0, a metric from 0 to 16,777,214 (LSInfinity is 16,777,215: RFC 2328,
-/// appendix B), 1 or 2 for the type of the metric (section 2.3), and a tag of 32 bits.
+/// A line consists of a command's words, separated by one space, and nothing else: no space before,
+/// after or twice, no carriage return. Numbers are decimal, with neither a sign nor a leading zero.
+/// A path is one word, so a path with a space can't be written. `add` takes a prefix whose host
+/// bits are 0, a metric from 0 to 16,777,214 (LSInfinity is 16,777,215: RFC 2328, appendix B), 1 or
+/// 2 for the type of the metric (section 2.3), and a tag of 32 bits.
 ///
 /// Errors with `AllocError` if an allocation is refused.
 pub fn read_command<'a>(alloc: Global, line: &'a str) -> Result<Option<Command<'a>>, AllocError>

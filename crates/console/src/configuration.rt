@@ -18,33 +18,33 @@ use std::alloc::{AllocError, AllocFailed, Global};
 use thiserror::Error;
 use words::{Address, RouterId, Sequence};
 
-/// An interface as a line of a configuration says it.
+/// An interface from a line of a configuration.
 #[derive(Clone, Copy, Debug, PartialEq, Eq)]
 pub struct ConfiguredInterface {
     /// Its network and its parameters.
     pub interface: Interface,
-    /// The UDP port of 127.0.0.1 that its packets come to.
+    /// The UDP port of 127.0.0.1 on which it receives.
     pub port: u16,
-    /// The UDP port of 127.0.0.1 that its packets go to.
+    /// The UDP port of 127.0.0.1 to which it sends.
     pub peer: u16,
 }
 
-/// A router's configuration as a text says it.
+/// A router's configuration from a text.
 #[derive(Debug, Drop)]
 pub struct Configured {
     pub router: RouterId,
-    /// The interfaces 1, 2, .., no two of one address: at least one, at most 63.
+    /// The interfaces 1, 2, .., no two with the same address: at least one, at most 63.
     pub interfaces: Sequence<ConfiguredInterface>,
 }
 
-/// Why a text says no configuration. The text is the line that is printed.
+/// Why a text isn't a configuration. Displayed as the line that is printed.
 #[derive(Debug, Drop, PartialEq, Eq, Error)]
 pub enum ConfigurationError {
-    /// The first line that is wrong, counted from 1, or the one after the last if none is wrong but
-    /// an interface is missing.
+    /// The number of the first wrong line, from 1, or the one after the last if an interface is
+    /// missing.
     #[error("config refusal line {0}")]
     Line(u64),
-    /// Memory was refused.
+    /// An allocation was refused.
     #[error("out of memory")]
     Memory,
 }
@@ -69,8 +69,7 @@ impl<T: Drop> From<AllocFailed<T>> for ConfigurationError {
     }
 }
 
-/// The number of a setting that two words are: its name and, in decimal, a number from `least` to
-/// `most`.
+/// The number of a setting in two words: its name and, in decimal, a number from `least` to `most`.
 fn read_setting(words: (&str, &str), name: &str, least: u64, most: u64) -> Option<u64>
     ensures { MatchOption result
         ((n : ℕ) → least ≤ n → n ≤ most → words.entry.0.now ≡ name.now
@@ -99,7 +98,7 @@ fn read_router_id(word: &str) -> Option<RouterId>
     Some(RouterId::new(id.bits()))
 }
 
-/// The router that the words of the first line say.
+/// The Router ID in the words of the first line.
 fn router_of(words: &[&str]) -> Option<RouterId>
     ensures { MatchOption result
         ((r : ℕ) → IsRouter r → views words.now ≢ router_words r)
@@ -114,8 +113,8 @@ fn router_of(words: &[&str]) -> Option<RouterId>
     read_router_id(id)
 }
 
-/// What the two words after `interface` say: the interface's number, and its address and prefix
-/// length.
+/// The address and the prefix length in the words after `interface`, the first of which has to be
+/// the interface's number.
 fn read_where(number: u64, name: &str, at: &str, place: &str) -> Option<(Address, u8)>
     ensures { MatchOption result
         ((n : Network) → n.address < 2 ^ 32 → n.length ≤ 32 → name.now ≡ codes "interface"
@@ -133,7 +132,7 @@ fn read_where(number: u64, name: &str, at: &str, place: &str) -> Option<(Address
     }
 }
 
-/// The interface that the words of a line say, if it is the one of this number.
+/// The interface in the words of a line, if it is the one with this number.
 fn interface_of(number: u64, words: &[&str]) -> Option<ConfiguredInterface>
     ensures { MatchOption result
         ((c : ConfiguredInterface) → IsInterface c → views words.now ≢ interface_words number c)
@@ -184,7 +183,7 @@ fn interface_of(number: u64, words: &[&str]) -> Option<ConfiguredInterface>
     })
 }
 
-/// The router that a line says.
+/// The Router ID in a line.
 fn read_router(alloc: Global, line: &str) -> Result<Option<RouterId>, AllocError>
     ensures { IfOk result (λ found. MatchOption found
         ((r : ℕ) → SaysRouter line.now r → ⊥) (SaysRouter line.now)) }
@@ -193,7 +192,7 @@ fn read_router(alloc: Global, line: &str) -> Result<Option<RouterId>, AllocError
     Ok(router_of(&words))
 }
 
-/// The interface of this number that a line says.
+/// The interface with this number in a line.
 fn read_interface(
     alloc: Global,
     number: u64,
@@ -218,7 +217,7 @@ fn is_taken(before: &[ConfiguredInterface], found: &ConfiguredInterface) -> bool
         .any(|other| other.interface.address.bits() == address)
 }
 
-/// The interface that a line says behind the lines of these, if it may follow them.
+/// The interface in the next line, if it may follow these.
 fn next_interface(
     alloc: Global,
     line: &str,
@@ -243,7 +242,7 @@ fn next_interface(
     }
 }
 
-/// The interfaces that the lines behind the router's say.
+/// The interfaces in the lines after the router's.
 fn interfaces_of(
     alloc: Global,
     lines: &[&str],
@@ -265,7 +264,7 @@ fn interfaces_of(
     Ok(interfaces)
 }
 
-/// The configuration that lines say.
+/// The configuration in these lines.
 fn configured_of(alloc: Global, lines: &[&str]) -> Result<Configured, ConfigurationError>
     ensures said { IfOk result (AreLines (views lines.now)) }
     ensures refused { (number : ℕ) → result ≡ Err (ConfigurationError.Line number)
@@ -300,21 +299,22 @@ fn lines_of<'a>(alloc: Global, text: &'a str) -> Result<Vec<&'a str>, AllocError
     front.split('\n').collect(alloc)
 }
 
-/// The configuration that a text says: the line `router A.B.C.D`, then for each interface, N = 1,
-/// 2, .., the line `interface N A.B.C.D/L cost C hello H dead D rxmt R delay T port P peer Q`.
+/// Parses a configuration: the line `router A.B.C.D`, then for each interface, N = 1, 2, .., the
+/// line `interface N A.B.C.D/L cost C hello H dead D rxmt R delay T port P peer Q`.
 ///
-/// The words of a line have one space between them and nothing else beside them: no space before,
-/// behind or twice, no comment, no carriage return. Numbers are decimal, with neither a sign nor a
-/// leading zero, and so are the four parts of an address. A line feed ends each line; behind the
-/// last it may be left out. There is no empty line.
+/// The words of a line are separated by one space, and there is nothing else: no space before,
+/// after or twice, no comment, no carriage return. Numbers are decimal, with neither a sign nor a
+/// leading zero, and so are the four parts of an address. A line feed ends each line; after the
+/// last line it is optional. There are no empty lines.
 ///
 /// The Router ID isn't 0.0.0.0. Addresses are distinct, their host bits may be set, and a length is
 /// at most 32. Cost, HelloInterval and RxmtInterval are 1 to 65,535, RouterDeadInterval is 1 to
-/// 4,294,967,295, InfTransDelay 1 to 3,600 (RFC 2328, appendix C.3), the two UDP ports of 127.0.0.1
+/// 4,294,967,295, InfTransDelay 1 to 3,600 (RFC 2328, section C.3), the two UDP ports of 127.0.0.1
 /// are 1 to 65,535. There are 1 to 63 interfaces.
 ///
-/// An error names the first line that isn't like this, or is one too many, or has an address again;
-/// or the line after the last, if an interface is missing. It is `Memory` if an allocation is
+/// # Errors
+/// `Line` with the number of the first line that isn't like this, or is one too many, or repeats an
+/// address; or of the line after the last, if an interface is missing. `Memory` if an allocation is
 /// refused.
 pub fn read_configuration(alloc: Global, text: &str) -> Result<Configured, ConfigurationError>
     ensures said { IfOk result (Says text.now) }

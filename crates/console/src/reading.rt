@@ -1,11 +1,13 @@
-//! The words of a line. Numbers, addresses and prefixes are read by `address_texts`.
+//! The words of a line. Numbers, addresses and prefixes are parsed by `address_texts`.
 ghost use Rattle.std.specs.Prelude.{◌≡◌, ◌↔◌, IfOk, IsTrue};
 ghost use Rattle.console.specs.Words.{words_in};
 ghost use Rattle.console.specs.Views.{views};
 
 use std::alloc::{AllocError, Global};
 
-/// The words of a line, which stand between single spaces.
+/// The words of a line, separated by single spaces.
+///
+/// Errors with `AllocError` if an allocation is refused.
 pub fn words_of<'a>(alloc: Global, line: &'a str) -> Result<Vec<&'a str>, AllocError>
     ensures { IfOk result (λ words. views words.items ≡ words_in line.now) }
 {

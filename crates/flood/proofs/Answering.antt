@@ -1,5 +1,5 @@
--- The answers that let routes in stay over every event but an Install, and the moment of an event
--- is the router's afterwards.
+-- The programs' answers about routes change only at an `Install`, and the router's moment becomes
+-- that of the event.
 use Rattle.std.proofs.Common.{◌≡◌, ℕ, ◌≤◌, Bool, true, false, cond, List, [], ◌∷◌, map, Option, None, Some, refl, ap, ◌∙◌, ltb-false}
 use Rattle.std.specs.Prelude.{◌&&◌, ◌||◌, ◌==◌, not, nat_le, nat_lt, if◌then◌else◌}
 use Rattle.std.specs.FinMap as finite
@@ -40,7 +40,7 @@ either : (b : Bool) (p q before : EventState) → of p ≡ of before → of q �
 either true p q before is other = is
 either false p q before other is = is
 
--- ---- the router's own LSAs
+-- ---- self-originated LSAs
 
 body_stays : (may_now : Bool) (moment : ℕ) (key : Key) (says : Option LsaBody) (p : EventState) → of (originate_body may_now moment key says p) ≡ of p
 body_stays may_now moment key None p = refl
@@ -137,7 +137,7 @@ own_stays moment (Occurrence.Withdraw prefix) before after none is = ap of is �
 own_stays moment (Occurrence.Install answers) before after none is = absurd cc
 own_stays moment (Occurrence.LinkDown number) before after none is = ap of is
 
--- ---- the end, and the whole
+-- ---- the end, and the complete event
 
 described_stays : (before : List Link) (moment : ℕ) (p : EventState) → of (describe_router before moment p) ≡ of p
 described_stays before moment p =

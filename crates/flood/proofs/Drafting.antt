@@ -21,7 +21,7 @@ module _ (sends : List Send) (room : AllByRecursion (λ (s : Send). HasRoom s.co
   drafts_from n [] = tt
   drafts_from n (link ∷ links) = (record { drafted = refl; room = room }, drafts_from (n + 1) links)
 
-  -- the interfaces alone are read of the links
+  -- only the interfaces of the links matter
   pub are_drafts : (links new : List Link) → interfaces_of new ≡ interfaces_of links → AreDrafts links sends (drafts_with sends new (nothing_at links))
   are_drafts links new same = record {
     from = subst (AreDraftsFrom 1 links sends) (sym (drafted_same sends new links (nothing_at links) same)) (drafts_from 1 links);
@@ -35,17 +35,17 @@ pub nothing_of : (ls : List (Kept Link)) → map (λ (l : Kept Link). nothing_dr
 nothing_of [] = refl
 nothing_of (l ∷ ls) = ap (λ ds. nothing_drafted ∷ ds) (nothing_of ls)
 
--- ---- one draft after the other
+-- ---- one draft after another
 
 abbrev outs_from : ℕ → List Send → ℕ → List Link → List Out
 outs_from own sends n links = flat_map (λ (e : ℕ × Link). outs_at own sends e.0 e.1) (enumerate_from n links)
 
--- each is a text of what it says
+-- each packet is encoded correctly
 abbrev texts_from : ℕ → List Send → ℕ → List Link → Type 0
 texts_from own sends n links = AllByRecursion (λ (e : ℕ × Link). AreTextsAt own sends e.0 e.1) (enumerate_from n links)
 
 module _ (own : ℕ) (all : List Drafted) where
-  -- what was sent, and the outs of the drafts from this number on, are those of all
+  -- the packets so far, and those of the drafts from this number on, are all packets
   pub record IsSending (number : ℕ) (outs : List Out) (rest : List Drafted) : Type 0 where
     pub going : (links : List Link) (sends : List Send) → AreDraftsFrom 1 links sends all
         → (left : List Link) × AreDraftsFrom number left sends rest × (outs ++ outs_from own sends number left ≡ outs_from own sends 1 links)

@@ -1,4 +1,5 @@
--- What stands before anything needs memory stands first; and if nothing does, memory may run out.
+-- A refusal that is determined before anything is allocated comes first; if there is none, an
+-- allocation may be refused.
 use Rattle.std.proofs.Common.{◌≡◌, ℕ, Bool, true, false, Option, None, Some, refl}
 use Rattle.std.specs.Prelude.{if◌then◌else◌, Err}
 use Rattle.packet.specs.declared.refusal.Fault.{Fault}
@@ -10,7 +11,7 @@ use Rattle.events.specs.Routers.{Occurrence, Router}
 use Rattle.flood.specs.Early.{early_refusal, early_refusal_of}
 use Rattle.flood.specs.Parts.{late_refusal}
 
--- ---- if none stands early, the first is a late one
+-- ---- without an early refusal, the first one is a late one
 
 clock_late : (c : Bool) (early whole late : Option CoreError) → (early ≡ None → whole ≡ late)
     → (if c then Some error.ClockBack else early) ≡ None → (if c then Some error.ClockBack else whole) ≡ late
@@ -40,7 +41,7 @@ clock_none false early e = e
 pub none_of_event : (old : Router) (moment : ℕ) (o : Occurrence) → early_refusal old moment o ≡ None → early_refusal_of old o ≡ None
 none_of_event old moment o = clock_none (is_clock_back moment old) (early_refusal_of old o)
 
--- ---- so memory may run out
+-- ---- so an allocation may be refused
 
 bad_may : (f : Option Fault) → MayRunOut (bad_packet f)
 bad_may None = (λ p. absurd cc, λ p. absurd cc)
@@ -74,7 +75,7 @@ may_run_out old moment (Occurrence.Install answers) = clock_may (is_clock_back m
 may_run_out old moment (Occurrence.LinkDown number) =
     clock_may (is_clock_back moment old) _ _ (there_may (is_interface number old) None none_is_fine)
 
--- ---- what stands early is the answer
+-- ---- an early refusal is the result
 
 clock_first : (c : Bool) (early late : Option CoreError) (x : CoreError) → (early ≡ Some x → late ≡ Some x)
     → (if c then Some error.ClockBack else early) ≡ Some x → (if c then Some error.ClockBack else late) ≡ Some x
@@ -105,7 +106,7 @@ full_clash : (b : Bool) → (if b then Some error.Clash else None) ≡ Some erro
 full_clash true e = absurd cc
 full_clash false e = absurd cc
 
--- no reason that stands before the limits is the limits'
+-- no reason that is checked before the limits is `Full`
 pub never_full : (old : Router) (o : Occurrence) → late_refusal old o ≡ Some error.Full → ⊥
 never_full old (Occurrence.Packet number bytes) = full_late (fault_of bytes)
 never_full old Occurrence.Tick = λ e. absurd cc
@@ -134,7 +135,7 @@ some_may : (r : Option CoreError) → r ≡ Some error.Memory → MayRunOut r
 some_may None e = absurd cc
 some_may (Some x) e = (λ p. absurd cc, λ p. absurd cc)
 
--- an early reason is an answer
+-- an early reason is the result
 pub early_answers : (X : Type 0) (old : Router) (moment : ℕ) (o : Occurrence) (x : CoreError) → early_refusal old moment o ≡ Some x
     → Answers {X = X} old moment o (Err x)
 early_answers X old moment o error.Memory e = some_may _ (stands_first old moment o error.Memory e)

@@ -1,4 +1,4 @@
--- What an event makes, in the words of the rules.
+-- What the code does in an event, in terms of the rules.
 use Rattle.std.proofs.Common.{◌≡◌, ℕ, true, false, List, None, refl, sym, ap, ◌∙◌}
 use Rattle.std.specs.List.{AllByRecursion}
 use Rattle.flood_laws.specs.adjacency.Rooms.{HasRoom}
@@ -20,7 +20,7 @@ use Rattle.flood.specs.declared.part.Part.{Part}
 use Rattle.flood.specs.Parts.{IsMade, IsPartOf, after_part, made_state}
 
 module _ (old : Router) (moment : ℕ) (event : Occurrence) (p : Part) (is : IsPartOf event p) where
-  -- what is made happens
+  -- the result happens
   pub made_happens : (outs : List Out) (new : Router) → IsMade old moment p outs new → Happens old moment event outs new
   made_happens outs new made_state = record {
     after = after_part p moment (start_event moment old);
@@ -29,7 +29,7 @@ module _ (old : Router) (moment : ℕ) (event : Occurrence) (p : Part) (is : IsP
     sent = made_state.outs;
   }
 
-  -- and keeps what is known, if it is written as texts
+  -- and keeps what is known, if the packets are encoded correctly
   pub made_keeps : (outs : List Out) (new : Router) → IsMade old moment p outs new → AnnouncesAddress event → IsInOrder old → HoldsInstances old
       → AreTexts old.id old.area.links (made_state old moment p).sends → KeepsWhatIsKnown old moment event outs new
   unfolding made_happens
@@ -44,7 +44,7 @@ module _ (old : Router) (moment : ℕ) (event : Occurrence) (p : Part) (is : IsP
   makes : Happens old moment event (outs_of old.id old.area.links (made_state old moment p).sends) (made_state old moment p).router
   makes = made_happens _ _ (record { router = refl; outs = refl })
 
-  -- all that is sent has room
+  -- all that is sent fits
   pub made_has_room : IsRoomy old → AllByRecursion (λ (s : Send). HasRoom s.content) (made_state old moment p).sends
   unfolding makes made_happens
   made_has_room roomy = every_packet_has_room.sends old moment event _ _ makes roomy
@@ -58,13 +58,13 @@ module _ (old : Router) (moment : ℕ) (event : Occurrence) (p : Part) (is : IsP
     too_much = too_much;
   }
 
-  -- an event has one outcome
+  -- an event has only one outcome
   pub made_stays_within : exceeds (made_state old moment p).router ≡ false → WouldExceed old moment event → ⊥
   made_stays_within fine would =
       let same : would.new ≡ (made_state old moment p).router = (determined old moment event _ _ _ _ would.happens makes).1 in
       let no : true ≡ false = sym would.too_much ∙ ap exceeds same ∙ fine in
       absurd cc
 
--- what an event leaves has room for all that the next one sends
+-- after an event, all that the next one sends fits
 pub stays_roomy : (old : Router) (moment : ℕ) (event : Occurrence) (outs : List Out) (new : Router) → Happens old moment event outs new → IsRoomy old → IsRoomy new
 stays_roomy old moment event outs new happens roomy = (every_packet_has_room.event old moment event outs new happens roomy).0

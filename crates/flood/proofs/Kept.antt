@@ -1,4 +1,4 @@
--- What is kept for routes is the router's if it is that of its parts.
+-- What is kept for routes is valid for the router if it is valid for its parts.
 use Rattle.std.proofs.Common.{◌≡◌, ℕ, false, Option, None, Some, refl, subst, ◌∙◌}
 use Rattle.area_routes.specs.Kept.{AreKept, AreRoutesOf, KeptRoutes, ServesOnlyThen}
 use Rattle.area_routes.specs.Offers.{root_by}
@@ -17,7 +17,7 @@ are_kept r id area moment answers kept a b c d is =
     subst (λ x. AreKept x r.area r.moment r.answers kept) a
     (subst (λ x. AreKept id x r.moment r.answers kept) b (subst (λ x. AreKept id area x r.answers kept) c (subst (λ x. AreKept id area moment x kept) d is)))
 
--- what holds of the walk over the parts holds of it over the router
+-- a property of the walk for the parts is one for the router
 pub walks_then : (before : ℕ) (r : Router) (settled : Area) (id moment : ℕ) (old new : Area) (kept next last : KeptRoutes)
     → id ≡ r.id → old ≡ settled → new ≡ r.area → moment ≡ r.moment → last.walk ≡ next.walk → last.behind ≡ next.behind
     → ServesOnlyThen before moment id old new kept next → ServesOnlyThen before r.moment r.id settled r.area kept last
@@ -33,7 +33,7 @@ walks_then before r settled id moment old new kept next last a b c d e f is =
     (subst (λ x. ServesOnlyThen before moment x settled r.area kept last) a
     (subst (λ x. ServesOnlyThen before moment id x r.area kept last) b (subst (λ x. ServesOnlyThen before moment id old x kept last) c then)))
 
--- a first walk is kept
+-- the first walk is kept
 pub begun : (r : Router) (id : ℕ) (area : Area) (moment : ℕ) (kept : KeptRoutes) → id ≡ r.id → area ≡ r.area → moment ≡ r.moment
     → AreRoutesOf id area moment kept → kept.answered ≡ false → AreKeptNow r kept
 begun r id area moment kept a b c routes is =
@@ -42,7 +42,7 @@ begun r id area moment kept a b c routes is =
       answered = unanswered (said_at moment area.database) (root_by id area.links) r.answers kept is;
     })
 
--- if no reason of refusal stands, memory may run out
+-- if no reason of refusal applies, an allocation may be refused
 pub memory_may_run_out : (r : Option CoreError) → r ≡ None → MayRunOut r
 memory_may_run_out None is = (λ p. absurd cc, λ p. absurd cc)
 memory_may_run_out (Some x) is = absurd cc

@@ -1,4 +1,4 @@
--- What is left once a whole event is made: the router, and the drafts of what was sent.
+-- The result of a complete event: the router, and the drafts of what was sent.
 use Rattle.std.proofs.Common.{◌≡◌, ℕ, List, [], Result, Ok, Err, OnOk, IfOk, sym, ap, subst, ◌∙◌}
 use Rattle.std.specs.List.{AllByRecursion}
 use Rattle.flood_laws.specs.adjacency.Drafts.{Drafted}
@@ -22,7 +22,7 @@ pub if_ok : {A E : Type 0} {P Q : A → Type 0} (r : Result A E) → ((x : A) �
 if_ok (Ok a) f p = f a p
 if_ok (Err e) f p = tt
 
--- beside what holds of it
+-- together with a property of the result
 pub if_ok_with : {A E : Type 0} {P R : A → Type 0} {Q : Type 0} (r : Result A E) → ((x : A) → P x → Q → R x) → IfOk r P → OnOk r Q → IfOk r R
 if_ok_with (Ok a) f p q = f a p q
 if_ok_with (Err e) f p q = tt
@@ -31,7 +31,7 @@ pub ok_if : {A E : Type 0} {P : A → Type 0} {Q : Type 0} (r : Result A E) → 
 ok_if (Ok a) f p = f a p
 ok_if (Err e) f p = tt
 
--- ages, the own part, and the end
+-- aging, the own part, and the end
 pub made_of_parts : (old aged parted new settled : Router) (moment before : ℕ) (p : Part) (d0 d1 d2 d3 : List Drafted)
     → before ≡ old.moment → settled ≡ old → Makes (on_area (with_ages before moment)) old aged d0 d1 → Makes (after_part p moment) aged parted d1 d2
     → Makes (end_event settled moment) parted new d2 d3 → Makes (after_event old moment p) old new d0 d3

@@ -1,4 +1,4 @@
--- What holds of a router's parts holds of the router, and the other way round.
+-- Properties of a router's parts are those of the router, and conversely.
 use Rattle.std.proofs.Common.{◌≡◌, ℕ, subst, sym}
 use Rattle.events.specs.Routers.{Router}
 use Rattle.events.specs.received.Links.{Area}

@@ -1,4 +1,5 @@
--- What the neighbor at an interface has still to acknowledge, by the link at its place.
+-- The length of the retransmission list of the neighbor at an interface, from the link at its
+-- index.
 use Rattle.std.proofs.Common.{◌≡◌, ◌⊎◌, ℕ, ◌+◌, ◌<◌, zero, suc, false, List, [], ◌∷◌, Option, Some, None, count_by, get_or, length, map, refl, sym, subst, ap, ◌∙◌, inl, inr, arith}
 use Rattle.std.specs.Prelude.{slice_get}
 use Rattle.std.specs.FinMap as finite
@@ -25,7 +26,7 @@ no_neighbor links zero outside = refl
 no_neighbor links (suc place) (inl none) = absurd (omega (arith, none))
 no_neighbor links (suc place) (inr few) = ap neighbor_on (none_behind links place few)
 
--- there is no interface of this number
+-- there is no interface with this number
 pub none_owed : (links : List (Kept Link)) (shown : List Link) (database : Database) (number : ℕ)
     → map present links ≡ shown → (number ≡ 0) ⊎ (length links < number)
     → 0 ≡ owed_by (neighbor_at number shown) database

@@ -1,4 +1,4 @@
--- Which refusal an event meets once its own part is read.
+-- The refusal of an event after its own part is read.
 use Rattle.std.proofs.Common.{◌≡◌, ℕ, None, ◌∙◌}
 use Rattle.std.specs.Prelude.{Result, Ok, Err}
 use Rattle.events.specs.declared.model.CoreError.{CoreError}
@@ -22,7 +22,7 @@ module _ (X Y : Type 0) (old : Router) (moment : ℕ) (event : Occurrence) (none
   unread_answers error.Full tells = absurd (never_full old event tells)
 
   module _ (p : Part) (is : IsPartOf event p) (read : late_refusal old event ≡ None) where
-    -- a limit would be passed, or memory ran out
+    -- a limit would be exceeded, or an allocation is refused
     pub limit_answers : (x : CoreError) → TellsLimit {X = X} (made_state old moment p).router (Err x) → Answers {X = Y} old moment event (Err x)
     limit_answers error.Memory tells = may_run_out old moment event none
     limit_answers (error.BadPacket f) tells = absurd tells
@@ -31,7 +31,7 @@ module _ (X Y : Type 0) (old : Router) (moment : ℕ) (event : Occurrence) (none
     limit_answers error.ClockBack tells = absurd tells
     limit_answers error.Full tells = made_exceeds old moment event p is (first_is_late old moment event none ∙ read) tells
 
-    -- the event is taken
+    -- the event is accepted
     pub taken_answers : (x : X) (y : Y) → TellsLimit (made_state old moment p).router (Ok x) → Answers old moment event (Ok y)
     taken_answers x y tells = (first_is_late old moment event none ∙ read, made_stays_within old moment event p is tells)
 

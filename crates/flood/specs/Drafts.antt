@@ -5,11 +5,11 @@ use Rattle.events.specs.received.Links.{Link}
 use Rattle.events.specs.received.Outcomes.{Send}
 use Rattle.packing.specs.Drafts.{IsDraftAt, nothing_drafted}
 
--- nothing was sent yet at any of these links
+-- nothing was sent so far on any of these links
 abbrev pub nothing_at : List Link → List Drafted
 nothing_at links = map (λ (link : Link). nothing_drafted) links
 
--- what is sent at each link is in its draft; the first link has this number
+-- what is sent on each link is in its draft; `n` is the number of the first link
 abbrev pub AreDraftsFrom : ℕ → List Link → List Send → List Drafted → Type 0
 AreDraftsFrom n [] sends [] = Unit {0}
 AreDraftsFrom n [] sends (d ∷ ds) = ⊥
@@ -17,7 +17,7 @@ AreDraftsFrom n (link ∷ links) sends [] = ⊥
 AreDraftsFrom n (link ∷ links) sends (d ∷ ds) =
     IsDraftAt n link sends d × AreDraftsFrom (n + 1) links sends ds
 
--- interface n is at place n - 1
+-- interface n is at index n - 1
 pub record AreDrafts (links : List Link) (sends : List Send) (drafts : List Drafted)
     : Type 0 where
   pub from : AreDraftsFrom 1 links sends drafts

@@ -1,4 +1,5 @@
--- When an event is refused before anything needs memory: for its moment, or for its interface.
+-- Refusals of an event that are determined before anything is allocated: for its moment, or for its
+-- interface.
 use Rattle.std.specs.Prelude.{if◌then◌else◌, Option, None, Some}
 use Rattle.words.specs.Numbers.{Moment}
 use Rattle.events.specs.declared.model.CoreError.{CoreError}
@@ -6,7 +7,7 @@ use Rattle.events.specs.declared.model.CoreError.TheVariants as error
 use Rattle.events.specs.Refusals.{is_clock_back, no_interface}
 use Rattle.events.specs.Routers.{Occurrence, Router}
 
--- for the interface of a packet, or of a link that is down
+-- for the interface of a packet, or of a link that went down
 abbrev pub early_refusal_of : Router → Occurrence → Option CoreError
 early_refusal_of old (Occurrence.Packet number bytes) = no_interface number old None
 early_refusal_of old Occurrence.Tick = None

@@ -5,5 +5,5 @@ pub mod Drafts
 pub mod Starts
 pub mod Offers
 pub mod Owed
--- what crates above name of those below
+-- names from the crates below that crates above use
 pub use Rattle.area_routes.specs as area_routes

@@ -1,4 +1,4 @@
--- What an event is to the router's rules.
+-- The event of the router's rules for an event of the code.
 use Rattle.std.specs.Prelude.{ℕ, Bool, true, false, List, map}
 use Rattle.words.specs.declared.route.Route.{Route}
 use Rattle.hooks.specs.Questions.{RouteAnswer}
@@ -6,7 +6,7 @@ use Rattle.events.specs.Routers.{Occurrence}
 use Rattle.flood.specs.declared.event.Event.{Event}
 use Rattle.flood.specs.declared.event.Event.TheVariants as event
 
--- the routes that an Install was asked for, each with the word that answers
+-- the routes that an `Install` offers, each with the program's answer
 abbrev pub words_of : List RouteAnswer → List (Route × ℕ)
 words_of answers = map (λ (a : RouteAnswer). (a.route, a.word)) answers
 
@@ -19,7 +19,7 @@ occurrence_of (event.Withdraw prefix) = Occurrence.Withdraw prefix
 occurrence_of (event.Install answers) = Occurrence.Install (words_of answers)
 occurrence_of (event.LinkDown number) = Occurrence.LinkDown number
 
--- it replaces the answers that let routes in
+-- it replaces the programs' answers about routes
 abbrev pub brings_answers : Occurrence → Bool
 brings_answers (Occurrence.Packet number bytes) = false
 brings_answers Occurrence.Tick = false

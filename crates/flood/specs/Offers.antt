@@ -1,4 +1,5 @@
--- What a router offers at the moment of its last event: its candidates, and the rows of its table.
+-- What a router offers to programs at the moment of its last event: its candidates, and the rows of
+-- its routing table.
 use Rattle.std.specs.Prelude.{List}
 use Rattle.words.specs.declared.route.Route.{Route}
 use Rattle.words.specs.declared.route.TableRow.{TableRow}
@@ -10,24 +11,25 @@ use Rattle.area_routes.specs.Offers.{AreCandidatesOf, AreOffered, IsStaleOf, IsT
 abbrev pub AreCandidatesNow : Router → List Route → Type 0
 AreCandidatesNow r candidates = AreCandidatesOf r.id r.area r.moment candidates
 
--- its table
+-- its routing table
 abbrev pub IsTableNow : Router → List Route → Type 0
 IsTableNow r table = IsTableOf r.id r.area r.moment r.answers table
 
--- its candidates, and beside them the rows of its table
+-- its candidates, and the rows of its table
 abbrev pub IsOffered : Router → List Route → List TableRow → Type 0
 IsOffered r candidates rows = AreOffered r.id r.area r.moment r.answers candidates rows
 
--- a candidate stands in none of the answers of the last Install
+-- some candidate is in none of the answers of the last `Install`
 abbrev pub IsStaleNow : Router → Type 0
 IsStaleNow r = IsStaleOf r.id r.area r.moment r.answers
 
--- from one router to the next nothing is walked, and the kept walk serves on: unless an LSA of type
--- 1 or 2 came, left, has come to MaxAge or says something else, or the addresses are others
+-- from one router to the next no walk is made, and the one that is kept stays valid, unless an LSA
+-- of type 1 or 2 was added or removed, has reached MaxAge or says something else, or the addresses
+-- differ
 abbrev pub WalksOnlyThen : (old : Router) → (new : Router) → KeptRoutes → KeptRoutes → Type 0
 WalksOnlyThen old new kept next =
     ServesOnlyThen old.moment new.moment new.id old.area new.area kept next
 
--- what is kept for its routes is that of the moment of its last event
+-- what is kept for its routes is valid at the moment of its last event
 abbrev pub AreKeptNow : Router → KeptRoutes → Type 0
 AreKeptNow r kept = AreKept r.id r.area r.moment r.answers kept

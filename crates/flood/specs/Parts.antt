@@ -1,4 +1,5 @@
--- The own part of an event as the code has it, once bytes are read and answers are seen to agree.
+-- The own part of an event in the code, after its bytes are parsed and its answers checked for
+-- agreement.
 use Rattle.std.specs.Prelude.{◌≡◌, ℕ, ◌≤◌, true, false, List, [], Option, None, Some, Result, Ok}
 use Rattle.std.specs.Prelude.{Err, if◌then◌else◌}
 use Rattle.words.specs.Numbers.{Moment}
@@ -19,7 +20,7 @@ use Rattle.events.specs.Ticks.{after_tick}
 use Rattle.flood.specs.declared.part.Part.{Part}
 use Rattle.flood.specs.declared.part.Part.TheVariants as part
 
--- ---- what it makes
+-- ---- its result
 
 abbrev pub after_part : Part → Moment → EventState → EventState
 after_part (part.Packet number packet) moment p =
@@ -36,7 +37,7 @@ pub record IsPartOf (event : Occurrence) (p : Part) : Type 0 where
   pub own : (moment : Moment) (before : EventState)
       → OwnPart moment event before (after_part p moment before)
 
--- a packet came in at one of the given number of interfaces
+-- the packet was received at one of the given number of interfaces
 abbrev pub HasInterface : Part → ℕ → Type 0
 HasInterface (part.Packet number packet) count = (1 ≤ number) × (number ≤ count)
 HasInterface part.Tick count = Unit {0}
@@ -45,24 +46,24 @@ HasInterface (part.Withdraw prefix) count = Unit {0}
 HasInterface (part.Install answers) count = Unit {0}
 HasInterface (part.LinkDown number) count = Unit {0}
 
--- ---- the whole event
+-- ---- the complete event
 
--- ages, the own part, and the end; `old` is the router before the event
+-- aging, the own part, and the end; `old` is the router before the event
 abbrev pub after_event : Router → Moment → Part → EventState → EventState
 after_event old moment p before =
     end_event old moment (after_part p moment (on_area (with_ages old.moment moment) before))
 
--- nothing was sent yet
+-- nothing was sent before
 abbrev pub made_state : Router → Moment → Part → EventState
 made_state old moment p = after_event old moment p (record { router = old; sends = [] })
 
--- the event sends these and leaves new
+-- the event sends these packets and results in the router `new`
 pub record IsMade (old : Router) (moment : Moment) (p : Part) (sent : List Out) (new : Router)
     : Type 0 where
   pub router : new ≡ (made_state old moment p).router
   pub outs : sent ≡ outs_of old.id old.area.links (made_state old moment p).sends
 
--- ---- refusals that need the bytes, or the answers
+-- ---- refusals that depend on the bytes, or on the answers
 
 abbrev pub late_refusal : Router → Occurrence → Option CoreError
 late_refusal old (Occurrence.Packet number bytes) = bad_packet (fault_of bytes)
@@ -73,7 +74,7 @@ late_refusal old (Occurrence.Withdraw prefix) = None
 late_refusal old (Occurrence.Install answers) = None
 late_refusal old (Occurrence.LinkDown number) = None
 
--- an answer gives the refusal that stands, or tells that memory was refused
+-- the result is the refusal that applies, or that an allocation was refused
 abbrev pub Tells : {X : Type 0} → Option CoreError → Result X CoreError → Type 0
 Tells refusal (Ok x) = refusal ≡ None
 Tells refusal (Err error.Memory) = Unit {0}
@@ -83,7 +84,7 @@ Tells refusal (Err error.Clash) = refusal ≡ Some error.Clash
 Tells refusal (Err error.ClockBack) = refusal ≡ Some error.ClockBack
 Tells refusal (Err error.Full) = refusal ≡ Some error.Full
 
--- `Full` exactly if what the event leaves passes a limit; else memory was refused
+-- `Full` if and only if the router exceeds a limit; otherwise an allocation was refused
 abbrev pub TellsLimit : {X : Type 0} → Router → Result X CoreError → Type 0
 TellsLimit new (Ok x) = exceeds new ≡ false
 TellsLimit new (Err error.Full) = exceeds new ≡ true

@@ -1,4 +1,4 @@
-//! When the answers of a Redistribute clash.
+//! When the answers of a `Redistribute` clash.
 ghost use Rattle.std.specs.Prelude.{◌≡◌, IsTrue};
 ghost use Rattle.std.specs.FinMap as finite;
 ghost use Rattle.events.specs.Commands.{is_for};
@@ -8,7 +8,7 @@ ghost use Rattle.events.specs.Refusals.{clashes, is_taken};
 use procedures::{Router, external_key, same_external, same_network};
 use words::{External, Prefix};
 
-/// Whether an external destination of this prefix is announced.
+/// Whether an external destination with this prefix is announced.
 pub fn is_announced(router: &Router, prefix: Prefix) -> bool
     ensures { result ≡ is_for prefix
         (finite.get router.now.present.announced (external_key router.now.present.id prefix)) }
@@ -19,7 +19,7 @@ pub fn is_announced(router: &Router, prefix: Prefix) -> bool
     }
 }
 
-// Another announced prefix has the Link State ID.
+// Whether the Link State ID is that of another announced prefix.
 fn is_taken(router: &Router, prefix: Prefix) -> bool
     ensures { result ≡ is_taken prefix
         (finite.get router.now.present.announced (external_key router.now.present.id prefix)) }
@@ -30,8 +30,8 @@ fn is_taken(router: &Router, prefix: Prefix) -> bool
     }
 }
 
-/// Whether the answers are on two destinations, or another announced prefix has the Link
-/// State ID of the destination.
+/// Whether the answers are for different destinations, or the destination's Link State ID is that
+/// of another announced prefix.
 pub fn clashes(router: &Router, tagged: External, priced: External) -> bool
     ensures { result ≡ clashes router.now.present tagged priced }
 {

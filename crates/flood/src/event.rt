@@ -1,4 +1,4 @@
-//! What a router is told.
+//! The events of a router.
 ghost use Rattle.std.specs.Prelude.{◌≡◌, ◌<◌, ◌^◌, IfOk};
 
 use hooks::{PriceAnswer, TagAnswer, VetoAnswer};
@@ -8,22 +8,23 @@ use words::{Prefix, Sequence};
 /// What happens to a router at a moment.
 #[derive(Debug, Drop)]
 pub enum Event {
-    /// These bytes came in at the interface of this number.
+    /// These bytes were received at the interface with this number.
     Packet(u16, Sequence<u8>),
-    /// Time has passed: what is due is done. Each time of the router's runs out at a Tick alone.
+    /// Time has passed: what is due is done. All timers of the router expire only at a `Tick`.
     Tick,
-    /// An external destination is to be announced, with these answers on its tag and its metric.
+    /// An external destination is to be announced, with these answers for its tag and its metric.
     Redistribute(TagAnswer, PriceAnswer),
-    /// The external destination of this prefix is to be announced no longer.
+    /// The external destination with this prefix is to be withdrawn.
     Withdraw(Prefix),
-    /// The routes that were offered, each with the answer whether it stays out of the table.
+    /// The routes that were offered, each with the answer whether it is kept out of the routing
+    /// table.
     Install(Sequence<VetoAnswer>),
-    /// The interface of this number went down: so does its neighbor.
+    /// The interface with this number went down, and so does its neighbor.
     LinkDown(u16),
 }
 
-/// Says that the address of the destination is in its range, as its type keeps it. It does nothing
-/// when the program runs.
+/// A lemma for proofs: the destination's address is in the range of its type. It does nothing at
+/// run time.
 pub fn check_address(price: &PriceAnswer)
     ensures { price.now.external.prefix.address < 2 ^ 32 }
 {
@@ -31,7 +32,9 @@ pub fn check_address(price: &PriceAnswer)
 }
 
 impl Event {
-    /// The same event once more. The only error is that an allocation was refused.
+    /// A copy of the event.
+    ///
+    /// Errors with `AllocError` if an allocation is refused.
     pub fn copy(&self) -> Result<Event, AllocError>
         ensures { IfOk result (λ copy. copy ≡ self.now) }
     {

@@ -1,4 +1,4 @@
-//! What is kept for routes from one event to the next.
+//! What is kept for routes between events.
 ghost use Rattle.std.specs.Prelude.{◌≡◌, ◌≤◌, IfOk, OnErr, OnOk, false};
 ghost use Rattle.area_routes.specs.Kept.{AreKept, ServesOnlyThen};
 ghost use Rattle.events.specs.RoomLaws.{IsRoomy};
@@ -30,7 +30,7 @@ fn brings_answers(event: &Event) -> bool
     }
 }
 
-// The routes follow the router over an event that isn't final yet.
+// Updates the routes for an event of the router that isn't final yet.
 fn keep(
     router: &Router,
     routes: &mut AreaRoutes,
@@ -59,8 +59,8 @@ fn keep(
     Ok(())
 }
 
-/// One event, and what is kept for routes. After a refusal the router is to be rolled back; the
-/// routes are as they were.
+/// Processes one event, and updates what is kept for routes. After a refusal the caller rolls the
+/// router back; the routes are unchanged.
 pub fn take_and_keep(
     router: &mut Router,
     routes: &mut AreaRoutes,
@@ -83,8 +83,8 @@ pub fn take_and_keep(
     ensures limit { IfOk result (λ outs. exceeds router.new.present ≡ false) }
     ensures settled { router.new.settled ≡ router.old.settled }
     ensures kept { IfOk result (λ outs. AreKeptNow router.new.present routes.new) }
-    // It doesn't walk, and the walk serves on unless an LSA of type 1 or 2 came, left, has come to
-    // MaxAge or says something else, or the addresses are others.
+    // No walk is made, and the one that is kept stays valid unless an LSA of type 1 or 2 was added
+    // or removed, has reached MaxAge or says something else, or the addresses differ.
     ensures walks { IfOk result (λ outs. WalksOnlyThen router.old.present router.new.present
         routes.old routes.new) }
     ensures err { OnErr result (routes.new ≡ routes.old) }

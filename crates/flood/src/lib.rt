@@ -1,8 +1,8 @@
-//! The router as a machine over events (RFC 2328): moments, bytes and answers in, bytes out,
-//! nothing else.
+//! The router as a state machine (RFC 2328): moments, bytes and answers in, bytes out, nothing
+//! else.
 //!
-//! [`Core`] takes one [`Event`] after the other, each with its moment, and answers what is to be
-//! sent. An event that is refused leaves it as it was.
+//! [`Core`] processes one [`Event`] after another, each with its moment, and returns what is to be
+//! sent. An event that is refused leaves it unchanged.
 #![tactic(auto)]
 
 mod clash;

@@ -1,4 +1,4 @@
-//! What an event makes of the router and of the drafts of its interfaces.
+//! What an event does to the router and the drafts of its interfaces.
 ghost use Rattle.std.specs.Prelude.{◌≡◌, List, OnOk, length};
 ghost use Rattle.flood_laws.specs.adjacency.Drafts.{Drafted};
 ghost use Rattle.events.specs.Commands.{after_install, after_link_down};
@@ -56,10 +56,11 @@ fn make_part(
     }
 }
 
-/// The whole event: copies that have come to MaxAge are flooded, the event's own part is done, and
-/// the end that all events share.
+/// The complete event: copies that have reached MaxAge are flooded, then the event's own part is
+/// done, then the end that all events share.
 ///
-/// Errors with `AllocError` if an allocation is refused: roll the router back, and drop the drafts.
+/// Errors with `AllocError` if an allocation is refused; the caller then rolls the router back and
+/// drops the drafts.
 pub fn make_event(
     router: &mut Router,
     alloc: Global,

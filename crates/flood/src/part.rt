@@ -1,4 +1,4 @@
-//! The own part of an event, once its bytes are read and its answers are seen to agree.
+//! The own part of an event, after its bytes are parsed and its answers checked for agreement.
 ghost use Rattle.std.specs.Prelude.{◌≡◌, ◌≤◌, ◌<◌, ◌^◌, ℕ, IfOk, None, length};
 ghost use Rattle.events.specs.Refusals.{bad_packet};
 ghost use Rattle.events.specs.Routers.{Occurrence};
@@ -17,20 +17,20 @@ use procedures::Router;
 use std::alloc::{AllocError, Global};
 use words::{External, Prefix, Route, Sequence};
 
-/// What an event asks of the router.
+/// The own part of an event.
 #[derive(Drop)]
 pub enum Part {
-    /// This packet came in at the interface of this number.
+    /// This packet was received at the interface with this number.
     Packet(usize, Packet),
     /// Time has passed.
     Tick,
-    /// A destination is to be announced, with the words on its tag and its metric.
+    /// A destination is to be announced, with the answers for its tag and its metric.
     Redistribute(External, u64, u64),
-    /// A destination is to be announced no longer.
+    /// A destination is to be withdrawn.
     Withdraw(Prefix),
-    /// The routes that were offered, each with the word that answers.
+    /// The routes that were offered, each with the program's answer.
     Install(Sequence<(Route, u64)>),
-    /// The interface of this number went down.
+    /// The interface with this number went down.
     LinkDown(usize),
 }
 
@@ -44,7 +44,8 @@ fn read_packet(alloc: Global, number: u16, bytes: &[u8]) -> Result<Part, CoreErr
     Ok(Part::Packet(usize::from(number), packet))
 }
 
-// The two answers are on one destination, whose Link State ID no other announced prefix has.
+// The two answers, which have to be for one destination whose Link State ID no other announced
+// prefix has.
 fn read_answers(router: &Router, tag: &TagAnswer, price: &PriceAnswer) -> Result<Part, CoreError>
     ensures part { IfOk result (λ part. IsPartOf (Occurrence.Redistribute
         tag.now.external tag.now.word price.now.external price.now.word) part) }
@@ -76,11 +77,12 @@ fn read_vetoes(alloc: Global, answers: &[VetoAnswer]) -> Result<Part, AllocError
     Ok(Part::Install(Sequence::from_vec(words)))
 }
 
-/// The own part of an event at a router that refuses neither its moment nor its interface.
+/// The own part of an event for a router that accepts its moment and its interface.
 ///
-/// Refused: `BadPacket` if the bytes are no packet's text, `Clash` if the two answers of a
-/// `Redistribute` are on different destinations or the Link State ID is that of another announced
-/// prefix, `Memory` if an allocation is refused.
+/// # Errors
+/// `BadPacket` if the bytes encode no packet, `Clash` if the two answers of a `Redistribute` are
+/// for different destinations or the Link State ID is that of another announced prefix, `Memory` if
+/// an allocation is refused.
 pub fn read_part(router: &Router, alloc: Global, event: &Event) -> Result<Part, CoreError>
     requires { early_refusal_of router.now.present (occurrence_of event.now) ≡ None }
     ensures part { IfOk result (λ part. IsPartOf (occurrence_of event.now) part) }

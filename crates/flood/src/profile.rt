@@ -1,4 +1,4 @@
-//! Which configurations a router takes, and its links at the start.
+//! Which configurations are valid, and the links at the start.
 ghost use Rattle.std.specs.Prelude.{◌≡◌, ◌==◌, ◌<◌, ◌^◌};
 ghost use Rattle.std.specs.List.{list_all, list_any};
 ghost use Rattle.events.specs.Routers.{are_distinct, in_profile, is_lawful};

@@ -1,4 +1,4 @@
-//! The router: it takes events one by one, and answers what it sends.
+//! The router: it processes events one by one, and returns what it sends.
 ghost use Rattle.std.specs.Prelude.{◌≡◌, ◌↔◌, IfOk, IsErrOf, OnErr, false, length, IsTrue};
 ghost use Rattle.std.specs.FinMap as finite;
 ghost use Rattle.events.specs.Commands.{is_for};
@@ -28,12 +28,12 @@ use std::marker::Model;
 use words::{Prefix, Route, RouterId, Second};
 
 /// A router as one value. It has no clock, no socket and no lock: moments, bytes and answers are
-/// handed to it.
+/// passed to it.
 #[derive(Drop)]
 pub struct Core {
     alloc: Global,
     router: Router,
-    // the walk of its database, and whether all candidates are known to be answered
+    // the walk of its database, and whether all candidates are known to be among the answers
     routes: AreaRoutes,
 }
 
@@ -66,11 +66,10 @@ impl Model for Core {
 
     ghost view = { λ a. a.router.present };
 
-    // Between events nothing is to be taken back, all that may be sent has room in packets, and no
-    // limit is passed. The router announces external destinations under its own Router ID alone,
-    // what stands on its retransmission lists is of its database, and the numbers of the instances
-    // that it holds are in their ranges. What is kept for routes is that of the moment of the last
-    // event.
+    // Between events the state is settled, all that may be sent fits into packets, and no limit is
+    // exceeded. The router announces external destinations only under its own Router ID, its
+    // retransmission lists have the database's instances, and the numbers of the instances that it
+    // holds are in their ranges. What is kept for routes is valid at the moment of the last event.
     ghost invariant = { λ a.
         (a.router.settled ≡ a.router.present)
         × IsRoomy a.router.present
@@ -81,11 +80,12 @@ impl Model for Core {
 }
 
 impl Core {
-    /// A router that has heard of nobody and describes its links in its router-LSA (RFC 2328,
-    /// section 12.4.1). The start counts as the moment of a last event.
+    /// A router without neighbors that has originated its router-LSA (RFC 2328, section 12.4.1).
+    /// The start counts as the moment of the last event.
     ///
-    /// `Interface` is answered exactly if the configuration is outside of what [`Config`] allows,
-    /// `Memory` only if an allocation is refused.
+    /// # Errors
+    /// `Interface` if and only if the configuration is invalid by the rules of [`Config`], `Memory`
+    /// if an allocation is refused.
     pub fn new(alloc: Global, config: &Config) -> Result<Core, ConfigError>
         ensures ok { IfOk result (λ core. core ≡ initial config.now) }
         ensures profile { IsErrOf result ConfigError.Interface ↔ (in_profile config.now ≡ false) }
@@ -108,26 +108,25 @@ impl Core {
         }
     }
 
-    /// One event at a moment: what it makes of the router, and what is to be sent, in the order in
-    /// which it is to be sent.
+    /// Processes one event at a moment, and returns the packets to be sent, in order.
     ///
-    /// Refused, in this order: `ClockBack` if the moment is before that of the last event or isn't
-    /// below 2^62, `NoInterface` if the interface of a packet or of a link that is down doesn't
-    /// exist, `BadPacket` if the bytes are no packet's text, `Clash` if the two answers of a
-    /// `Redistribute` are on different destinations or the Link State ID is that of another
+    /// Errors, in this order, with `ClockBack` if the moment is before that of the last event or
+    /// isn't below 2^62, `NoInterface` if the interface of a packet or of a link that went down
+    /// doesn't exist, `BadPacket` if the bytes encode no packet, `Clash` if the two answers of a
+    /// `Redistribute` are for different destinations or the Link State ID is that of another
     /// announced prefix, `Full` if the database would hold more than 16,384 LSAs, or more than
-    /// 4,096 own external ones. `Memory` comes if an allocation is refused, and neither the clock
-    /// nor the interface is. A refusal leaves the router as it was.
+    /// 4,096 self-originated AS-external-LSAs. Errors with `Memory` if an allocation is refused,
+    /// but not if the moment or the interface is refused. An error leaves the router unchanged.
     pub fn step(&mut self, moment: Second, event: &Event) -> Result<Vec<Out>, CoreError>
         ensures ok { IfOk result (λ outs. Happens self.old moment (occurrence_of event.now)
             outs.items self.new) }
-        // The Router ID stays, each packet that is sent is from this router, and each instance that
-        // it holds or tells afterwards was held before, came in the event's Update, or is a new one
-        // of its own LSAs. What leaves a retransmission list as acknowledged, the event's packet
-        // from that neighbor tells.
+        // The Router ID stays the same, each packet that is sent is from this router, and each
+        // instance that it holds or sends was held before, was received in the event's Link State
+        // Update, or is a new one of its own. If an instance is removed from a retransmission list
+        // as acknowledged, the event's packet from that neighbor says so.
         ensures keeps { IfOk result (λ outs. KeepsWhatIsKnown self.old moment
             (occurrence_of event.now) outs.items self.new) }
-        // Which refusal it is; none stands if the event is taken.
+        // Which refusal it is; none applies if the event is accepted.
         ensures refused { Answers self.old moment (occurrence_of event.now) result }
         ensures err { OnErr result (self.new ≡ self.old) }
     {
@@ -149,16 +148,17 @@ impl Core {
         }
     }
 
-    /// The refusal that an event meets before anything needs memory: `ClockBack` for its moment, or
-    /// `NoInterface` for its interface. Other refusals are told by `step` alone.
+    /// The refusal of an event that is determined before anything is allocated: `ClockBack` for its
+    /// moment, or `NoInterface` for its interface. Only `step` can determine the others.
     pub fn refuses(&self, moment: Second, event: &Event) -> Option<CoreError>
         ensures { result ≡ early_refusal self.now moment (occurrence_of event.now) }
     {
         refuses(&self.router, moment, event)
     }
 
-    /// The same router once more, with a walk of its own. The only error is that an allocation was
-    /// refused.
+    /// A copy of the router, with a walk of its own.
+    ///
+    /// Errors with `AllocError` if an allocation is refused.
     pub fn copy(&self) -> Result<Core, AllocError>
         ensures { IfOk result (λ copy. copy ≡ self.now) }
     {
@@ -176,7 +176,7 @@ impl Core {
         }
     }
 
-    /// The own Router ID.
+    /// The router's own Router ID.
     pub fn router_id(&self) -> RouterId
         ensures { result ≡ self.now.id }
     {
@@ -190,7 +190,7 @@ impl Core {
         self.router.moment()
     }
 
-    /// How many interfaces there are, at most 63; their numbers start at 1.
+    /// The number of interfaces, at most 63; they are numbered from 1.
     pub fn interface_count(&self) -> usize
         ensures { result ≡ length self.now.area.links }
     {
@@ -208,8 +208,8 @@ impl Core {
         self.router.area().database()
     }
 
-    /// The neighbor at the interface of this number and its state, or None if it is Down or there
-    /// is no such interface.
+    /// The neighbor at the interface with this number and its state, or `None` if it is Down or
+    /// there is no such interface.
     pub fn neighbor(&self, number: u16) -> Option<(RouterId, State)>
         ensures { result ≡ shown_at self.now number }
     {
@@ -218,10 +218,9 @@ impl Core {
         link.neighbor()
     }
 
-    /// How many LSAs the neighbor at the interface of this number has still to acknowledge: the
-    /// entries of its Link state retransmission list (RFC 2328, section 10), which are all of the
-    /// database. 0 if it is Down or there is no such interface. It looks at each key of the
-    /// database, and takes no memory.
+    /// The number of entries of the retransmission list of the neighbor at the interface with this
+    /// number (RFC 2328, section 10), all of which are in the database. 0 if it is Down or there is
+    /// no such interface. It visits each key of the database, and doesn't allocate.
     pub fn owes(&self, number: u16) -> usize
         ensures { result ≡ owed_at self.now number }
     {
@@ -235,11 +234,11 @@ impl Core {
     }
 
     /// The candidates for the routing table at the moment of the last event (RFC 2328, section 16).
-    /// No event walks: if the walk that is kept doesn't serve any more, and [`stale`](Core::stale)
-    /// hasn't made another one since, one is made for this call alone.
+    /// Events don't make walks: if the walk that is kept is no longer valid, and
+    /// [`stale`](Core::stale) hasn't made another one since, one is made for this call alone.
     ///
     /// # Errors
-    /// Where memory for the walk, the offers or the routes is refused.
+    /// `AllocError` if an allocation is refused.
     pub fn candidates(&self) -> Result<Vec<Route>, AllocError>
         ensures { IfOk result (λ routes. AreCandidatesNow self.now routes.items) }
     {
@@ -250,10 +249,10 @@ impl Core {
         Ok(made)
     }
 
-    /// The routing table: the candidates that the answers of the last Install let in.
+    /// The routing table: the candidates that the answers of the last `Install` let in.
     ///
     /// # Errors
-    /// Where memory for the candidates or the table is refused.
+    /// `AllocError` if an allocation is refused.
     pub fn rows(&self) -> Result<Vec<Route>, AllocError>
         ensures { IfOk result (λ table. IsTableNow self.now table.items) }
     {
@@ -268,10 +267,10 @@ impl Core {
         Ok(made)
     }
 
-    /// The candidates, and the rows of the table as programs see them.
+    /// The candidates, and the rows of the routing table as programs see them.
     ///
     /// # Errors
-    /// Where memory for the candidates, the table or the rows is refused.
+    /// `AllocError` if an allocation is refused.
     pub fn offered(&self) -> Result<Offered, AllocError>
         ensures { IfOk result (λ o. IsOffered self.now o.candidates.items o.rows.items) }
     {
@@ -286,13 +285,13 @@ impl Core {
         Ok(made)
     }
 
-    /// Whether some candidate stands in none of the answers of the last Install, so that they are
-    /// to be asked for again. If none was found, by this call or as the answers came, and no event
-    /// since has changed what an LSA says, no candidate is looked at. If an event left no walk that
-    /// serves, one is made and kept.
+    /// Whether some candidate is in none of the answers of the last `Install`, so that programs
+    /// have to be asked again. If there was none at an earlier call or when the answers came, and
+    /// no event since then has changed what an LSA says, no candidate is visited. If there is no
+    /// valid walk, one is made and kept.
     ///
     /// # Errors
-    /// Where memory for the walk, the candidates, or answers in order is refused.
+    /// `AllocError` if an allocation is refused.
     pub fn stale(&mut self) -> Result<bool, AllocError>
         ensures stale { IfOk result (λ b. IsTrue b ↔ IsStaleNow self.old) }
         ensures core { self.new ≡ self.old }
@@ -308,16 +307,16 @@ impl Core {
         Ok(made)
     }
 
-    /// How many walks were made and kept since it began or was copied; it stays at its greatest
-    /// value. An event makes none. [`stale`](Core::stale) makes one at most, and only if since the
-    /// last one an LSA of type 1 or 2 came, left, has come to MaxAge or says something else, or the
-    /// addresses are others.
+    /// The number of walks that were made and kept since the start or the copy, which saturates.
+    /// Events make none. [`stale`](Core::stale) makes at most one, and only if since the last one
+    /// an LSA of type 1 or 2 was added or removed, has reached MaxAge or says something else, or
+    /// the addresses differ.
     pub fn walks(&self) -> u64 {
         self.routes.walks()
     }
 
-    /// Whether the external destination of this prefix is announced, or is to be as soon as
-    /// an LSA of it may go out.
+    /// Whether the external destination with this prefix is announced, or will be as soon as its
+    /// LSA may be originated.
     pub fn wants(&self, prefix: Prefix) -> bool
         ensures { result ≡ is_for prefix
             (finite.get self.now.announced (external_key self.now.id prefix)) }
@@ -325,8 +324,8 @@ impl Core {
         is_announced(&self.router, prefix)
     }
 
-    /// Lets the router go. A function above that lets one go by itself has the letting-go of each
-    /// of its parts to prove once more.
+    /// Drops the router. A function above that drops one itself would have to prove the drop of
+    /// each part again.
     pub fn close(self) {
         let Core {
             alloc: _,

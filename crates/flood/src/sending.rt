@@ -1,4 +1,4 @@
-//! From the drafts of an event to what is sent.
+//! From the drafts of an event to its packets.
 ghost use Rattle.std.specs.Prelude.{◌≡◌, ◌≤◌, List, IfOk, OnOk, length, map};
 ghost use Rattle.events.specs.received.Links.{Link as LinkOfArea};
 ghost use Rattle.events.specs.received.Outcomes.{Send};
@@ -21,7 +21,7 @@ fn drafts_at(alloc: Global, links: &[Link]) -> Result<Vec<Draft>, AllocError>
     links.iter().map(|_| Draft::new(alloc)).collect(alloc)
 }
 
-/// A draft for each link of the router, into which nothing was sent yet.
+/// An empty draft for each link of the router.
 ///
 /// Errors with `AllocError` if an allocation is refused.
 pub fn drafts_for(router: &Router, alloc: Global) -> Result<Vec<Draft>, AllocError>
@@ -35,14 +35,14 @@ pub fn drafts_for(router: &Router, alloc: Global) -> Result<Vec<Draft>, AllocErr
 ///
 /// Errors with `AllocError` if an allocation is refused.
 pub fn outs(alloc: Global, own: RouterId, drafts: Vec<Draft>) -> Result<Vec<Out>, AllocError>
-    // They are those of what an event sends, each thing of which has room in a packet.
+    // They are the drafts of an event's contents, each of which fits into a packet.
     requires drafts { (links : List LinkOfArea) × (sends : List Send)
         × AreDrafts links sends drafts.items }
     requires few { length drafts.items ≤ 63 }
     ensures outs { (links : List LinkOfArea) (sends : List Send)
         → AreDrafts links sends drafts.items
         → IfOk result (λ outs. outs.items ≡ outs_of own links sends) }
-    // Each is a text of what it says.
+    // Each packet is encoded correctly.
     ensures texts { (links : List LinkOfArea) (sends : List Send)
         → AreDrafts links sends drafts.items → OnOk result (AreTexts own links sends) }
 {

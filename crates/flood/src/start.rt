@@ -13,7 +13,7 @@ use procedures::{Router, originate_or_wait};
 use std::alloc::{AllocError, Global};
 use words::{Key, LinkStateId, RouterId};
 
-// A link for each interface, on which nothing was heard or sent.
+// A link for each interface, on which nothing was received or sent.
 fn links_of(alloc: Global, interfaces: &[Interface]) -> Result<Vec<Link>, AllocError>
     ensures { IfOk result (λ links. links.items ≡ map fresh_kept interfaces.now) }
 {
@@ -23,7 +23,7 @@ fn links_of(alloc: Global, interfaces: &[Interface]) -> Result<Vec<Link>, AllocE
         .collect(alloc)
 }
 
-// The key of the own router-LSA.
+// The key of the router's own router-LSA.
 fn router_key(own: RouterId) -> Key
     ensures { result ≡ router_key own }
 {
@@ -34,7 +34,7 @@ fn router_key(own: RouterId) -> Key
     }
 }
 
-// The router-LSA of a router that has heard of nobody goes into its database.
+// Installs the router-LSA of a router without neighbors in its database.
 fn describe_links(router: &mut Router, alloc: Global, config: &Config) -> Result<(), AllocError>
     requires { router.old.present ≡ unannounced_router config.now }
     ensures { OnOk result (router.new.present ≡ initial config.now) }
@@ -50,7 +50,7 @@ fn describe_links(router: &mut Router, alloc: Global, config: &Config) -> Result
     Ok(())
 }
 
-/// A router that has heard of nobody and has originated its router-LSA (RFC 2328, section 12.4.1).
+/// A router without neighbors that has originated its router-LSA (RFC 2328, section 12.4.1).
 ///
 /// Errors with `AllocError` if an allocation is refused.
 pub fn begin(alloc: Global, config: &Config) -> Result<Router, AllocError>

@@ -1,4 +1,4 @@
-//! One event, until it is made final or taken back.
+//! One event, before it is settled or rolled back.
 ghost use Rattle.std.specs.Prelude.{◌≡◌, IfOk, OnOk, None, false, length};
 ghost use Rattle.events.specs.RoomLaws.{IsRoomy};
 ghost use Rattle.events.specs.Events.{Happens};
@@ -35,8 +35,8 @@ fn refuses_interface(router: &Router, number: u16) -> Option<CoreError>
     }
 }
 
-/// The refusal that an event meets before anything needs memory: for its moment, or for its
-/// interface.
+/// The refusal of an event that is determined before anything is allocated: for its moment, or for
+/// its interface.
 pub fn refuses(router: &Router, moment: Second, event: &Event) -> Option<CoreError>
     ensures { result ≡ early_refusal router.now.present moment (occurrence_of event.now) }
 {
@@ -53,7 +53,7 @@ pub fn refuses(router: &Router, moment: Second, event: &Event) -> Option<CoreErr
     }
 }
 
-// The event that has this own part.
+// The event with this own part.
 fn make(
     router: &mut Router,
     alloc: Global,
@@ -81,7 +81,7 @@ fn make(
     Ok(outs)
 }
 
-/// One event. After a refusal the router is to be rolled back.
+/// Processes one event. After a refusal the caller rolls the router back.
 pub fn take(
     router: &mut Router,
     alloc: Global,

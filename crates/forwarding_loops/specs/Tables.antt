@@ -1,4 +1,4 @@
--- The next hops that the ways of all routers to one prefix make, over the links that are there.
+-- The next hops of all routers' routes to one prefix, over the existing links.
 use Rattle.std.specs.Prelude.{ℕ, Bool, not, ◌&&◌, if◌then◌else◌, nat_lt, List, [], ◌∷◌, ◌++◌}
 use Rattle.std.specs.Prelude.{length}
 use Rattle.std.specs.Prelude.{slice_index_or}
@@ -9,23 +9,23 @@ use Rattle.forwarding_loops.specs.declared.hop.Hop.{Hop}
 use Rattle.forwarding_loops.specs.declared.tables.Link.{Link}
 use Rattle.forwarding_loops.specs.declared.tables.Way.{Way}
 
--- packets leave by the interface, unless they end at the router itself
+-- packets are sent out of the interface, unless they end at the router itself
 abbrev pub leaves_by : Way → ℕ → Bool
 leaves_by way interface =
     nat_lt interface 64 && (not (has_interface way.hops 0) && has_interface way.hops interface)
 
--- a router that isn't there has a way by no interface
+-- a router that doesn't exist has a route without an interface
 abbrev pub way_at : List Way → Place → Way
 way_at ways place = slice_index_or ways place (record { hops = 0; cost = 0 })
 
--- the next hop from the one router by its interface to the other, if its way leaves by that
+-- the next hop of the first router to the second by the interface, if its route has that
 abbrev pub hop_by : List Way → Place → ℕ → Place → List Hop
 hop_by ways from interface to =
     if (nat_lt from (length ways) && nat_lt to (length ways))
     && leaves_by (way_at ways from) interface
     then record { from = from; to = to } ∷ [] else []
 
--- those over a link, of both routers
+-- the next hops over a link, of both routers
 abbrev pub hops_over : List Way → Link → List Hop
 hops_over ways link = hop_by ways link.one link.one_interface link.other
     ++ hop_by ways link.other link.other_interface link.one

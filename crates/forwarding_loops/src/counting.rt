@@ -1,4 +1,4 @@
-//! How many routers lie on a loop.
+//! The number of routers on loops.
 ghost use Rattle.std.specs.Prelude.{IfOk, length};
 ghost use Rattle.std.specs.List.{All};
 ghost use Rattle.forwarding_loops.specs.Loops.{IsAmong, IsCountOfLoops};
@@ -7,10 +7,10 @@ use crate::hop::Hop;
 use crate::marking::loops;
 use std::alloc::{AllocError, Global};
 
-/// Counts the routers that lie on a loop, of as many as there are costs: see [`loops`].
+/// Counts the routers that are on a loop; there are as many routers as costs. See [`loops`].
 ///
 /// # Errors
-/// Where memory for marks is refused.
+/// `AllocError` if an allocation is refused.
 pub fn count_loops(alloc: Global, hops: &[Hop], costs: &[u32]) -> Result<usize, AllocError>
     requires { All (IsAmong (length costs.now)) hops.now }
     ensures { IfOk result (IsCountOfLoops hops.now (length costs.now)) }

@@ -1,6 +1,6 @@
 //! A next hop of one router.
 
-/// The router at the place `from` hands packets to the one at the place `to`.
+/// The router at index `from` forwards packets to the one at index `to`.
 #[derive(Clone, Copy)]
 pub struct Hop {
     pub from: usize,

@@ -1,10 +1,9 @@
-//! Packets that go round: which routers a packet comes back to, if each router hands it to a next
-//! hop of its own.
+//! Forwarding loops: to which routers a packet may come back, if each router forwards it to one of
+//! its next hops.
 //!
 //! A hop leads from one router to another. A packet that starts at a router may take any hop there,
-//! and again at the next one. A router lies on a loop exactly if some such walk comes back to it.
-//! The hops may be those that the ways of all routers to one prefix make over the links between
-//! them.
+//! and again at the next one. A router is on a loop if and only if some such walk comes back to it.
+//! The hops may be those of all routers' routes to one prefix over the links between them.
 #![tactic(auto)]
 
 mod counting;

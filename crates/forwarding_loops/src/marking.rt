@@ -1,4 +1,4 @@
-//! Which routers lie on a loop.
+//! Marks the routers on loops.
 ghost use Rattle.std.specs.Prelude.{◌≡◌, ℕ, ◌<◌, IfOk, OnOk, length};
 ghost use Rattle.std.specs.List.{All};
 ghost use Rattle.forwarding_loops.specs.Loops.{AreLoops, GoesRoundOnly, HoldsWholeLoops, IsAmong};
@@ -9,7 +9,7 @@ use crate::hop::Hop;
 use crate::reaching::{reached, turn_all};
 use std::alloc::{AllocError, Global};
 
-// Marks each router that both lists mark.
+// Marks each router that is marked in both lists.
 fn mark_both(one: &[bool], other: &[bool], marks: &mut [bool])
     requires one { length one.now ≡ length marks.old }
     requires other { length other.now ≡ length marks.old }
@@ -22,7 +22,7 @@ fn mark_both(one: &[bool], other: &[bool], marks: &mut [bool])
     }
 }
 
-// Marks each router ahead from which a packet may come to the place.
+// Marks each router of `ahead` from which a packet may reach the place.
 fn mark_between(
     alloc: Global,
     hops: &[Hop],
@@ -40,7 +40,7 @@ fn mark_between(
     Ok(())
 }
 
-// Marks the routers of all loops that come by the place.
+// Marks the routers of all loops through the place.
 fn mark_loops_at(
     alloc: Global,
     hops: &[Hop],
@@ -60,8 +60,8 @@ fn mark_loops_at(
     mark_between(alloc, hops, place, &ahead, marks)
 }
 
-// Marks the routers of all loops that come by the router before the hop, if the costs don't fall
-// along it.
+// Marks the routers of all loops through the router before the hop, unless the cost decreases along
+// it or the router is marked already.
 fn mark_loops_before(
     alloc: Global,
     hops: &[Hop],
@@ -85,7 +85,7 @@ fn mark_loops_before(
     mark_loops_at(alloc, hops, hop.from, marks)
 }
 
-// Marks the routers of all loops, given that none is marked.
+// Marks the routers of all loops; none is marked before.
 fn mark_all(
     alloc: Global,
     hops: &[Hop],
@@ -104,14 +104,14 @@ fn mark_all(
     Ok(())
 }
 
-/// Marks the routers that lie on a loop, of as many as there are costs.
+/// Marks the routers that are on a loop; there are as many routers as costs.
 ///
-/// Each router's cost is that of its route. If the costs fall along each hop, there is no loop, and
-/// nothing else is looked at: a loop has a hop along which they don't. Any costs give the same
+/// Each router's cost is that of its route. If the costs decrease along each hop, there is no loop,
+/// and nothing else is visited: a loop has a hop along which they don't. Any costs give the same
 /// marks.
 ///
 /// # Errors
-/// Where memory for marks is refused.
+/// `AllocError` if an allocation is refused.
 pub fn loops(alloc: Global, hops: &[Hop], costs: &[u32]) -> Result<Vec<bool>, AllocError>
     requires { All (IsAmong (length costs.now)) hops.now }
     ensures { IfOk result (λ marks. AreLoops hops.now (length costs.now) marks.items) }

@@ -1,4 +1,4 @@
-//! The routers to which a packet may come from a router, and those from which one may come to it.
+//! The routers that a packet may reach from a router, and those from which it may reach one.
 ghost use Rattle.std.specs.Prelude.{◌≡◌, ℕ, IfOk, length, map, true, false};
 ghost use Rattle.std.specs.List.{All};
 ghost use Rattle.forwarding_loops.specs.Loops.{AreReached, IsAmong, IsMarked, IsPassedOn, IsSpread};
@@ -7,8 +7,8 @@ ghost use Rattle.forwarding_loops.specs.Loops.{PassesOn, Walk, reversed_hop};
 use crate::hop::Hop;
 use std::alloc::{AllocError, Global};
 
-// Marks the end of the hop, if it leads out of the start or a router that is marked. Returns
-// whether that mark is new.
+// Marks the end of the hop, if the hop is from the start or from a marked router. Returns whether
+// that mark is new.
 fn pass_on(hop: Hop, start: usize, marks: &mut [bool]) -> bool
     requires { IsAmong (length marks.old) hop }
     ensures passes { result ≡ true → PassesOn start hop marks.old marks.new }
@@ -25,8 +25,7 @@ fn pass_on(hop: Hop, start: usize, marks: &mut [bool]) -> bool
     true
 }
 
-// Marks the ends of hops that lead out of the start or a router that is marked. Returns whether any
-// mark is new.
+// Marks the ends of hops from the start or from a marked router. Returns whether any mark is new.
 fn spread(hops: &[Hop], start: usize, marks: &mut [bool]) -> bool
     requires within { All (IsAmong (length marks.old)) hops.now }
     requires sound { AreReached hops.now start marks.old }
@@ -41,7 +40,7 @@ fn spread(hops: &[Hop], start: usize, marks: &mut [bool]) -> bool
     some
 }
 
-// Marks all that a packet may come to from the start.
+// Marks all that a packet may reach from the start.
 fn spread_all(hops: &[Hop], start: usize, marks: &mut [bool])
     requires within { All (IsAmong (length marks.old)) hops.now }
     requires sound { AreReached hops.now start marks.old }
@@ -51,10 +50,10 @@ fn spread_all(hops: &[Hop], start: usize, marks: &mut [bool])
     while spread(hops, start, marks) {}
 }
 
-/// Of `count` routers, marks those that a packet may come to from the start.
+/// Of `count` routers, marks those that a packet may reach from the start.
 ///
 /// # Errors
-/// Where memory for the marks is refused.
+/// `AllocError` if an allocation is refused.
 pub fn reached(
     alloc: Global,
     hops: &[Hop],
@@ -72,10 +71,10 @@ pub fn reached(
     Ok(marks)
 }
 
-/// The hops, each the other way.
+/// The hops in the reverse direction.
 ///
 /// # Errors
-/// Where memory for them is refused.
+/// `AllocError` if an allocation is refused.
 pub fn turn_all(alloc: Global, hops: &[Hop]) -> Result<Vec<Hop>, AllocError>
     ensures { IfOk result (λ made. made.items ≡ map reversed_hop hops.now) }
 {

@@ -1,4 +1,4 @@
-//! The ways of all routers to one prefix, and the loops that they make.
+//! The routes of all routers to one prefix, and their loops.
 ghost use Rattle.std.specs.Prelude.{◌≡◌, ◌++◌, IfOk, OnOk, length};
 ghost use Rattle.std.specs.List.{All};
 ghost use Rattle.forwarding_loops.specs.Loops.{IsAmong, IsCountOfLoops};
@@ -9,15 +9,15 @@ use crate::hop::Hop;
 use std::alloc::{AllocError, Global};
 use words::Hops;
 
-/// A router's way to a prefix: the interfaces by which packets leave, with bit k for interface k,
-/// where 0 is the router itself; and the cost.
+/// A router's route to a prefix: the outgoing interfaces, bit k for interface k, where 0 is the
+/// router itself; and the cost.
 #[derive(Clone, Copy)]
 pub struct Way {
     pub hops: u64,
     pub cost: u32,
 }
 
-/// A link between the interfaces of two routers, which go by their places.
+/// A link between interfaces of two routers, which are given by their indices.
 #[derive(Clone, Copy)]
 pub struct Link {
     pub one: usize,
@@ -27,7 +27,8 @@ pub struct Link {
 }
 
 impl Way {
-    /// Whether packets leave by the interface. Those that end at the router leave by none.
+    /// Whether packets are sent out of the interface. Those that end at the router are sent out of
+    /// none.
     pub fn leaves_by(&self, interface: u8) -> bool
         ensures { result ≡ leaves_by self.now interface }
     {
@@ -36,7 +37,7 @@ impl Way {
     }
 }
 
-// The next hop by the interface, if the way of the router before it leaves by that.
+// Adds the next hop by the interface, if the route of the router before it has that.
 fn add_hop(
     hops: &mut Vec<Hop>,
     ways: &[Way],
@@ -62,7 +63,7 @@ fn add_hop(
     Ok(())
 }
 
-// The next hops over the link, of both routers.
+// Adds the next hops over the link, of both routers.
 fn add_hops(hops: &mut Vec<Hop>, ways: &[Way], link: &Link) -> Result<(), AllocError>
     ensures added { OnOk result (hops.new.items ≡ hops.old.items ++ hops_over ways.now link.now) }
     ensures within { All (IsAmong (length ways.now)) hops.old.items
@@ -90,11 +91,11 @@ fn costs_of(alloc: Global, ways: &[Way]) -> Result<Vec<u32>, AllocError>
     ways.iter().map(|way| way.cost).collect(alloc)
 }
 
-/// Counts the routers to which a packet for a prefix may come back, if each router hands it on by
-/// its way over one of these links.
+/// Counts the routers to which a packet for a prefix may come back, if each router forwards it by
+/// its route over one of these links.
 ///
 /// # Errors
-/// Where memory for next hops and marks is refused.
+/// `AllocError` if an allocation is refused.
 pub fn count_looping(alloc: Global, links: &[Link], ways: &[Way]) -> Result<usize, AllocError>
     ensures { IfOk result (IsCountOfLoops (next_hops ways.now links.now) (length ways.now)) }
 {

@@ -1,4 +1,4 @@
--- Numbers that count down, and the next one.
+-- Descending numbers, and the next one.
 use Rattle.std.proofs.Common.{◌≡◌, ℕ, ◌+◌, List, [], ◌∷◌, ◌++◌, map, length, refl, sym, subst, ap, ◌∙◌, arith}
 use Rattle.std.proofs.lemmas.List.{map-append, length-append}
 use Rattle.links.specs.Descending.{CountDownTo}
@@ -27,7 +27,7 @@ pub counted_off : {A : Type 0} (f : A → ℕ) (last : ℕ) (xs : List A) (x : A
 counted_off f last xs x h =
     counted_before last (map f xs) (f x) (subst (CountDownTo last) (map-append f xs (x ∷ [])) h)
 
--- as many numbers that count down to the same one are the same
+-- as many descending numbers with the same last one are the same
 pub counted_same : (last : ℕ) (ns ms : List ℕ) → length ns ≡ length ms → CountDownTo last ns → CountDownTo last ms → ns ≡ ms
 counted_same last [] [] e h k = refl
 counted_same last [] (m ∷ ms) e h k = absurd (omega (arith, e))

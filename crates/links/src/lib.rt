@@ -1,5 +1,5 @@
-//! What a worker receives and sends through, and its clock: traits that sockets and the machine's
-//! clock meet, and lists that play them for tests.
+//! The links over which a worker receives and sends, and its clock: traits that sockets and the
+//! system clock implement, and scripted versions for tests.
 #![tactic(auto)]
 
 mod link;

@@ -1,20 +1,20 @@
-//! What a worker receives and sends through, and its clock.
+//! The links over which a worker receives and sends, and its clock.
 ghost use Rattle.std.specs.Prelude.{◌≡◌, ℕ, ◌<◌, ◌≤◌, List, Option, IfOk, IfSome, OnOk};
 ghost use Rattle.std.specs.Prelude.{OnErr, length};
 
 use std::alloc::Global;
 use words::{Second, Sequence};
 
-/// A link failed. No cause is told.
+/// A link failed, for an unknown cause.
 #[derive(Clone, Copy, Debug, PartialEq, Eq)]
 pub struct LinkFault {}
 
-/// What a worker receives and sends through. It counts its faults: each call that failed, and none
-/// that didn't.
+/// The links over which a worker receives and sends. It counts its faults: each call that failed,
+/// and no other.
 ///
-/// What it says of bytes that it was given to send, and of what it heard, is left open here:
-/// whoever sends or hears, proved for any link, can say it only by the call itself, with that
-/// interface and those bytes.
+/// What it says about bytes that it was given to send, and about those that it received, is left
+/// open here: a function that sends or receives, and is proved for any link, can only know it from
+/// the call itself, with that interface and those bytes.
 pub trait Link {
     ghost faults: { Self → ℕ };
 
@@ -22,9 +22,9 @@ pub trait Link {
 
     ghost hears: { Self → Option (List ℕ) → Self → Type 0 };
 
-    /// A datagram, or None if none came within a second, or if there is no memory for the one that
-    /// came, which is lost then. It is heard by the buffer: one that is longer is cut to 8,193
-    /// bytes, one more than a packet may have.
+    /// Receives a datagram; `None` if none came within a second, or if an allocation for it was
+    /// refused, in which case it is lost. One that is longer than the buffer is cut to 8,193 bytes,
+    /// one more than a packet may have. `None` is never an error.
     fn receive(
         &mut self,
         alloc: Global,
@@ -35,15 +35,16 @@ pub trait Link {
         ensures fine { OnOk result (faults self.new ≡ faults self.old) }
         ensures fault { OnErr result (faults self.old < faults self.new) };
 
-    /// Whether the bytes were sent at the interface of this number; if not, they are lost: a
-    /// send would have waited, or was refused for a reason that is the packet's or its way's.
+    /// Sends the bytes at the interface with this number, and returns whether they were sent. If
+    /// not, they are lost: sending would have blocked, or was refused because of the packet or its
+    /// route.
     fn send(&mut self, interface: u16, bytes: &[u8]) -> Result<bool, LinkFault>
         ensures given { OnOk result (gives self.old interface bytes.now self.new) }
         ensures fine { OnOk result (faults self.new ≡ faults self.old) }
         ensures fault { OnErr result (faults self.old < faults self.new) };
 }
 
-/// The datagram of these bytes; None if there is no memory for it.
+/// A datagram with these bytes; `None` if an allocation is refused.
 pub fn datagram(alloc: Global, bytes: &[u8]) -> Option<Sequence<u8>>
     ensures { IfSome result (λ datagram. datagram ≡ bytes.now) }
 {
@@ -51,8 +52,8 @@ pub fn datagram(alloc: Global, bytes: &[u8]) -> Option<Sequence<u8>>
     Some(Sequence::from_vec(copy))
 }
 
-/// A clock of whole seconds. What it says of the second that it showed is left open here: only who
-/// asked it can say it.
+/// A clock of whole seconds. What it says about the second that it showed is left open here: only
+/// the caller can know it.
 pub trait Seconds {
     ghost shows: { Self → ℕ → Self → Type 0 };
 

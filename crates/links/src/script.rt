@@ -1,4 +1,4 @@
-//! A link and a clock that play lists, for tests.
+//! A link and a clock that play back lists, for tests.
 ghost use Rattle.std.specs.Prelude.{◌≡◌, ◌≢◌, ℕ, ◌+◌, ◌<◌, ◌≤◌, IfSome, length};
 ghost use Rattle.links.specs.declared.script.Played.TheVariants.{Fault};
 
@@ -7,18 +7,18 @@ use std::alloc::Global;
 use std::sync::atomic::{AtomicBool, Ordering};
 use words::{Second, Sequence};
 
-/// What a call of the link answers.
+/// The result of a call of the link.
 #[derive(Debug, Drop)]
 pub enum Answer {
-    /// These bytes came, or what was to be sent was sent.
+    /// These bytes were received, or what was to be sent was sent.
     Datagram(Sequence<u8>),
-    /// Nothing came, or a send would have waited.
+    /// Nothing was received, or sending would have blocked.
     Nothing,
     /// The link failed.
     Fault,
 }
 
-// An answer without its bytes, which stand at this place.
+// An answer without its bytes, which are at this index.
 #[derive(Clone, Copy, Debug, PartialEq, Eq)]
 enum Played {
     Datagram(usize),
@@ -26,22 +26,22 @@ enum Played {
     Fault,
 }
 
-/// Plays the answers, one a call, whether it receives or sends, and tells the worker to end at the
-/// first call after the last one.
+/// Plays back the answers, one for each call that receives or sends, and tells the worker to end at
+/// the first call after the last one.
 #[derive(Drop)]
 pub struct Script<'a> {
     answers: Vec<Answer>,
     played: usize,
-    /// How many calls failed.
+    /// The number of calls that failed.
     pub faults: usize,
-    /// How many datagrams were sent.
+    /// The number of datagrams that were sent.
     pub sent: usize,
     quit: &'a AtomicBool,
     ghost counted: { faults ≤ played },
 }
 
 impl<'a> Script<'a> {
-    /// A script of these answers, which sets `quit` after the last one.
+    /// A script with these answers, which sets `quit` after the last one.
     pub fn new(answers: Vec<Answer>, quit: &'a AtomicBool) -> Script<'a>
         ensures { result.faults ≡ 0 }
     {
@@ -75,7 +75,7 @@ impl<'a> Script<'a> {
         }
     }
 
-    // A copy of the datagram at this place, cut to 8,193 bytes; None if there is no memory.
+    // A copy of the datagram at this index, cut to 8,193 bytes; `None` if an allocation is refused.
     fn copied(&self, alloc: Global, at: usize) -> Option<Sequence<u8>>
         ensures { IfSome result (λ datagram. length datagram ≤ 8193) }
     {
@@ -90,10 +90,10 @@ impl<'a> Script<'a> {
 impl<'a> Link for Script<'a> {
     ghost faults = { λ s. s.faults };
 
-    // Hearing sends nothing.
+    // Receiving sends nothing.
     ghost hears = { λ s _ t. t.sent ≡ s.sent };
 
-    // At most one datagram more was sent.
+    // At most one more datagram was sent.
     ghost gives = { λ s interface bytes t. t.sent ≤ s.sent + 1 };
 
     fn receive(
@@ -120,7 +120,7 @@ impl<'a> Link for Script<'a> {
     }
 }
 
-/// Plays moments, one a call, and stays at the last one; without any it stays at 0.
+/// Plays back moments, one for each call, and stays at the last one; without any it stays at 0.
 #[derive(Drop)]
 pub struct Times {
     moments: Vec<u64>,
@@ -137,7 +137,7 @@ impl Times {
 impl Seconds for Times {
     ghost use Rattle.std.specs.Prelude.{⊤};
 
-    // Its moments are those of the list, which may fall.
+    // Its moments are those of the list, which may decrease.
     ghost shows = { λ _ _ _. ⊤ };
 
     fn second(&mut self) -> Second {

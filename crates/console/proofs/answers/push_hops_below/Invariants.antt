@@ -3,7 +3,7 @@ use Rattle.console.specs.Answers.{interfaces_below, numbers_text}
 use Rattle.console.proofs.Numbers.{is_empty}
 use Rattle.console.proofs.answers.push_hops_below.Given as goal
 
--- what is written so far, and whether that is nothing
+-- the text so far, and whether it is empty
 abbrev pub invariant-loop-interface : goal.invariant-loop-interface
 invariant-loop-interface l =
     (string_bytes l.text ≡ string_bytes l.initial.text ++ numbers_text (interfaces_below l.interface l.hops))

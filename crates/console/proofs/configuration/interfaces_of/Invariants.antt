@@ -4,7 +4,7 @@ use Rattle.console.specs.Configurations.{AreApart, SayInterfaces}
 use Rattle.console.specs.Views.{views}
 use Rattle.console.proofs.configuration.interfaces_of.Given as goal
 
--- the lines so far say the interfaces so far
+-- the lines so far spell the interfaces so far
 abbrev pub invariant-loop-line : goal.invariant-loop-line
 invariant-loop-line l = record {
   said : SayInterfaces 1 (take l.line-index (views l.lines)) l.interfaces.items;

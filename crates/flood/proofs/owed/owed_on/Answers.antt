@@ -4,7 +4,7 @@ use Rattle.std.specs.FinMap as finite
 use Rattle.words.specs.declared.key.Key.{Key}
 use Rattle.flood.proofs.owed.owed_on.Goals as goal
 
--- there are no more keys than that
+-- there are no more keys
 pub count-requires-clause-fits : goal.count-requires-clause-fits
 count-requires-clause-fits c =
     let same : length c.filter.result.iter ≡ length (finite.keys c.args.database.now.present) =

@@ -4,7 +4,7 @@ use Rattle.flood.specs.Owed.{owed_by}
 use Rattle.flood.proofs.router_core.Core.owes.Goals as goal
 use Rattle.flood.proofs.Owing.{none_owed, one_owed}
 
--- there is no interface of this number
+-- there is no interface with this number
 pub returns-then-number-eq0 : goal.returns-then-number-eq0
 returns-then-number-eq0 c =
     let same : map present c.links-links.result.now ≡ c.args.self.now.area.links = cc in
