@@ -1,4 +1,4 @@
--- What an event takes off a retransmission list as acknowledged, its packet tells.
+-- If an event removes an instance from a retransmission list as acknowledged, its packet says so.
 use Rattle.std.proofs.Common.{◌≡◌, ◌≤◌, ℕ, true, false, List, [], ◌∷◌, map, Option, None, Some, inl, inr, refl, sym, subst, ◌∙◌, arith}
 use Rattle.std.specs.FinMap as finite
 use Rattle.std.specs.List.{AllByRecursion, filter}
@@ -36,8 +36,8 @@ use Rattle.flood_laws.proofs.Limits.{AreExternal, one_less, one_more, others_sta
 use Rattle.flood_laws.proofs.Owing.{Owing}
 use Rattle.flood_laws.proofs.Retransmitted.{IsItsOwn, parts_keep, read, retransmissions_are_of_the_database}
 
--- ---- what holds at each point of an event: copies stand under their own keys, and external
--- destinations under own keys are announced
+-- ---- the invariant at each point of an event: copies have their own keys, and external
+-- destinations are announced under own keys
 
 abbrev pub IsOwnExternal : ℕ → Key → External → Type 0
 IsOwnExternal own key e = key.advertising_router ≡ own
@@ -117,7 +117,7 @@ own_externals r own key = found (finite.get r.announced key) (own key)
     found None each = tt
     found (Some e) each = each e refl
 
--- once the ages are done
+-- after aging
 pub order_begun : (old : Router) (moment : ℕ) → IsInOrder old → OfEvent (in_order old.id) (start_event moment old)
 order_begun old moment order = record {
   area = parts_keep.ages old.moment moment (record { area = old.area; sends = [] }) (read old order.retransmissions);
@@ -128,7 +128,7 @@ order_begun old moment order = record {
 
 module _ (old : Router) (moment : ℕ) (event : Occurrence) (new : Router) (number : ℕ) (before : Neighbor) (name : LsaInstance) (order : IsInOrder old)
     (taken : IsTakenOff old moment event new number before name) where
-  -- the copy of which the entry is
+  -- the copy of the entry
   record HasCopy : Type 0 where
     copy : DatabaseCopy
     there : finite.get old.area.database name.key ≡ Some copy
@@ -214,7 +214,7 @@ module _ (old : Router) (moment : ℕ) (event : Occurrence) (outs : List Out) (n
 pub taken_off_was_told : WhatIsTakenOffWasTold
 taken_off_was_told old moment event outs new happens order number before name taken = told old moment event outs new happens order number before name taken
 
--- ---- routers stay in order
+-- ---- routers keep the invariant
 
 stays_in_order : (old : Router) (moment : ℕ) (event : Occurrence) (outs : List Out) (new : Router) → Happens old moment event outs new → IsInOrder old → IsInOrder new
 stays_in_order old moment event outs new happens order = record {

@@ -1,4 +1,4 @@
--- What is so of every neighbor at the start, after each event and so after every run.
+-- A property of every neighbor at the start, after each event and so after every run.
 use Rattle.std.proofs.Common.{List, [], ◌∷◌, Option, None, Some, sym, subst}
 use Rattle.adjacency.specs.Laws.{IsBareWhereFull}
 use Rattle.adjacency.specs.Lists.{HasSoundLists}
@@ -12,7 +12,7 @@ use Rattle.flood_laws.specs.NeighborLaws.{FullNeighborsRequestNothing, IsAlwaysS
 use Rattle.events.specs.Routers.{Router}
 use Rattle.flood_laws.proofs.Invariants.{event_kept, initial_kept}
 
--- one fact for another
+-- from one property to another
 holds_so : (P R : Neighbor → Type 0) → ((n : Neighbor) → P n → R n) → (o : Option Neighbor) → Holds P o → Holds R o
 holds_so P R so None h = tt
 holds_so P R so (Some n) h = so n h

@@ -1,5 +1,5 @@
--- A second walk over an event, from the end of its ages on, that knows more at each part: which
--- case an LSA is of, that the five seconds of an own LSA are over, and what the router remembers of
+-- A second induction over an event, after its aging, that knows more at each part: the case of an
+-- LSA, that MinLSInterval has passed for a self-originated LSA, and what the router has noted of
 -- what it originated.
 use Rattle.std.proofs.Common.{◌≡◌, ℕ, Bool, true, false, cond, not, ◌&&◌, ◌||◌, List, [], ◌∷◌, map, Option, None, Some, refl, sym, subst}
 use Rattle.std.specs.Prelude.{◌==◌, nat_le}
@@ -45,14 +45,14 @@ both_true : (a b : Bool) → (a && b) ≡ true → (a ≡ true) × (b ≡ true)
 both_true true b e = (refl, e)
 both_true false b e = absurd cc
 
--- a packet that is not discarded: but for Hellos it is from the interface's neighbor
+-- a packet that isn't discarded: unless it is a Hello, it is from the interface's neighbor
 pub record IsHeard (start : EventState) (event : Occurrence) (number : ℕ) (packet : Packet) : Type 0 where
   pub bytes : List ℕ
   pub is : event ≡ Occurrence.Packet number bytes
   pub text : PacketText bytes packet
   pub from : is_hello packet.body ≡ false → is_from packet.router (neighbor_at number start.router.area.links) ≡ true
 
--- what is to hold of the links, the database, what was sent and what was originated lately
+-- the property of the links, the database, what was sent and what was originated recently
 abbrev pub Lately : Type 1
 Lately = Outcome → ByKey ℕ → Type 0
 
@@ -60,7 +60,7 @@ abbrev pub KeepsToo : Invariant → Lately → (Outcome → Outcome) → Type 0
 KeepsToo i X f = (o : Outcome) (t : ByKey ℕ) → OfOutcome i o → X o t → X (f o) t
 
 pub record IsKeptToo (i : Invariant) (X Y : Lately) (start : EventState) (moment : ℕ) (event : Occurrence) : Type 0 where
-  -- the router's own LSAs
+  -- self-originated LSAs
   pub flushes : (key : Key) (c : DatabaseCopy) (o : Outcome) (t : ByKey ℕ) → finite.get o.area.database key ≡ Some c → is_aged_out moment c ≡ false → OfOutcome i o → X o t
       → X (flood_from_nobody moment (lsa_aged 3600 c.lsa) (on_database (age_out moment key) o)) t
   pub originates : (key : Key) (says : LsaBody) (p : EventState) → i.of_key key → has_max_sequence (finite.get p.router.area.database key) ≡ false
@@ -105,7 +105,7 @@ module _ (i : Invariant) (kept : IsKeptByParts i) (X Y : Lately) (old : Router) 
       → (i.of_area p.router.area p.sends → X (outcome p) p.router.originated → X (f (outcome p)) p.router.originated) → InProgress p → InProgress (on_area f p)
   on_area_kept f p keeps lately h = record { so = record { area = keeps h.so.area; announced = h.so.announced }; lately = lately h.so.area h.lately }
 
-  -- ---- the router's own LSAs
+  -- ---- self-originated LSAs
 
   copy_flushed : (key : Key) (c : Option DatabaseCopy) (o : Outcome) → finite.get o.area.database key ≡ c → OfOutcome i o → OfOutcome i (flush_copy moment key c o)
   copy_flushed key None o is h = h
@@ -209,7 +209,7 @@ module _ (i : Invariant) (kept : IsKeptByParts i) (X Y : Lately) (old : Router) 
         (one_neighbor moment number (adjacencies.mismatch_step moment) o)
         (λ is. too.requested number keys o t h x) (λ is. too.mismatch number o t h x)
 
-  -- the readable LSAs of an Update are among them
+  -- the LSAs of a Link State Update that can be parsed are among them
   among_more : (x : Option Lsa) (xs : List Lsa) (lsa : Lsa) → Contains xs lsa → Contains (cons_option x xs) lsa
   among_more None xs lsa c = c
   among_more (Some y) xs lsa c = later_is y xs lsa c

@@ -1,5 +1,5 @@
--- A fact of each neighbor's state and lists that every step of its table keeps is kept by every
--- event.
+-- A fact about each neighbor's state and lists that every step of the neighbor keeps is kept by
+-- every event.
 use Rattle.std.proofs.Common.{ℕ, List, [], ◌∷◌, map, Option, None, Some, sym, subst}
 use Rattle.std.specs.List.{AllByRecursion, fold}
 use Rattle.std.specs.FinMap as finite
@@ -65,7 +65,7 @@ module _ (Q : Fact) (kept : IsKept Q) where
     without_room = Unit {0};
   }
 
-  -- of every neighbor, in the midst of an event
+  -- of every neighbor, during an event
   abbrev OnOutcome : Outcome → Type 0
   OnOutcome o = HoldsOfEach (Of Q) o.area.links
 

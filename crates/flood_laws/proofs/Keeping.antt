@@ -1,5 +1,5 @@
--- The numbers of all instances that a router holds stay in their ranges, so that each text that it
--- sends tells just what it bears; and so a step keeps what acknowledgments rest on.
+-- The numbers of all instances that a router holds stay in their ranges, so that the bytes of each
+-- LSA that it sends are parsed as that LSA; and so a step keeps what acknowledgments rely on.
 use Rattle.std.proofs.Common.{◌≡◌, ◌≢◌, ℕ, ℤ, pos, ◌+ℤ◌, ◌+◌, ◌*◌, ◌-◌, ◌/◌, ◌%◌, ◌<◌, ◌≤◌, ◌^◌, Bool, true, false, cond, length, List, [], ◌∷◌, ◌++◌, map, sum, Option, None, Some, FitsSigned, refl, sym, ap, subst, ◌∙◌, arith}
 use Rattle.std.specs.Prelude.{◌==◌}
 use Rattle.std.specs.Int.{w32, cast_unsigned}
@@ -52,9 +52,9 @@ use Rattle.flood_laws.proofs.Packed.{at_number, bodies_bear, outs_bear}
 use Rattle.flood_laws.proofs.Read.{read_unless}
 use Rattle.flood_laws.proofs.Told.{IsOwn, first_told, told}
 
--- ---- the text of an LSA is read with the name that was written, whatever else its header says
+-- ---- an LSA is parsed with the instance that was written, whatever its other header fields
 
--- the numbers that don't name the instance, as they stand in a text
+-- the fields that don't identify the instance, as they are encoded
 abbrev cut : Header → Header
 cut h = record h { age = h.age % 2 ^ 16; options = h.options % 2 ^ 8; length = h.length % 2 ^ 16 }
 
@@ -92,7 +92,7 @@ name_read l is =
     ap (λ bytes. instance_of_header (header_at bytes 0)) (sym same)
     ∙ ap (λ (h : Header). instance_of_header h) (header-reads_back (cut l.header) [] (body_text l.body) (cut_is l.header is))
 
--- ---- what is borne is what is told
+-- ---- what is sent is what is received
 
 module _ (K : LsaInstance → Type 0) where
   abbrev Named : LsaInstance → Type 0
@@ -116,7 +116,7 @@ module _ (K : LsaInstance → Type 0) where
   body_tells (body.Update lsas) bears = update_tells lsas bears
   body_tells (body.Acknowledgment headers) bears = mapped_all instance_of_header (λ h. Named (instance_of_header h)) K (λ h k. k.0) headers bears
 
--- each packet that is sent is from this router, and what it tells is known
+-- each packet that is sent is from this router, and each instance in it is known
 module _ (old : Router) (event : Occurrence) (originated : List LsaInstance) (sends : List Send) where
   abbrev Known : LsaInstance → Type 0
   Known name = Named (IsKnown old event originated) name
@@ -141,7 +141,7 @@ module _ (old : Router) (event : Occurrence) (originated : List LsaInstance) (se
       (bodies_bear Known link.interface.delay contents (at_number (λ c. AllByRecursion Known (instances_in_content c)) n sends so)) texts.0))
       (outs_lawful so (n + 1) links texts.1)
 
--- ---- what an Update brings
+-- ---- the contents of a Link State Update
 
 header_names : (h : Header) → IsHeader h → IsInstance (instance_of_header h)
 header_names h is = record {
@@ -210,7 +210,7 @@ sequence_in_range key (Some c) is goes =
     let no : true ≡ false = sym max ∙ goes in
     absurd cc)
 
--- ---- what the numbers are asked of
+-- ---- the ranges of the numbers
 
 new_in_range : (key : Key) (copy : Option DatabaseCopy) (says : LsaBody) → IsLsaKey key → IfThere (λ k c. IsInstance (instance_of_lsa c.lsa)) key copy → has_max_sequence copy ≡ false
     → IsInstance (instance_of_lsa (new_instance key copy says))
@@ -343,7 +343,7 @@ pub events_keep_what_is_known : EventsKeepWhatIsKnown
 events_keep_what_is_known old moment event outs new happens address order holds texts =
     keeps_what_is_known old moment event outs new happens address order.own holds order (taken_off_was_told old moment event outs new happens order) texts
 
--- ---- what an event leaves and sends is known
+-- ---- what is held and sent after an event is known
 
 pub only_what_is_known : EventsHoldOnlyWhatIsKnown
 only_what_is_known old moment event outs new happens order =

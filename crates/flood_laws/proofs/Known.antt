@@ -1,5 +1,5 @@
--- What is so of all names that a router holds, brings in and tells is so of those that an event
--- leaves and sends; and why a name is known.
+-- A property of all instances that a router holds, receives and sends is one of those that it holds
+-- and sends after an event; and why an instance is known.
 use Rattle.std.proofs.Common.{◌≡◌, ℕ, false, zero, suc, ◌<◌, length, List, [], ◌∷◌, ◌++◌, map, Option, None, Some, refl, sym, ap, subst, ◌∙◌, arith}
 use Rattle.std.specs.Prelude.{slice_index_or}
 use Rattle.std.specs.FinMap as finite
@@ -78,9 +78,9 @@ pub named_sends : (K : LsaInstance → Type 0) (sends : List Send) → AllByRecu
 named_sends K [] h = tt
 named_sends K (s ∷ sends) h = (left_all K (instances_in_send s) (instances_in_sends sends) h, named_sends K sends (right_all K (instances_in_send s) (instances_in_sends sends) h))
 
--- ---- what is so of a name, of all that bears it
+-- ---- a property of an instance, for all that has instances
 
--- and what is so of its key
+-- together with a property of its key
 module _ (K : LsaInstance → Type 0) (P : Key → Type 0) (so : (name : LsaInstance) → K name → P name.key) (count : ℕ) where
   abbrev pub named_by : Telling
   named_by = record {
@@ -159,7 +159,7 @@ module _ (K : LsaInstance → Type 0) (P : Key → Type 0) (so : (name : LsaInst
     sent = tt;
   }
 
-  -- the readable LSAs of an Update
+  -- the LSAs of a Link State Update that can be parsed
   lsas_brought : (lsas : List (List ℕ)) → AllByRecursion K (instances_in_update lsas) → AllByRecursion (OfBytes named_by.of_lsa) lsas
   lsas_brought [] h = tt
   lsas_brought (bytes ∷ rest) h = one_of (lsa_in bytes) h (λ more. lsas_brought rest more)
@@ -176,7 +176,7 @@ module _ (K : LsaInstance → Type 0) (P : Key → Type 0) (so : (name : LsaInst
   body_brought (body.Update lsas) h = lsas_brought lsas h
   body_brought (body.Acknowledgment headers) h = tt
 
--- ---- why a name is known
+-- ---- why an instance is known
 
 pub data IsExplained (old : Router) (event : Occurrence) (N : LsaInstance → Type 0) (name : LsaInstance) : Type 0 where
   Held : Contains (instances_stored old) name → IsExplained old event N name
@@ -184,7 +184,7 @@ pub data IsExplained (old : Router) (event : Occurrence) (N : LsaInstance → Ty
       → Contains (instances_received packet.body) name → IsExplained old event N name
   New : N name → IsExplained old event N name
 
--- N holds of those that are new
+-- N holds of new instances
 module _ (old : Router) (event : Occurrence) (N : LsaInstance → Type 0) where
   new_one : (name : LsaInstance) → IsExplained old event N name → Option LsaInstance
   new_one name (IsExplained.Held c) = None
@@ -228,7 +228,7 @@ module _ (old : Router) (event : Occurrence) (N : LsaInstance → Type 0) where
 
 -- ---- what is announced
 
--- with what else holds of their keys
+-- together with other properties of their keys
 pub all_own : (t : Telling) (r : Router) → AnnouncesItsOwn r → ((key : Key) (e : External) → finite.get r.announced key ≡ Some e → t.of_key key) → AllIn (IsOwn t r.id) r.announced
 all_own t r own so key = found (finite.get r.announced key) (own key) (so key)
   where
@@ -241,9 +241,9 @@ announces t r all key e is = (subst (IfThere (IsOwn t r.id) key) is (all key)).0
 
 -- ---- an event
 
--- what is so of names and of their keys
+-- a property of instances and of their keys
 module _ (Q : LsaInstance → Type 0) (P : Key → Type 0) (so : (name : LsaInstance) → Q name → P name.key) where
-  -- it is so of what is there before the event, of what the event brings, and of new instances
+  -- it holds of what is held before the event, of what the event brings, and of new instances
   pub record Enters (old : Router) (event : Occurrence) : Type 0 where
     pub own : P (router_key old.id)
     pub held : AllByRecursion Q (instances_stored old)
@@ -254,7 +254,7 @@ module _ (Q : LsaInstance → Type 0) (P : Key → Type 0) (so : (name : LsaInst
     pub new : (key : Key) (copy : Option DatabaseCopy) (says : LsaBody) → P key → IfThere (λ k c. Q (instance_of_lsa c.lsa)) key copy → has_max_sequence copy ≡ false
         → Q (instance_of_lsa (new_instance key copy says))
 
-  -- so it is of what is there after it, and of what is sent
+  -- so it holds of what is held after it, and of what is sent
   pub record Leaves (old : Router) (event : Occurrence) (p : EventState) : Type 0 where
     pub holds : AllByRecursion Q (instances_stored p.router ++ instances_in_sends p.sends)
     pub same_router : p.router.id ≡ old.id

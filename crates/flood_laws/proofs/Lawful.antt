@@ -1,4 +1,5 @@
--- The texts of LSAs are unread LSAs, and Updates of them and Acknowledgments are packets.
+-- The bytes of LSAs are unparsed LSAs, and Link State Updates of them and Acknowledgments are
+-- packets.
 use Rattle.std.proofs.Common.{◌≡◌, ◌≤◌, ℕ, zero, suc, ◌<◌, ◌^◌, ◌/◌, ◌%◌, length, List, [], ◌∷◌, ◌++◌, map, refl, sym, subst, ◌∙◌, arith, length-append}
 use Rattle.std.specs.Prelude.{slice_index}
 use Rattle.std.specs.Int.{byte_at, bytes_high_first}

@@ -1,5 +1,5 @@
--- What becomes of one entry of a retransmission list through a whole event: it stays, unless the
--- adjacency is given up or the LSA is flooded; or the event's packet tells its instance.
+-- One entry of a retransmission list through a complete event: it stays, unless the adjacency is
+-- given up or the LSA is flooded; or the event's packet has its instance.
 use Rattle.std.proofs.Common.{◌≡◌, ℕ, ℤ, zero, suc, ◌+◌, ◌-◌, Bool, true, false, cond, not, ◌&&◌, ◌⊎◌, inl, inr, List, [], ◌∷◌, map, Option, None, Some, is_some, refl, sym, ap, subst, ◌∙◌, arith}
 use Rattle.std.specs.Prelude.{◌==◌, is_none, nat_le, nat_lt, slice_get}
 use Rattle.std.specs.declared.cmp.Ordering.{Ordering}
@@ -61,7 +61,7 @@ use Rattle.flood_laws.proofs.Worlds.{mapped}
 -- ---- the neighbor at one interface
 
 module _ (P R : Option Neighbor → Type 0) (none : P None → R None) where
-  -- after a change of each link, by its number
+  -- after a change of each link that depends on its number
   place_kept : (g : (ℕ × Link) → Link) (k i : ℕ) (xs : List Link) → ((link : Link) → P link.neighbor → R (g (k + i, link)).neighbor) → P (neighbor_on (slice_get xs i))
       → R (neighbor_on (slice_get (map g (enumerate_from k xs)) i))
   place_kept g k i [] so h = none h
@@ -91,7 +91,7 @@ module _ (P R : Option Neighbor → Type 0) (none : P None → R None) where
       → R (neighbor_at number (stepped_links f xs))
   stepped_kept f number so xs h = numbered_kept (λ (e : ℕ × Link). record e.1 { neighbor = step_on (f e.0 e.1) e.1.neighbor }) number so xs h
 
--- ---- a newer instance than one that is like the copy
+-- ---- an instance that is newer than one like the copy
 
 older_than_aged : (a : ℕ) → is_gt (compare_ages a 3600) ≡ false
 older_than_aged a = by_age (a == 3600) refl
@@ -107,7 +107,7 @@ decided Equal Equal t u lesser e = let no_such : true ≡ false = sym e ∙ less
 decided Equal Greater t u lesser e = refl
 decided Greater s t u lesser e = refl
 
--- ---- which case an LSA is of
+-- ---- the case of an LSA
 
 newer_found : (a b c d e f g h : Bool)
     → first_case ((a, Case.NothingToFlush) ∷ (b, Case.TooSoon) ∷ (c, Case.Newer) ∷ (d, Case.BadRequest) ∷ (e, Case.ImpliedAcknowledgment) ∷ (f, Case.Duplicate) ∷ (g, Case.SequenceWraps) ∷ (h, Case.SentJustNow) ∷ []) Case.Older
@@ -154,7 +154,7 @@ some_same e = cc
 pub no_time : (m : ℕ) → nat_le 5 (m - m) ≡ false
 no_time m = let e : m - m ≡ 0 = omega arith in ap (nat_le 5) e
 
--- what was originated at this moment isn't forgotten at it
+-- an origination at this moment isn't forgotten at this moment
 pub kept_time : (moment : ℕ) (t : ByKey ℕ) (k : Key) → finite.get t k ≡ Some moment
     → finite.get (finite.retain_keys t (λ (q : Key). is_recent moment (finite.get t q))) k ≡ Some moment
 kept_time moment t k at =
@@ -185,13 +185,13 @@ module _ (old : Router) (moment : ℕ) (event : Occurrence) (number : ℕ) (befo
   abbrev pub HoldsThere : Area → Type 0
   HoldsThere a = Holds Owes (neighbor_at number a.links)
 
-  -- the copy is of the instance; it is as it was before, or has MaxAge
+  -- a copy with the instance; it is unchanged, or has MaxAge
   record IsLike (c : DatabaseCopy) : Type 0 where
     name_is : instance_of_lsa c.lsa ≡ name
     installed : c.installed ≡ copy.installed
     age : ((c.lsa ≡ copy.lsa) × (c.stored ≡ copy.stored)) ⊎ (is_aged_out moment c ≡ true)
 
-  -- it came to MaxAge in this event, unless it was flushed
+  -- it reached MaxAge in this event, unless it was flushed
   abbrev IsYoung : Type 0
   IsYoung = is_aged_out moment copy ≡ true → not (is_aged_out old.moment copy) ≡ true
 
@@ -210,7 +210,7 @@ module _ (old : Router) (moment : ℕ) (event : Occurrence) (number : ℕ) (befo
     became : Became o.area t
     remembers : finite.get old.originated key ≡ Some moment → finite.get t key ≡ Some moment
 
-  -- ---- what stays
+  -- ---- what stays the same
 
   still_like : (c : DatabaseCopy) (sent : Option ℕ) → IsLike c → IsLike (record c { sent = sent })
   still_like c sent l = record { name_is = l.name_is; installed = l.installed; age = l.age }
@@ -270,7 +270,7 @@ module _ (old : Router) (moment : ℕ) (event : Occurrence) (number : ℕ) (befo
 
   -- ---- flooding
 
-  -- of another key, whose copy is put into the database
+  -- a copy of another key is stored in the database
   put_became : (k : Key) (c : DatabaseCopy) (o : Outcome) (t : ByKey ℕ) → same_key key k ≡ false → Became o.area t
       → Became (on_database (λ db. finite.insert db k c) o).area t
   put_became k c o t other h =
@@ -284,7 +284,7 @@ module _ (old : Router) (moment : ℕ) (event : Occurrence) (number : ℕ) (befo
   abbrev OwesOrAsked : Option Neighbor → Type 0
   OwesOrAsked o = Holds Owes o ⊎ Asked
 
-  -- of this key and instance, at MaxAge, from nobody
+  -- flooding this key and instance at MaxAge, which wasn't received from a neighbor
   flood_same_became : (lsa : Lsa) (o : Outcome) (t : ByKey ℕ) → same_key key (lsa_key lsa) ≡ true
       → record { key = key; sequence = lsa.header.sequence; checksum = lsa.header.checksum } ≡ name → IsYoung
       → ((c : DatabaseCopy) → finite.get o.area.database key ≡ Some c → IsLike c → is_aged_out moment c ≡ true) → Became o.area t → Became (flood_from_nobody moment lsa o).area t
@@ -313,9 +313,9 @@ module _ (old : Router) (moment : ℕ) (event : Occurrence) (number : ℕ) (befo
           by_owed c at like (stepped_kept (Holds Owes) OwesOrAsked (λ n. inl n) (flood_to moment None lsa) number one o.area.links k)
       by_state (HasAged c at like a y asked) = HasAged (record c { sent = (marks c at).0 }) (marks c at).1 (still_like c (marks c at).0 like) a y asked
 
-  -- ---- the router's own LSAs
+  -- ---- self-originated LSAs
 
-  -- other moments at which it originated
+  -- other moments of originations
   times_became : (a : Area) (t u : ByKey ℕ) → (finite.get t key ≡ Some moment → finite.get u key ≡ Some moment) → Became a t → Became a u
   times_became a t u so (WasTold told) = WasTold told
   times_became a t u so (WasReplaced newer st) = WasReplaced newer st
@@ -332,7 +332,7 @@ module _ (old : Router) (moment : ℕ) (event : Occurrence) (number : ℕ) (befo
   with_key : (c : DatabaseCopy) → instance_of_lsa c.lsa ≡ name → record { key = key; sequence = c.lsa.header.sequence; checksum = c.lsa.header.checksum } ≡ name
   with_key c e = ap (λ (k : Key). record { key = k; sequence = c.lsa.header.sequence; checksum = c.lsa.header.checksum }) (sym (named_key c e)) ∙ e
 
-  -- one that is younger than MaxAge is as it was before
+  -- one that is younger than MaxAge is unchanged
   young_before : (c : DatabaseCopy) → IsLike c → is_aged_out moment c ≡ false → is_aged_out moment copy ≡ false
   young_before c like young = by_age like.age
     where
@@ -394,7 +394,7 @@ module _ (old : Router) (moment : ℕ) (event : Occurrence) (number : ℕ) (befo
   too_early : (t : ByKey ℕ) → finite.get t key ≡ Some moment → interval_is_over moment (finite.get t key) ≡ true → ⊥
   too_early t at over = let no_such : true ≡ false = sym over ∙ ap (λ (x : Option ℕ). interval_is_over moment x) at ∙ no_time moment in absurd cc
 
-  -- what is put into the database and flooded stands there
+  -- what is stored in the database and flooded is there
   put_stored : (sender : Option ℕ) (lsa : Lsa) (c : DatabaseCopy) (o : Outcome) → same_key key (lsa_key lsa) ≡ true → (c.stored == moment) ≡ true
       → IsStored (flood moment sender lsa (on_database (λ db. finite.insert db (lsa_key lsa) c) o)).area
   put_stored sender lsa c o same st =
@@ -434,7 +434,7 @@ module _ (old : Router) (moment : ℕ) (event : Occurrence) (number : ℕ) (befo
 
   -- ---- received LSAs
 
-  -- an LSA that is newer than the copy by now is newer than that before the event
+  -- an LSA that is newer than the present copy is newer than that before the event
   newer_before : (c : DatabaseCopy) (x : Header) → IsLike c → is_newer (instance_of x) (copy_now moment c) ≡ true → is_newer (instance_of x) (copy_now moment copy) ≡ true
   newer_before c x like newer = by_age like.age
     where
@@ -460,7 +460,7 @@ module _ (old : Router) (moment : ℕ) (event : Occurrence) (number : ℕ) (befo
 
   module _ (start : EventState) (place : ℕ) (packet : Packet) (heard : IsHeard start event place packet)
       (stands : (m : Neighbor) × (neighbor_at number start.router.area.links ≡ Some m) × (m.router ≡ before.router) × (is_exchange_or_later m.state ≡ true)) where
-    -- a packet that came in at the interface is from the neighbor
+    -- a packet that was received at the interface is from the neighbor
     is_from_it : is_hello packet.body ≡ false → (number == place) ≡ true → packet.router ≡ before.router
     is_from_it other here =
         let at : neighbor_at place start.router.area.links ≡ Some stands.0 = ap (λ n. neighbor_at n start.router.area.links) (sym (eqb-true number place here)) ∙ stands.1 in
@@ -717,7 +717,7 @@ module _ (old : Router) (moment : ℕ) (event : Occurrence) (number : ℕ) (befo
       EndAged (came_to_max_age (finite.get (finite.retain_keys o.area.database (stays moment o.area)) key) young
       (ap (is_gone_or_aged moment) (finite.get-retain_keys o.area.database (stays moment o.area) key (λ y e. ap (stays moment o.area) (sym (keys_exact key y e)))) ∙ left)) asked
 
-  -- ---- ages
+  -- ---- aging
 
   abbrev Stands : Neighbor → Type 0
   Stands m = (m.router ≡ before.router) × (is_exchange_or_later m.state ≡ true)
@@ -793,8 +793,8 @@ module _ (old : Router) (moment : ℕ) (event : Occurrence) (number : ℕ) (befo
 
   -- ---- every part
 
-  -- of a database whose copies stand under their own keys, and announcements that are external
-  -- destinations under own keys
+  -- for a database whose copies have their own keys, and announced external destinations with own
+  -- keys
   module _ (i : Invariant) (its : (a : Area) (sends : List Send) → i.of_area a sends → IsItsOwn a) (own : (k : Key) → i.of_key k → k.advertising_router ≡ old.id)
       (externals : (r : Router) → i.of_announced r.id r.announced → AreExternal r.announced)
       (stands : StandsThere (neighbor_at number (start_event moment old).router.area.links)) where

@@ -1,5 +1,5 @@
--- A Tick, a Withdraw, an Install and a LinkDown stay within the limits: an own LSA that they
--- originate finds room first.
+-- A Tick, a Withdraw, an Install and a LinkDown stay within the limits: a self-originated LSA is
+-- only installed if there is room.
 use Rattle.std.proofs.Common.{◌≡◌, ◌≤◌, ◌<◌, ℕ, ◌+◌, Bool, true, false, cond, not, ◌&&◌, ◌||◌, nat_lt, List, [], ◌∷◌, map, Option, None, Some, is_some, refl, sym, ap, subst, ◌∙◌, arith}
 use Rattle.std.specs.FinMap as finite
 use Rattle.std.specs.List.{AllByRecursion, fold}
@@ -80,7 +80,7 @@ one_less announced k h key x at = by_key (same_key key k) (sym (finite.get-remov
     by_key true found = absurd cc
     by_key false found = h key x found
 
--- an own LSA that is wanted is of its key's type
+-- a wanted LSA has its key's LS type
 pub wanted_type : (r : Router) (key : Key) (says : LsaBody) → AreExternal r.announced → wanted_body r key ≡ Some says → type_of says ≡ key.ls_type
 wanted_type r key says externals wants = by_key (same_key key (router_key r.id)) refl wants
   where
@@ -121,7 +121,7 @@ module _ (id : RouterNumber) where
   contained : (db : Database) (key : Key) (c : DatabaseCopy) → finite.get db key ≡ Some c → finite.contains_key db key ≡ true
   contained db key c is = ap is_some is
 
-  -- a copy that takes the place of another
+  -- a copy that replaces another
   replaced : (db : Database) (key : Key) (c d : DatabaseCopy) → finite.get db key ≡ Some c → IsWithin db → IsWithin (finite.insert db key d)
   replaced db key c d is h = record {
     all = subst (λ n. n ≤ 16384) (sym (finite.len-insert keys_total db key d ∙ ap (λ b. cond b (finite.len db) (finite.len db + 1)) (contained db key c is))) h.all;
@@ -161,7 +161,7 @@ module _ (id : RouterNumber) where
   both_of true b e = (refl, e)
   both_of false b e = absurd cc
 
-  -- an LSA that finds room
+  -- an LSA for which there is room
   installed : (db : Database) (key : Key) (c : DatabaseCopy)
       → (finite.contains_key db key || (nat_lt (finite.len db) 16384 && (not (is_own_external id key) || nat_lt (own_externals id db) 4096))) ≡ true
       → IsWithin db → IsWithin (finite.insert db key c)

@@ -1,4 +1,4 @@
--- What stands in a list with one more element in front.
+-- The elements of a list with one more element at the front.
 use Rattle.std.proofs.Common.{◌≡◌, zero, suc, ◌⊎◌, inl, inr, List, [], ◌∷◌, arith}
 use Rattle.std.specs.List.{Contains}
 

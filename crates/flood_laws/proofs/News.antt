@@ -1,6 +1,6 @@
--- Each name that an event leaves in a router and sends was held before, came in the event's Update,
--- or is a new instance: one past the number of the last copy, of an LSA that the router remembers
--- to have originated in this event.
+-- Each instance that a router holds and sends after an event was held before, was received in the
+-- event's Link State Update, or is a new instance: one with the sequence number after that of the
+-- last copy, of an LSA that the router has noted to have originated in this event.
 use Rattle.std.proofs.Common.{◌≡◌, ℕ, ℤ, pos, ◌+ℤ◌, Bool, true, false, cond, List, [], ◌∷◌, ◌++◌, map, length, Option, None, Some, refl, sym, ap, subst, ◌∙◌}
 use Rattle.std.specs.FinMap as finite
 use Rattle.std.specs.List.{AllByRecursion, Contains, filter_map, fold}
@@ -58,7 +58,7 @@ use Rattle.flood_laws.proofs.Retransmitted.{if_so}
 use Rattle.flood_laws.proofs.Told.{acknowledgments_told, ages_told, each_link, exchange_settled, filled_on_told, flushed_told, hello_heard, hello_told_on, sends_told}
 use Rattle.flood_laws.proofs.Worlds.{mapped}
 
--- ---- the number that a new instance would have
+-- ---- the sequence number of a new instance
 
 abbrev changed_by : Key → (DatabaseCopy → DatabaseCopy) → Database → Option DatabaseCopy → Database
 changed_by key change db None = db
@@ -90,7 +90,7 @@ numbers_marked moment [] db k = refl
 numbers_marked moment (s ∷ more) db k = numbers_marked moment more (marked_database moment db s.content) k ∙ number_marked moment s.content db k
 
 module _ (old : Router) (moment : ℕ) (event : Occurrence) where
-  -- ---- why a name is known, given the moments at which the router originated
+  -- ---- why an instance is known, given the moments of the router's originations
 
   pub record IsNew (t : ByKey ℕ) (name : LsaInstance) : Type 0 where
     own : name.key.advertising_router ≡ old.id
@@ -167,7 +167,7 @@ module _ (old : Router) (moment : ℕ) (event : Occurrence) where
   pub record Told (o : Outcome) (t : ByKey ℕ) : Type 0 where
     pub whole : OfArea (T t) o.area o.sends
 
-  -- ---- the router's own LSAs
+  -- ---- self-originated LSAs
 
   aged_last : (t : ByKey ℕ) (key : Key) (db : Database) → AllLast t db → AllLast t (age_out moment key db)
   aged_last t key db h k = subst (Last t k) (sym (number_changed key (λ c. record c { lsa = lsa_aged 3600 c.lsa; stored = moment }) (λ c. refl) db k)) (h k)
@@ -189,7 +189,7 @@ module _ (old : Router) (moment : ℕ) (event : Occurrence) where
         body = says;
       }))
 
-  -- a new instance after the last copy
+  -- a new instance that follows the last copy
   new_one : (k : Key) (copy : Option DatabaseCopy) (says : LsaBody) (t u : ByKey ℕ) → lsa_key (new_instance k copy says) ≡ k → k.advertising_router ≡ old.id
       → finite.get u k ≡ Some moment → (finite.get old.originated k ≡ Some moment → ⊥) → (finite.get t k ≡ Some moment → ⊥) → Last t k (next_sequence copy)
       → IsNew u (instance_of_lsa (new_instance k copy says))
@@ -318,7 +318,7 @@ module _ (old : Router) (moment : ℕ) (event : Occurrence) where
       let s = adjacencies.after_hello moment from (names own h) link.neighbor in
       chosen (λ (q : Outcome). AllLast t q.area.database) (accepts own from h link) (hear moment place s o) o (λ e. all_marked t (sends_at place s.sends) o.area.database last) (λ e. last)
 
-  -- ---- the walk
+  -- ---- the induction
 
   abbrev start : EventState
   start = start_event moment old

@@ -1,5 +1,5 @@
--- What each step of a neighbor makes of one entry of its retransmission list: it stays, unless the
--- adjacency is given up, the LSA is flooded, or the entry is acknowledged.
+-- One entry of a neighbor's retransmission list after each step of the neighbor: it stays, unless
+-- the adjacency is given up, the LSA is flooded, or the entry is acknowledged.
 use Rattle.std.proofs.Common.{◌≡◌, ℕ, ◌%◌, ◌^◌, ◌+◌, Bool, true, false, cond, not, ◌&&◌, ◌||◌, ◌⊎◌, inl, inr, List, [], ◌∷◌, map, Option, None, Some, is_some, refl, sym, ap, subst, ◌∙◌}
 use Rattle.std.specs.Prelude.{◌==◌, nat_lt}
 use Rattle.std.specs.FinMap as finite
@@ -50,8 +50,8 @@ left_there m k key e = left_of (same_key key k) (finite.get m key) (ap is_some (
 -- ---- the entry
 
 module _ (key : Key) (name : LsaInstance) (Asked : Type 0) where
-  -- the adjacency was given up; or the neighbor is still to acknowledge the instance, and, if it is
-  -- asked for the LSA now, counts as asked
+  -- the adjacency was given up; or the instance is still on the retransmission list and, if its key
+  -- is on the request list now, counts as requested
   abbrev pub Owing : Neighbor → Type 0
   Owing m = (is_exchange_or_later m.state ≡ false) ⊎ ((owes m key ≡ Some name) × (finite.contains_key m.requests key ≡ true → Asked))
 
@@ -77,7 +77,7 @@ module _ (key : Key) (name : LsaInstance) (Asked : Type 0) where
   released_other k m other (inl e) = inl e
   released_other k m other (inr h) = inr (ap (listed_instance key) (removed_other m.retransmissions k key other) ∙ h.0, h.1)
 
-  -- of another key
+  -- for another key
   pub flooded_other : (moment : ℕ) (from : Bool) (lsa : Lsa) (m : Neighbor) → same_key key (lsa_key lsa) ≡ false → Owing m → Owing (flooding moment from lsa m).neighbor
   flooded_other moment from lsa m other h =
       let w : Neighbor = without_met_request moment lsa m in
@@ -103,8 +103,8 @@ module _ (key : Key) (name : LsaInstance) (Asked : Type 0) where
   first_false : (b : Bool) → (not false && b) ≡ false → b ≡ false
   first_false b e = e
 
-  -- of this key, and of the same instance, from nobody: it stays on the list, unless the neighbor
-  -- is asked for the LSA
+  -- for this key and the same instance, which wasn't received from a neighbor: it stays on the
+  -- list, unless the LSA is requested of the neighbor
   pub flooded_same : (moment : ℕ) (lsa : Lsa) (m : Neighbor) → same_key key (lsa_key lsa) ≡ true → record { key = key; sequence = lsa.header.sequence; checksum = lsa.header.checksum } ≡ name
       → Owing m → Owing (flooding moment false lsa m).neighbor ⊎ Asked
   flooded_same moment lsa m same is (inl before) =
@@ -149,7 +149,7 @@ module _ (key : Key) (name : LsaInstance) (Asked : Type 0) where
       two_way_owing m.state moment m (heard_owing from moment o h)
   hello_owing moment from false o h = inl refl
 
-  -- ---- Descriptions, from Exchange on
+  -- ---- Database Descriptions, from Exchange on
 
   abbrev Has : Neighbor → Type 0
   Has m = (owes m key ≡ Some name) × (finite.contains_key m.requests key ≡ true → Asked)
@@ -244,7 +244,7 @@ module _ (key : Key) (name : LsaInstance) (Asked : Type 0) where
       description_owing m part (inr h) =
           chosen OfStep (nat_lt 8192 d.mtu) (no_sends m) (in_state m.state own moment db d m) (λ c. inr h) (λ c. stated_owing m.state m part h)
 
-  -- ---- Loading and Requests
+  -- ---- Loading and Link State Requests
 
   filled_in : (s : State) (m : Neighbor) → Owing (record m { state = s }) → Owing (loading_done_in s (record m { state = s }))
   filled_in Init m h = h
@@ -299,7 +299,7 @@ module _ (key : Key) (name : LsaInstance) (Asked : Type 0) where
 
   -- ---- what is acknowledged
 
-  -- an entry under a key that is the same instance is this one, or another key's
+  -- the same instance as an entry is this one, or has another key
   pub released_owing : (moment : ℕ) (x : Header) (m : Neighbor) → is_entry moment x (finite.get m.retransmissions (key_of x)) ≡ true → Owing m
       → Owing (remove_retransmission (key_of x) m) ⊎ (instance_of_header x ≡ name)
   released_owing moment x m is (inl before) = inl (inl before)

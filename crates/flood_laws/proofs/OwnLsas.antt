@@ -1,4 +1,4 @@
--- The own LSAs that are wanted are of the types of a router of one area.
+-- The wanted LSAs have the LS types of a router in one area.
 use Rattle.std.proofs.Common.{◌≡◌, Bool, true, false, cond, Option, None, Some, refl, ap}
 use Rattle.std.specs.FinMap as finite
 use Rattle.words.specs.declared.key.Key.{Key}
@@ -11,7 +11,7 @@ use Rattle.flood_laws.specs.LimitLaws.{AnnouncesExternals}
 use Rattle.flood_laws.specs.OwnLsas.{OnlyRouterAndExternalLsasAreWanted, is_router_or_external}
 use Rattle.flood_laws.proofs.Limits.{others_stay_within_limits, tied_key, wanted_type}
 
--- of the router's own key, and of each that is announced
+-- for the key of the router-LSA, and for each announced one
 wanted_kind : (r : Router) (key : Key) (says : Body) → AnnouncesExternals r → wanted_body r key ≡ Some says → is_router_or_external key.ls_type ≡ true
 wanted_kind r key says externals wants = by_key (same_key key (router_key r.id)) refl wants
   where

@@ -1,4 +1,4 @@
--- What holds of the names that are to be told holds of what the packets bear.
+-- A property of the instances to be sent is one of those in the packets.
 use Rattle.std.proofs.Common.{ℕ, ◌+◌, ◌==◌, Bool, true, false, cond, List, [], ◌∷◌, map, Option, None, Some, refl}
 use Rattle.std.specs.List.{AllByRecursion, cons_option, enumerate_from, filter_map, flat_map}
 use Rattle.words.specs.declared.key.Key.{Key}
@@ -13,7 +13,7 @@ use Rattle.events.specs.LsaInstances.{LsaInstance, instance_of_lsa, instance_of_
 use Rattle.events.specs.Packing.{acknowledgments, at_interface, bodies, descriptions, first_key, header_size, hellos, in_key_order, lsa_size, out_of, outs_at, packed_groups, requests, sent_lsa, update_of, updates}
 use Rattle.events.proofs.Rooms.{both, mapped_all, order_all, packed_all}
 
--- what an option gives of each content
+-- what is chosen from each content
 chosen_of : {Y : Type 0} (f : Content → Option Y) (R : Content → Type 0) (P : Y → Type 0) → ((c : Content) → R c → AllByRecursion P (cons_option (f c) []))
     → (cs : List Content) → AllByRecursion R cs → AllByRecursion P (filter_map f cs)
 chosen_of {Y = Y} f R P each [] p = tt

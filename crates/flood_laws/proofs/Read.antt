@@ -1,4 +1,4 @@
--- The text of an LSA is read with the header that was written, if it is read.
+-- The bytes of an LSA are parsed with the header that was written, if they are parsed.
 use Rattle.std.proofs.Common.{◌≡◌, ℕ, suc, ◌<◌, length, List, [], ◌∷◌, map, Option, None, Some, sym, ap, arith}
 use Rattle.std.specs.List.{AllByRecursion, Contains, cons_option, filter_map}
 use Rattle.lsa.specs.Headers.{IsHeader}
@@ -27,7 +27,7 @@ read_name l is = by_fault (fault_of (text l))
     by_fault None = ap (λ (h : Header). instance_of_header h) (sym (header-reads_back l.header [] (body_text l.body) is))
     by_fault (Some f) = tt
 
--- each name that is told, among those that are borne
+-- each instance that is received is among those that are sent
 all_told : (lsas : List Lsa) → AllByRecursion (λ l. IsHeader l.header) lsas → AllByRecursion (Contains (map instance_of_lsa lsas)) (instances_in_update (map (λ l. text l) lsas))
 all_told [] h = tt
 all_told (l ∷ ls) h = with_first (lsa_in (text l)) (read_name l h.0) (further (instances_in_update (map (λ m. text m) ls)) (all_told ls h.1))

@@ -1,4 +1,4 @@
--- At the end of every event what is left to request is requested.
+-- At the end of every event, what is left on a request list is requested.
 use Rattle.std.proofs.Common.{◌≡◌, ℕ, suc, ◌+◌, ◌==◌, Bool, true, false, not, ◌&&◌, List, [], ◌∷◌, map, length, Option, None, Some, refl, sym, ap, subst, ◌∙◌}
 use Rattle.std.specs.Prelude.{take}
 use Rattle.std.specs.Cmp.{tied_itself}
@@ -51,7 +51,7 @@ first_asked n (k ∷ keys) e =
 
 -- ---- one neighbor
 
--- before the requests: Loading means that something is left to request
+-- before the Link State Requests: in Loading the request list isn't empty
 abbrev IsLoaded : Neighbor → Type 0
 IsLoaded n = n.state ≡ Loading → requests_nothing n ≡ false
 

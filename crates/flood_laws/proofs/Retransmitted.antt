@@ -1,4 +1,4 @@
--- What stands on retransmission lists are the database's instances, at each point of an event.
+-- Entries of retransmission lists are the database's instances, at each point of an event.
 use Rattle.std.proofs.Common.{◌≡◌, ℕ, ◌+◌, ◌==◌, ◌≤◌, Bool, true, false, cond, not, ◌&&◌, ◌||◌, List, [], ◌∷◌, map, Option, None, Some, refl, sym, ap, subst, ◌∙◌, arith, is_some}
 use Rattle.std.specs.List.{AllByRecursion, enumerate_from, filter, fold}
 use Rattle.std.specs.FinMap as finite
@@ -57,7 +57,8 @@ pub if_so : {X : Type 0} (P R : Key → X → Type 0) (key : Key) (o : Option X)
 if_so P R key None so h = tt
 if_so P R key (Some x) so h = so x h
 
--- ---- what is so of a neighbor: its lists are sound, and its retransmissions are the database's
+-- ---- the property of a neighbor: its lists satisfy their invariants, and its
+-- retransmissions are the database's
 
 abbrev pub OfIt : Database → Fact
 OfIt db state s r t o = Sound state s r t o × AllIn (IsOfCopy db) t
@@ -65,7 +66,7 @@ OfIt db state s r t o = Sound state s r t o × AllIn (IsOfCopy db) t
 abbrev Begins : Database → ByKey ListEntry → Type 0
 Begins db t = AllIn (IsOfCopy db) t
 
--- but for flooding, which puts the instance of a changed database on the lists
+-- except for flooding, which adds the instance of a changed database to the lists
 its_kept : (db : Database) → IsKeptWith (Begins db) (λ key x. ⊥) (OfIt db)
 its_kept db = record {
   begins = (sound_kept.begins, none_in (IsOfCopy db));
@@ -84,15 +85,15 @@ its_kept db = record {
 
 -- ---- entries made of copies
 
--- an entry that is made of the copy as it was stored
+-- an entry that is made from the copy as it was stored
 at_once : (db : Database) (key : Key) (c : DatabaseCopy) → finite.get db key ≡ Some c → IsOfCopy db key (record { header = c.lsa.header; at = c.stored })
 at_once db key c there = (c, there, λ moment later. refl)
 
--- at MaxAge an age stays
+-- an age stays at MaxAge
 stays_aged : (age stored at now : ℕ) → age_at age stored at ≡ 3600 → at ≤ now → age_at (age_at age stored at) at now ≡ age_at age stored now
 stays_aged age stored at now is later = omega (arith, is, later)
 
--- an entry that is made of a copy at MaxAge
+-- an entry that is made from a copy at MaxAge
 of_aged : (db : Database) (key : Key) (moment : ℕ) (c : DatabaseCopy) → finite.get db key ≡ Some c → is_aged_out moment c ≡ true → IsOfCopy db key (list_entry_of moment c)
 of_aged db key moment c there aged = (
   c,
@@ -119,11 +120,11 @@ aged_entries db moment (e ∷ es) h =
     (is_aged_out moment e.1) (e ∷ filter (λ e. is_aged_out moment e.1) es) (filter (λ e. is_aged_out moment e.1) es)
     (λ is. (of_aged db e.0 moment e.1 h.0 is, aged_entries db moment es h.1)) (λ is. aged_entries db moment es h.1)
 
--- what an exchange begins with
+-- the retransmissions at the start of an exchange
 begun : (moment : ℕ) (db : Database) → AllIn (IsOfCopy db) (aged_copies moment db)
 begun moment db = made_in (IsOfCopy db) _ (aged_entries db moment (finite.entries db) (all_there db))
 
--- ---- copies under their own keys
+-- ---- copies have their own keys
 
 abbrev pub IsOwnKey : Key → DatabaseCopy → Type 0
 IsOwnKey key c = lsa_key c.lsa ≡ key
@@ -156,7 +157,7 @@ own_all_marked : (moment : ℕ) (more : List Send) (db : Database) → OwnKeys d
 own_all_marked moment [] db own = own
 own_all_marked moment (s ∷ more) db own = own_all_marked moment more (marked_database moment db s.content) (own_marked moment s.content db own)
 
--- ---- the entries stay those of the database when it changes
+-- ---- the entries are still the database's when it changes
 
 -- marks change no LSA
 marked_copy : (moment : ℕ) (more : List Send) (db : Database) (key : Key) (x : ListEntry) → IsOfCopy db key x → IsOfCopy (marks moment more db) key x
@@ -258,7 +259,7 @@ one_kept moment number f o keeps h =
     each_kept moment (only_at number f) o
     (λ place link n at. chosen (λ (s : Step). Of (OfIt o.area.database) s.neighbor) (place == number) (f n) (record { neighbor = n; sends = [] }) (λ e. keeps n at) (λ e. at)) h
 
--- the LSA stands in the database by then
+-- the LSA is in the database already
 flood_kept : (moment : ℕ) (sender : Option ℕ) (lsa : Lsa) (old : Database) (o : Outcome) → OwnKeys o.area.database
     → IsOfCopy o.area.database (lsa_key lsa) (record { header = lsa.header; at = moment })
     → ((q : Key) → eq_by_cmp key_cmp q (lsa_key lsa) ≡ false → (x : ListEntry) → IsOfCopy old q x → IsOfCopy o.area.database q x)
@@ -282,7 +283,7 @@ put_kept moment sender lsa installed o h =
     (inserted_in IsOwnKey db (lsa_key lsa) c h.keys refl) (at_once (finite.insert db (lsa_key lsa) c) (lsa_key lsa) c (put_there db (lsa_key lsa) c))
     (others_put db (lsa_key lsa) c) h.each
 
--- ---- ages, and premature aging
+-- ---- aging, and premature aging
 
 abbrev StillThere : Database → (Key × DatabaseCopy) → Type 0
 StillThere db e = IsStill db e.0 e.1
@@ -438,7 +439,7 @@ module _ (moment : ℕ) (a : Area) where
   removed : IsItsOwn a → IsItsOwn (record a { database = left })
   removed h = record { keys = retained_in IsOwnKey a.database (stays moment a) h.keys; each = each_left a.links (λ q is. is) h.each }
 
--- ---- the whole event
+-- ---- the complete event
 
 abbrev pub its_own : Invariant
 its_own = record {
@@ -544,7 +545,7 @@ run_kept : (steps : List EventStep) (old new : Router) → Run old steps new →
 run_kept [] old new same h = subst (λ (r : Router). IsItsOwn r.area) (sym same) h
 run_kept (s ∷ steps) old new run h = run_kept steps run.0 new run.2 (event_kept old s.moment s.event s.outs run.0 run.1 h)
 
--- ---- in the law's words
+-- ---- in terms of the law
 
 entry_of : (db : Database) (n : Neighbor) → AllIn (IsOfCopy db) n.retransmissions → AreOfTheDatabase db n
 entry_of db n all key entry is = subst (IfThere (IsOfCopy db) key) is (all key)

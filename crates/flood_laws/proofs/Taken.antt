@@ -1,4 +1,5 @@
--- Instances that an Acknowledgment or an LSA tells are those of the entries that it takes off.
+-- Instances for which a Link State Acknowledgment or an LSA removes entries are those of the
+-- entries.
 use Rattle.std.proofs.Common.{◌≡◌, ℕ, Bool, true, false, not, ◌&&◌, List, [], ◌∷◌, Option, refl, ◌∙◌, arith}
 use Rattle.std.specs.Prelude.{is_none, is_some}
 use Rattle.std.specs.declared.cmp.Ordering.{Ordering}
@@ -23,7 +24,7 @@ equal_parts Equal Equal t e = (refl, refl)
 equal_parts Equal Greater t e = absurd (cc)
 equal_parts Greater s t e = absurd (cc)
 
--- the same instance, under this key
+-- the same instance, with this key
 pub same_name : (moment : ℕ) (h : Header) (l : ListEntry) (name : LsaInstance) → same_as_listed moment h l ≡ true
     → record { key = key_of h; sequence = l.header.sequence; checksum = l.header.checksum } ≡ name → instance_of_header h ≡ name
 same_name moment h l name e is =

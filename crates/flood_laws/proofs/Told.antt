@@ -1,6 +1,6 @@
--- What holds of all that is held and told, through whole events: if it holds of what is held
--- before, of the LSAs that the event's packet brings, and of new instances of the router's own
--- LSAs, it holds of all that is held after the event and of all that is sent.
+-- A property of all that is held and sent, through complete events: if what is held before has it,
+-- and so do the LSAs of the event's packet, and new instances of the router's own LSAs, then all
+-- that is held after the event and all that is sent has it.
 use Rattle.std.proofs.Common.{◌≡◌, ℕ, ◌+◌, false, List, [], ◌∷◌, map, length, Option, None, Some, sym, subst, ◌∙◌, arith}
 use Rattle.std.specs.FinMap as finite
 use Rattle.std.specs.List.{AllByRecursion, enumerate_from, filter, flat_map, fold}
@@ -40,7 +40,7 @@ IsOwnKey t id key = (key.advertising_router ≡ id) × t.of_key key
 abbrev pub IsOwn : Telling → ℕ → Key → External → Type 0
 IsOwn t id key e = IsOwnKey t id key
 
--- in the midst of an event of the router with this Router ID
+-- during an event of the router with this Router ID
 abbrev pub told : Telling → ℕ → Invariant
 told t id = record {
   of_area = λ a sends. OfArea t a sends;
@@ -50,14 +50,13 @@ told t id = record {
   without_room = Unit {0};
 }
 
--- an own LSA that is wanted of a router with the given number of links, past a copy whose number
--- isn't the last one
+-- a wanted LSA of a router with the given number of links, after a copy without MaxSequenceNumber
 abbrev pub IsWanted : Telling → Key → Option DatabaseCopy → LsaBody → Type 0
 IsWanted t key copy says =
     IfThere (OfCopy t) key copy × (has_max_sequence copy ≡ false) × ((r : Router) × (length r.area.links ≡ t.count) × (wanted_body r key ≡ Some says))
 
 module _ (t : Telling) where
-  -- ---- ages, and the router's own LSAs
+  -- ---- aging, and self-originated LSAs
 
   pub ages_told : (before moment : ℕ) (es : List (Key × DatabaseCopy)) (o : Outcome) → AllByRecursion (OfEntry (OfCopy t)) es → OfOutcome t o
       → OfOutcome t (fold (with_age before moment) o es)
@@ -132,7 +131,7 @@ module _ (t : Telling) (id : ℕ) (news : (key : Key) (copy : Option DatabaseCop
       (on_database_told t (install_originated moment lsa) (outcome p)
       (inserted_in (OfCopy t) p.router.area.database (lsa_key lsa) (record { lsa = lsa; stored = moment; installed = None; sent = None }) h.copies so) h)
 
-  -- ---- the own LSAs that are due
+  -- ---- self-originated LSAs that are due
 
   keys_told : (es : List (Key × External)) → AllByRecursion (OfEntry (IsOwn t id)) es → AllByRecursion (IsOwnKey t id) (map (λ e. e.0) es)
   keys_told [] h = tt
@@ -149,7 +148,7 @@ module _ (t : Telling) (id : ℕ) (news : (key : Key) (copy : Option DatabaseCop
       filtered_told moment r (wanted_keys r)
       ((same, subst (λ (i : ℕ). t.of_key (router_key i)) (sym same) router_told), keys_told (finite.entries r.announced) (entries_in (IsOwn t id) r.announced all))
 
-  -- ---- the parts, and the whole event
+  -- ---- the parts, and the complete event
 
   parts_told : IsKeptByParts (told t id)
   parts_told = record {
@@ -200,7 +199,7 @@ module _ (t : Telling) (id : ℕ) (news : (key : Key) (copy : Option DatabaseCop
         on_database_told t (λ db. finite.retain_keys db (stays moment o.area)) o (retained_in (OfCopy t) o.area.database (stays moment o.area) h.copies) h;
   }
 
-  -- what a text brings is so
+  -- the contents of the packet have the property
   pub event_told : (old : Router) (moment : ℕ) (event : Occurrence) (after : EventState) → Brings (told t id) old event
       → OwnPart moment event (start_event moment old) after → OfArea t old.area [] → old.id ≡ id → AllIn (IsOwn t id) old.announced
       → OfEvent (told t id) (end_event old moment after)

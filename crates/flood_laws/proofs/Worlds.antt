@@ -1,4 +1,4 @@
--- What is acknowledged was received: each instance that a router holds or tells is one that it
+-- What is acknowledged was received: each instance that a router holds or sends is one that it
 -- received or originated.
 use Rattle.std.proofs.Common.{◌≡◌, ℕ, zero, suc, ◌<◌, length, List, [], ◌∷◌, ◌++◌, map, set, Some, inl, inr, ◌⊎◌, refl, sym, ap, subst, ◌∙◌, arith}
 use Rattle.std.specs.Prelude.{slice_get, slice_index_or}
@@ -51,7 +51,7 @@ changed_place (z ∷ zs) zero (suc j) x y e = inr e
 changed_place (z ∷ zs) (suc i) zero x y e = inr e
 changed_place (z ∷ zs) (suc i) (suc j) x y e = changed_place zs i j x y e
 
--- ---- what holds of a world
+-- ---- an invariant of a world
 
 record IsKnowing (w : World) : Type 0 where
   held : (place : ℕ) (r : Router) → slice_get w.routers place ≡ Some r → (name : LsaInstance) → Contains (instances_stored r) name → Contains w.known (knows r.id name)
@@ -156,7 +156,7 @@ history_knows : (joins : Joins) (steps : List World) (w last : World) → IsHist
 history_knows joins [] w last h knowing = subst IsKnowing h knowing
 history_knows joins (next ∷ rest) w last h knowing = history_knows joins rest next last h.1 (step_knows joins w next h.0 knowing)
 
--- what came in was sent, and what was sent was known
+-- what was received was sent, and what was sent was known
 heard_known : (joins : Joins) (w : World) → IsKnowing w → (place number : ℕ) (bytes : List ℕ) (packet : Packet) → MayHappen joins w place (Occurrence.Packet number bytes) → PacketText bytes packet
     → (name : LsaInstance) → Contains (instances_advertised packet.body) name → Contains w.known (knows packet.router name)
 heard_known joins w knowing place number bytes packet may text name told =

@@ -1,4 +1,4 @@
--- An acknowledgment of another instance than the one on the list takes nothing off.
+-- An acknowledgment of another instance than the one on the list removes nothing.
 use Rattle.std.proofs.Common.{◌≡◌, ℕ, true, false, cond, List, Option, None, Some, refl, sym, ap, subst, ◌∙◌}
 use Rattle.std.specs.Prelude.{◌==◌}
 use Rattle.std.specs.List.{Contains}
@@ -46,7 +46,7 @@ module _ (old : Router) (moment number : ℕ) (n : Neighbor) (name : LsaInstance
   abbrev sent : Packet
   sent = record { router = n.router; body = body.Acknowledgment headers }
 
-  -- whatever packet the bytes are, it is this one
+  -- whatever packet the bytes encode, it is this one
   is_it : (other : ℕ) (others : List ℕ) (packet : Packet) → event ≡ Occurrence.Packet other others → PacketText others packet → sent ≡ packet
   is_it other others packet is text = one_packet bytes sent packet at.text (subst (λ bs. PacketText bs packet) (sym (same_bytes number other bytes others is)) text)
 

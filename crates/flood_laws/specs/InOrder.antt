@@ -1,4 +1,5 @@
--- What holds of a router at every point of a run, and lets entries be followed through an event.
+-- An invariant of a router at every point of a run, which allows to follow entries of
+-- retransmission lists through an event.
 use Rattle.std.specs.Prelude.{◌≡◌, List, Some}
 use Rattle.std.specs.FinMap as finite
 use Rattle.words.specs.Numbers.{Moment}
@@ -11,13 +12,13 @@ use Rattle.events.specs.Routers.{Occurrence, Router}
 use Rattle.flood_laws.specs.LimitLaws.{AnnouncesExternals}
 use Rattle.flood_laws.specs.Retransmissions.{HasItsRetransmissions}
 
--- a router announces under its own Router ID alone
+-- a router announces only under its own Router ID
 abbrev pub AnnouncesItsOwn : Router → Type 0
 AnnouncesItsOwn r =
     (key : Key) (e : External) → finite.get r.announced key ≡ Some e → key.advertising_router ≡ r.id
 
--- it announces external destinations, under its own Router ID, and what stands on its
--- retransmission lists is of its database
+-- it announces only external destinations, under its own Router ID, and its retransmission lists
+-- have the database's instances
 pub record IsInOrder (r : Router) : Type 0 where
   pub own : AnnouncesItsOwn r
   pub externals : AnnouncesExternals r
@@ -26,9 +27,9 @@ pub record IsInOrder (r : Router) : Type 0 where
 pub record RoutersStayInOrder : Type 0 where
   -- at the start
   pub first : (c : Config) → IsInOrder (initial c)
-  -- after each event, if it held before it
+  -- after each event, if it held before
   pub event : (old : Router) (moment : Moment) (event : Occurrence) (outs : List Out)
       (new : Router) → Happens old moment event outs new → IsInOrder old → IsInOrder new
-  -- so after every run from the start, whatever happens in it
+  -- so after every run from the start
   pub run : (c : Config) (steps : List Step) (new : Router) → Run (initial c) steps new
       → IsInOrder new

@@ -1,6 +1,6 @@
--- A router's step keeps what acknowledgments rest on: what it holds and what it tells was held
--- before, came in the event's Update, or is a new one of its own LSAs; and what it takes off a
--- retransmission list as acknowledged, the event's packet tells.
+-- A router's step keeps what acknowledgments rely on: what it holds and sends was held before, was
+-- received in the event's Link State Update, or is a new LSA of its own; and if it removes an
+-- instance from a retransmission list as acknowledged, the event's packet says so.
 use Rattle.std.specs.Prelude.{◌≡◌, ◌<◌, ◌^◌, ℕ, List, FitsSigned, Some}
 use Rattle.std.specs.Int.{w32}
 use Rattle.std.specs.FinMap as finite
@@ -31,7 +31,7 @@ pub record KeepsWhatIsKnown (old : Router) (moment : Moment) (event : Occurrence
   pub originated : List LsaInstance
   pub keeps : Keeps old moment event outs new originated
 
--- ---- A Rust value's numbers are in their ranges; a clause's may be any.
+-- ---- The numbers of a Rust value are in their ranges; those of a clause may be any numbers.
 
 pub record IsLsaKey (key : Key) : Type 0 where
   pub ls_type : key.ls_type < 2 ^ 8
@@ -43,13 +43,13 @@ pub record IsInstance (name : LsaInstance) : Type 0 where
   pub sequence : FitsSigned w32 name.sequence
   pub checksum : name.checksum < 2 ^ 16
 
--- those of what a router holds, and of what it announces
+-- the numbers of what a router holds and announces
 pub record HoldsInstances (r : Router) : Type 0 where
   pub id : r.id < 2 ^ 32
   pub held : (name : LsaInstance) → Contains (instances_stored r) name → IsInstance name
   pub announced : (key : Key) (e : External) → finite.get r.announced key ≡ Some e → IsLsaKey key
 
--- the address that a Redistribute announces
+-- the address that a `Redistribute` announces
 abbrev pub AnnouncesAddress : Occurrence → Type 0
 AnnouncesAddress (Occurrence.Packet number bytes) = Unit {0}
 AnnouncesAddress Occurrence.Tick = Unit {0}
@@ -62,18 +62,19 @@ AnnouncesAddress (Occurrence.LinkDown number) = Unit {0}
 pub record InstancesStayInRange : Type 0 where
   -- at the start
   pub first : (c : Config) → c.router < 2 ^ 32 → HoldsInstances (initial c)
-  -- after each event, if it held before it
+  -- after each event, if it held before
   pub event : (old : Router) (moment : Moment) (event : Occurrence) (outs : List Out)
       (new : Router) → Happens old moment event outs new → AnnouncesAddress event
       → AnnouncesItsOwn old → HoldsInstances old → HoldsInstances new
-  -- so after every run from the start, whatever happens in it
+  -- so after every run from the start
   pub run : (c : Config) (steps : List Step) (new : Router) → c.router < 2 ^ 32
       → AllByRecursion (λ (s : Step). AnnouncesAddress s.event) steps
       → Run (initial c) steps new → HoldsInstances new
 
--- ---- what is taken off was told
+-- ---- what is removed was acknowledged
 
--- what leaves a retransmission list as acknowledged, the event's packet from that neighbor tells
+-- if an instance is removed from a retransmission list as acknowledged, the event's packet from
+-- that neighbor says so
 abbrev pub WhatIsTakenOffWasTold : Type 0
 WhatIsTakenOffWasTold =
     (old : Router) (moment : Moment) (event : Occurrence) (outs : List Out) (new : Router)
@@ -82,11 +83,11 @@ WhatIsTakenOffWasTold =
 
 -- ---- the law
 
--- what is written for it is a text of a packet of this router that says so
+-- its bytes encode a packet from this router with this body
 abbrev pub IsText : RouterNumber → Body → Type 0
 IsText own says = PacketText (canonical (packet_of own says)) (packet_of own says)
 
--- so for all that goes out at an interface
+-- all that is sent at an interface
 abbrev pub AreTextsAt : RouterNumber → List Send → InterfaceNumber → Link → Type 0
 AreTextsAt own sends number link =
     AllByRecursion (IsText own)
@@ -97,8 +98,8 @@ abbrev pub AreTexts : RouterNumber → List Link → List Send → Type 0
 AreTexts own links sends =
     AllByRecursion (λ (e : ℕ × Link). AreTextsAt own sends e.0 e.1) (enumerate_from 1 links)
 
--- of a router as it is in every run, whose instances have their numbers in their ranges, if what is
--- sent is written as texts
+-- for a router of any run, whose instances have their numbers in their ranges, if the packets are
+-- encoded correctly
 abbrev pub EventsKeepWhatIsKnown : Type 0
 EventsKeepWhatIsKnown =
     (old : Router) (moment : Moment) (event : Occurrence) (outs : List Out) (new : Router)

@@ -1,5 +1,5 @@
--- What an event leaves in a router and what it sends: instances that were held before, came in the
--- event's Update, or are new ones of the router's own LSAs.
+-- What a router holds after an event and what it sends: instances that were held before, were
+-- received in the event's Link State Update, or are new instances of its own LSAs.
 use Rattle.std.specs.Prelude.{◌≡◌, ℕ, List, [], ◌∷◌, map}
 use Rattle.std.specs.List.{AllByRecursion, Contains, flat_map}
 use Rattle.words.specs.Numbers.{Moment}
@@ -20,7 +20,7 @@ use Rattle.flood_laws.specs.InOrder.{IsInOrder}
 use Rattle.flood_laws.specs.NewInstances.{IsNewInstance}
 use Rattle.flood_laws.specs.Worlds.{IsKnown, instances_stored}
 
--- the instances that an Update or an Acknowledgment is to name
+-- the instances that a Link State Update or Acknowledgment will contain
 abbrev pub instances_in_content : Content → List LsaInstance
 instances_in_content (Content.SendsHello hello) = []
 instances_in_content (Content.Describes d) = []
@@ -34,13 +34,13 @@ instances_in_send s = instances_in_content s.content
 abbrev pub instances_in_sends : List Send → List LsaInstance
 instances_in_sends sends = flat_map instances_in_send sends
 
--- an LSA's text, its name one of which this holds
+-- the bytes of an LSA whose instance K holds of
 pub record IsTextOf (K : LsaInstance → Type 0) (bytes : List ℕ) : Type 0 where
   pub lsa : Lsa
   pub is : bytes ≡ text lsa
   pub known : K (instance_of_lsa lsa)
 
--- what an Update or an Acknowledgment bears
+-- the contents of a Link State Update or Acknowledgment
 abbrev pub Bears : (LsaInstance → Type 0) → Body → Type 0
 Bears K (packets.Hello h) = Unit {0}
 Bears K (packets.Description d) = Unit {0}
@@ -48,7 +48,7 @@ Bears K (packets.Request keys) = Unit {0}
 Bears K (packets.Update lsas) = AllByRecursion (IsTextOf K) lsas
 Bears K (packets.Acknowledgment headers) = AllByRecursion (λ h. K (instance_of_header h)) headers
 
--- the canonical text of a packet of this router
+-- the canonical encoding of a packet from this router
 pub record IsOutOf (K : LsaInstance → Type 0) (own : ℕ) (out : Out) : Type 0 where
   pub number : ℕ
   pub says : Body
@@ -57,7 +57,7 @@ pub record IsOutOf (K : LsaInstance → Type 0) (own : ℕ) (out : Out) : Type 0
 
 pub record HoldsWhatIsKnown (old : Router) (moment : Moment) (event : Occurrence)
     (outs : List Out) (new : Router) : Type 0 where
-  -- what the event originates
+  -- the instances that the event originates
   pub originated : List LsaInstance
   pub same_router : new.id ≡ old.id
   pub is_new : (name : LsaInstance) → Contains originated name
@@ -66,14 +66,13 @@ pub record HoldsWhatIsKnown (old : Router) (moment : Moment) (event : Occurrence
       → IsKnown old event originated name
   pub sent : (out : Out) → Contains outs out → IsOutOf (IsKnown old event originated) old.id out
 
--- of a router as it is in every run
+-- for a router of any run
 abbrev pub EventsHoldOnlyWhatIsKnown : Type 0
 EventsHoldOnlyWhatIsKnown =
     (old : Router) (moment : Moment) (event : Occurrence) (outs : List Out) (new : Router)
     → Happens old moment event outs new → IsInOrder old → HoldsWhatIsKnown old moment event outs new
 
--- an Update of the texts of LSAs whose headers' numbers are in their ranges names none but those
--- LSAs
+-- a Link State Update of LSAs whose header fields are in their ranges contains only those LSAs
 abbrev pub UpdatesTellWhatTheyBear : Type 0
 UpdatesTellWhatTheyBear = (lsas : List Lsa) → AllByRecursion (λ l. IsHeader l.header) lsas
     → (name : LsaInstance) → Contains (instances_in_update (map (λ l. text l) lsas)) name

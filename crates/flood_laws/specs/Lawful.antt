@@ -1,4 +1,4 @@
--- Which canonical texts are texts of packets.
+-- Which canonical encodings are valid packets.
 use Rattle.std.specs.Prelude.{◌≤◌, ◌<◌, ◌^◌, ℕ, List, length, map}
 use Rattle.std.specs.List.{AllByRecursion}
 use Rattle.lsa.specs.Headers.{IsHeader}
@@ -9,7 +9,8 @@ use Rattle.packet.specs.Text.{PacketText, canonical}
 use Rattle.adjacency.specs.Rooms.{Fits}
 use Rattle.events.specs.Packing.{packet_of}
 
--- of so few bytes, with the headers' numbers in their ranges and each LSA's length that of its text
+-- if there are at most so many bytes, the header fields are in their ranges, and each LSA's length
+-- is that of its bytes
 pub record TextsAreLawful : Type 0 where
   pub update : (own : ℕ) (lsas : List Lsa) → own < 2 ^ 32
       → AllByRecursion (λ l. IsHeader l.header × Fits l) lsas

@@ -10,6 +10,6 @@ pub mod LimitLaws
 pub mod Retransmissions
 pub mod OwnLsas
 pub mod WrongSteps
--- what crates above name of those below
+-- names from the crates below that crates above use
 pub use Rattle.adjacency.specs as adjacency
 pub use Rattle.lsdb.specs as lsdb

@@ -1,4 +1,4 @@
--- Which events may take a router past its limits, and so be refused for want of room.
+-- Which events may exceed a router's limits, and so be refused because the database is full.
 use Rattle.std.specs.Prelude.{◌≡◌, ℕ, Bool, true, false, List, Some}
 use Rattle.std.specs.FinMap as finite
 use Rattle.words.specs.declared.key.Key.{Key}
@@ -9,7 +9,7 @@ use Rattle.events.specs.Events.{Happens, Run, Step, initial}
 use Rattle.events.specs.Refusals.{WouldExceed, exceeds}
 use Rattle.events.specs.Routers.{Occurrence, Router}
 
--- a Packet may bring LSAs, and a Redistribute asks whether there is room only afterwards
+-- a `Packet` may bring LSAs, and a `Redistribute` checks the limits only afterwards
 abbrev pub may_exceed : Occurrence → Bool
 may_exceed (Occurrence.Packet number bytes) = true
 may_exceed Occurrence.Tick = false
@@ -18,13 +18,13 @@ may_exceed (Occurrence.Withdraw prefix) = false
 may_exceed (Occurrence.Install answers) = false
 may_exceed (Occurrence.LinkDown number) = false
 
--- the destinations that are announced stand under keys of AS-external-LSAs
+-- the announced destinations have keys of AS-external-LSAs
 abbrev pub AnnouncesExternals : Router → Type 0
 AnnouncesExternals r =
     (key : Key) (e : External) → finite.get r.announced key ≡ Some e → key.ls_type ≡ 5
 
--- a router begins within its limits; every other event leaves a router within them that was, and is
--- never refused for want of room
+-- a router starts within its limits; every other event keeps a router within them, and is never
+-- refused because the database is full
 pub record OthersStayWithinLimits : Type 0 where
   pub start : (c : Config) → exceeds (initial c) ≡ false
   -- at the start, after each event, and so in every run
@@ -33,7 +33,7 @@ pub record OthersStayWithinLimits : Type 0 where
       → Happens old moment event outs new → AnnouncesExternals old → AnnouncesExternals new
   pub run : (c : Config) (steps : List Step) (new : Router) → Run (initial c) steps new
       → AnnouncesExternals new
-  -- of such a router
+  -- for such a router
   pub kept : (old : Router) (moment : ℕ) (event : Occurrence) (outs : List Out) (new : Router)
       → AnnouncesExternals old → may_exceed event ≡ false → Happens old moment event outs new
       → exceeds old ≡ false → exceeds new ≡ false

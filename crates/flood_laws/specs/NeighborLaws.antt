@@ -1,5 +1,5 @@
--- What holds of every neighbor at the start, is kept by each event, and so holds at every point of
--- a run.
+-- Invariants of every neighbor: they hold at the start, each event keeps them, and so they hold at
+-- every point of a run.
 use Rattle.std.specs.Prelude.{◌≡◌, ℕ, ◌==◌, true, false, List}
 use Rattle.std.specs.FinSet as set
 use Rattle.adjacency.specs.Adjacencies.{requests_nothing}
@@ -16,26 +16,26 @@ use Rattle.events.specs.RoomLaws.{OfEachNeighbor}
 pub record IsAlwaysSo (P : Neighbor → Type 0) : Type 0 where
   -- at the start
   pub first : (c : Config) → OfEachNeighbor P (initial c)
-  -- after each event, if it held before it
+  -- after each event, if it held before
   pub event : (old : Router) (moment : ℕ) (event : Occurrence) (outs : List Out) (new : Router)
       → Happens old moment event outs new → OfEachNeighbor P old → OfEachNeighbor P new
-  -- so after every run from the start, whatever happens in it
+  -- so after every run from the start
   pub run : (c : Config) (steps : List Step) (new : Router) → Run (initial c) steps new
       → OfEachNeighbor P new
 
--- a neighbor that is Full has nothing to request
+-- a Full neighbor has an empty request list
 abbrev pub FullNeighborsRequestNothing : Type 0
 FullNeighborsRequestNothing = IsAlwaysSo IsBareWhereFull
 
--- before Exchange a neighbor has no lists; what is outstanding is on the request list; a neighbor
--- that is Full has nothing to request and nothing outstanding
+-- before Exchange a neighbor's lists are empty; every outstanding key is on the request list; a
+-- Full neighbor has an empty request list and nothing outstanding
 abbrev pub ListsAreSound : Type 0
 ListsAreSound = IsAlwaysSo HasSoundLists
 
--- ---- requests
+-- ---- Link State Requests
 
--- Loading means that something is left to request (section 10.3); if something is, in Exchange or
--- Loading, something is outstanding (section 10.9)
+-- in Loading the request list isn't empty (section 10.3); in Exchange or Loading, if it isn't
+-- empty, something is outstanding (section 10.9)
 pub record IsRequesting (n : Neighbor) : Type 0 where
   pub loading : n.state ≡ Loading → requests_nothing n ≡ false
   pub outstanding : is_exchange_or_loading n.state ≡ true → requests_nothing n ≡ false

@@ -1,4 +1,4 @@
--- What an event brings, and new instances of the router's own LSAs, as facts of the router before
+-- What an event brings, and new instances of the router's own LSAs, in terms of the router before
 -- the event and after it (RFC 2328, section 12.4).
 use Rattle.std.specs.Prelude.{◌≡◌, ℕ, List, [], Option, None, Some}
 use Rattle.std.specs.FinMap as finite
@@ -19,7 +19,7 @@ use Rattle.events.specs.Routers.{Occurrence, Router}
 
 -- ---- what an event brings
 
--- the readable LSAs of an Update
+-- the LSAs of a Link State Update that can be parsed
 abbrev pub lsas_brought : Body → List Lsa
 lsas_brought (body.Hello h) = []
 lsas_brought (body.Description d) = []
@@ -27,7 +27,7 @@ lsas_brought (body.Request keys) = []
 lsas_brought (body.Update lsas) = filter_map lsa_in lsas
 lsas_brought (body.Acknowledgment headers) = []
 
--- the event's Update brings this LSA
+-- the event's Link State Update has this LSA
 pub record BringsLsa (event : Occurrence) (lsa : Lsa) : Type 0 where
   pub number : InterfaceNumber
   pub bytes : List ℕ
@@ -38,14 +38,14 @@ pub record BringsLsa (event : Occurrence) (lsa : Lsa) : Type 0 where
 
 -- ---- what an event originates
 
--- in the event the router originated its LSA of this key: it remembers that it did at this moment,
--- and didn't before
+-- the event originated the router's own LSA of this key: the router has noted so for this moment,
+-- and hadn't before
 pub record Originates (old : Router) (moment : Moment) (new : Router) (key : Key) : Type 0 where
   pub own : key.advertising_router ≡ old.id
   pub now : finite.get new.originated key ≡ Some moment
   pub not_before : finite.get old.originated key ≡ Some moment → ⊥
 
--- as flooding installs it
+-- the copy of a received LSA when it is installed
 abbrev pub installed_copy : Moment → Lsa → DatabaseCopy
 installed_copy moment lsa = record {
   lsa = lsa;
@@ -54,15 +54,16 @@ installed_copy moment lsa = record {
   sent = None;
 }
 
--- the copy of the key, if there is one, that a new instance comes after: what the database had, or
--- what the event's Update brought
+-- the copy of the key, if there is one, that a new instance follows: the database's, or one from
+-- the event's Link State Update
 pub data IsLastCopy (old : Router) (moment : Moment) (event : Occurrence) (key : Key)
     (copy : Option DatabaseCopy) : Type 0 where
   Had : copy ≡ finite.get old.area.database key → IsLastCopy old moment event key copy
   Brought : (lsa : Lsa) → BringsLsa event lsa → lsa_key lsa ≡ key
       → copy ≡ Some (installed_copy moment lsa) → IsLastCopy old moment event key copy
 
--- a new instance that the router originates in the event, past the number of the last copy
+-- a new instance that the router originates in the event, with the sequence number after that of
+-- the last copy
 pub record IsNewInstance (old : Router) (moment : Moment) (event : Occurrence) (new : Router)
     (name : LsaInstance) : Type 0 where
   pub originates : Originates old moment new name.key

@@ -12,8 +12,8 @@ use Rattle.events.specs.Routers.{Router}
 abbrev pub is_router_or_external : ℕ → Bool
 is_router_or_external ls_type = ls_type == 1 || ls_type == 5
 
--- at every point of a run, what the router wants to say in an LSA of its own is of the type of the
--- LSA's key, and that is none of the network-LSAs and summary-LSAs
+-- at every point of a run, the wanted body of a self-originated LSA is of its key's LS type, which
+-- isn't that of network-LSAs or summary-LSAs
 abbrev pub OnlyRouterAndExternalLsasAreWanted : Type 0
 OnlyRouterAndExternalLsasAreWanted =
     (c : Config) (steps : List Step) (new : Router) → Run (initial c) steps new

@@ -1,4 +1,4 @@
--- What stands on retransmission lists (RFC 2328, sections 10 and 13.3): the instances of the
+-- The entries of retransmission lists (RFC 2328, sections 10 and 13.3): the instances of the
 -- database.
 use Rattle.std.specs.Prelude.{◌≡◌, ◌≤◌, List, Some}
 use Rattle.std.specs.FinMap as finite
@@ -15,22 +15,22 @@ use Rattle.events.specs.Events.{Happens, Run, Step, initial}
 use Rattle.events.specs.Routers.{Occurrence, Router}
 use Rattle.events.specs.RoomLaws.{OfEachNeighbor}
 
--- the database has a copy of the key, and at each moment from when the entry was made on the
--- entry's header is the copy's
+-- the database has a copy of the key, and at each moment since the entry was made, the entry's
+-- header is the copy's
 abbrev pub IsOfCopy : Database → Key → ListEntry → Type 0
 IsOfCopy db key entry =
     (copy : DatabaseCopy) × (finite.get db key ≡ Some copy)
     × ((moment : Moment) → entry.at ≤ moment
     → aged_header moment entry ≡ copy_header moment copy)
 
--- so each entry of the neighbor's retransmission list
+-- the same for each entry of the neighbor's retransmission list
 abbrev pub AreOfTheDatabase : Database → Neighbor → Type 0
 AreOfTheDatabase db n =
     (key : Key) (entry : ListEntry) → finite.get n.retransmissions key ≡ Some entry
     → IsOfCopy db key entry
 
 pub record HasItsRetransmissions (r : Router) : Type 0 where
-  -- each copy stands under its own key
+  -- each copy has its own key
   pub keys : (key : Key) (copy : DatabaseCopy) → finite.get r.area.database key ≡ Some copy
       → lsa_key copy.lsa ≡ key
   pub lists : OfEachNeighbor HasSoundLists r
@@ -39,10 +39,10 @@ pub record HasItsRetransmissions (r : Router) : Type 0 where
 pub record RetransmissionsAreOfTheDatabase : Type 0 where
   -- at the start
   pub first : (c : Config) → HasItsRetransmissions (initial c)
-  -- after each event, if it held before it
+  -- after each event, if it held before
   pub event : (old : Router) (moment : Moment) (event : Occurrence) (outs : List Out)
       (new : Router) → Happens old moment event outs new → HasItsRetransmissions old
       → HasItsRetransmissions new
-  -- so after every run from the start, whatever happens in it
+  -- so after every run from the start
   pub run : (c : Config) (steps : List Step) (new : Router) → Run (initial c) steps new
       → HasItsRetransmissions new

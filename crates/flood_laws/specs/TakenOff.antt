@@ -1,5 +1,5 @@
--- Which entries leave a retransmission list as acknowledged (RFC 2328, sections 13, step 7a, and
--- 13.7), read off the router before an event and after it, and off the event's packet.
+-- Which entries are removed from a retransmission list as acknowledged (RFC 2328, sections 13, step
+-- 7a, and 13.7), in terms of the router before an event and after it, and of the event's packet.
 use Rattle.std.specs.Prelude.{◌≡◌, ℕ, ◌==◌, Bool, true, false, not, if◌then◌else◌, List, map}
 use Rattle.std.specs.Prelude.{Option, None, Some}
 use Rattle.std.specs.FinMap as finite
@@ -19,10 +19,10 @@ use Rattle.events.specs.LsaInstances.{LsaInstance, instances_advertised}
 use Rattle.events.specs.Routers.{Occurrence, Router}
 use Rattle.flood_laws.specs.NewInstances.{BringsLsa, Originates}
 
--- ---- an adjacency that stands
+-- ---- an adjacency that isn't given up
 
--- in Exchange or later before the event and after it, with the same router: none of what clears the
--- lists has happened
+-- in Exchange or later before the event and after it, with the same router: nothing has cleared the
+-- lists
 pub record StaysAdjacent (old new : Router) (number : InterfaceNumber) (before after : Neighbor)
     : Type 0 where
   pub was : neighbor_at number old.area.links ≡ Some before
@@ -31,20 +31,20 @@ pub record StaysAdjacent (old new : Router) (number : InterfaceNumber) (before a
   pub from : is_exchange_or_later before.state ≡ true
   pub on : is_exchange_or_later after.state ≡ true
 
--- the instance that stands under a key of a list
+-- the instance of a list entry with this key
 abbrev pub listed_instance : Key → Option ListEntry → Option LsaInstance
 listed_instance key None = None
 listed_instance key (Some l) =
     Some (record { key = key; sequence = l.header.sequence; checksum = l.header.checksum })
 
--- what the neighbor is still to acknowledge under the key
+-- the instance of this key on the neighbor's retransmission list
 abbrev pub owes : Neighbor → Key → Option LsaInstance
 owes n key = listed_instance key (finite.get n.retransmissions key)
 
 -- ---- what flooding does to entries
 
--- the event's Update brings an LSA of the key that is newer than the copy, which flooding didn't
--- install in this second
+-- the event's Link State Update has an LSA of the key that is newer than the copy, which flooding
+-- didn't install in the same second
 pub record BringsNewer (old : Router) (moment : Moment) (event : Occurrence) (key : Key)
     : Type 0 where
   pub lsa : Lsa
@@ -53,24 +53,24 @@ pub record BringsNewer (old : Router) (moment : Moment) (event : Occurrence) (ke
   pub newer : newer_than_copy moment lsa.header (finite.get old.area.database key) ≡ true
   pub in_time : installed_just_now moment (finite.get old.area.database key) ≡ false
 
--- it was stored at this moment, unless it has left the database since
+-- the copy was stored at this moment, unless it was removed from the database since
 abbrev pub is_gone_or_stored : Moment → Option DatabaseCopy → Bool
 is_gone_or_stored moment None = true
 is_gone_or_stored moment (Some c) = c.stored == moment
 
--- it has left the database, or has MaxAge
+-- the copy was removed from the database, or has MaxAge
 abbrev pub is_gone_or_aged : Moment → Option DatabaseCopy → Bool
 is_gone_or_aged moment None = true
 is_gone_or_aged moment (Some c) = is_aged_out moment c
 
--- since the moment before, the copy has come to MaxAge; or it was younger, and was flushed
+-- the copy has reached MaxAge since the moment `before`, or was younger and is flushed
 abbrev pub comes_to_max_age : (before : Moment) → (moment : Moment)
     → (was : Option DatabaseCopy) → (is : Option DatabaseCopy) → Bool
 comes_to_max_age before moment None is = false
 comes_to_max_age before moment (Some c) is =
     if is_aged_out moment c then not (is_aged_out before c) else is_gone_or_aged moment is
 
--- the neighbor was asked for the LSA, or describes it in this event
+-- the LSA is on the neighbor's request list, or the neighbor describes it in this event
 pub data IsAsked (event : Occurrence) (number : InterfaceNumber) (before : Neighbor) (key : Key)
     : Type 0 where
   Before : finite.contains_key before.requests key ≡ true → IsAsked event number before key
@@ -79,9 +79,9 @@ pub data IsAsked (event : Occurrence) (number : InterfaceNumber) (before : Neigh
       → packet.body ≡ body.Description d → Contains (map key_of d.headers) key
       → IsAsked event number before key
 
--- the LSA is flooded in this event, and so its entry is replaced or goes: a newer instance came in,
--- or was originated, and was stored; or it came to MaxAge, while the neighbor may have a newer one
--- of its own
+-- the LSA is flooded in this event, so that its entry is replaced or removed: a newer instance was
+-- received, or originated, and stored; or the copy reached MaxAge, and a newer instance may be
+-- requested of the neighbor
 pub data IsFlooded (old : Router) (moment : Moment) (event : Occurrence) (new : Router)
     (number : InterfaceNumber) (before : Neighbor) (key : Key) : Type 0 where
   Newer : BringsNewer old moment event key
@@ -94,10 +94,10 @@ pub data IsFlooded (old : Router) (moment : Moment) (event : Occurrence) (new : 
       (finite.get new.area.database key) ≡ true
       → IsAsked event number before key → IsFlooded old moment event new number before key
 
--- ---- what is taken off as acknowledged
+-- ---- what is removed as acknowledged
 
--- the instance stood on the list of the neighbor at this interface and does no longer, though the
--- adjacency stands and the LSA wasn't flooded
+-- the instance was on the retransmission list of the neighbor at this interface and no longer is,
+-- although the adjacency wasn't given up and the LSA wasn't flooded
 pub record IsTakenOff (old : Router) (moment : Moment) (event : Occurrence) (new : Router)
     (number : InterfaceNumber) (before : Neighbor) (name : LsaInstance) : Type 0 where
   pub after : Neighbor
@@ -106,8 +106,8 @@ pub record IsTakenOff (old : Router) (moment : Moment) (event : Occurrence) (new
   pub left : owes after name.key ≡ Some name → ⊥
   pub not_flooded : IsFlooded old moment event new number before name.key → ⊥
 
--- the event's packet came in at this interface from this router, and tells the instance: it is an
--- Acknowledgment that names it, or an Update that brings it
+-- the event's packet was received at this interface from this router, and has the instance: it is a
+-- Link State Acknowledgment that identifies it, or a Link State Update that contains it
 pub record IsTold (event : Occurrence) (number : InterfaceNumber) (router : RouterNumber)
     (name : LsaInstance) : Type 0 where
   pub bytes : List ℕ
@@ -117,7 +117,7 @@ pub record IsTold (event : Occurrence) (number : InterfaceNumber) (router : Rout
   pub from : packet.router ≡ router
   pub told : Contains (instances_advertised packet.body) name
 
--- what a step takes off, the neighbor tells
+-- what a step removes as acknowledged, the neighbor's packet has
 abbrev pub TakesOffWhatIsTold : Router → Moment → Occurrence → Router → Type 0
 TakesOffWhatIsTold old moment event new =
     (number : InterfaceNumber) (before : Neighbor) (name : LsaInstance)

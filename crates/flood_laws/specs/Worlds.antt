@@ -1,6 +1,6 @@
--- Routers joined by links: what they send may be lost, repeated, reordered and late, and routers
--- may begin anew, but nothing is forged. What an acknowledgment takes off a retransmission list was
--- received, or originated, by the neighbor.
+-- Routers joined by links: their packets may be lost, repeated, reordered and late, and routers may
+-- restart, but nothing is forged. If an acknowledgment removes an instance from a retransmission
+-- list, the neighbor had received or originated it.
 use Rattle.std.specs.Prelude.{◌≡◌, ℕ, ◌==◌, Bool, true, not, ◌&&◌, List, [], ◌∷◌, ◌++◌, map, Option}
 use Rattle.std.specs.Prelude.{None, Some, slice_get, slice_set}
 use Rattle.std.specs.List.{Contains, flat_map, list_all, list_any}
@@ -39,8 +39,8 @@ instances_stored r =
 
 -- ---- what a router's step keeps
 
--- the instance was held before, came in the event's Update, or is one of the router's own that it
--- originates
+-- the instance was held before, was received in the event's Link State Update, or is one of the
+-- router's own that it originates
 pub data IsKnown (old : Router) (event : Occurrence) (originated : List LsaInstance)
     (name : LsaInstance) : Type 0 where
   Held : Contains (instances_stored old) name → IsKnown old event originated name
@@ -49,7 +49,7 @@ pub data IsKnown (old : Router) (event : Occurrence) (originated : List LsaInsta
       → Contains (instances_received packet.body) name → IsKnown old event originated name
   Originated : Contains originated name → IsKnown old event originated name
 
--- the packet is from the router itself, and each instance that it tells is known
+-- the packet is from the router itself, and each instance in it is known
 pub record IsLawfulOut (old : Router) (event : Occurrence) (originated : List LsaInstance)
     (out : Out) : Type 0 where
   pub packet : Packet
@@ -58,22 +58,23 @@ pub record IsLawfulOut (old : Router) (event : Occurrence) (originated : List Ls
   pub known : (name : LsaInstance) → Contains (instances_advertised packet.body) name
       → IsKnown old event originated name
 
--- all that holds of a router's step and that acknowledgments rest on
+-- all properties of a router's step that acknowledgments rely on
 pub record Keeps (old : Router) (moment : ℕ) (event : Occurrence) (outs : List Out) (new : Router)
     (originated : List LsaInstance) : Type 0 where
   pub same_router : new.id ≡ old.id
-  -- what is originated are new instances of the router's own LSAs
+  -- the originated instances are new instances of the router's own LSAs
   pub is_new : (name : LsaInstance) → Contains originated name
       → IsNewInstance old moment event new name
   pub held : (name : LsaInstance) → Contains (instances_stored new) name
       → IsKnown old event originated name
   pub sent : (out : Out) → Contains outs out → IsLawfulOut old event originated out
-  -- what leaves a retransmission list as acknowledged, the event's packet from that neighbor tells
+  -- if an instance is removed from a retransmission list as acknowledged, the event's packet from
+  -- that neighbor says so
   pub taken : TakesOffWhatIsTold old moment event new
 
 -- ---- the world
 
--- an interface of a router, by the router's place
+-- an interface of a router, by the router's index
 pub record End : Type 0 where
   pub router : ℕ
   pub interface : ℕ
@@ -82,13 +83,13 @@ pub record Datagram : Type 0 where
   pub from : End
   pub bytes : List ℕ
 
--- that a router, by its Router ID, received or originated an instance
+-- the router with this Router ID has received or originated the instance
 pub record Knowledge : Type 0 where
   pub router : ℕ
   pub name : LsaInstance
 
--- the routers, all that was ever sent, and all that was ever received or originated, in whatever
--- life
+-- the routers, all packets that were ever sent, and all instances that were ever received or
+-- originated, before and after restarts
 pub record World : Type 0 where
   pub routers : List Router
   pub sent : List Datagram
@@ -110,7 +111,7 @@ knows router name = record { router = router; name = name }
 abbrev pub known_as : RouterNumber → List LsaInstance → List Knowledge
 known_as router names = map (knows router) names
 
--- the instances that an event brings to a router
+-- the instances that a router receives in an event
 abbrev pub Brings : Occurrence → List LsaInstance → Type 0
 Brings (Occurrence.Packet number bytes) names =
     (packet : Packet) × PacketText bytes packet × (names ≡ instances_received packet.body)
@@ -120,7 +121,8 @@ Brings (Occurrence.Withdraw prefix) names = names ≡ []
 Brings (Occurrence.Install answers) names = names ≡ []
 Brings (Occurrence.LinkDown number) names = names ≡ []
 
--- bytes come in that were ever sent at the other end of the link; all else may happen at any time
+-- the bytes of a packet were sent at the other end of the link at some time; all else may happen at
+-- any time
 abbrev pub MayHappen : Joins → World → InterfaceNumber → Occurrence → Type 0
 MayHappen joins w place (Occurrence.Packet number bytes) =
     (d : Datagram) × Contains w.sent d
@@ -131,7 +133,7 @@ MayHappen joins w place (Occurrence.Withdraw prefix) = Unit {0}
 MayHappen joins w place (Occurrence.Install answers) = Unit {0}
 MayHappen joins w place (Occurrence.LinkDown number) = Unit {0}
 
--- something happens to the router at this place
+-- an event of the router at this index
 pub record Lives (joins : Joins) (before : World) (place moment : ℕ) (event : Occurrence)
     (after : World) : Type 0 where
   pub old : Router
@@ -149,7 +151,7 @@ pub record Lives (joins : Joins) (before : World) (place moment : ℕ) (event : 
     known = before.known ++ known_as old.id (brought ++ originated);
   }
 
--- the router at this place begins anew under its Router ID
+-- the router at this index restarts with its Router ID
 pub record Restarts (before : World) (place : ℕ) (after : World) : Type 0 where
   pub old : Router
   pub here : slice_get before.routers place ≡ Some old
@@ -166,12 +168,12 @@ pub data WorldStep (joins : Joins) (before after : World) : Type 0 where
       → WorldStep joins before after
   Restart : (place : ℕ) → Restarts before place after → WorldStep joins before after
 
--- each step from the world that the one before it leaves
+-- each step is from the world after the one before it
 abbrev pub IsHistory : Joins → World → List World → World → Type 0
 IsHistory joins w [] last = w ≡ last
 IsHistory joins w (next ∷ rest) last = WorldStep joins w next × IsHistory joins next rest last
 
--- no two have one Router ID
+-- no two have the same Router ID
 abbrev pub have_names_apart : List Config → Bool
 have_names_apart [] = true
 have_names_apart (c ∷ others) =
@@ -187,18 +189,19 @@ begun_with configs = record {
   known = all_known (map initial configs);
 }
 
--- Whatever is lost, repeated, reordered or late, and whoever begins anew, at each step of a router:
+-- Whatever packets are lost, repeated, reordered or late, and whichever routers restart, at each
+-- step of a router:
 pub record AcknowledgedWasReceived : Type 0 where
-  -- what an Acknowledgment or an Update tells that comes in, the router that it is from had
-  -- received or originated
+  -- the sender of a received Link State Acknowledgment or Update had received or originated each
+  -- instance in it
   pub told : (joins : Joins) (configs : List Config) (steps : List World) (w after : World)
       → have_names_apart configs ≡ true → list_all in_profile configs ≡ true
       → IsHistory joins (begun_with configs) steps w
       → (place moment : ℕ) (event : Occurrence) → Lives joins w place moment event after
       → (number : InterfaceNumber) (router : RouterNumber) (name : LsaInstance)
       → IsTold event number router name → Contains w.known (knows router name)
-  -- if an entry leaves a neighbor's retransmission list, and neither is the adjacency given up nor
-  -- the LSA flooded, that neighbor had received or originated the instance
+  -- if an entry is removed from a neighbor's retransmission list, and neither is the adjacency
+  -- given up nor the LSA flooded, that neighbor had received or originated the instance
   pub left : (joins : Joins) (configs : List Config) (steps : List World) (w after : World)
       → have_names_apart configs ≡ true → list_all in_profile configs ≡ true
       → IsHistory joins (begun_with configs) steps w

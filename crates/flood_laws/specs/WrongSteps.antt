@@ -1,5 +1,5 @@
--- A wrong step, which what a router keeps rules out: an acknowledgment of an older instance, or of
--- any other than the one on the list, takes the entry off (RFC 2328, section 13.7).
+-- A wrong step, which the properties of a router's step exclude: an acknowledgment of an older
+-- instance, or of any other than the one on the list, removes the entry (RFC 2328, section 13.7).
 use Rattle.std.specs.Prelude.{◌≡◌, ℕ, true, false, List, map, Option, None, Some}
 use Rattle.std.specs.FinMap as finite
 use Rattle.std.specs.List.{Contains}
@@ -17,7 +17,8 @@ use Rattle.events.specs.Routers.{Occurrence, Router}
 use Rattle.flood_laws.specs.TakenOff.{comes_to_max_age, owes}
 use Rattle.flood_laws.specs.Worlds.{Keeps}
 
--- the entry of the key leaves the list of the neighbor at this interface, and nothing else changes
+-- the key is removed from the retransmission list of the neighbor at this interface, and nothing
+-- else changes
 abbrev pub remove_retransmission_in : Key → Option Neighbor → Option Neighbor
 remove_retransmission_in key None = None
 remove_retransmission_in key (Some n) = Some (remove_retransmission key n)
@@ -31,8 +32,9 @@ without_entry number key r =
       area = record r.area { links = change_link number (release_on key) r.area.links };
     }
 
--- a neighbor in Exchange or later has an instance to acknowledge, whose LSA doesn't come to MaxAge
--- by this moment; and these bytes are an Acknowledgment from it that doesn't name that instance
+-- a neighbor in Exchange or later has an instance on its retransmission list whose LSA doesn't
+-- reach MaxAge by this moment; and these bytes are a Link State Acknowledgment from it that doesn't
+-- identify that instance
 pub record AcknowledgesAnother (old : Router) (moment : Moment) (number : InterfaceNumber)
     (n : Neighbor) (name : LsaInstance) (bytes : List ℕ) (headers : List Header) : Type 0 where
   pub there : neighbor_at number old.area.links ≡ Some n
@@ -44,7 +46,7 @@ pub record AcknowledgesAnother (old : Router) (moment : Moment) (number : Interf
       (record { router = n.router; body = body.Acknowledgment headers })
   pub another : Contains (map instance_of_header headers) name → ⊥
 
--- a step that takes that entry off doesn't keep what a router's step keeps, whatever it sends
+-- a step that removes that entry doesn't have the properties of a router's step, whatever it sends
 abbrev pub AnotherAcknowledgmentTakesNothingOff : Type 0
 AnotherAcknowledgmentTakesNothingOff =
     (old : Router) (moment : Moment) (number : InterfaceNumber) (n : Neighbor)

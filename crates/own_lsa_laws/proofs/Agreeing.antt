@@ -1,5 +1,5 @@
--- Two router-LSAs of one text tell of Full neighbors on the same links. So if a Tick ends with the
--- text that the event began with, no neighbor was lost.
+-- Two router-LSAs with the same bytes have Full neighbors on the same links. So if the bytes after
+-- a Tick are those before the event, no neighbor was lost.
 use Rattle.std.proofs.Common.{◌≡◌, ◌<◌, ℕ, zero, suc, Bool, true, false, cond, not, ◌⊎◌, inl, inr, List, [], ◌∷◌, ◌++◌, map, Option, None, Some, is_some, refl, sym, ap, subst, ◌∙◌, arith}
 use Rattle.std.specs.List.{flat_map}
 use Rattle.std.specs.Cmp.{tied_itself}
@@ -24,7 +24,7 @@ use Rattle.events.specs.Originations.{router_body, stub}
 use Rattle.events.specs.Ticks.{run_out, settled_exchange}
 use Rattle.own_lsa_laws.proofs.Faces.{Face, body_by_faces, face_links, faces, faces_body, full_router, told_to}
 
--- ---- texts
+-- ---- bytes
 
 pub text_of_same : (a b : Body) → same_body a b ≡ true → body_text a ≡ body_text b
 text_of_same a b e = slice_cmp-IsAntisymmetric nat_cmp-IsAntisymmetric (body_text a) (body_text b) (tied (slice_cmp nat_cmp (body_text a) (body_text b)) e)
@@ -32,7 +32,7 @@ text_of_same a b e = slice_cmp-IsAntisymmetric nat_cmp-IsAntisymmetric (body_tex
 pub same_of_text : (a b : Body) → body_text a ≡ body_text b → same_body a b ≡ true
 same_of_text a b e = subst (λ (t : List ℕ). is_eq (slice_cmp nat_cmp (body_text a) t) ≡ true) e (ap is_eq (tied_itself nat_list_cmp_total (body_text a)))
 
--- what doesn't differ is of one text
+-- router-LSAs that don't differ have the same bytes
 pub undiffering : (xs ys : List Link) → links_differ xs ys ≡ false → body_text (router_body xs) ≡ body_text (router_body ys)
 undiffering xs ys e = text_of_same (router_body xs) (router_body ys) (by_test (same_body (router_body xs) (router_body ys)) e)
   where
@@ -43,7 +43,7 @@ undiffering xs ys e = text_of_same (router_body xs) (router_body ys) (by_test (s
 pub never_differs : (xs ys : List Link) → ys ≡ xs → links_differ xs ys ≡ false
 never_differs xs ys e = ap not (same_of_text (router_body xs) (router_body ys) (ap (λ (l : List Link). body_text (router_body l)) (sym e)))
 
--- ---- from the text to the links
+-- ---- from the bytes to the links
 
 abbrev behind : ℕ → List ℕ → List ℕ
 behind zero xs = xs
@@ -64,14 +64,14 @@ shown i full ls = links_text ((told_to i full ++ stub i ∷ []) ++ ls)
 not_one : (n : ℕ) → 1 < n → n ≡ 1 → ⊥
 not_one n above is = omega arith
 
--- the ninth byte of a link says if it leads to a router or to a stub network
+-- the ninth byte of a link is its type: to a router or to a stub network
 same_start : (i : Interface) (a b : Option ℕ) (xs ys : List RouterLink) → shown i a xs ≡ shown i b ys → (is_some a ≡ is_some b) × (links_text xs ≡ links_text ys)
 same_start i None None xs ys e = (refl, ap (behind 12) e)
 same_start i None (Some b) xs ys e = absurd (not_one 3 (omega arith) (ap (at_place 8) e))
 same_start i (Some a) None xs ys e = absurd (not_one 3 (omega arith) (sym (ap (at_place 8) e)))
 same_start i (Some a) (Some b) xs ys e = (refl, ap (behind 24) e)
 
--- ---- what is lost, and what is gained
+-- ---- neighbors that are lost, and neighbors that become Full
 
 abbrev gone : Face → Face
 gone f = record { interface = f.interface; is_there = false; full = None }
@@ -125,7 +125,7 @@ nothing_lost (f ∷ fs) (g ∷ gs) (h ∷ hs) lose gain e =
     let rest : flat_map face_links gs ≡ xs = nothing_lost fs gs hs lose.1 gain.1 both.1 in
     λ i. one i ++ rest i
 
--- ---- a Tick loses, LoadingDone gains
+-- ---- a Tick loses neighbors, LoadingDone makes them Full
 
 abbrev seen : Interface → Option Neighbor → Face
 seen i o = record { interface = i; is_there = is_some o; full = full_router o }
@@ -152,7 +152,7 @@ gaining : (xs : List Link) → Gain (faces xs) (faces (map link_loading_done xs)
 gaining [] = tt
 gaining (x ∷ xs) = (filled x.interface x.neighbor, gaining xs)
 
--- if a Tick ends with the text that it began with, what it told in between was that text too
+-- if the bytes after a Tick are those before it, they were the same in between
 pub tick_agrees : (moment : ℕ) (old xs : List Link) → faces xs ≡ faces (map (run_out moment) old)
     → body_text (router_body old) ≡ body_text (router_body (map link_loading_done xs)) → router_body (map (run_out moment) old) ≡ router_body old
 tick_agrees moment old xs same e =

@@ -1,5 +1,5 @@
--- An event's own part, and the end that all events share, leave the router's own copies as they are
--- to stand.
+-- An event's own part, and the end that all events share, keep the invariant of the router's own
+-- copies.
 use Rattle.std.proofs.Common.{◌≡◌, ℕ, Bool, true, false, cond, not, ◌&&◌, ◌||◌, ◌⊎◌, inl, inr, List, [], ◌∷◌, map, Option, None, Some, is_some, refl, sym, ap, subst, ◌∙◌, arith}
 use Rattle.std.specs.Prelude.{nat_le}
 use Rattle.std.specs.List.{filter, list_all, list_any}
@@ -43,7 +43,7 @@ use Rattle.own_lsa_laws.proofs.Faces.{StaysFaced, again_so, asks_so, body_faces,
 use Rattle.own_lsa_laws.proofs.Parts.{FitsAt, InProgress, Tells, at_other, at_same, excused_fit, excusing, flush_kept, full, lsas_kept, not_and_so, nothing_changes, or_first, or_wait_kept, originated_now, others_fit, roomy, sent_kept, some_kept, still_tells, wait_kept, waits_there}
 use Rattle.own_lsa_laws.proofs.Standing.{Fits, IsWanted, Standing, Terms, aged_at, all_so, at_copy, closed_at, flushed_age, marked, marks, recast, same_itself, wants}
 
--- a state after a change of links and database
+-- the state after a change of links and database
 abbrev pub with_outcome : EventState → Outcome → EventState
 with_outcome p o = record { router = record p.router { area = o.area }; sends = o.sends }
 
@@ -161,7 +161,7 @@ module _ (moment : ℕ) (t : Terms) where
 abbrev pub is_among : Key → List Key → Bool
 is_among q keys = list_any (same_key q) keys
 
--- these alone may wait
+-- only these may wait
 abbrev pub among : List Key → Terms → Terms
 among keys t = record t { may_wait = λ q. is_among q keys ≡ true }
 
@@ -185,11 +185,11 @@ still_listed test q passes (key ∷ keys) among_them = by_key (same_key q key) r
         chosen (λ (ks : List Key). is_among q ks ≡ true) (test key) (key ∷ filter test keys) (filter test keys)
         (λ is. or_second (same_key q key) (is_among q (filter test keys)) (others h)) (λ is. others h)
 
--- what is wanted and waits is due
+-- a wanted LSA that waits is due
 pub waits_are_due : (moment : ℕ) (r : Router) (q : Key) → IsWanted r.id r.announced q → set.contains r.waiting q ≡ true → is_among q (due_keys moment r) ≡ true
 waits_are_due moment r q wanted waits = still_listed (is_due moment r) q (or_first (set.contains r.waiting q) _ waits) (wanted_keys r) (listed r q wanted)
 
--- no copy of this key may wait any more
+-- no copy of this key may wait any longer
 narrowed : (moment : ℕ) (t u : Terms) (key : Key) (keys : List Key) (r : Router) → u.before ≡ t.before → u.now ≡ t.now → ((q : Key) → is_among q keys ≡ true → u.may_wait q)
     → ((q : Key) (c : DatabaseCopy) → same_key q key ≡ true → IsWanted r.id r.announced q → Standing moment u r.id r.announced r.waiting r.originated q c.lsa c.stored)
     → (q : Key) (c : DatabaseCopy) → FitsAt moment (full (among (key ∷ keys) t)) r q c → FitsAt moment u r q c
@@ -248,7 +248,7 @@ due_faces : (moment : ℕ) (keys : List Key) (p : EventState) → StaysFaced p (
 due_faces moment [] p = refl
 due_faces moment (key ∷ keys) p = due_faces moment keys (originate_or_wait moment key p) ∙ or_wait_faces moment key p
 
--- the Tick before anything is originated
+-- the state of a Tick before anything is originated
 abbrev pub run_down : ℕ → EventState → EventState
 run_down moment p = on_router (forget_originations moment) (on_area (on_links (map (run_out moment))) p)
 
@@ -282,14 +282,14 @@ tick_faces moment p =
 
 -- ---- the end
 
--- the router-LSA is to have this text
+-- the router-LSA should have these bytes
 abbrev pub told : List ℕ → (Key → Type 0) → Terms
 told text may_wait = record { before = text; now = text; may_wait = may_wait; excused = λ q. ⊥ }
 
 abbrev pub text_of : EventState → List ℕ
 text_of p = body_text (router_body p.router.area.links)
 
--- for the router-LSA another text counts
+-- other bytes are expected of the router-LSA
 retold : (moment : ℕ) (t : Terms) (text : List ℕ) (id : ℕ) (a : ByKey External) (w : KeySet) (o : ByKey ℕ)
     → (q : Key) (c : DatabaseCopy) → Fits moment (full t) id a w o q c → Fits moment (excusing (router_key id) (told text t.may_wait)) id a w o q c
 retold moment t text id a w o q c fits = (
@@ -305,7 +305,7 @@ retold moment t text id a w o q c fits = (
   }) (fits.1 own),
 )
 
--- it says the same
+-- the bytes are the same
 agreed : (moment : ℕ) (t : Terms) (text : List ℕ) (id : ℕ) (a : ByKey External) (w : KeySet) (o : ByKey ℕ) → t.before ≡ text → t.now ≡ text
     → (q : Key) (c : DatabaseCopy) → Fits moment (full t) id a w o q c → Fits moment (told text t.may_wait) id a w o q c
 agreed moment t text id a w o before now q c fits = (
@@ -348,7 +348,7 @@ abbrev body_of_copy : Body → Option DatabaseCopy → Body
 body_of_copy other None = other
 body_of_copy other (Some c) = c.lsa.body
 
--- the copy that is current says so
+-- the current copy has these bytes
 says_current : (says : Body) (o : Option DatabaseCopy) (c : DatabaseCopy) → o ≡ Some c → copy_has_body says o ≡ true → body_text c.lsa.body ≡ body_text says
 says_current says None c there is = absurd cc
 says_current says (Some d) c there is = ap (λ (o : Option DatabaseCopy). body_text (body_of_copy says o)) (sym there) ∙ text_of_same d.lsa.body says is
@@ -385,7 +385,7 @@ module _ (moment : ℕ) (t : Terms) (before : List Link) (p : EventState) (is_be
       (some_kept moment (told text t.may_wait) (has_room own_key p.router) own_key says p (wants_router_lsa p.router) (λ same. refl) (λ c there. roomy own_key p.router c there)
       (retold_all moment t text p h))
 
-  -- it was told in this event
+  -- it was originated in this event
   said_already : is_current moment p.router ≡ true → InProgress moment (full t) p → Told p
   said_already current h =
       let r : Router = p.router in
@@ -424,7 +424,7 @@ module _ (moment : ℕ) (t : Terms) (before : List Link) (p : EventState) (is_be
 abbrev IsSettledCopy : ℕ → EventState → DatabaseCopy → Type 0
 IsSettledCopy moment q c = (is_aged_out moment c ≡ true) ⊎ (finite.get q.router.originated (router_key q.router.id) ≡ Some moment)
 
--- nothing is left to be filled, or the copy of the router-LSA is settled
+-- no neighbor becomes Full any more, or the copy of the router-LSA is final
 abbrev IsFilledOrSettled : ℕ → EventState → Type 0
 IsFilledOrSettled moment q =
     (map link_loading_done q.router.area.links ≡ q.router.area.links)
@@ -511,9 +511,9 @@ later_kept moment t said before now settled h =
 later_faces : (before : List Link) (p : EventState) → StaysFaced p (describe_router_later before p)
 later_faces before p = chosen (StaysFaced p) (links_differ before p.router.area.links) (on_router (wait (router_key p.router.id)) p) p (λ is. refl) (λ is. refl)
 
--- ---- the whole end
+-- ---- the complete end
 
--- at rest all own copies stand, with what may wait
+-- between events the invariant holds of all own copies, with the keys that may wait
 abbrev pub Rests : (Key → Type 0) → ℕ → EventState → Type 0
 Rests may_wait moment p = InProgress moment (told (text_of p) may_wait) p
 

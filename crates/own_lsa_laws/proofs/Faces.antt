@@ -1,4 +1,4 @@
--- What the router-LSA shows of a link, and that flooding and what is sent leave it as it is.
+-- What the router-LSA depends on in a link, which flooding and sending don't change.
 use Rattle.std.proofs.Common.{◌≡◌, ℕ, ◌+◌, Bool, true, false, cond, not, ◌&&◌, List, [], ◌∷◌, ◌++◌, map, Option, None, Some, is_some, refl, sym, ap, ◌∙◌}
 use Rattle.std.specs.Prelude.{◌==◌}
 use Rattle.std.specs.List.{enumerate_from, flat_map, fold}
@@ -31,7 +31,7 @@ use Rattle.events.specs.EventState.{EventState, flood_from_nobody, on_area, on_r
 use Rattle.events.specs.Originations.{flush, flush_copy, has_max_sequence, links_of, may_originate, new_instance, originate, originate_body, point_to_point, router_body, stub, wait}
 use Rattle.events.specs.Ticks.{again}
 
--- ---- what is shown
+-- ---- what it depends on
 
 pub record Face : Type 0 where
   pub interface : Interface
@@ -92,7 +92,7 @@ changed_faces number change so k (x ∷ xs) =
 
 -- ---- steps of the neighbors
 
--- it is the same router, in the same state
+-- the same router, in the same state
 abbrev pub IsAsBefore : Neighbor → Neighbor → Type 0
 IsAsBefore n m = (m.router ≡ n.router) × (m.state ≡ n.state)
 
@@ -132,7 +132,7 @@ flood_so moment sender lsa number link n =
 pub flood_faces : (moment : ℕ) (sender : Option ℕ) (lsa : Lsa) (o : Outcome) → faces (flood moment sender lsa o).area.links ≡ faces o.area.links
 flood_faces moment sender lsa o = each_faces moment (flood_to moment sender lsa) (flood_so moment sender lsa) o
 
--- ages are told by flooding
+-- LSAs that reach MaxAge are flooded
 pub ages_faces : (before moment : ℕ) (es : List (Key × DatabaseCopy)) (o : Outcome) → faces (fold (with_age before moment) o es).area.links ≡ faces o.area.links
 ages_faces before moment [] o = refl
 ages_faces before moment (e ∷ es) o =
@@ -146,7 +146,7 @@ copy_faces : (moment number : ℕ) (c : Option DatabaseCopy) (o : Outcome) → f
 copy_faces moment number None o = refl
 copy_faces moment number (Some c) o = refl
 
--- but for a bad request, after which the Update ends
+-- except after a bad request, which ends the Link State Update
 pub case_faces : (case : Case) (moment number : ℕ) (lsa : Lsa) (o : Outcome) → goes_on case ≡ true → faces (after_case case moment number lsa o).area.links ≡ faces o.area.links
 case_faces Case.Unreadable moment number lsa o on = refl
 case_faces Case.NothingToFlush moment number lsa o on = refl
@@ -163,7 +163,7 @@ case_faces Case.SequenceWraps moment number lsa o on = refl
 case_faces Case.SentJustNow moment number lsa o on = refl
 case_faces Case.Older moment number lsa o on = copy_faces moment number (finite.get o.area.database (lsa_key lsa)) o
 
--- ---- own LSAs
+-- ---- self-originated LSAs
 
 abbrev pub StaysFaced : EventState → EventState → Type 0
 StaysFaced p q = faces q.router.area.links ≡ faces p.router.area.links
@@ -194,7 +194,7 @@ body_faces may_now moment key (Some says) p =
     (λ is. chosen (StaysFaced p) (may_now && may_originate moment key p.router) (originate moment key says p) (on_router (wait key) p)
     (λ may. originate_faces moment key says p) (λ may. refl))
 
--- ---- what a Tick sends, and Requests
+-- ---- what a Tick sends, and Link State Requests
 
 repeated_so : (o : Option Description) (moment : ℕ) (n : Neighbor) → IsAsBefore n (repeat moment (record n { described = o })).neighbor
 repeated_so None moment n = (refl, refl)

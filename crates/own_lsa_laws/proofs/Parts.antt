@@ -1,4 +1,4 @@
--- What each part of an event leaves of the router's own copies.
+-- Each part of an event keeps the invariant of the router's own copies.
 use Rattle.std.proofs.Common.{◌≡◌, ℕ, ◌+◌, ◌-◌, ◌<◌, ◌≤◌, Bool, true, false, cond, not, ◌&&◌, ◌||◌, List, [], ◌∷◌, Option, None, Some, is_some, refl, sym, ap, subst, ◌∙◌, arith, eq-eqb, leb-false}
 use Rattle.std.specs.Prelude.{◌==◌}
 use Rattle.std.specs.List.{fold}
@@ -43,7 +43,7 @@ pub record InProgress (moment : ℕ) (t : Terms) (p : EventState) : Type 0 where
   pub earlier : (key : Key) (at : ℕ) → finite.get p.router.originated key ≡ Some at → at ≤ moment
   pub copies : AllIn (FitsAt moment t p.router) p.router.area.database
 
--- nothing is left out; but for this key
+-- no key is excepted; or this one is
 abbrev pub full : Terms → Terms
 full t = record t { excused = λ q. ⊥ }
 
@@ -53,7 +53,7 @@ excusing key t = record t { excused = λ q. same_key q key ≡ true }
 abbrev pub other_than : Key → Key → Type 0
 other_than key q = same_key q key ≡ false
 
--- away from a key these stay
+-- nothing changes except for a key
 pub record StaysElsewhere (key : Key) (a b : ByKey External) (w v : KeySet) (o s : ByKey ℕ) : Type 0 where
   pub announced : (q : Key) → other_than key q → finite.get b q ≡ finite.get a q
   pub waiting : (q : Key) → other_than key q → set.contains v q ≡ set.contains w q
@@ -65,7 +65,7 @@ nothing_changes key a w o = record { announced = λ q other. refl; waiting = λ 
 clashing : {P : Type 0} (b : Bool) → b ≡ false → b ≡ true → P
 clashing b isnt is = absurd cc
 
--- the other copies fit still
+-- the invariant still holds of the other copies
 pub others_fit : (moment : ℕ) (t : Terms) (key : Key) (id : ℕ) (a b : ByKey External) (w v : KeySet) (o s : ByKey ℕ) → StaysElsewhere key a b w v o s
     → (q : Key) (c : DatabaseCopy) → other_than key q → Fits moment (excusing key t) id a w o q c → Fits moment (full t) id b v s q c
 others_fit moment t key id a b w v o s same q c other fits = (
@@ -81,7 +81,7 @@ others_fit moment t key id a b w v o s same q c other fits = (
   }) (fits.1 own),
 )
 
--- of the copy of this key nothing is said by now
+-- for now, nothing is required of the copy of this key
 pub excused_fit : (moment : ℕ) (t : Terms) (key : Key) (id : ℕ) (a b : ByKey External) (w v : KeySet) (o : ByKey ℕ) → StaysElsewhere key a b w v o o
     → (q : Key) (c : DatabaseCopy) → Fits moment (full t) id a w o q c → Fits moment (excusing key t) id b v o q c
 excused_fit moment t key id a b w v o same q c fits = (fits.0, λ own. by_key own (same_key q key) refl)
@@ -208,7 +208,7 @@ new_body : (key : Key) (copy : Option DatabaseCopy) (says : Body) → (new_insta
 unfolding sealed_lsa
 new_body key copy says = refl
 
--- the router-LSA that a part originates has the text that is told by now
+-- the router-LSA that a part originates has the expected bytes
 abbrev pub Tells : Terms → EventState → Type 0
 Tells t p = body_text (router_body p.router.area.links) ≡ t.now
 
@@ -308,7 +308,7 @@ pub body_kept : (moment : ℕ) (t : Terms) (may_now : Bool) (key : Key) (wanted 
 body_kept moment t may_now key None p is none tells room h = none refl
 body_kept moment t may_now key (Some says) p is none tells room h = some_kept moment t may_now key says p is tells room h
 
--- a copy has room
+-- there is room to replace a copy
 pub roomy : (key : Key) (r : Router) (c : DatabaseCopy) → finite.get r.area.database key ≡ Some c → has_room key r ≡ true
 roomy key r c there = or_first (finite.contains_key r.area.database key) _ (ap is_some there)
 
@@ -328,7 +328,7 @@ or_flush_kept : (moment : ℕ) (t : Terms) (b : Bool) (key : Key) (p : EventStat
 or_flush_kept moment t true key p is tells h = or_wait_kept moment t key p (λ none. absurd (is_wanted_none (wanted_body p.router key) is none)) (λ same. tells) h
 or_flush_kept moment t false key p is tells h = flush_kept moment t key p h
 
--- what isn't self-originated need say nothing
+-- nothing is required of an LSA of another router
 not_own : (moment : ℕ) (t : Terms) (lsa : Lsa) (p : EventState) → (lsa.header.advertising_router == p.router.id) ≡ false → InProgress moment (excusing (lsa_key lsa) t) p
     → InProgress moment (full t) p
 not_own moment t lsa p other h =
@@ -450,9 +450,9 @@ lsas_kept moment number t (bytes ∷ rest) p tells h =
     chosen (InProgress moment (full t)) (goes_on (case_in moment number (lsa_in bytes) p)) (after_lsas moment number rest q) q
     (λ on. lsas_kept moment number t rest q (still_tells t p q (unread_faces moment number (lsa_in bytes) p on) tells) so) (λ ends. so)
 
--- ---- ages are told
+-- ---- aging
 
--- whatever moment the copies stand at
+-- whatever the moment for the copies
 pub ages_kept : (at before moment : ℕ) (t : Terms) (r : Router) (es : List (Key × DatabaseCopy)) (o : Outcome) → AllIn (FitsAt at t r) o.area.database
     → AllIn (FitsAt at t r) (fold (with_age before moment) o es).area.database
 ages_kept at before moment t r [] o all = all

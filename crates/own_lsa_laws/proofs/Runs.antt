@@ -1,5 +1,4 @@
--- Every event leaves the router's own copies as they are to stand, and so does every run from the
--- start.
+-- Every event keeps the invariant of the router's own copies, and so does every run from the start.
 use Rattle.std.proofs.Common.{◌≡◌, ℕ, ◌+◌, ◌<◌, ◌≤◌, Bool, true, false, cond, ◌&&◌, ◌⊎◌, inl, inr, List, [], ◌∷◌, map, Option, None, Some, refl, sym, ap, subst, ◌∙◌, arith, true≢false}
 use Rattle.std.specs.FinMap as finite
 use Rattle.std.specs.FinSet as set
@@ -37,13 +36,13 @@ anything key = Unit {0}
 abbrev at_rest : Router → EventState
 at_rest r = record { router = r; sends = [] }
 
--- whatever waits, waits
+-- whatever waits may wait
 abbrev Stands : Router → Type 0
 Stands r = Rests anything r.moment (at_rest r)
 
--- ---- the event begins
+-- ---- the start of the event
 
--- what is said of the router-LSA, was said before the event; what may wait, waits
+-- what the router-LSA said, it said before the event; what may wait, waits
 begun : (was moment : ℕ) → was ≤ moment → (text now : List ℕ) (may_wait : Key → Type 0) (id : ℕ) (a : ByKey External) (w : KeySet) (o s : ByKey ℕ)
     → ((q : Key) (at : ℕ) → finite.get s q ≡ Some at → finite.get o q ≡ Some at) → ((q : Key) → IsWanted id a q → set.contains w q ≡ true → may_wait q)
     → (q : Key) (c : DatabaseCopy) → Fits was (told text anything) id a w o q c
@@ -78,7 +77,7 @@ module _ (old : Router) (moment : ℕ) (later : old.moment ≤ moment) (h : Stan
   earlier_so : (key : Key) (at : ℕ) → finite.get old.originated key ≡ Some at → at ≤ moment
   earlier_so key at last = let first : at ≤ old.moment = h.earlier key at last in omega arith
 
-  -- ---- but for a Tick
+  -- ---- events other than a Tick
 
   abbrev plain : Terms
   plain = told text anything
@@ -130,7 +129,7 @@ module _ (old : Router) (moment : ℕ) (later : old.moment ≤ moment) (h : Stan
       subst (λ (p : EventState). Rests (λ q. false ≡ true) moment (end_event old moment p)) (sym is)
       (ended_kept old moment (among [] of_tick) (after_tick moment start) refl tick_agreed ticked)
 
-  -- ---- the whole event
+  -- ---- the complete event
 
   plainly : (after : EventState) → InProgress moment plain after → Rests anything moment (end_event old moment after)
   plainly after so = ended_kept old moment plain after refl (λ same. refl) so
@@ -168,7 +167,7 @@ module _ (old : Router) (moment : ℕ) (later : old.moment ≤ moment) (h : Stan
   rests (Occurrence.LinkDown number) after part =
       plainly after (subst (InProgress moment plain) (sym part) (record { externals = started.externals; earlier = started.earlier; copies = started.copies }))
 
--- the packets that are sent don't count
+-- the packets that are sent don't matter
 unsent : (may_wait : Key → Type 0) (moment : ℕ) (p : EventState) → Rests may_wait moment p → Rests may_wait moment (at_rest p.router)
 unsent may_wait moment p so = record { externals = so.externals; earlier = so.earlier; copies = so.copies }
 
@@ -239,9 +238,9 @@ run_kept (s ∷ steps) old new clock run h =
 runs : (c : Config) (steps : List Step) (r : Router) → ClockRunsOn c.start steps → Run (initial c) steps r → Stands r
 runs c steps r clock run = run_kept steps (initial c) r (subst (λ (m : ℕ). ClockRunsOn m steps) (sym (initial_moment c)) clock) run (initial_kept c)
 
--- ---- in the law's words
+-- ---- in terms of the law
 
--- it says what is wanted, or may wait, or is held back
+-- it has the wanted body, or may wait, or only MinLSInterval prevents the replacement
 module _ (may_wait : Key → Type 0) (r : Router) (key : Key) (copy : DatabaseCopy) (so : Rests may_wait r.moment (at_rest r)) (own : IsOwnCopy r key copy)
     (keyed : lsa_key copy.lsa ≡ key) where
   abbrev Told : Type 0

@@ -1,5 +1,6 @@
--- How an own copy stands at a point of an event: it is at MaxAge, or says what is wanted, or said
--- so before, or waits, or is held back; and databases in which all own copies stand so.
+-- The invariant of an own copy at a point of an event: it is at MaxAge, or has the wanted body, or
+-- had it before, or waits, or only MinLSInterval prevents its replacement; and databases in which
+-- it holds of all own copies.
 use Rattle.std.proofs.Common.{◌≡◌, ℕ, ◌+◌, ◌-◌, ◌<◌, ◌≤◌, min, Bool, true, false, cond, ◌⊎◌, inl, inr, List, [], ◌∷◌, Option, None, Some, refl, sym, ap, subst, ◌∙◌, arith, eq-eqb, eqb-true}
 use Rattle.std.specs.List.{fold}
 use Rattle.std.specs.Cmp.{tied_itself}
@@ -26,7 +27,7 @@ use Rattle.flood_laws.proofs.Limits.{tied_key}
 pub same_itself : (key : Key) → same_key key key ≡ true
 same_itself key = ap is_eq (tied_itself keys_total key)
 
--- ---- what is wanted
+-- ---- which LSAs are wanted
 
 abbrev pub IsWanted : ℕ → ByKey External → Key → Type 0
 IsWanted id announced key = (same_key key (router_key id) ≡ true) ⊎ ((same_key key (router_key id) ≡ false) × ((e : External) × (finite.get announced key ≡ Some e)))
@@ -44,7 +45,7 @@ pub wants : (r : Router) (key : Key) → IsWanted r.id r.announced key → (says
 wants r key (inl same) = (router_body r.area.links, wanted_router_lsa r key same)
 wants r key (inr is) = (external_body is.1.0, wanted_external r key is.1.0 is.0 is.1.1)
 
--- what is wanted is the router-LSA, or announces a destination
+-- the router-LSA, or the LSA of an announced destination
 pub data Wants (r : Router) (key : Key) (says : Body) : Type 0 where
   RouterLsa : same_key key (router_key r.id) ≡ true → router_body r.area.links ≡ says → Wants r key says
   Destination : same_key key (router_key r.id) ≡ false → (e : External) → finite.get r.announced key ≡ Some e → external_body e ≡ says → Wants r key says
@@ -71,10 +72,10 @@ is_wanted_of r key says is = by_case (wanted_as r key says is)
     by_case (Wants.RouterLsa same it) = inl same
     by_case (Wants.Destination other e there it) = inr (other, (e, there))
 
--- ---- how a copy stands
+-- ---- the invariant of a copy
 
--- the router-LSA's text before the event and by now; which keys may wait for a Tick; and of which
--- keys nothing is said
+-- the bytes of the router-LSA before the event and now; which keys may wait for a Tick; and for
+-- which keys nothing is required
 pub record Terms : Type 1 where
   pub before : List ℕ
   pub now : List ℕ
@@ -92,7 +93,7 @@ pub data Standing (moment : ℕ) (t : Terms) (id : ℕ) (announced : ByKey Exter
       → Standing moment t id announced waiting originated key lsa stored
   Excused : t.excused key → Standing moment t id announced waiting originated key lsa stored
 
--- from one way of speaking of a copy to another
+-- from one form of the invariant of a copy to another
 pub record Recasts (moment : ℕ) (t u : Terms) (id : ℕ) (a b : ByKey External) (w v : KeySet) (o s : ByKey ℕ) (key : Key) (lsa : Lsa) (stored : ℕ) : Type 0 where
   pub announced : (e : External) → same_key key (router_key id) ≡ false → finite.get a key ≡ Some e → finite.get b key ≡ Some e
   pub waiting : set.contains w key ≡ true → set.contains v key ≡ true
@@ -117,8 +118,8 @@ module _ (moment : ℕ) (t u : Terms) (id : ℕ) (a b : ByKey External) (w v : K
   recast (Standing.HeldBack at wanted there last recent) = Standing.HeldBack at (still_wanted wanted) (by.waiting there) (by.originated at last) recent
   recast (Standing.Excused is) = by.excused is
 
--- ---- what a copy fits: no own instance of its key was originated after it was stored, and as an
--- own one it stands
+-- ---- no instance of its key was originated by this router after it was stored, and the invariant
+-- holds of it if it is its own
 
 abbrev pub Fits : ℕ → Terms → ℕ → ByKey External → KeySet → ByKey ℕ → Key → DatabaseCopy → Type 0
 Fits moment t id announced waiting originated key c =
@@ -134,7 +135,7 @@ if_there P R key (Some c) so h = so c refl h
 pub all_so : (P R : Key → DatabaseCopy → Type 0) (db : Database) → ((key : Key) (c : DatabaseCopy) → finite.get db key ≡ Some c → P key c → R key c) → AllIn P db → AllIn R db
 all_so P R db so all key = if_there P R key (finite.get db key) (so key) (all key)
 
--- all but at one key, and there
+-- all copies except that of one key, and that one
 pub closed_at : (P R : Key → DatabaseCopy → Type 0) (db : Database) (key : Key)
     → ((q : Key) (c : DatabaseCopy) → same_key q key ≡ false → P q c → R q c)
     → ((c : DatabaseCopy) → finite.get db key ≡ Some c → P key c → R key c) → AllIn P db → AllIn R db
@@ -150,7 +151,7 @@ closed_at P R db key others here = all_so P R db by_key
     by_key : (q : Key) (c : DatabaseCopy) → finite.get db q ≡ Some c → P q c → R q c
     by_key q c there h = choose q c (same_key q key) refl there h
 
--- a copy is put in the place of that of its key
+-- a copy replaces that of its key
 pub put_at : (P R : Key → DatabaseCopy → Type 0) (db : Database) (key : Key) (c : DatabaseCopy)
     → ((q : Key) (d : DatabaseCopy) → same_key q key ≡ false → P q d → R q d) → R key c → AllIn P db → AllIn R (finite.insert db key c)
 put_at P R db key c others here all q =
@@ -158,7 +159,7 @@ put_at P R db key c others here all q =
     (chosen (IfThere R q) (same_key q key) (Some c) (finite.get db q)
     (λ is. subst (λ (k : Key). R k c) (sym (tied_key q key is)) here) (λ other. if_there P R q (finite.get db q) (λ d there h. others q d other h) (all q)))
 
--- ---- what is sent marks copies, and leaves them otherwise
+-- ---- what is sent marks copies, and changes nothing else
 
 abbrev pub marks : ℕ → List Send → Database → Database
 marks moment more db = fold (λ (d : Database) (s : Send). marked_database moment d s.content) db more
@@ -197,7 +198,7 @@ aged moment c = record c { lsa = lsa_aged 3600 c.lsa; stored = moment }
 pub flushed_age : (moment : ℕ) → is_max_age (age_at 3600 moment moment) ≡ true
 flushed_age moment = eq-eqb (min 3600 (3600 + (moment - moment))) 3600 (omega arith)
 
--- at MaxAge an age stays
+-- an age stays at MaxAge
 pub stays_aged : (age stored before now : ℕ) → is_max_age (age_at age stored before) ≡ true → before ≤ now → is_max_age (age_at age stored now) ≡ true
 stays_aged age stored before now is later =
     let at : min 3600 (age + (before - stored)) ≡ 3600 = eqb-true (min 3600 (age + (before - stored))) 3600 is in

@@ -1,4 +1,4 @@
--- The worked routers speak for themselves, or don't.
+-- The worked routers that speak for themselves, and those that don't.
 use Rattle.std.proofs.Common.{◌≡◌, ℕ, ◌+◌, ◌<◌, Bool, true, false, cond, ◌⊎◌, inl, inr, [], Option, None, Some, refl, sym, ap, subst, ◌∙◌, arith, true≢false}
 use Rattle.std.specs.FinMap as finite
 use Rattle.std.specs.FinSet as set
@@ -18,7 +18,7 @@ use Rattle.own_lsa_laws.specs.Worked.{WorkedOwnCopies, holding, other_links, unw
 use Rattle.own_lsa_laws.proofs.Parts.{at_same, originated_now, waits_there}
 use Rattle.own_lsa_laws.proofs.Standing.{same_itself}
 
--- ---- a database of one copy
+-- ---- a database with one copy
 
 abbrev copied : ℕ → Lsa → DatabaseCopy
 copied moment lsa = record { lsa = lsa; stored = moment; installed = Some 20; sent = None }
@@ -39,7 +39,7 @@ abbrev copy_or : DatabaseCopy → Option DatabaseCopy → DatabaseCopy
 copy_or other None = other
 copy_or other (Some c) = c
 
--- what is found there is that copy
+-- each copy of that database is this one
 is_only : (P : Key → DatabaseCopy → Type 0) (key : Key) (c : DatabaseCopy) → P key c → (q : Key) (d : DatabaseCopy) → finite.get (one_copy key c) q ≡ Some d → P q d
 is_only P key c here q d there = by_key (same_key q key) refl (sym (finite.get-insert keys_total no_copies key c q) ∙ there)
   where
@@ -48,7 +48,7 @@ is_only P key c here q d there = by_key (same_key q key) refl (sym (finite.get-i
         subst (λ (k : Key). P k d) (sym (tied_key q key same)) (subst (P key) (ap (copy_or c) found) here)
     by_key false other found = let nothing : None ≡ Some d = sym (finite.get-empty key_cmp q) ∙ found in absurd cc
 
--- ---- what isn't wanted
+-- ---- an unwanted LSA
 
 wants_none : wanted_body (holding unwanted_key unwanted) unwanted_key ≡ None
 wants_none = ap announced_body (finite.get-empty key_cmp unwanted_key)

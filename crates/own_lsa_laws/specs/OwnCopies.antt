@@ -1,5 +1,6 @@
--- What stands in the database as this router's own, whoever brought it: the router wants to say it,
--- or it is replaced or flushed, once MinLSInterval is over (RFC 2328, sections 12.4 and 13.4).
+-- The copies in the database with this router's own Advertising Router, whoever originated them:
+-- the router wants to say what they say, or they are replaced or flushed, as soon as MinLSInterval
+-- allows it (RFC 2328, sections 12.4 and 13.4).
 use Rattle.std.specs.Prelude.{◌≡◌, ◌≤◌, ◌<◌, ◌+◌, ◌⊎◌, true, false, List, [], ◌∷◌, Some}
 use Rattle.std.specs.FinMap as finite
 use Rattle.std.specs.FinSet as set
@@ -15,28 +16,28 @@ use Rattle.events.specs.Events.{Happens, Run, Step, initial}
 use Rattle.events.specs.Originations.{wanted_body}
 use Rattle.events.specs.Routers.{Occurrence, Router}
 
--- ---- a copy that speaks for this router
+-- ---- a copy in this router's name
 
--- it bears the own Router ID as its Advertising Router, and is below MaxAge
+-- its Advertising Router is this router, and it is below MaxAge
 pub record IsOwnCopy (r : Router) (key : Key) (copy : DatabaseCopy) : Type 0 where
   pub there : finite.get r.area.database key ≡ Some copy
   pub own : copy.lsa.header.advertising_router ≡ r.id
   pub young : is_aged_out r.moment copy ≡ false
 
--- the router wants an LSA of this key, and the copy says what that is to say
+-- the router wants an LSA of this key, and the copy has the wanted body
 pub record SaysWhatIsWanted (r : Router) (key : Key) (copy : DatabaseCopy) : Type 0 where
   pub says : Body
   pub wanted : wanted_body r key ≡ Some says
   pub same : same_body copy.lsa.body says ≡ true
 
--- the router wants an LSA of this key, and waits for a Tick to originate it
+-- the router wants an LSA of this key, which waits for a Tick
 pub record IsToBeReplaced (r : Router) (key : Key) : Type 0 where
   pub says : Body
   pub wanted : wanted_body r key ≡ Some says
   pub waits : set.contains r.waiting key ≡ true
 
--- MinLSInterval alone keeps the router from that: it originated an instance less than five seconds
--- ago, and the copy is no older
+-- only MinLSInterval prevents the replacement: the router originated an instance less than five
+-- seconds ago, and the copy was stored no earlier
 pub record IsHeldBack (r : Router) (key : Key) (copy : DatabaseCopy) : Type 0 where
   pub replaced : IsToBeReplaced r key
   pub originated : Moment
@@ -46,13 +47,12 @@ pub record IsHeldBack (r : Router) (key : Key) (copy : DatabaseCopy) : Type 0 wh
 
 -- ---- a router
 
--- each such copy says what the router wants to say, or waits to be replaced; what isn't wanted is
--- at MaxAge
+-- each such copy has the wanted body, or waits to be replaced; what isn't wanted is at MaxAge
 abbrev pub SpeaksForItself : Router → Type 0
 SpeaksForItself r = (key : Key) (copy : DatabaseCopy) → IsOwnCopy r key copy
     → SaysWhatIsWanted r key copy ⊎ IsToBeReplaced r key
 
--- as a Tick leaves it: MinLSInterval alone holds back
+-- after a Tick: only MinLSInterval prevents a replacement
 abbrev pub SpeaksForItselfAfterTick : Router → Type 0
 SpeaksForItselfAfterTick r = (key : Key) (copy : DatabaseCopy) → IsOwnCopy r key copy
     → SaysWhatIsWanted r key copy ⊎ IsHeldBack r key copy
@@ -64,7 +64,7 @@ abbrev pub ClockRunsOn : Moment → List Step → Type 0
 ClockRunsOn moment [] = Unit {0}
 ClockRunsOn moment (s ∷ steps) = (moment ≤ s.moment) × ClockRunsOn s.moment steps
 
--- a Tick at the end of a run from the start
+-- a run from the start that ends with a Tick
 pub record EndsWithTick (c : Config) (moment : Moment) (r : Router) : Type 0 where
   pub steps : List Step
   pub before : Router
@@ -80,7 +80,7 @@ pub record NobodySpeaksForThisRouter : Type 0 where
       → Run (initial c) steps r → SpeaksForItself r
   pub tick : (c : Config) (moment : Moment) (r : Router) → EndsWithTick c moment r
       → SpeaksForItselfAfterTick r
-  -- so the first Tick from the fifth second on has replaced or flushed what was stored before
+  -- so the first Tick at least five seconds after a copy was stored has replaced or flushed it
   pub in_five_seconds : (c : Config) (moment : Moment) (r : Router) → EndsWithTick c moment r
       → (key : Key) (copy : DatabaseCopy) → IsOwnCopy r key copy
       → copy.stored + min_ls_interval ≤ moment → SaysWhatIsWanted r key copy

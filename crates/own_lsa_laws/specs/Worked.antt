@@ -1,4 +1,4 @@
--- Router 7, without a neighbor, and LSAs in its name that came from elsewhere at moment 20.
+-- Router 7, without a neighbor, and LSAs in its name that other routers sent at moment 20.
 use Rattle.std.specs.Prelude.{pos, [], ◌∷◌, None, Some}
 use Rattle.std.specs.FinMap as finite
 use Rattle.std.specs.FinSet as set
@@ -46,7 +46,7 @@ unwanted_key = record { ls_type = 5; link_state_id = 0xc0000200; advertising_rou
 abbrev pub unwanted : Lsa
 unwanted = lsa_under unwanted_key (external_body destination)
 
--- its router-LSA, with a link to 192.0.2.0/24
+-- its router-LSA, with a stub link to 192.0.2.0/24
 abbrev pub other_links : Lsa
 other_links = lsa_under (router_key 7) (body.Router (record {
   flags = 2;
@@ -59,7 +59,7 @@ other_links = lsa_under (router_key 7) (body.Router (record {
   } ∷ [];
 }))
 
--- ---- routers whose database has one of them alone
+-- ---- routers whose database has only one of them
 
 abbrev pub holding : Key → Lsa → Router
 holding key lsa = record (with_links 7 [] 20) {
@@ -71,7 +71,7 @@ holding key lsa = record (with_links 7 [] 20) {
   };
 }
 
--- it waits for a Tick with its router-LSA, which it originated last at moment 20
+-- its router-LSA, which it last originated at moment 20, waits for a Tick
 abbrev pub waiting_at : Moment → Router
 waiting_at moment = record (holding (router_key 7) other_links) {
   waiting = set.insert set.empty (router_key 7);
@@ -80,15 +80,15 @@ waiting_at moment = record (holding (router_key 7) other_links) {
 }
 
 pub record WorkedOwnCopies : Type 0 where
-  -- left as it came, what isn't wanted speaks for router 7; flushed, it doesn't
+  -- a router that keeps an unwanted LSA doesn't speak for itself; one that flushes it does
   pub left_alone : SpeaksForItself (holding unwanted_key unwanted) → ⊥
   pub flushed : SpeaksForItself (flush 20 unwanted_key (record {
     router = holding unwanted_key unwanted;
     sends = [];
   })).router
-  -- so does a router-LSA that says otherwise, unless it waits to be replaced
+  -- nor does one with a router-LSA with other links, unless that waits to be replaced
   pub not_waiting : SpeaksForItself (holding (router_key 7) other_links) → ⊥
   pub waiting : SpeaksForItself (waiting_at 20)
-  -- after the Ticks of 4 seconds later, and of 5
+  -- after Ticks 4 and 5 seconds later
   pub in_time : SpeaksForItselfAfterTick (waiting_at 24)
   pub too_late : SpeaksForItselfAfterTick (waiting_at 25) → ⊥

@@ -1,4 +1,4 @@
--- The whole history.
+-- The complete history.
 use Rattle.std.proofs.Common.{◌≡◌, ℕ, List, [], ◌∷◌, None, Some, refl, sym, subst, ◌∙◌, arith}
 use Rattle.std.specs.List.{Contains}
 use Rattle.std.specs.FinMap as finite
@@ -33,7 +33,7 @@ has_begun id address = record { config = config id address; router = sym (begins
 abbrev ends : Ends
 ends = record { left = 1; right = 1 }
 
--- what comes in is this text of the other one
+-- the bytes that are received encode this packet of the other router
 only : (heard : List (List ℕ)) (p : Packet) → Contains heard (canonical p) → (bytes : List ℕ) → Occurrence.Packet 1 (canonical p) ≡ Occurrence.Packet 1 bytes → Contains heard bytes
 only heard p among bytes is = subst (λ (x : List ℕ). Contains heard x) same among
   where

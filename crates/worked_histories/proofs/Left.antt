@@ -1,5 +1,5 @@
--- The events of the left router, whose Router ID is 1: it hears a Hello, sends one, and exchanges
--- Descriptions as the slave.
+-- The events of the left router, with the Router ID 1: it receives a Hello, sends one, and
+-- exchanges Database Descriptions as the slave.
 use Rattle.std.proofs.Common.{◌≡◌, ℕ, Bool, true, false, cond, not, ◌&&◌, ◌||◌, List, [], ◌∷◌, length, map, take, drop, None, Some, is_some, refl, sym, ap, ◌∙◌}
 use Rattle.std.specs.Prelude.{◌==◌, nat_lt}
 use Rattle.std.specs.FinMap as finite
@@ -47,7 +47,7 @@ b = 0x0a00_0002
 abbrev pub k : Key
 k = lsa_key (lsa 1 a)
 
--- ---- a Hello that doesn't name it
+-- ---- a Hello that doesn't list it
 
 abbrev pub its_hello : Packet
 its_hello = record { router = 2; body = body.Hello (hello_on (link_with b None None)) }
@@ -61,7 +61,7 @@ heard = record { router = router_with 1 (link_with a (Some init) None) (database
 pub hears : heard ≡ after_packet 0 1 its_hello (start_event 0 (begun 1 a))
 hears = sym (ap (after_packet 0 1 its_hello) (begins 0 (begun 1 a) (no_time_passes 0 (finite.entries (database 1 a)))))
 
--- the copy stays
+-- the copy stays in the database
 kept_by : (link : Link) → finite.retain_keys (database 1 a) (stays 0 (record { links = link ∷ []; database = database 1 a })) ≡ database 1 a
 kept_by link = retained 1 a (stays 0 (record { links = link ∷ []; database = database 1 a })) (stays_young 1 a (link ∷ []))
 
@@ -98,7 +98,7 @@ greets_end =
     ends_by heard.router 0 greets_with refl refl
     ∙ ap (λ (db : Database). record { router = router_with 1 (link_with a (Some init) (Some 0)) db (times 1) 0; sends = greets_with.sends }) (kept_by (link_with a (Some init) (Some 0)))
 
--- ---- the opening Description
+-- ---- the initial Database Description
 
 abbrev pub opens : Packet
 opens = record { router = 2; body = body.Description (initial_description 3600) }
@@ -119,7 +119,7 @@ none_aged =
     (λ i. finite.from_entries {R = key_cmp} (map (λ (e : Key × DatabaseCopy). (e.0, list_entry_of 0 e.1)) (filter (λ e. is_aged_out 0 e.1) (entries_of 1 a i))))
     ∙ (λ i. finite.from_entries {R = key_cmp} (map (λ (e : Key × DatabaseCopy). (e.0, list_entry_of 0 e.1)) (cond (young 1 a i) ((k, copy 1 a) ∷ []) [])))
 
--- as the slave, by what is on its lists
+-- as the slave, with these lists
 abbrev exchanging : ByKey ListEntry → ByKey ListEntry → Neighbor
 exchanging summary retransmissions = record (enter_exstart 0 init).neighbor {
   state = Exchange;
@@ -135,7 +135,7 @@ abbrev described_by : Step → EventState
 described_by s =
     on_area (λ o. one_neighbor 0 1 (λ (m : Neighbor). then_ (enter_exstart 0 init) (λ (x : Neighbor). s)) o) (record { router = greets_with.router; sends = [] })
 
--- the reply, by the entries that are described
+-- the reply, with these entries
 abbrev pub reply_of : List (Key × ListEntry) → ℕ → Description
 reply_of es count = record {
   mtu = 8192;
@@ -191,7 +191,7 @@ replies_end =
     ∙ (λ i. on_router (λ (r : Router). record r { moment = 0 })
     (on_area (λ o. remove_aged 0 (one_neighbor 0 1 (λ (x : Neighbor). cond (true && not (nothing_in ListEntry i) && set.len m.outstanding == 0) (asking m) (no_sends m)) o)) replied))
 
--- ---- the last Description
+-- ---- the last Database Description
 
 abbrev pub last_one : Description
 last_one = record { mtu = 8192; options = 2; init = false; more = false; master = true; sequence = 3601; headers = [] }
@@ -245,7 +245,9 @@ finishes =
     let count : ℕ = finite.len-empty key_cmp ListEntry i in
     with_full (cond (nat_lt 408 count || false) (answering es count) (done_by es count (nothing_in ListEntry i)))))
 
--- ---- its end: the router-LSA would tell of a Full neighbor, but its five seconds aren't over
+-- ---- the end of the event: the router-LSA would get a link to the Full neighbor, but
+-- MinLSInterval
+-- hasn't passed
 
 has_not_told : copy_has_body (router_body finished.router.area.links) (Some (copy 1 a)) ≡ false
 unfolding sealed_lsa

@@ -1,4 +1,4 @@
--- The packets of the history, and that they are written as their texts.
+-- The packets of the history, and that their encodings are valid.
 use Rattle.std.proofs.Common.{[], ◌∷◌, None, Some, refl, arith, rules}
 use Rattle.lsa.specs.Origination.{sealed_lsa}
 use Rattle.lsdb.specs.Headers.{key_of}

@@ -1,5 +1,6 @@
--- The events of the right router, whose Router ID is 2: it sends a Hello, and an hour later, when
--- its own router-LSA has left at MaxAge, it hears one and exchanges Descriptions as the master.
+-- The events of the right router, with the Router ID 2: it sends a Hello; an hour later, when its
+-- own router-LSA has been removed at MaxAge, it receives one and exchanges Database Descriptions as
+-- the master.
 use Rattle.std.proofs.Common.{◌≡◌, ℕ, Bool, true, false, cond, not, ◌&&◌, ◌||◌, List, [], ◌∷◌, length, map, take, drop, None, Some, is_some, refl, sym, ap, ◌∙◌}
 use Rattle.std.specs.Prelude.{◌==◌, nat_lt}
 use Rattle.std.specs.FinMap as finite
@@ -48,7 +49,7 @@ greets_end =
     ∙ ap (λ (db : Database). record { router = router_with 2 (link_with b None (Some 0)) db (times 2) 0; sends = greets_first.sends })
     (retained 2 b (stays 0 (record { links = link_with b None (Some 0) ∷ []; database = database 2 b })) (stays_young 2 b (link_with b None (Some 0) ∷ [])))
 
--- ---- an hour later a Hello that names it
+-- ---- an hour later a Hello that lists it
 
 abbrev pub its_hello : Packet
 its_hello = record { router = 1; body = body.Hello (hello_on (link_with a (Some init) None)) }
@@ -110,7 +111,7 @@ next_one es count = record {
   headers = map (λ (e : Key × ListEntry). aged_header 3600 e.1) (take 408 es);
 }
 
--- as the master, by the lists, by whether the LSA is wanted, and by the entries that are described
+-- as the master, with these lists, by whether the LSA is wanted, and with these entries
 abbrev leads_with : ByKey ListEntry → Bool → List (Key × ListEntry) → ℕ → Step
 leads_with retransmissions wanted es count = record {
   neighbor = record opener {

@@ -1,4 +1,4 @@
--- Two routers with one interface each, as they begin, and what is left of the one copy that each
+-- Two routers with one interface each at their start, and what becomes of the one copy that each
 -- holds.
 use Rattle.std.proofs.Common.{◌≡◌, ℕ, Bool, true, false, cond, not, ◌&&◌, ◌||◌, List, [], ◌∷◌, length, Option, None, Some, is_some, refl, sym, ap, subst, ◌∙◌, arith}
 use Rattle.std.specs.Prelude.{◌==◌, nat_lt}
@@ -31,7 +31,7 @@ interface address = record { address = address; length = 24; cost = 1; hello_int
 abbrev pub config : ℕ → ℕ → Config
 config id address = record { router = id; start = 0; interfaces = interface address ∷ [] }
 
--- the router-LSA with which a router begins
+-- the first router-LSA of a router
 abbrev pub lsa : ℕ → ℕ → Lsa
 lsa id address = new_instance (router_key id) None (router_body (fresh_link (interface address) ∷ []))
 
@@ -118,7 +118,7 @@ module _ (id address : ℕ) (test : Key → Bool) where
   by_test : (q : Key) → finite.get (finite.retain_keys (database id address) test) q ≡ cond (test q) (finite.get (database id address) q) None
   by_test q = finite.get-retain_keys (database id address) test q (λ y e. ap test (sym (keys_exact q y e)))
 
-  -- it stays, or leaves
+  -- it stays, or is removed
   pub retained : test k ≡ true → finite.retain_keys (database id address) test ≡ database id address
   retained so = finite.same_map keys_total keys_exact (finite.retain_keys (database id address) test) (database id address) (λ q. by_test q ∙ by_key q (same_key q k) refl)
     where
@@ -135,7 +135,7 @@ module _ (id address : ℕ) (test : Key → Bool) where
       by_key q true same = ap (λ b. cond b (finite.get (database id address) q) None) (ap test (tied_key q k same) ∙ so)
       by_key q false other = ap (λ (c : Option DatabaseCopy). cond (test q) c None) (put_other finite.empty k q (copy id address) other ∙ finite.get-empty {X = DatabaseCopy} key_cmp q) ∙ neither (test q)
 
--- it begins with age 0, and comes to MaxAge in an hour
+-- its age is 0 at first, and it reaches MaxAge after an hour
 pub young : (id address : ℕ) → is_aged_out 0 (copy id address) ≡ false
 unfolding sealed_lsa
 young id address = refl
@@ -144,7 +144,7 @@ pub old : (id address : ℕ) → is_aged_out 3600 (copy id address) ≡ true
 unfolding sealed_lsa
 old id address = refl
 
--- so it stays in the database at first, and not then, since nobody owes an acknowledgment of it
+-- so it stays in the database at first, but not then, since it is on no retransmission list
 pub stays_young : (id address : ℕ) (links : List Link) → stays 0 (record { links = links; database = database id address }) (lsa_key (lsa id address)) ≡ true
 stays_young id address links =
     ap (stays_as 0 (any_has_retransmission (lsa_key (lsa id address)) links)) (found_there id address)

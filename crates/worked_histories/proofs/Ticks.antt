@@ -1,4 +1,4 @@
--- A Tick in the first second: nothing is due but the first Hello.
+-- A Tick in the first second: only the first Hello is due.
 use Rattle.std.proofs.Common.{◌≡◌, ℕ, Bool, true, false, cond, not, ◌&&◌, ◌||◌, List, [], ◌∷◌, ◌++◌, map, Option, None, Some, refl, ap, ◌∙◌}
 use Rattle.std.specs.List.{filter}
 use Rattle.std.specs.FinMap as finite
@@ -25,7 +25,7 @@ use Rattle.events.specs.Ticks.{acknowledge_all, after_tick, send_all_again, send
 use Rattle.conversations.proofs.WorkedEnds.{begins, no_time_passes}
 use Rattle.worked_histories.proofs.Start.{copy, database, first_times, found, link_with, no_entries, router_with}
 
--- what is left of the times of originations
+-- the moments of originations that are kept
 abbrev pub times : ℕ → ByKey ℕ
 times id = finite.retain_keys (first_times id) (λ key. is_recent 0 (finite.get (first_times id) key))
 
@@ -66,7 +66,7 @@ module _ (id address : ℕ) (n : Option Neighbor) where
       (λ i. filter (is_due 0 (resting n).router) (router_key id ∷ map (λ (e : Key × External). e.0) (no_entries External i)))
       ∙ (λ i. cond (not_due i) (router_key id ∷ []) [])
 
-  -- by the neighbor and what it is sent again
+  -- with the neighbor and what is retransmitted to it
   abbrev again_by : Option Neighbor → List Content → EventState
   again_by m contents =
       on_area
@@ -75,7 +75,7 @@ module _ (id address : ℕ) (n : Option Neighbor) where
       (sending 0 (sends_at 1 contents ++ []) (on_links (λ (links : List Link). record (link_with address n None) { neighbor = m } ∷ []) o))))
       (resting n)
 
-  -- by the acknowledgments that wait
+  -- with these delayed acknowledgments
   abbrev acknowledged_by : List (Key × Header) → EventState
   acknowledged_by es =
       on_area

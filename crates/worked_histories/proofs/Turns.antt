@@ -1,4 +1,4 @@
--- A turn by what the event makes of the router.
+-- A turn, from what the event does to the router.
 use Rattle.std.proofs.Common.{◌≡◌, ℕ, ◌≤◌, List, ◌++◌, refl, sym, ap, subst}
 use Rattle.std.specs.List.{AllByRecursion, Contains, filter_map}
 use Rattle.events.specs.Endings.{end_event, start_event}

@@ -1,5 +1,5 @@
 -- A worked history of two neighbors: all premises of the law that Full neighbors agree on what was
--- renewed can be met at once, and it needs its exception of what was described.
+-- refreshed can be met at once, and its exception for what was described is needed.
 use Rattle.std.specs.Prelude.{◌≡◌, List, Some}
 use Rattle.std.specs.FinMap as finite
 use Rattle.words.specs.declared.key.Key.{Key}
@@ -9,8 +9,8 @@ use Rattle.agreement_laws.specs.NeighborHistories.{other_side, party}
 use Rattle.agreement_laws.specs.NeighborsAgree.{HoldsAsNew, IsAtRest}
 use Rattle.events.specs.LsaInstances.{instance_of_lsa}
 
--- a history after which a router is Full with the other one, holds a copy, and is owed no
--- acknowledgment of it
+-- a history after which a router is Full with the other one, holds a copy, and doesn't have it on
+-- the retransmission list
 pub record AHistoryMeetsThePremises : Type 0 where
   pub ends : Ends
   pub now : Pair
@@ -21,5 +21,5 @@ pub record AHistoryMeetsThePremises : Type 0 where
   pub at_rest : IsAtRest (interface_of side ends) key (party side now).router
   pub copy : DatabaseCopy
   pub there : finite.get (party side now).router.area.database key ≡ Some copy
-  -- the other one lacks it: it was described to it, and is requested by now
+  -- the other one doesn't have it: it was described to it, and is requested now
   pub lacks : HoldsAsNew (party (other_side side) now).router (instance_of_lsa copy.lsa) → ⊥
