@@ -1,4 +1,4 @@
--- Ages and ranks: what was as new stays so while both grow older.
+-- Ages and ranks: what is at least as new stays so while both age.
 use Rattle.std.proofs.Common.{◌≡◌, ℕ, ◌≤◌, ◌<◌, Bool, true, false, not, ◌&&◌, refl, sym, ap, ◌∙◌, arith}
 use Rattle.std.specs.Prelude.{nat_lt}
 use Rattle.std.specs.declared.cmp.Ordering.{Ordering}
@@ -15,7 +15,7 @@ use Rattle.agreement_laws.proofs.Ranks.{itself_at_least}
 
 -- ---- ages
 
--- at its own moment an age is what it is
+-- at its own moment an age is unchanged
 pub age_at_once : (age moment : ℕ) → age ≤ 3600 → age_at age moment moment ≡ age
 age_at_once age moment most = omega (arith, most)
 
@@ -51,38 +51,39 @@ by_max_age Equal Equal true q false true more less e = let no : false ≡ true =
 by_max_age Equal Equal false true false true more less e = absurd cc
 by_max_age Equal Equal false false false true more less e = let no : false ≡ true = less refl in absurd cc
 
--- as new as before, if the one side keeps MaxAge and the other doesn't come to it
+-- at least as new as before, if the one side stays at MaxAge and the other doesn't reach it
 pub still_at_least : (a b : Instance) (age other : ℕ) → (is_max_age a.age ≡ true → is_max_age age ≡ true) → (is_max_age other ≡ true → is_max_age b.age ≡ true)
     → is_at_least a b ≡ true → is_at_least (record a { age = age }) (record b { age = other }) ≡ true
 still_at_least a b age other more less e =
     by_max_age (int_cmp a.sequence b.sequence) (nat_cmp a.checksum b.checksum) (is_max_age a.age) (is_max_age b.age) (is_max_age age) (is_max_age other) more less e
 
--- a header that has its age now, as an entry of this moment
+-- a header with its present age, as an entry of this moment
 pub noted_at_least : (h : Header) (moment : ℕ) (b : Instance) → is_at_least (instance_of h) b ≡ true
     → is_at_least (listed_now moment (record { header = h; at = moment })) b ≡ true
 noted_at_least h moment b e = still_at_least (instance_of h) b (age_at h.age moment moment) b.age (max_age_stays h.age moment moment) (λ is. is) e
 
--- an entry that is described has the age by then
+-- an entry that is described has its present age
 pub described_at_least : (l : ListEntry) (moment : ℕ) (b : Instance) → is_at_least (listed_now moment l) b ≡ true
     → is_at_least (listed_now moment (record { header = record l.header { age = age_at l.header.age l.at moment }; at = moment })) b ≡ true
 described_at_least l moment b e =
     still_at_least (listed_now moment l) b (age_at (age_at l.header.age l.at moment) moment moment) b.age (max_age_stays (age_at l.header.age l.at moment) moment moment) (λ is. is) e
 
--- a copy that didn't just come to MaxAge hasn't won it
+-- a copy that hasn't just reached MaxAge
 not_just : (a b : Bool) → (a && not b) ≡ false → a ≡ true → b ≡ true
 not_just true true e is = refl
 not_just true false e is = absurd cc
 not_just false b e is = absurd cc
 
--- what was as new as a copy at the moment before is so now, unless the copy has come to MaxAge
--- since
+-- what was at least as new as a copy at the earlier moment still is, unless the copy has reached
+-- MaxAge since
 pub aged_at_least : (l : ListEntry) (c : DatabaseCopy) (before now : ℕ) → before ≤ now → has_just_aged_out before now c ≡ false
     → is_at_least (listed_now before l) (copy_now before c) ≡ true → is_at_least (listed_now now l) (copy_now now c) ≡ true
 aged_at_least l c before now later young e =
     still_at_least (listed_now before l) (copy_now before c) (age_at l.header.age l.at now) (age_now now c)
     (max_age_later l.header.age l.at before now later) (not_just (is_aged_out now c) (is_aged_out before c) young) e
 
--- an entry that is as the copy from its moment on is as new as the copy at any moment
+-- an entry that is the same as the copy since its moment is at least as new as the copy at any
+-- moment
 pub entry_at_least : (l : ListEntry) (c : DatabaseCopy) (now : ℕ) → ((moment : ℕ) → l.at ≤ moment → aged_header moment l ≡ copy_header moment c)
     → is_at_least (listed_now now l) (copy_now now c) ≡ true
 entry_at_least l c now same = by_moment (nat_lt now l.at) refl

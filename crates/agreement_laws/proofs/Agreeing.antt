@@ -1,4 +1,4 @@
--- Full neighbors agree on what was renewed.
+-- Full neighbors agree on what was refreshed.
 use Rattle.std.proofs.Common.{◌≡◌, ℕ, Bool, true, false, ◌⊎◌, inl, inr, List, [], ◌∷◌, Option, None, Some, refl, sym, ap, subst, ◌∙◌}
 use Rattle.std.specs.FinMap as finite
 use Rattle.std.specs.List.{Contains, filter_map}
@@ -27,7 +27,7 @@ use Rattle.agreement_laws.proofs.Settling.{HasAny, Settling}
 use Rattle.agreement_laws.proofs.Since.{Exchanged, SaidSince, settled}
 use Rattle.agreement_laws.proofs.Walk as walk
 
--- ---- in a Description, or else
+-- ---- in a Database Description, or otherwise
 
 module _ (ends : Ends) (side : Side) (with_it : Conversation) (header : Header) where
   abbrev number : ℕ
@@ -60,7 +60,7 @@ module _ (ends : Ends) (side : Side) (with_it : Conversation) (header : Header) 
           by_kind (inr told) = inr (told.0, (k.0, inl (e.0, e.1, told.1)))
       by_turn rest (inr more) = by_rest (rest more)
 
--- ---- what was told
+-- ---- what was said
 
 module _ (ends : Ends) (side : Side) (with_it : Conversation) (bytes : List ℕ) (name : LsaInstance) where
   in_step : (now : Pair) (earlier : List Pair) (h : IsHistory ends now earlier)
@@ -105,7 +105,7 @@ module _ (ends : Ends) (side : Side) (with_it : Conversation) (bytes : List ℕ)
       by_turn rest (inl e) = came before now h.0 e.0 e.1 e.2.is
       by_turn rest (inr more) = rest more
 
--- ---- what one holds, the other holds
+-- ---- if one holds an instance, the other does
 
 module _ (ends : Ends) (now : Pair) (earlier : List Pair) (history : IsHistory ends now earlier) (side : Side) (key : Key) (at_rest : IsAtRest (interface_of side ends) key (party side now).router)
     (copy : DatabaseCopy) (there : finite.get (party side now).router.area.database key ≡ Some copy) where
@@ -142,7 +142,7 @@ module _ (ends : Ends) (now : Pair) (earlier : List Pair) (history : IsHistory e
   empty : n.summary ≡ finite.empty
   empty = nothing_is_left own.life.config own.life.steps r own.life.run (interface_of side ends) n at_rest.there (ap is_exchange_done at_rest.full)
 
-  -- the other one told it, and holds it unless it has forgotten it
+  -- the other one sent it, and holds it unless it has lost it
   by_told : (header : Header) → key_of header ≡ key → is_as_new (instance_of_header header) name ≡ true → (bytes : List ℕ)
       → InPacket ends side (conversation_with n) header bytes now earlier history → Result
   by_told header is new bytes told = by_copy (finite.get other.area.database (lsa_key copy.lsa)) refl
@@ -229,7 +229,7 @@ module _ (ends : Ends) (now : Pair) (earlier : List Pair) (history : IsHistory e
   b_key : lsa_key b.lsa ≡ key
   b_key = (life_order now.right.router (remembers ends Side.Right now earlier history).life).retransmissions.keys key b b_there
 
-  -- the copy that is as new is the one that is there
+  -- the copy that is at least as new is the present one
   its_copy : (r : Router) (x y : DatabaseCopy) → lsa_key x.lsa ≡ key → finite.get r.area.database key ≡ Some y → HoldsAsNew r (instance_of_lsa x.lsa) → is_as_new (instance_of_lsa y.lsa) (instance_of_lsa x.lsa) ≡ true
   its_copy r x y of_key at has =
       let one : Some y ≡ Some has.copy = sym at ∙ ap (λ (k : Key). finite.get r.area.database k) (sym of_key) ∙ has.there in

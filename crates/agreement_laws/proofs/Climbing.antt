@@ -1,5 +1,5 @@
--- What each part of an event makes of the instance under a key: it stays, or one that is as new
--- takes its place, until it is removed.
+-- The instance of a key in each part of an event: it stays, or is replaced by one that is at least
+-- as new, until it is removed.
 use Rattle.std.proofs.Common.{◌≡◌, ℕ, ℤ, Bool, true, false, cond, not, ◌&&◌, ◌||◌, ◌⊎◌, inl, inr, List, [], ◌∷◌, map, Option, None, Some, is_some, refl, sym, ap, subst, ◌∙◌, arith}
 use Rattle.std.specs.Prelude.{pos, ◌+ℤ◌, ◌<ℤ◌, is_none}
 use Rattle.std.specs.declared.cmp.Ordering.{Ordering}
@@ -57,7 +57,7 @@ use Rattle.agreement_laws.proofs.Lists.{some_same}
 use Rattle.agreement_laws.proofs.Parts.{held_marked, held_other, held_put}
 use Rattle.agreement_laws.proofs.Ranks.{at_least_on, itself_at_least, newer}
 
--- ---- the next number is larger
+-- ---- the next sequence number is greater
 
 greater_by : (x : ℤ) (o : Ordering) → MatchOrdering o ((x +ℤ pos 1) <ℤ x) ((x +ℤ pos 1) ≡ x) (x <ℤ (x +ℤ pos 1)) → o ≡ Greater
 greater_by x Less h = absurd (omega (arith, ints, h))
@@ -71,7 +71,7 @@ originated_sequence : (key : Key) (c : Option DatabaseCopy) (says : LsaBody) →
 unfolding sealed_lsa
 originated_sequence key c says = refl
 
--- ---- which case an LSA is of
+-- ---- the case of an LSA
 
 newer_found : (a b c d e f g h : Bool)
     → first_case ((a, Case.NothingToFlush) ∷ (b, Case.TooSoon) ∷ (c, Case.Newer) ∷ (d, Case.BadRequest) ∷ (e, Case.ImpliedAcknowledgment) ∷ (f, Case.Duplicate) ∷ (g, Case.SequenceWraps) ∷ (h, Case.SentJustNow) ∷ []) Case.Older
@@ -103,18 +103,18 @@ is_newer_case moment copy sender synchronizing lsa is =
 -- ---- one key
 
 module _ (key : Key) (moment : ℕ) (first : Instance) where
-  -- what is held is as new
+  -- what is held is at least as new
   abbrev pub Climbs : Database → Type 0
   Climbs db = (i : Instance) × (held moment key db ≡ Some i) × (is_at_least i first ≡ true)
 
   pub sent : (more : List Send) (db : Database) → Climbs db → Climbs (fold (λ (d : Database) (s : Send). marked_database moment d s.content) db more)
   sent more db h = (h.0, held_marked moment key more db ∙ h.1, h.2)
 
-  -- another key's copy is put there
+  -- another key's copy is stored
   other : (k : Key) (c : DatabaseCopy) (db : Database) → same_key key k ≡ false → Climbs db → Climbs (finite.insert db k c)
   other k c db away h = (h.0, held_other moment key k c db away ∙ h.1, h.2)
 
-  -- this key's, which is as new
+  -- a copy of this key is stored that is at least as new
   pub same : (k : Key) (c : DatabaseCopy) (db : Database) → same_key key k ≡ true → is_at_least (copy_now moment c) first ≡ true → Climbs (finite.insert db k c)
   same k c db here new = (copy_now moment c, held_put moment key k c db here, new)
 
@@ -148,7 +148,7 @@ module _ (key : Key) (moment : ℕ) (first : Instance) where
       subst (λ (x : Option DatabaseCopy). Climbs (flood_from_nobody moment (lsa_aged 3600 c.lsa) (on_database (λ db. changed_by k flushed_copy o.area.database x) o)).area.database) (sym at)
       (sent (stepping_sends (flood_to moment None (lsa_aged 3600 c.lsa)) o.area.links) (finite.insert o.area.database k (flushed_copy c)) (flushed_there k c o.area.database at h))
 
-  -- a new instance is one past the number of the copy
+  -- a new instance has the sequence number after the copy's
   next_at_least : (lsa : Lsa) (c : DatabaseCopy) → lsa.header.sequence ≡ (c.lsa.header.sequence +ℤ pos 1)
       → is_at_least (copy_now moment (record { lsa = lsa; stored = moment; installed = None; sent = None })) (copy_now moment c) ≡ true
   next_at_least lsa c is =
@@ -286,7 +286,7 @@ module _ (key : Key) (moment : ℕ) (first : Instance) where
       by_copy (Some c) at = BecameOf.IsHeld c at (of_copy new.area.database key c refl at h)
   in_words new (inr h) = BecameOf.IsGone h.0 h.1 h.2 h.3 h.4
 
--- ---- the whole event
+-- ---- the complete event
 
 module _ (key : Key) (old : Router) (moment : ℕ) (event : Occurrence) (copy : DatabaseCopy) (there : finite.get old.area.database key ≡ Some copy) where
   abbrev first : Instance

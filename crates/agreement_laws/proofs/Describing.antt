@@ -1,6 +1,6 @@
--- What a received Description makes of a copy that is settled with the neighbor: the exchange
--- begins with all copies on one of its lists, what leaves the summary list is described, and what
--- is requested was told.
+-- A copy that is settled with the neighbor, after a received Database Description: the exchange
+-- begins with all copies on one of its lists, what is removed from the Database summary list is
+-- described, and what is requested was described by the neighbor.
 use Rattle.std.proofs.Common.{◌≡◌, ℕ, ◌%◌, ◌^◌, ◌+◌, Bool, true, false, cond, not, ◌&&◌, ◌||◌, ◌⊎◌, inl, inr, List, [], ◌∷◌, ◌++◌, Option, None, Some, is_some, refl, sym, ap, subst, ◌∙◌}
 use Rattle.std.specs.Prelude.{◌==◌, nat_lt}
 use Rattle.std.specs.FinMap as finite
@@ -37,11 +37,11 @@ abbrev pub instance_at : ℕ → Option DatabaseCopy → Option Instance
 instance_at moment None = None
 instance_at moment (Some c) = Some (copy_now moment c)
 
--- what is held under the key
+-- what is held for the key
 abbrev pub held : ℕ → Key → Database → Option Instance
 held moment key db = instance_at moment (finite.get db key)
 
--- a header of the key is described in what is sent, at this moment
+-- what is sent describes a header of the key, at this moment
 abbrev pub IsDescribed : Key → ℕ → List Content → ListEntry → Type 0
 IsDescribed key now contents l =
     (d : Description) × Contains contents (Describes d) × Contains d.headers l.header × (l.at ≡ now) × (key_of l.header ≡ key)
@@ -54,14 +54,14 @@ module _ (key : Key) (now : ℕ) (Of : ℕ → Type 0) (Said : Saying) where
   abbrev pub OfStep : Option Instance → Step → Type 0
   OfStep x s = Settling key now Of (SaidWith s.sends) x s.neighbor
 
-  -- what was settled before the step, whose neighbor is left settled
+  -- what was settled before the step stays settled with the neighbor
   pub stepped : (x : Option Instance) (s : Step) → Settling key now Of Said x s.neighbor → OfStep x s
   stepped x s h = settling_more key now Of Of Said (SaidWith s.sends) s.neighbor (λ o. o) (λ l k. inl k) x h
 
   mismatched_step : (x : Option Instance) (m : Neighbor) → Settling key now Of Said x m → OfStep x (mismatch_step now m)
   mismatched_step x m h = stepped x (mismatch_step now m) (mismatched key now Of Said x now m h)
 
-  -- ---- a Description is sent
+  -- ---- a Database Description is sent
 
   described : (x : Option Instance) (m : Neighbor) → Settled key now Of Said x m → Settled key now Of (SaidWith (describe now m).sends) x (describe now m).neighbor
   described x m s =
@@ -106,9 +106,9 @@ module _ (key : Key) (now : ℕ) (Of : ℕ → Type 0) (Said : Saying) where
       let so : Settled key now Of (SaidWith replied.sends) x replied.neighbor = described x (record m { sequence = d.sequence }) s in
       chosen (OfStep x) (announced_more replied.neighbor.described || d.more) replied (record replied { neighbor = exchange_done now replied.neighbor }) (λ e. inr so) (λ e. inr so)
 
-  -- ---- a Description is accepted
+  -- ---- a Database Description is accepted
 
-  -- what is requested, its headers told
+  -- what is requested, its headers having been described
   requests_said : (db : Database) (w : Conversation) (hs : List Header) → ((h : Header) → Contains hs h → key_of h ≡ key → Said w (record { header = h; at = now }))
       → (r : ByKey ListEntry) → AreSaid key now Of Said r w → AreSaid key now Of Said (fold (with_request now db) r hs) w
   requests_said db w [] said r h = h
@@ -162,7 +162,7 @@ module _ (key : Key) (now : ℕ) (Of : ℕ → Type 0) (Said : Saying) where
       Does m v = OfStep (held now key db) (act v now db d m)
 
       module _ (own_id : ℕ) where
-        -- in ExStart, with nothing requested
+        -- in ExStart, with an empty request list
         negotiating_so : (m : Neighbor) → Of m.router → Tells m → AreSaid key now Of Said m.requests (conversation_with m) → m.state ≡ ExStart
             → OfStep (held now key db) (judge own_id now db d (record m { state = ExStart }))
         negotiating_so m of said requests is =
@@ -188,7 +188,7 @@ module _ (key : Key) (now : ℕ) (Of : ℕ → Type 0) (Said : Saying) where
         abbrev opening : Neighbor → List Content
         opening m = (enter_exstart now (record m { state = Init })).sends
 
-        -- an attempt that is begun in this event
+        -- an attempt that is started in this event
         begun : (m : Neighbor) → Of m.router
             → ((w : Conversation) (h : Header) → Contains d.headers h → key_of h ≡ key → w.router ≡ m.router → Said w (record { header = h; at = now }))
             → OfStep (held now key db) (in_state Init own_id now db d (record m { state = Init }))
@@ -219,7 +219,7 @@ module _ (key : Key) (now : ℕ) (Of : ℕ → Type 0) (Said : Saying) where
         stated Full m of said none (inl before) = absurd cc
         stated Full m of said none (inr s) = over (record m { state = Full }) s
 
-        -- any Description, as nothing is requested before Exchange
+        -- any Database Description, since before Exchange nothing is requested
         pub after : (m : Neighbor) → Of m.router
             → ((w : Conversation) (h : Header) → Contains d.headers h → key_of h ≡ key → w.router ≡ m.router → Said w (record { header = h; at = now }))
             → (is_exchange_or_later m.state ≡ false → AreSaid key now Of Said m.requests (conversation_with m)) → Settling key now Of Said (held now key db) m

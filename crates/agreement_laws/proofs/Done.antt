@@ -1,5 +1,5 @@
--- What is still to be described once the exchange is done: nothing. The last Description sent tells
--- whether it was the last.
+-- The Database summary list is empty after the exchange. The M-bit of the last Database Description
+-- sent says whether it was the last.
 use Rattle.std.proofs.Common.{◌≡◌, ℕ, zero, suc, ◌+◌, ◌≤◌, ◌%◌, ◌^◌, Bool, true, false, cond, not, ◌&&◌, ◌||◌, List, [], ◌∷◌, length, map, drop, Option, None, Some, refl, sym, ap, subst, ◌∙◌, arith}
 use Rattle.std.specs.Prelude.{◌==◌, nat_lt}
 use Rattle.std.specs.FinMap as finite
@@ -52,7 +52,7 @@ use Rattle.events.proofs.Walk as walk
 use Rattle.agreement_laws.specs.HeldWasTold.{NothingIsLeftToDescribe, is_exchange_done}
 use Rattle.agreement_laws.proofs.Verdicts.{as_slave_or_master, first_two, mismatch_or_accepted}
 
--- ---- the first entries are all
+-- ---- all entries fit
 
 none_left : {X : Type 0} (n : ℕ) (xs : List X) → length xs ≤ n → drop n xs ≡ []
 none_left zero [] most = refl
@@ -67,8 +67,8 @@ left_empty n m e =
 
 -- ---- a neighbor
 
--- the moment at which the exchange was done is kept from then on; before it, the last Description
--- sent announced more wherever something was left
+-- the moment at which the exchange was completed is kept from then on; before it, the last Database
+-- Description sent had the M-bit set if anything was left
 abbrev pub Done : State → Option Description → Option ℕ → ByKey ListEntry → Type 0
 Done Init d at s = at ≡ None
 Done ExStart d at s = (at ≡ None) × (announced_more d ≡ true)
@@ -122,7 +122,7 @@ acknowledged moment (x ∷ hs) m h =
     acknowledged moment hs (acknowledged_neighbor moment m x)
     (chosen IsDone (is_entry moment x (finite.get m.retransmissions (key_of x))) (remove_retransmission (key_of x) m) m (λ e. h) (λ e. h))
 
--- ---- Descriptions
+-- ---- Database Descriptions
 
 repeat_of : (o : Option Description) (moment : ℕ) (m : Neighbor) → IsDone (record m { described = o }) → IsDone (repeat moment (record m { described = o })).neighbor
 repeat_of None moment m h = h
@@ -131,7 +131,7 @@ repeat_of (Some d) moment m h = h
 repeated : (moment : ℕ) (m : Neighbor) → IsDone m → IsDone (repeat moment m).neighbor
 repeated moment m h = repeat_of m.described moment m h
 
--- of a neighbor in Exchange
+-- a neighbor in Exchange
 abbrev Exchanging : Neighbor → Type 0
 Exchanging m = Done Exchange m.described m.exchanged m.summary
 
@@ -174,7 +174,7 @@ module _ (own moment : ℕ) (db : Database) (d : Description) where
   abbrev Does : Neighbor → Verdict → Type 0
   Does m v = IsDone (act v moment db d m).neighbor
 
-  -- an exchange begins, and the opening Description of ExStart announced more
+  -- an exchange begins, and the initial Database Description of ExStart had the M-bit set
   negotiated : (b : Bool) (sequence : ℕ) (m : Neighbor) → (m.exchanged ≡ None) × (announced_more m.described ≡ true)
       → IsDone (accept moment db d (negotiated_neighbor b sequence moment db m)).neighbor
   negotiated b sequence m h = accepted moment db d (negotiated_neighbor b sequence moment db m) refl (begun h) (begun h)
@@ -210,7 +210,7 @@ module _ (own moment : ℕ) (db : Database) (d : Description) where
   after : (m : Neighbor) → IsDone m → IsDone (after_description own moment db d m).neighbor
   after m h = chosen OfStep (nat_lt 8192 d.mtu) (no_sends m) (in_state m.state own moment db d m) (λ e. h) (λ e. stated m.state m h)
 
--- ---- Loading, Requests and a Tick
+-- ---- Loading, Link State Requests and a Tick
 
 filled_in : (s : State) (m : Neighbor) → IsDone (record m { state = s }) → IsDone (loading_done_in s (record m { state = s }))
 filled_in Init m h = h
@@ -244,7 +244,7 @@ sent_again moment interval db m h = updated (request_again moment interval (desc
         chosen OfStep (not (finite.len n.retransmissions == 0) && has_passed n.retransmitted_at interval moment)
         (record { neighbor = record n { retransmitted_at = moment }; sends = map Updates (next_retransmissions moment db n) }) (no_sends n) (λ e. k) (λ e. k)
 
--- the last Description is given up only once the exchange is done
+-- the last Database Description is discarded only after the exchange was completed
 given_up : (s : State) (moment dead : ℕ) (d : Option Description) (at : Option ℕ) (l : ByKey ListEntry) → is_over_for moment dead at ≡ true → Done s d at l → Done s None at l
 given_up Init moment dead d at l e h = h
 given_up ExStart moment dead d at l e h = let no : true ≡ false = sym e ∙ ap (is_over_for moment dead) h.0 in absurd cc
@@ -385,7 +385,7 @@ run_kept : (steps : List RunStep) (old new : Router) → Run old steps new → H
 run_kept [] old new same h = subst (λ (r : Router). HoldsOfEach IsDone r.area.links) (sym same) h
 run_kept (s ∷ steps) old new run h = run_kept steps run.0 new run.2 (event_kept old s.moment s.event s.outs run.0 run.1 h)
 
--- so it is of the neighbor at an interface, after every run from the start
+-- so for the neighbor at an interface, after every run from the start
 pub always_done : (c : Config) (steps : List RunStep) (r : Router) → Run (initial c) steps r → (number : ℕ) (n : Neighbor) → neighbor_at number r.area.links ≡ Some n → IsDone n
 always_done c steps r run number n at = subst (Holds IsDone) at (one_holds IsDone number r.area.links (run_kept steps (initial c) r run (first_so c)))
 

@@ -1,5 +1,6 @@
--- What a router says in the texts that go out at an interface: each is of one packet, whose Update
--- bears LSAs that were sent there, and whose Acknowledgment headers that were acknowledged there.
+-- What a router says in the packets that it sends at an interface: the bytes of each encode one
+-- packet, whose LSAs were sent there in Link State Updates, and whose acknowledged headers were
+-- acknowledged there.
 use Rattle.std.proofs.Common.{◌≡◌, ℕ, ◌+◌, Bool, true, false, cond, ◌⊎◌, inl, inr, List, [], ◌∷◌, map, Option, None, Some, refl, sym, ap, subst, ◌∙◌}
 use Rattle.std.specs.Prelude.{◌==◌}
 use Rattle.std.specs.List.{AllByRecursion, Contains, cons_option, enumerate_from, filter_map, flat_map}
@@ -33,7 +34,7 @@ use Rattle.agreement_laws.proofs.ReadNames.{name_read}
 
 -- ---- lists
 
--- what an option gives of each content
+-- what is chosen from each content
 chosen_of : {Y : Type 0} (f : Content → Option Y) (R : Content → Type 0) (P : Y → Type 0) → ((c : Content) → R c → AllByRecursion P (cons_option (f c) []))
     → (cs : List Content) → AllByRecursion R cs → AllByRecursion P (filter_map f cs)
 chosen_of {Y = Y} f R P each [] p = tt
@@ -51,9 +52,9 @@ paired : {X : Type 0} (P R : X → Type 0) (xs : List X) → AllByRecursion P xs
 paired P R [] p r = tt
 paired P R (x ∷ xs) p r = ((p.0, r.0), paired P R xs p.1 r.1)
 
--- ---- what a packet bears
+-- ---- the contents of a packet
 
--- at an interface of which R holds of what is sent there
+-- at an interface, if R holds of what is sent there
 module _ (R : Content → Type 0) where
   abbrev pub IsTextOfSent : ℕ → List ℕ → Type 0
   IsTextOfSent delay bytes = (lsa : Lsa) × (bytes ≡ text (sent_lsa delay lsa)) × R (Content.Updates lsa)
@@ -122,7 +123,7 @@ module _ (R : Content → Type 0) where
         (mapped_all body.Acknowledgment (λ p. AllByRecursion OfHeader p) (BearsSent delay) (λ p each. each) (packed_groups header_size 24 headers)
         (packed_all header_size 24 OfHeader headers (order_all key_of OfHeader (filter_map acknowledgments cs) (chosen_of acknowledgments R OfHeader of_acknowledgment cs so))))
 
-  -- ---- what goes out at the interface
+  -- ---- what is sent at the interface
 
   module _ (number : ℕ) (own : ℕ) (sends : List Send) (so : AllByRecursion (λ (s : Send). s.number ≡ number → R s.content) sends) where
     at_number : (n : ℕ) → n ≡ number → (xs : List Send) → AllByRecursion (λ (s : Send). s.number ≡ number → R s.content) xs → AllByRecursion R (filter_map (at_interface n) xs)
@@ -133,7 +134,7 @@ module _ (R : Content → Type 0) where
         by_number true e rest = (h.0 (eqb-true s.number n e ∙ same), rest)
         by_number false e rest = rest
 
-    -- a text of a packet of this router that bears what was sent
+    -- bytes of a packet from this router with contents that were sent
     abbrev pub IsLetter : List ℕ → Type 0
     IsLetter bytes = (delay : ℕ) × (b : Body) × BearsSent delay b × (bytes ≡ canonical (packet_of own b)) × IsText own b
 
@@ -164,7 +165,7 @@ module _ (R : Content → Type 0) where
     pub letters : (links : List Link) → AreTexts own links sends → AllByRecursion IsLetter (filter_map (text_at number) (outs_of own links sends))
     letters links texts = those_at (outs_of own links sends) (outs_so 1 links texts)
 
--- ---- what a letter tells
+-- ---- what the bytes say
 
 module _ (R : Content → Type 0) (ranged : (lsa : Lsa) → R (Content.Updates lsa) → IsInstance (instance_of_lsa lsa)) where
   -- an LSA that was sent, or a header that was acknowledged
@@ -211,7 +212,7 @@ module _ (R : Content → Type 0) (ranged : (lsa : Lsa) → R (Content.Updates l
       let it = header_of headers name c in
       IsOfSent.OfAcknowledgment headers it.0 refl it.1 (of_member (λ h. R (Content.Acknowledges h)) headers bears it.0 it.1) it.2
 
-  -- a letter is a text of no other packet
+  -- the bytes encode no other packet
   pub told_in : (number own : ℕ) (sends : List Send) (so : AllByRecursion (λ (s : Send). s.number ≡ number → R s.content) sends) (bytes : List ℕ) → IsLetter R number own sends so bytes → (packet : Packet)
       → PacketText bytes packet → (name : LsaInstance) → Contains (instances_told packet.body) name → IsOfSent packet.body name
   told_in number own sends so bytes letter packet text name c =

@@ -1,6 +1,5 @@
--- Maps by key, and their entries in key order: what is found under one key after another is
--- changed, among the first entries and among the rest, and in a list that is filled from the
--- database.
+-- Maps by key, and their entries in key order: the values of one key after another are changed,
+-- among the first entries and among the rest, and in a list that is filled from the database.
 use Rattle.std.proofs.Common.{◌≡◌, ℕ, zero, suc, Bool, true, false, cond, ◌⊎◌, inl, inr, List, [], ◌∷◌, map, take, drop, Option, None, Some, refl, sym, ap, ◌∙◌}
 use Rattle.std.specs.FinMap as finite
 use Rattle.std.specs.List.{Contains, filter}
@@ -32,12 +31,12 @@ put_by : {X : Type 0} (b : Bool) (y : X) (o : Option X) (x : X) → cond b (Some
 put_by true y o x e = inl (refl, some_same e)
 put_by false y o x e = inr e
 
--- what stands there was put there, or stood there before
+-- a value was set, or was there before
 pub put_there : {X : Type 0} (m : ByKey X) (k key : Key) (y x : X) → finite.get (finite.insert m k y) key ≡ Some x
     → ((same_key key k ≡ true) × (y ≡ x)) ⊎ (finite.get m key ≡ Some x)
 put_there m k key y x e = put_by (same_key key k) y (finite.get m key) x (sym (finite.get-insert keys_total m k y key) ∙ e)
 
--- ---- the first entries, and the rest
+-- ---- the first entries and the rest
 
 module _ (key : Key) (moment : ℕ) (entry : ListEntry) where
   abbrev headers : List (Key × ListEntry) → List Header
@@ -60,7 +59,7 @@ module _ (key : Key) (moment : ℕ) (entry : ListEntry) where
       by_key rest true is = inr (named_first (aged_header moment e.1) (headers (take n es)) (aged_header moment entry) (ap (aged_header moment) (some_same is)))
       by_key rest false is = later (rest is)
 
-  -- an entry of a list is among those that are left, or its header is among the first
+  -- an entry of a list is among the rest, or its header is among the first
   pub left_or_taken : (n : ℕ) (m : ByKey ListEntry) → finite.get m key ≡ Some entry
       → (finite.get (finite.from_entries {R = key_cmp} (drop n (finite.entries m))) key ≡ Some entry) ⊎ Contains (headers (take n (finite.entries m))) (aged_header moment entry)
   left_or_taken n m at = by_place (split n (finite.entries m) (sym (finite.get-entries m key) ∙ at))
@@ -70,7 +69,7 @@ module _ (key : Key) (moment : ℕ) (entry : ListEntry) where
       by_place (inl k) = inl (finite.get-from_entries keys_total (drop n (finite.entries m)) key ∙ k)
       by_place (inr c) = inr c
 
--- ---- what a list is filled with
+-- ---- the entries of a list that is filled
 
 module _ (test : DatabaseCopy → Bool) (moment : ℕ) (key : Key) (copy : DatabaseCopy) (is : test copy ≡ true) where
   abbrev listed : List (Key × DatabaseCopy) → List (Key × ListEntry)

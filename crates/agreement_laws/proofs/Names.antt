@@ -1,4 +1,4 @@
--- Instances by their sequence numbers and checksums alone.
+-- Instances by their sequence numbers and checksums only.
 use Rattle.std.proofs.Common.{◌≡◌, Bool, true, false, refl, sym, ap, ◌∙◌}
 use Rattle.std.specs.declared.cmp.Ordering.{Ordering}
 use Rattle.std.specs.declared.cmp.Ordering.TheVariants.{Less, Equal, Greater}
@@ -19,14 +19,14 @@ without_flags Equal Less p q e = absurd cc
 without_flags Equal Greater p q e = refl
 without_flags Equal Equal p q e = refl
 
--- what is as new is so whatever the ages
+-- what is at least as new is so whatever the ages
 pub at_any_age : (a b : Instance) → is_at_least a b ≡ true → is_at_least (record a { age = 0 }) (record b { age = 0 }) ≡ true
 at_any_age a b e = without_flags (int_cmp a.sequence b.sequence) (nat_cmp a.checksum b.checksum) (is_max_age a.age) (is_max_age b.age) e
 
 pub as_new_on : (a b c : LsaInstance) → is_as_new a b ≡ true → is_as_new b c ≡ true → is_as_new a c ≡ true
 as_new_on a b c more less = at_least_on (young a) (young b) (young c) more less
 
--- two of one key that are each as new as the other are the same
+-- two with one key that are each at least as new as the other are the same
 pub same_instance : (a b : LsaInstance) → a.key ≡ b.key → is_as_new a b ≡ true → is_as_new b a ≡ true → a ≡ b
 same_instance a b key there back =
     let equal : compare_ranks (young a) (young b) ≡ Equal =

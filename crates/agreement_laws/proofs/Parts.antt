@@ -1,5 +1,5 @@
--- What each part of an event makes of a copy that is settled with the neighbor at an interface: it
--- stays settled, or the copy that takes its place is.
+-- A copy that is settled with the neighbor at an interface, in each part of an event: it stays
+-- settled, or the copy that replaces it is.
 use Rattle.std.proofs.Common.{◌≡◌, ℕ, zero, suc, ◌≤◌, Bool, true, false, cond, not, ◌&&◌, ◌⊎◌, inl, inr, List, [], ◌∷◌, ◌++◌, map, Option, None, Some, is_some, refl, sym, ap, subst, ◌∙◌, arith}
 use Rattle.std.specs.Prelude.{◌==◌, ◌+◌, is_none, slice_get}
 use Rattle.std.specs.FinMap as finite
@@ -73,7 +73,7 @@ module _ (moment : ℕ) (key : Key) where
   marked_one (Content.Updates lsa) db = marked_by (lsa_key lsa) db (finite.get db (lsa_key lsa)) refl
   marked_one (Content.Acknowledges h) db = refl
 
-  -- what is sent marks copies, and leaves the instances
+  -- what is sent marks copies, and doesn't change the instances
   pub held_marked : (more : List Send) (db : Database) → held moment key (fold (λ (d : Database) (s : Send). marked_database moment d s.content) db more) ≡ held moment key db
   held_marked [] db = refl
   held_marked (s ∷ more) db = held_marked more (marked_database moment db s.content) ∙ marked_one s.content db
@@ -113,7 +113,7 @@ module _ (f : Stepping) (content : Content) (n : Neighbor) where
       let e : suc i ≡ 1 + i = omega arith in
       subst (λ m. Contains (stepping_sends f xs) (at_place m)) (sym e) (sent_from 1 i xs at (λ link is. subst (λ m. Contains (f m link n).sends content) e (so link is)))
 
--- ---- which case an LSA is of
+-- ---- the case of an LSA
 
 same_found : (a b c d e f g h : Bool)
     → first_case ((a, Case.NothingToFlush) ∷ (b, Case.TooSoon) ∷ (c, Case.Newer) ∷ (d, Case.BadRequest) ∷ (e && f, Case.ImpliedAcknowledgment) ∷ (e, Case.Duplicate) ∷ (g, Case.SequenceWraps) ∷ (h, Case.SentJustNow) ∷ []) Case.Older
@@ -127,7 +127,7 @@ same_found false false false false false f true h is = absurd (cc)
 same_found false false false false false f false true is = absurd (cc)
 same_found false false false false false f false false is = absurd (cc)
 
--- what acknowledges a copy is the same instance
+-- an acknowledged copy is the same instance
 pub same_where_implied : (moment : ℕ) (copy : Option DatabaseCopy) (sender : Option Neighbor) (synchronizing : Bool) (lsa : Lsa)
     → case_of_readable moment copy sender synchronizing lsa ≡ Case.ImpliedAcknowledgment → same_as_copy moment lsa.header copy ≡ true
 same_where_implied moment copy sender synchronizing lsa is =
@@ -144,7 +144,7 @@ same_where_implied moment copy sender synchronizing lsa is =
 
 -- ---- the neighbor at one interface, and one key
 
--- a Description with the header is sent at the interface
+-- a Database Description with the header is sent at the interface
 pub record Describes (sends : List Send) (number : ℕ) (header : Header) : Type 0 where
   pub description : Description
   pub sent : Contains sends (record { number = number; content = Content.Describes description })
@@ -152,7 +152,7 @@ pub record Describes (sends : List Send) (number : ℕ) (header : Header) : Type
 
 -- if there is a neighbor at the interface, `There`
 module _ (key : Key) (moment : ℕ) (number : ℕ) (There : Type 0) (Of : ℕ → Type 0) (Base : Saying) where
-  -- said before or told in this event, or described in it
+  -- said before or in this event, or described in it
   abbrev pub SaidBy : List Send → Saying
   SaidBy sends with_it l = Base with_it l ⊎ (There × Describes sends number l.header × (l.at ≡ moment) × (key_of l.header ≡ key))
 
@@ -198,7 +198,7 @@ module _ (key : Key) (moment : ℕ) (number : ℕ) (There : Type 0) (Of : ℕ �
       numbered_kept P P (λ n. n) (λ (e : ℕ × Link). cond (e.0 == place) (change e.1) e.1) number
       (λ link at. chosen (λ (l : Link). P l.neighbor) (number == place) (change link) link (λ e. keeps link at) (λ e. at)) o.area.links h
 
-  -- a step of each neighbor: of the instance x before it, and y after it
+  -- a step of each neighbor: for the instance x before it, and y after it
   pub each_step : (f : Stepping) (o : Outcome) (x : Option Instance)
       → ((link : Link) (m : Neighbor) → SettlingBy o.sends x m → SettlingBy o.sends (held moment key o.area.database) (f number link m).neighbor)
       → HoldsThere o.sends x (neighbor_at number o.area.links) → Stands (each_neighbor moment f o)
@@ -225,7 +225,7 @@ module _ (key : Key) (moment : ℕ) (number : ℕ) (There : Type 0) (Of : ℕ �
       each_step (flood_to moment sender lsa) o (held moment key o.area.database)
       (λ link m at. settling.flooded_other key moment Of (SaidBy o.sends) (held moment key o.area.database) moment (is_sender sender number) lsa m other at) h
 
-  -- of another key, whatever is held
+  -- an LSA of another key, whatever is held
   pub flood_any : (sender : Option ℕ) (lsa : Lsa) (o : Outcome) (x : Option Instance) → same_key key (lsa_key lsa) ≡ false → HoldsThere o.sends x (neighbor_at number o.area.links)
       → HoldsThere (flood moment sender lsa o).sends x (neighbor_at number (flood moment sender lsa o).area.links)
   flood_any sender lsa o x other h =
@@ -236,7 +236,7 @@ module _ (key : Key) (moment : ℕ) (number : ℕ) (There : Type 0) (Of : ℕ �
       one link None k = tt
       one link (Some m) k = settling.flooded_other key moment Of (SaidBy o.sends) x moment (is_sender sender number) lsa m other k
 
-  -- of this key, from nobody; what was held before doesn't count
+  -- an LSA of this key that wasn't received from a neighbor; what was held before doesn't matter
   pub flood_same : (lsa : Lsa) (o : Outcome) (x : Option Instance) → same_key key (lsa_key lsa) ≡ true → held moment key o.area.database ≡ Some (instance_of lsa.header)
       → HoldsThere o.sends x (neighbor_at number o.area.links) → Stands (flood_from_nobody moment lsa o)
   flood_same lsa o x same is h =
@@ -244,7 +244,7 @@ module _ (key : Key) (moment : ℕ) (number : ℕ) (There : Type 0) (Of : ℕ �
       (λ link m at. subst (λ (y : Option Instance). SettlingBy o.sends y (flood_to moment None lsa number link m).neighbor) (sym is)
       (settling.flooded_same key moment Of (SaidBy o.sends) x lsa m same at)) h
 
-  -- of this key, from a neighbor that so has said it
+  -- an LSA of this key from a neighbor, which thus has said it
   pub flood_back : (place : ℕ) (lsa : Lsa) (o : Outcome) (x : Option Instance) (i : Instance) → same_key key (lsa_key lsa) ≡ true → held moment key o.area.database ≡ Some i
       → instance_of lsa.header ≡ i
       → ((m : Neighbor) → (place == number) ≡ true → Of m.router → Known key moment Of (SaidBy o.sends) (conversation_with m) i)
@@ -261,7 +261,7 @@ module _ (key : Key) (moment : ℕ) (number : ℕ) (There : Type 0) (Of : ℕ �
           subst (λ (y : Option Instance). SettlingBy o.sends y (flooding moment false lsa m).neighbor) (ap (λ (j : Instance). Some j) it ∙ sym is)
           (settling.flooded_same key moment Of (SaidBy o.sends) x lsa m same at)
 
-  -- ---- the router's own LSAs
+  -- ---- self-originated LSAs
 
   abbrev flushed_copy : DatabaseCopy → DatabaseCopy
   flushed_copy c = record c { lsa = lsa_aged 3600 c.lsa; stored = moment }
@@ -308,7 +308,7 @@ module _ (key : Key) (moment : ℕ) (number : ℕ) (There : Type 0) (Of : ℕ �
 
   -- ---- received LSAs
 
-  -- an LSA that came in at this interface: its header is said by the neighbor
+  -- an LSA that was received at this interface: the neighbor has said its header
   abbrev pub Says : ℕ → Header → Type 0
   Says place h = (w : Conversation) → (number == place) ≡ true → key_of h ≡ key → Of w.router → Base w (record { header = h; at = moment })
 
@@ -402,7 +402,7 @@ module _ (key : Key) (moment : ℕ) (number : ℕ) (There : Type 0) (Of : ℕ �
           (λ here. settling.helloed key moment Of (SaidBy o.sends) (held moment key o.area.database) moment from (names own hello) link.neighbor (at_place (Some link) is here)) (λ away. at))
           o.area.links h)) (λ e. h)
 
-  -- a step of the neighbor that is there by itself, with what the steps send
+  -- a step of only this neighbor, with what it sends
   step_here : (f : Stepping) (o : Outcome)
       → ((link : Link) (m : Neighbor) → neighbor_at number o.area.links ≡ Some m → SettlingBy o.sends (held moment key o.area.database) m
       → SettlingBy (o.sends ++ stepping_sends f o.area.links) (held moment key o.area.database) (f number link m).neighbor)
@@ -439,9 +439,9 @@ module _ (key : Key) (moment : ℕ) (number : ℕ) (There : Type 0) (Of : ℕ �
           let of_copy = are key l at in
           subst (λ (j : Instance). is_at_least (listed_now moment l) j ≡ true) (some_same (sym (ap (instance_at moment) of_copy.1) ∙ is)) (entry_at_least l of_copy.0 moment of_copy.2)
 
-  -- ---- a Description
+  -- ---- a Database Description
 
-  -- what is described in the step's sends is described in what is sent
+  -- what is described in the step is described in what is sent
   pub descriptions : (own place : ℕ) (d : Description) (o : Outcome) → ((g : Header) → Contains d.headers g → Says place g)
       → ((c : DatabaseCopy) → finite.get o.area.database key ≡ Some c → lsa_key c.lsa ≡ key)
       → ((m : Neighbor) → neighbor_at number o.area.links ≡ Some m → Of m.router × (is_exchange_or_later m.state ≡ false → m.requests ≡ finite.empty) × There)
@@ -537,7 +537,7 @@ module _ (key : Key) (moment : ℕ) (number : ℕ) (There : Type 0) (Of : ℕ �
   gone_one sends x None h = tt
   gone_one sends x (Some m) h = settling.gone key moment Of (SaidBy sends) x m h
 
-  -- a copy that leaves is settled
+  -- a copy that is removed is settled
   pub removes : (o : Outcome) → Stands o → Stands (on_database (λ db. finite.retain_keys db (stays moment o.area)) o)
   removes o h =
       subst (λ (c : Option DatabaseCopy). HoldsThere o.sends (instance_at moment c) (neighbor_at number o.area.links))

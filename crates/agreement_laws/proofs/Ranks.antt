@@ -10,7 +10,7 @@ use Rattle.lsdb.specs.declared.order.Instance.{Instance}
 use Rattle.lsdb.specs.Order.{is_max_age, is_newer, is_same}
 use Rattle.agreement_laws.specs.Ranks.{RanksFollowTheComparison, compare_ranks, is_at_least}
 
--- by whether each is at MaxAge, whether the difference counts, and how the ages compare
+-- by whether each is at MaxAge, whether the difference matters, and how the ages compare
 newer_by : (r s : Ordering) (p q far : Bool) (t : Ordering)
     → is_gt (ordering_then r (ordering_then s (cond (p && not q) Greater (cond (q && not p) Less (cond far t Equal))))) ≡ true
     → is_ge (ordering_then r (ordering_then s (bool_cmp p q))) ≡ true
@@ -82,7 +82,7 @@ same_flag true false e = absurd cc
 same_flag false true e = absurd cc
 same_flag false false e = refl
 
--- what is the same as something as new is as new
+-- what is the same as something at least as new is at least as new
 pub same_as_new : (a b i : Instance) → is_same a b ≡ true → is_at_least b i ≡ true → is_at_least a i ≡ true
 same_as_new a b i e new =
     let parts = equal_parts (int_cmp a.sequence b.sequence) (nat_cmp a.checksum b.checksum) (bool_cmp (is_max_age a.age) (is_max_age b.age)) (same a b e) in
@@ -92,7 +92,7 @@ same_as_new a b i e new =
     (ordering_then (nat_cmp (checksums j) i.checksum) (bool_cmp (same_flag (is_max_age a.age) (is_max_age b.age) parts.2 j) (is_max_age i.age)))))
     ∙ new
 
--- each is as new as itself
+-- each is at least as new as itself
 pub itself_at_least : (a : Instance) → is_at_least a a ≡ true
 itself_at_least a =
     (λ i. is_ge (ordering_then (tied_itself int_cmp_total a.sequence i) (ordering_then (tied_itself nat_cmp_total a.checksum i) (bool_cmp (is_max_age a.age) (is_max_age a.age)))))
@@ -135,11 +135,11 @@ at_least_back a b e = ap (λ (o : Ordering). is_ge o) (total.antisymm a b) ∙ b
     by_order Equal is = refl
     by_order Greater is = absurd cc
 
--- of two that are the same each is as new as the other
+-- of two that are the same, each is at least as new as the other
 pub same_back : (a b : Instance) → is_same a b ≡ true → is_at_least b a ≡ true
 same_back a b e = at_least_back b a (ap (λ (o : Ordering). is_gt o) (same a b e))
 
--- as new as what is as new as the third is as new as the third
+-- transitivity
 pub at_least_on : (a b c : Instance) → is_at_least a b ≡ true → is_at_least b c ≡ true → is_at_least a c ≡ true
 at_least_on a b c more less = at_least_back a c (upto total c b a (not_greater b c less) (not_greater a b more))
 

@@ -1,5 +1,5 @@
--- The text of an LSA is read with the name that was written, whatever else its header says: the
--- numbers that name it fill their fields.
+-- An LSA is parsed with the instance that was written, whatever its other header fields: the
+-- numbers that identify it fill their fields.
 use Rattle.std.proofs.Common.{◌≡◌, ℕ, ◌/◌, ◌%◌, ◌^◌, [], ◌∷◌, ◌++◌, sym, ap, ◌∙◌, arith}
 use Rattle.std.specs.Int.{w32, cast_unsigned}
 use Rattle.words.specs.Fields.{fields}
@@ -10,7 +10,7 @@ use Rattle.lsdb.specs.Headers.{Header, Lsa}
 use Rattle.events.specs.LsaInstances.{instance_of_header, instance_of_lsa}
 use Rattle.flood_laws.specs.Keeping.{IsInstance}
 
--- the numbers that don't name the instance, as they stand in a text
+-- the fields that don't identify the instance, as they are encoded
 abbrev cut : Header → Header
 cut h = record h { age = h.age % 2 ^ 16; options = h.options % 2 ^ 8; length = h.length % 2 ^ 16 }
 

@@ -1,5 +1,5 @@
--- What a router has told its neighbor it holds, unless it has forgotten it: through each of its
--- turns, and in every history of two neighbors.
+-- A router holds what it has said to its neighbor, unless it has lost it: in each of its turns, and
+-- in every history of two neighbors.
 use Rattle.std.proofs.Common.{◌≡◌, ℕ, zero, suc, ◌<◌, Bool, cond, ◌&&◌, ◌⊎◌, inl, inr, length, List, [], ◌∷◌, ◌++◌, map, Option, None, Some, refl, sym, ap, subst, ◌∙◌, arith}
 use Rattle.std.specs.Prelude.{slice_get}
 use Rattle.std.specs.FinMap as finite
@@ -55,7 +55,7 @@ place_within [] i x at = absurd cc
 place_within (y ∷ ys) zero x at = omega arith
 place_within (y ∷ ys) (suc i) x at = let further : i < length ys = place_within ys i x at in omega (arith, further)
 
--- in the first list, or somewhere in the second
+-- an element of the first list, or of the second
 place_in : {X : Type 0} (xs ys : List X) (i : ℕ) (x : X) → slice_get (xs ++ ys) i ≡ Some x → (slice_get xs i ≡ Some x) ⊎ Contains ys x
 place_in [] [] i x at = absurd cc
 place_in [] (y ∷ ys) zero x at = inr (named_first y ys x cc)
@@ -67,7 +67,7 @@ place_in [] (y ∷ ys) (suc i) x at = further (place_in [] ys i x at)
 place_in (z ∷ zs) ys zero x at = inl at
 place_in (z ∷ zs) ys (suc i) x at = place_in zs ys i x at
 
--- ---- a router's life
+-- ---- a router since its start
 
 pub record Life (r : Router) : Type 0 where
   pub config : Config
@@ -81,7 +81,7 @@ run_more (t ∷ steps) old middle new s run happens = (run.0, run.1, run_more st
 pub life_order : (r : Router) → Life r → IsInOrder r
 life_order r life = routers_stay_in_order.run life.config life.steps r life.run
 
--- ---- at the start no acknowledgment waits
+-- ---- at the start there are no delayed acknowledgments
 
 abbrev IsQuiet : Option Link → Type 0
 IsQuiet o = OnLink (λ (link : Link). link.acknowledgments ≡ finite.empty) o
@@ -130,12 +130,12 @@ nothing_waits c number h w =
     let its : w.link.acknowledgments ≡ finite.empty = subst IsQuiet w.there quiet in
     let no : None ≡ Some h = sym (finite.get-empty {X = Header} key_cmp w.key) ∙ sym (ap (λ (m : ByKey Header). finite.get m w.key) its) ∙ w.waits in absurd cc
 
--- nor is there anybody to whom something is to be described
+-- nor is there a neighbor to which anything is to be described
 nothing_is_left : (c : Config) (number : ℕ) (name : LsaInstance) → IsToDescribe number name (initial c).area.links → ⊥
 nothing_is_left c number name (IsToDescribe.Listed n key l at there is) = let no : None ≡ Some n = sym (begins_alone c number).0 ∙ at in cc
 nothing_is_left c number name (IsToDescribe.Last n d header at there among is) = let no : None ≡ Some n = sym (begins_alone c number).0 ∙ at in cc
 
--- ---- what is remembered
+-- ---- what is kept
 
 pub record Remembers (number : ℕ) (p : Party) (Old : LsaInstance → ℕ → Type 0) : Type 0 where
   pub life : Life p.router
@@ -167,7 +167,7 @@ module _ (number : ℕ) (Old : LsaInstance → ℕ → Type 0) where
       run = run_more h.life.steps (initial h.life.config) p.router q.router (record { moment = t.moment; event = t.event; outs = t.outs }) h.life.run t.happens;
     }
 
-    -- what was held is, or none is
+    -- what was held is still held, or there is none
     still : (name : LsaInstance) → HoldsAsNew p.router name → HoldsAsNew q.router name ⊎ IsWithout name.key q.router
     still name has = by_copy (copies_climb p.router t.moment t.event t.outs q.router t.happens order name.key has.copy has.there)
       where
@@ -188,7 +188,7 @@ module _ (number : ℕ) (Old : LsaInstance → ℕ → Type 0) where
     as_young name (BecameOf.IsHeld c at new) = inl (record { copy = c; there = at; as_new = at_any_age (copy_now t.moment c) (young name) new })
     as_young name (BecameOf.IsGone last new aged none off) = inr none
 
-    -- ---- texts
+    -- ---- packets
 
     within : (text : ℕ) (bytes : List ℕ) → slice_get q.sent text ≡ Some bytes → text < length q.sent
     within text bytes at = place_within q.sent text bytes at
@@ -219,7 +219,7 @@ module _ (number : ℕ) (Old : LsaInstance → ℕ → Type 0) where
         by_old (inr old) = inr old
     of_database name (IsOfDatabase.Held b) = inl (as_young name b)
 
-    -- what is so of what is sent at the interface
+    -- a property of what is sent at the interface
     abbrev OfSent : Content → Type 0
     OfSent (Content.SendsHello hello) = Unit {0}
     OfSent (Content.Describes d) = (x : Header) → Contains d.headers x → IsOfDatabase p.router t.moment q.router number (instance_of_header x)
@@ -306,7 +306,7 @@ module _ (number : ℕ) (Old : LsaInstance → ℕ → Type 0) where
       left = left_for;
     }
 
-  -- ---- a new life
+  -- ---- a restart
 
   after_start : (p q : Party) → BeginsAnew p q → Remembers number p Old → Remembers number q (With p q)
   after_start p q b h = record {
@@ -352,7 +352,7 @@ Turns ends side before now event =
     ((t : TakesEvent (interface_of side ends) (party (other_side side) before).sent (party side before) (party side now)) × (event ≡ Some (step_taken t)))
     ⊎ ((event ≡ None) × (BeginsAnew (party side before) (party side now) ⊎ (party side now ≡ party side before)))
 
--- what a turn is to either side
+-- what a turn means for either side
 pub turn_of : (ends : Ends) (side : Side) (before now : Pair) (t : Turn ends before now) → Turns ends side before now (event_of ends side before now t)
 turn_of ends side before now t = by_side t.side side t.does t.other
   where

@@ -1,4 +1,5 @@
--- After every run, of what is held and isn't owed to a neighbor one that is as new was exchanged.
+-- After every run, if an instance is held and is on neither list of the neighbor, one that is at
+-- least as new was exchanged.
 use Rattle.std.proofs.Common.{◌≡◌, ℕ, zero, suc, ◌≤◌, Bool, true, false, cond, ◌&&◌, ◌⊎◌, inl, inr, List, [], ◌∷◌, map, Option, None, Some, is_some, refl, sym, ap, subst, ◌∙◌}
 use Rattle.std.specs.Prelude.{slice_get}
 use Rattle.std.specs.FinMap as finite
@@ -41,7 +42,7 @@ use Rattle.agreement_laws.proofs.Sent.{goes_out}
 use Rattle.agreement_laws.proofs.Settling.{HasAny, Saying, Settling, settled_more, settling_more}
 use Rattle.agreement_laws.proofs.Walk as walk
 
--- ---- the start: nobody is there, and the moment is that of the start
+-- ---- the start: there is no neighbor, and the moment is that of the start
 
 module _ (number : ℕ) (at : ℕ) where
   flooded_alone : (moment : ℕ) (lsa : Lsa) (o : Outcome) → neighbor_at number o.area.links ≡ None → neighbor_at number (flood_from_nobody moment lsa o).area.links ≡ None
@@ -90,14 +91,14 @@ module _ (key : Key) (number : ℕ) where
   abbrev SaidIn : Router → List Step → Router → Saying
   SaidIn old steps new with_it l = (key_of l.header ≡ key) × WasExchanged number with_it l old steps new
 
-  -- said before, in the conversation that went on since; or in the run
+  -- said before, in the conversation that has continued since; or in the run
   abbrev After : Saying → Router → List Step → Router → Saying
   After Before old steps new with_it l = (Before with_it l × GoesOn number with_it old steps new) ⊎ SaidIn old steps new with_it l
 
   abbrev pub IsSettled : Saying → Router → Type 0
   IsSettled Before r = Holds (Settling key r.moment walk.Anybody Before (held r.moment key r.area.database)) (neighbor_at number r.area.links)
 
-  -- what is said more of neighbors in Exchange or later
+  -- what else is said about neighbors in Exchange or later
   module _ (r : Router) (Said Added : Saying)
       (adds : (m : Neighbor) → neighbor_at number r.area.links ≡ Some m → is_exchange_or_later m.state ≡ true → (l : ListEntry) → Said (conversation_with m) l → Added (conversation_with m) l) where
     more_of : (x : Option Instance) (m : Neighbor) → neighbor_at number r.area.links ≡ Some m → (b : Bool) → is_exchange_or_later m.state ≡ b
@@ -116,7 +117,7 @@ module _ (key : Key) (number : ℕ) where
 
   -- ---- one event
 
-  -- said before, in the conversation that there was; or in the event
+  -- said before, in the same conversation; or in the event
   abbrev pub Then : Saying → Router → Step → Saying
   Then Before old s with_it l =
       (Before with_it l × Converses number with_it old) ⊎ ((key_of l.header ≡ key) × IsExchanged old.id s number with_it.router l.header × (l.at ≡ s.moment))
@@ -225,7 +226,7 @@ pub held_was_told : WhatIsHeldWasTold
 held_was_told c steps r run clock number n at on key copy there free =
     known c steps r run clock number n at on key copy there free (its_settled c steps r run clock number n at on key copy there free)
 
--- ---- of a Full neighbor
+-- ---- for a Full neighbor
 
 pub full_told : FullNeighborsWereTold
 full_told c steps r run clock number n at full key copy there free =

@@ -1,5 +1,5 @@
--- What each part of an event says of LSAs is held by then: what its Updates take along, and what
--- its acknowledgments name when they are made.
+-- What each part of an event says about LSAs is held then: the LSAs of its Link State Updates, and
+-- what its acknowledgments identify when they arise.
 use Rattle.std.proofs.Common.{◌≡◌, ℕ, zero, suc, ◌+◌, Bool, true, false, cond, not, ◌&&◌, inl, inr, List, [], ◌∷◌, ◌++◌, map, Option, None, Some, is_some, refl, sym, ap, subst, ◌∙◌, arith}
 use Rattle.std.specs.Prelude.{◌==◌, is_none, nat_le, slice_get}
 use Rattle.std.specs.Cmp.{tied_itself}
@@ -55,7 +55,7 @@ use Rattle.agreement_laws.proofs.Describing.{instance_at}
 use Rattle.agreement_laws.proofs.Ranks.{itself_at_least, older_at_least, same_back}
 use Rattle.agreement_laws.proofs.Sayings.{OfContent, OfCopies, OfLink, OfNamed, OfNeighbor, OfSend, OfStep, OfWaiting, Truth, acknowledged, after_one, asked, both_again, content_more, filled, flooded_so, helloed, link_more, mismatched, quiet_step, run_out_so}
 
--- ---- which case an LSA is of
+-- ---- the case of an LSA
 
 nothing_found : (a b c d e f g h : Bool)
     → first_case ((a, Case.NothingToFlush) ∷ (b, Case.TooSoon) ∷ (c, Case.Newer) ∷ (d, Case.BadRequest) ∷ (e, Case.ImpliedAcknowledgment) ∷ (f, Case.Duplicate) ∷ (g, Case.SequenceWraps) ∷ (h, Case.SentJustNow) ∷ []) Case.Older
@@ -165,7 +165,7 @@ module _ (P : ℕ → Content → Type 0) where
   numbered_sent number [] h = tt
   numbered_sent number (c ∷ cs) h = (h.0, numbered_sent number cs h.1)
 
-  -- by each link, of what is so of it
+  -- by each link, from a property of it
   by_links_sent : (f : ℕ → Link → List Content) → (k : ℕ) (xs : List Link) → ((i : ℕ) → OnLink (λ link. AllByRecursion (P (k + i)) (f (k + i) link)) (slice_get xs i))
       → AllByRecursion OfNumbered (flat_map (λ (e : ℕ × Link). sends_at e.0 (f e.0 e.1)) (enumerate_from k xs))
   by_links_sent f k [] each = tt
@@ -183,7 +183,7 @@ module _ (old : Router) (moment : ℕ) where
     pub sends : AllByRecursion (OfSend old T) o.sends
     pub left : (number : ℕ) → OnLink (OfLink old T number) (link_at number o.area.links)
 
-  -- ---- where more is so
+  -- ---- if more is known
 
   module _ (T U : Truth) (more : (key : Key) (i : Instance) → T key i → U key i) where
     on_link_more : (number : ℕ) (o : Option Link) → OnLink (OfLink old T number) o → OnLink (OfLink old U number) o
@@ -198,7 +198,7 @@ module _ (old : Router) (moment : ℕ) where
 
   -- ---- at a point of the event
 
-  -- one as new is held
+  -- one that is at least as new is held
   abbrev pub AsNew : Database → Truth
   AsNew db key i = Climbs key moment i db
 
@@ -223,7 +223,7 @@ module _ (old : Router) (moment : ℕ) where
         said = record { sends = more.sends; left = λ number. keeps number (more.left number) };
       }
 
-  -- one that sends more
+  -- a change that sends more
   changed_with : (o : Outcome) (a : Area) (sends : List Send) → Grows o.area.database a.database → AllByRecursion (OfSend old (AsNew a.database)) sends → KeepsWaiting o.area a → IsSo o
       → IsSo (record { area = a; sends = o.sends ++ sends })
   changed_with o a sends grows new keeps h =
@@ -270,7 +270,7 @@ module _ (old : Router) (moment : ℕ) where
 
   -- ---- steps of the neighbors
 
-  -- what each neighbor's step makes of what is so of it
+  -- what each neighbor's step does to the property
   abbrev Steps : Outcome → Stepping → Type 0
   Steps o f = (number : ℕ) (link : Link) (n : Neighbor) → OfNeighbor old (AsNew o.area.database) number n → OfStep old (AsNew o.area.database) number (f number link n)
 
@@ -317,12 +317,12 @@ module _ (old : Router) (moment : ℕ) where
 
   -- ---- copies
 
-  -- a copy that is there
+  -- an existing copy
   of_copy : (db : Database) (key : Key) (c : DatabaseCopy) → OwnKeys db → finite.get db key ≡ Some c → AsNew db (lsa_key (lsa_now moment c)) (instance_of (lsa_now moment c).header)
   of_copy db key c own at =
       subst (λ (k : Key). AsNew db k (copy_now moment c)) (sym (own_at db key c own at)) (copy_now moment c, ap (instance_at moment) at, itself_at_least (copy_now moment c))
 
-  -- one that is put there at this moment
+  -- a copy that is stored at this moment
   put_so : (lsa : Lsa) (installed sent : Option ℕ) (db : Database) (key : Key) → lsa_key lsa ≡ key
       → AsNew (finite.insert db key (record { lsa = lsa; stored = moment; installed = installed; sent = sent })) (lsa_key lsa) (instance_of lsa.header)
   put_so lsa installed sent db key is =
@@ -330,7 +330,7 @@ module _ (old : Router) (moment : ℕ) where
       (ap (same_key (lsa_key lsa)) (sym is) ∙ itself_tied (lsa_key lsa))
       (noted_at_least lsa.header moment (instance_of lsa.header) (itself_at_least (instance_of lsa.header)))
 
-  -- ---- ages, and the router's own LSAs
+  -- ---- aging, and self-originated LSAs
 
   pub ages : (es : List (Key × DatabaseCopy)) (o : Outcome) → OwnKeys old.area.database → AllByRecursion (OfEntry (There old.area.database)) es → IsSo o → IsSo (fold (with_age old.moment moment) o es)
   ages [] o own all h = h
@@ -373,7 +373,7 @@ module _ (old : Router) (moment : ℕ) where
       })
       (flooded (Some place) lsa p there (on_copies o (install_flooded moment lsa o.area.database) (λ k i so. installed_there k moment i lsa o.area.database newer so) h))
 
-  -- there was none before, if there is none by now
+  -- there was none before if there is none now
   none_before : (key : Key) (o : Outcome) → finite.get o.area.database key ≡ None → IsSo o → finite.get old.area.database key ≡ None
   none_before key o none h = by_copy (finite.get old.area.database key) refl
     where
@@ -453,7 +453,7 @@ module _ (old : Router) (moment : ℕ) where
   pub mismatches : (place : ℕ) (o : Outcome) → IsSo o → IsSo (one_neighbor moment place (adjacencies.mismatch_step moment) o)
   mismatches place o h = one_so place (adjacencies.mismatch_step moment) o (λ number n so. mismatched old (AsNew o.area.database) number moment n so) h
 
-  -- ---- copies under keys
+  -- ---- copies and their keys
 
   module _ (T : Truth) (number : ℕ) where
     updates_so : (lsas : List Lsa) → AllByRecursion (λ (l : Lsa). T (lsa_key l) (instance_of l.header)) lsas → AllByRecursion (OfContent old T number) (map Updates lsas)

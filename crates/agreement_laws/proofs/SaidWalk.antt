@@ -1,4 +1,4 @@
--- What an event says of LSAs is held after it.
+-- What an event says about LSAs is held after it.
 use Rattle.std.proofs.Common.{◌≡◌, ℕ, List, [], ◌∷◌, inl, inr, Option, None, Some, refl, sym, ap, subst}
 use Rattle.std.specs.FinMap as finite
 use Rattle.words.specs.declared.key.Key.{Key}
@@ -73,7 +73,7 @@ module _ (old : Router) (moment : ℕ) (event : Occurrence) where
   abbrev Now : Key → Instance → Type 0
   Now key i = said.AsNew old moment old.area.database key i
 
-  -- what is left to be said before the event
+  -- what is still to be said before the event
   it_waits : (number : ℕ) (link : Link) → link_at number old.area.links ≡ Some link → AllIn (OfWaiting old Now number) link.acknowledgments
   it_waits number link at key = by_header (finite.get link.acknowledgments key) refl
     where

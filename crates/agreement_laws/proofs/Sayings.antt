@@ -1,6 +1,6 @@
--- What a router says of LSAs at an interface, and has to say: what is sent there, acknowledgments
--- that wait, what is to be described, and the last Description, which may be sent again. Each step
--- of the neighbor keeps what is so of it.
+-- What a router says about LSAs at an interface, and still has to say: what is sent there, delayed
+-- acknowledgments, what is to be described, and the last Database Description, which may be sent
+-- again. Each step of the neighbor keeps a property of it.
 use Rattle.std.proofs.Common.{◌≡◌, ℕ, zero, suc, ◌+◌, ◌%◌, ◌^◌, Bool, true, false, cond, not, ◌&&◌, ◌||◌, ◌⊎◌, inl, inr, List, [], ◌∷◌, map, take, drop, Option, None, Some}
 use Rattle.std.specs.Prelude.{◌==◌, nat_lt}
 use Rattle.std.specs.FinMap as finite
@@ -37,7 +37,7 @@ use Rattle.flood_laws.proofs.Known.{each_all}
 use Rattle.flood_laws.proofs.Retransmitted.{if_so}
 use Rattle.agreement_laws.specs.SaidIsHeld.{IsToDescribe, Waits, young}
 
--- what may be so of instances under their keys
+-- a property of instances and their keys
 abbrev pub Truth : Type 1
 Truth = Key → Instance → Type 0
 
@@ -64,7 +64,7 @@ module _ (old : Router) where
   abbrev pub OfSend : Truth → Send → Type 0
   OfSend T s = OfContent T s.number s.content
 
-  -- ---- what is left to be said
+  -- ---- what is still to be said
 
   abbrev pub OfWaiting : Truth → ℕ → Key → Header → Type 0
   OfWaiting T number key h = OfReceived T number h
@@ -84,7 +84,7 @@ module _ (old : Router) where
     pub acknowledgments : AllIn (OfWaiting T number) link.acknowledgments
     pub neighbor : Holds (OfNeighbor T number) link.neighbor
 
-  -- ---- where more is so
+  -- ---- if more is known
 
   module _ (T U : Truth) (more : (key : Key) (i : Instance) → T key i → U key i) where
     received_more : (number : ℕ) (h : Header) → OfReceived T number h → OfReceived U number h
@@ -169,7 +169,7 @@ module _ (old : Router) where
     helloed moment from true o h = named moment (with_hello_heard from moment o) (heard from moment o h)
     helloed moment from false o h = quiet_step (one_way_received (with_hello_heard from moment o)) (record { summary = none_in (OfListed T number); last = tt })
 
-    -- ---- Descriptions
+    -- ---- Database Descriptions
 
     taken_all : {X : Type 0} (P : X → Type 0) (k : ℕ) (xs : List X) → AllByRecursion P xs → AllByRecursion P (take k xs)
     taken_all P zero xs h = tt
@@ -230,7 +230,7 @@ module _ (old : Router) where
         (λ e. chosen OfStep m.is_master (master_goes_on moment d m) (slave_replies moment d m) (λ e. gone_on moment d m so) (λ e. replied moment d m so))
         (λ e. mismatched moment n h)
 
-    -- what is so of all copies
+    -- all copies have the property
     abbrev pub OfCopies : Database → Type 0
     OfCopies db = AllIn (λ (key : Key) (c : DatabaseCopy). OfNamed T number (instance_of_lsa c.lsa)) db
 
@@ -295,7 +295,7 @@ module _ (old : Router) where
         acknowledged moment headers (acknowledged_neighbor moment n x)
         (chosen (OfNeighbor T number) (is_entry moment x (finite.get n.retransmissions (key_of x))) (remove_retransmission (key_of x) n) n (λ e. record { summary = h.summary; last = h.last }) (λ e. h))
 
-    -- ---- Requests, and what a Tick sends again
+    -- ---- Link State Requests, and what a Tick retransmits
 
     pub asked : (moment : ℕ) (n : Neighbor) → OfNeighbor T number n → OfStep (request_next moment n)
     asked moment n h =

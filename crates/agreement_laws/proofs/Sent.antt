@@ -1,4 +1,4 @@
--- What is sent at an interface goes out there: a Description, in a packet of its own.
+-- A Database Description that is sent at an interface is in a packet of its own there.
 use Rattle.std.proofs.Common.{◌≡◌, ℕ, zero, suc, ◌+◌, cond, ◌⊎◌, inl, inr, List, [], ◌∷◌, ◌++◌, map, Option, None, Some, refl, sym, ap, subst, ◌∙◌, arith}
 use Rattle.std.specs.Prelude.{slice_get}
 use Rattle.std.specs.List.{Contains, cons_option, enumerate_from, filter_map, flat_map}
@@ -20,7 +20,7 @@ one_more : {Y : Type 0} (o : Option Y) (ys : List Y) (y : Y) → Contains ys y �
 one_more None ys y c = c
 one_more (Some w) ys y c = later_is w ys y c
 
--- what passes is among those that do
+-- what is chosen from a list comes from one of its elements
 filtered : {X Y : Type 0} (f : X → Option Y) (xs : List X) (x : X) (y : Y) → Contains xs x → f x ≡ Some y → Contains (filter_map f xs) y
 filtered f [] x y c is = absurd (of_empty x c)
 filtered {X} {Y} f (z ∷ zs) x y c is = by_place (λ k. filtered f zs x y k is) (of_cons z zs x c)
@@ -63,7 +63,7 @@ module _ (d : Description) where
         (subst (λ m. Contains (flat_map (λ (g : ℕ × Link). outs_at own sends g.0 g.1) (enumerate_from (k + 1) xs)) (out_of own m (body.Description d))) (sym e)
         (out_from (k + 1) i xs link at (subst (λ m. Contains sends (record { number = m; content = Content.Describes d })) e c)))
 
-    -- a Description that is sent at one of the interfaces goes out there
+    -- a Database Description that is sent at one of the interfaces is in a packet there
     pub goes_out : (number : ℕ) (links : List Link) (link : Link) → link_at number links ≡ Some link → Contains sends (record { number = number; content = Content.Describes d })
         → Contains (outs_of own links sends) (out_of own number (body.Description d))
     goes_out zero links link at c = absurd cc

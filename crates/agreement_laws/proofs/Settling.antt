@@ -1,6 +1,6 @@
--- What each step of a neighbor, but for the exchange of Descriptions, makes of a copy that is
--- settled with it: it stays settled, unless the adjacency is given up, or what takes it off a list
--- is what settles it from then on.
+-- A copy that is settled with a neighbor, in each of its steps except the exchange of Database
+-- Descriptions: it stays settled, unless the adjacency is given up, or what removes it from a list
+-- settles it from then on.
 use Rattle.std.proofs.Common.{◌≡◌, ℕ, Bool, true, false, cond, not, ◌&&◌, ◌⊎◌, inl, inr, List, [], ◌∷◌, map, Option, None, Some, is_some, refl, sym, ap, subst, ◌∙◌}
 use Rattle.std.specs.Prelude.{◌==◌}
 use Rattle.std.specs.FinMap as finite
@@ -39,11 +39,11 @@ abbrev pub Saying : Type 1
 Saying = Conversation → ListEntry → Type 0
 
 module _ (key : Key) (now : ℕ) (Of : ℕ → Type 0) (Said : Saying) where
-  -- an instance as new was said
+  -- an instance that is at least as new was said
   abbrev pub Known : Conversation → Instance → Type 0
   Known with_it i = (l : ListEntry) × Said with_it l × (is_at_least (listed_now now l) i ≡ true)
 
-  -- it is still to be described, as new as it is
+  -- it is still to be described, at least as new
   abbrev pub ToDescribe : ByKey ListEntry → Instance → Type 0
   ToDescribe summary i = (l : ListEntry) × (finite.get summary key ≡ Some l) × (key_of l.header ≡ key) × (is_at_least (listed_now now l) i ≡ true)
 
@@ -94,7 +94,7 @@ module _ (key : Key) (now : ℕ) (Of : ℕ → Type 0) (Said : Saying) where
   released_other k t s w i other (inl e) = inl (ap is_some (removed_other t k key other) ∙ e)
   released_other k t s w i other (inr e) = inr e
 
-  -- of another key
+  -- an LSA of another key
   pub flooded_other : (x : Option Instance) (moment : ℕ) (from : Bool) (lsa : Lsa) (m : Neighbor) → same_key key (lsa_key lsa) ≡ false → Settling x m
       → Settling x (flooding moment from lsa m).neighbor
   flooded_other x moment from lsa m other (inl before) =
@@ -121,7 +121,7 @@ module _ (key : Key) (now : ℕ) (Of : ℕ → Type 0) (Said : Saying) where
       )))
       (λ before. inr h)
 
-  -- what doesn't pass is requested as new, and so was said
+  -- if an LSA isn't newer than the request, one at least as new is requested, and so was said
   requested : (lsa : Lsa) (m : Neighbor) → key ≡ lsa_key lsa → AreSaid m.requests (conversation_with m) → passes now lsa (request_of m lsa) ≡ false
       → Known (conversation_with m) (instance_of lsa.header)
   requested lsa m same said e = by_choice (is_exchange_or_loading m.state) (requested_entry m (lsa_key lsa)) refl e
@@ -131,7 +131,8 @@ module _ (key : Key) (now : ℕ) (Of : ℕ → Type 0) (Said : Saying) where
       by_choice true (Some l) at p = (l, said l (subst (λ (k : Key). finite.get m.requests k ≡ Some l) (sym same) at), not_newer (instance_of lsa.header) (listed_now now l) p)
       by_choice false o at p = absurd cc
 
-  -- of this key, and not from this neighbor: it is on the list, or as new was requested
+  -- an LSA of this key that isn't from this neighbor: it is on the list, or one at least as new is
+  -- requested
   pub flooded_same : (x : Option Instance) (lsa : Lsa) (m : Neighbor) → same_key key (lsa_key lsa) ≡ true → Settling x m
       → Settling (Some (instance_of lsa.header)) (flooding now false lsa m).neighbor
   flooded_same x lsa m same (inl before) =
@@ -153,7 +154,7 @@ module _ (key : Key) (now : ℕ) (Of : ℕ → Type 0) (Said : Saying) where
       same_conversation k =
           chosen (λ (n : Neighbor). Known (conversation_with n) (instance_of lsa.header)) (meets now lsa (request_of m lsa)) (without_request (lsa_key lsa) m) m (λ e. k) (λ e. k)
 
-  -- from this neighbor, which so has said it
+  -- an LSA from this neighbor, which thus has said it
   pub flooded_back : (x : Option Instance) (i : Instance) (lsa : Lsa) (m : Neighbor) → (Of m.router → Known (conversation_with m) i) → Settling x m
       → Settling (Some i) (flooding now true lsa m).neighbor
   flooded_back x i lsa m says (inl before) =
@@ -192,13 +193,13 @@ module _ (key : Key) (now : ℕ) (Of : ℕ → Type 0) (Said : Saying) where
       two_way x m.state moment m (heard x from moment o h)
   helloed x moment from false o h = inl refl
 
-  -- ---- acknowledgments: what takes the entry off settles it from then on
+  -- ---- acknowledgments: what removes the entry settles it from then on
 
-  -- entries of the key are as new as the copy
+  -- entries of the key are at least as new as the copy
   abbrev pub IsOfIt : Option Instance → ByKey ListEntry → Type 0
   IsOfIt x t = (l : ListEntry) (i : Instance) → finite.get t key ≡ Some l → x ≡ Some i → is_at_least (listed_now now l) i ≡ true
 
-  -- a header that is the same as the entry under its key says the copy
+  -- a header that is the same as the entry of its key is that of the copy
   says_it : (x : Option Instance) (h : Header) (t : ByKey ListEntry) (w : Conversation) (i : Instance) → x ≡ Some i → IsOfIt x t → key ≡ key_of h
       → is_entry now h (finite.get t (key_of h)) ≡ true → Said w (record { header = h; at = now }) → Known w i
   says_it x h t w i is of same e said = by_entry (finite.get t (key_of h)) refl e
@@ -273,7 +274,7 @@ module _ (key : Key) (now : ℕ) (Of : ℕ → Type 0) (Said : Saying) where
       by_key true same i is k = inr (inr (says same s.0 i is))
       by_key false other i is k = released_other (lsa_key lsa) m.retransmissions m.summary (conversation_with m) i other k
 
-  -- ---- Loading, Requests and the old Description
+  -- ---- Loading, Link State Requests and the last Database Description
 
   filled_in : (x : Option Instance) (s : State) (m : Neighbor) → Settling x (record m { state = s }) → Settling x (loading_done_in s (record m { state = s }))
   filled_in x Init m h = h
@@ -327,7 +328,7 @@ module _ (key : Key) (now : ℕ) (Of : ℕ → Type 0) (Said : Saying) where
   pub old_description : (x : Option Instance) (moment dead : ℕ) (m : Neighbor) → Settling x m → Settling x (without_old_description moment dead m)
   old_description x moment dead m h = chosen (Settling x) (is_over_for moment dead m.exchanged) (record m { described = None }) m (λ e. h) (λ e. h)
 
--- ---- more that was said, and more of what is known of the neighbor
+-- ---- more that was said, and more that is known about the neighbor
 
 module _ (key : Key) (now : ℕ) (Of More : ℕ → Type 0) (Said Added : Saying) (m : Neighbor)
     (of : Of m.router → More m.router) (adds : (l : ListEntry) → Said (conversation_with m) l → Added (conversation_with m) l) where

@@ -1,4 +1,4 @@
--- What a router holds was told to its neighbor, or by it, in their present conversation: in every
+-- What a router holds was said to its neighbor, or by it, in their present conversation: in every
 -- history of two neighbors.
 use Rattle.std.proofs.Common.{◌≡◌, ℕ, true, ◌⊎◌, inl, inr, List, [], ◌∷◌, map, Option, None, Some, refl, sym, subst}
 use Rattle.std.specs.List.{Contains, filter_map}
@@ -32,7 +32,7 @@ use Rattle.agreement_laws.proofs.Walk as walk
 
 -- ---- what is exchanged in a turn
 
--- the router described it, or the other one's packet told it
+-- the router described it, or the other one's packet has it
 abbrev pub Exchanged : ℕ → Header → ℕ → Step → Type 0
 Exchanged number header own step = Describes own step.outs number header ⊎ ((bytes : List ℕ) × IsTold number bytes (instance_of_header header) step)
 
@@ -116,7 +116,7 @@ module _ (key : Key) (number : ℕ) where
         subst (λ (x : Party). IsSettled key number (SaidIn (Further event p x Earlier)) x.router) (sym same)
         (more_said key number p.router (SaidIn Earlier) (SaidIn (Further event p p Earlier)) (λ m at on l k. (k.0, (here p.router m at on, inr k.1))) was)
 
-  -- nobody is there
+  -- there is no neighbor
   alone : (Said : Saying) (c : Config) (r : Router) → r ≡ initial c → IsSettled key number Said r
   alone Said c r is = subst (λ (x : Router). IsSettled key number Said x) (sym is) (by_neighbor (neighbor_at number (initial c).area.links) (begins_alone c number).0)
     where

@@ -1,4 +1,4 @@
--- The verdicts on Descriptions, by the tests that lead to them.
+-- The verdicts on Database Descriptions, by the tests that lead to them.
 use Rattle.std.proofs.Common.{Bool, true, false, cond}
 use Rattle.adjacency.specs.Descriptions.{Verdict}
 

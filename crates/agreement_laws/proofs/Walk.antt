@@ -1,5 +1,5 @@
--- What an event makes of a copy that is settled with a neighbor: if it was settled before the
--- event, it is so after it.
+-- A copy that is settled with a neighbor, in an event: if it was settled before the event, it is so
+-- after it.
 use Rattle.std.proofs.Common.{◌≡◌, ℕ, ◌≤◌, Bool, true, false, cond, not, ◌⊎◌, inl, inr, List, [], ◌∷◌, map, Option, None, Some, refl, sym, ap, subst, ◌∙◌, arith}
 use Rattle.std.specs.Prelude.{◌==◌, length, nat_lt}
 use Rattle.std.specs.FinMap as finite
@@ -57,7 +57,7 @@ use Rattle.agreement_laws.proofs.Parts as parts
 use Rattle.agreement_laws.proofs.Parts.{SaidBy, held_marked}
 use Rattle.agreement_laws.proofs.Settling.{Has, Saying, Settling, settling_more}
 
--- ---- ages of LSAs that are read, and of those that are originated
+-- ---- ages of LSAs that are parsed, and of those that are originated
 
 abbrev read_unless : List ℕ → Option Fault → Option Lsa
 read_unless bytes None = Some (lsa_of bytes)
@@ -78,7 +78,7 @@ young_text bytes is = ltb-false 3600 (field bytes 0 2) (not_too_old (nat_lt (len
     (not (checksum_is_right bytes)) (not (is_known_type (field bytes 3 1))) (nat_lt 3600 (field bytes 0 2)) (field bytes 12 4 == 0x8000_0000) (not (body_fills (field bytes 3 1) bytes))
     wrong.Short wrong.Length wrong.Checksum wrong.LsType wrong.Body wrong.Body wrong.Body is)
 
--- what is read is at most of MaxAge
+-- the age of a parsed LSA is at most MaxAge
 read_age : (bytes : List ℕ) (lsa : Lsa) → lsa_in bytes ≡ Some lsa → lsa.header.age ≤ 3600
 read_age bytes lsa is = by_fault (fault_of bytes) refl is
   where
@@ -118,23 +118,23 @@ module _ (key : Key) (number : ℕ) (Before : Saying) (old : Router) (moment : �
   abbrev pub start : EventState
   start = start_event moment old
 
-  -- what was said before in this conversation, or is told in this event
+  -- what was said before in this conversation, or is said in this event
   abbrev pub Base : Saying
   Base with_it l =
       (Before with_it l × Converses number with_it old) ⊎ (Tells event number with_it.router l.header × (l.at ≡ moment) × (key_of l.header ≡ key))
 
-  -- there is such an interface
+  -- the interface exists
   abbrev pub HasLink : Type 0
   HasLink = (link : Link) × (link_at number old.area.links ≡ Some link)
 
-  -- who is heard at the interface is this router
+  -- the neighbor at the interface is this router
   abbrev pub IsIts : ℕ → Type 0
   IsIts router = (from : ℕ) → is_from from (neighbor_at number start.router.area.links) ≡ true → from ≡ router
 
   abbrev Stands : Outcome → Type 0
   Stands o = parts.Stands key moment number HasLink IsIts Base o
 
-  -- ---- ages
+  -- ---- aging
 
   abbrev Aging : Option Instance → Outcome → Type 0
   Aging x o = parts.HoldsThere key moment number HasLink Anybody Base o.sends x (neighbor_at number o.area.links)
@@ -221,7 +221,7 @@ module _ (key : Key) (number : ℕ) (Before : Saying) (old : Router) (moment : �
         by_state (inl k) = subst (λ (x : Option Instance). parts.HoldsThere key moment number HasLink Anybody Base o.sends x (neighbor_at number o.area.links)) (sym h.0) k
         by_state (inr k) = absurd cc
 
-  -- no copy: it stays so
+  -- without a copy it stays so
   none_aged : (es : List (Key × DatabaseCopy)) (o : Outcome) → held moment key o.area.database ≡ None → AllByRecursion (OfEntry (There old.area.database)) es → OwnKeys old.area.database
       → finite.get old.area.database key ≡ None → Aging None o → parts.Stands key moment number HasLink Anybody Base (fold (with_age old.moment moment) o es)
   none_aged [] o is all keys nothing h = subst (λ (x : Option Instance). parts.HoldsThere key moment number HasLink Anybody Base o.sends x (neighbor_at number o.area.links)) (sym is) h
@@ -251,12 +251,12 @@ module _ (key : Key) (number : ℕ) (Before : Saying) (old : Router) (moment : �
     abbrev begun : Outcome
     begun = record { area = old.area; sends = [] }
 
-    -- what was said before is of the conversation that goes on
+    -- what was said before is of the conversation that continues
     still_said : (m : Neighbor) → neighbor_at number old.area.links ≡ Some m → is_exchange_or_later m.state ≡ true → (l : ListEntry) → Before (conversation_with m) l
         → SaidBy key moment number HasLink Anybody Base [] (conversation_with m) l
     still_said m at on l said = inl (inl (said, record { neighbor = m; there = at; exchanging = on; is = refl }))
 
-    -- a copy that hasn't come to MaxAge since
+    -- a copy that hasn't reached MaxAge since
     has_aged : (c : DatabaseCopy) (m : Neighbor) → neighbor_at number old.area.links ≡ Some m → is_exchange_or_later m.state ≡ true → has_just_aged_out old.moment moment c ≡ false
         → Has key old.moment Anybody Before m.retransmissions m.summary (conversation_with m) (copy_now old.moment c)
         → Has key moment Anybody (SaidBy key moment number HasLink Anybody Base []) m.retransmissions m.summary (conversation_with m) (copy_now moment c)
@@ -290,7 +290,7 @@ module _ (key : Key) (number : ℕ) (Before : Saying) (old : Router) (moment : �
     each_so x y so None at h = tt
     each_so x y so (Some m) at h = so m at h
 
-    -- once the ages are done
+    -- after aging
     begins : OwnKeys old.area.database → WasSettled → parts.Stands key moment number HasLink Anybody Base (outcome start)
     begins keys was = by_copy (finite.get old.area.database key) refl was
       where
@@ -322,7 +322,7 @@ module _ (key : Key) (number : ℕ) (Before : Saying) (old : Router) (moment : �
                   inl (each_so (Some (copy_now old.moment c)) (Some (copy_now moment c)) (λ m is s. settled_aged c m is young s) (neighbor_at number old.area.links) refl h),
                 )
 
-    -- the neighbor that is there is who is heard
+    -- the sender of an accepted packet is the neighbor
     its_router : (m : Neighbor) → neighbor_at number start.router.area.links ≡ Some m → IsIts m.router
     its_router m at from is = sym (eqb-true m.router from (ap (is_from from) (sym at) ∙ is))
 
@@ -354,7 +354,7 @@ module _ (key : Key) (number : ℕ) (Before : Saying) (old : Router) (moment : �
           same,
         )
 
-    -- ---- what holds of the neighbor at the interface besides
+    -- ---- other properties of the neighbor at the interface
 
     own_of : (a : Area) → IsItsOwn a → (c : DatabaseCopy) → finite.get a.database key ≡ Some c → lsa_key c.lsa ≡ key
     own_of a its c at = own_at a.database key c its.keys at
@@ -368,7 +368,7 @@ module _ (key : Key) (number : ℕ) (Before : Saying) (old : Router) (moment : �
     empty_before : IsItsOwn start.router.area → (m : Neighbor) → neighbor_at number start.router.area.links ≡ Some m → is_exchange_or_later m.state ≡ false → m.requests ≡ finite.empty
     empty_before its m at early = ((one_of HasSoundLists start.router.area (facts its).lists m at).before_exchange early).1
 
-    -- nobody is there after the ages who wasn't before
+    -- if there was no neighbor before, there is none after aging
     still_nobody : (es : List (Key × DatabaseCopy)) (o : Outcome) → neighbor_at number o.area.links ≡ None → neighbor_at number (fold (with_age old.moment moment) o es).area.links ≡ None
     still_nobody [] o is = is
     still_nobody (e ∷ es) o is =
@@ -423,7 +423,7 @@ module _ (key : Key) (number : ℕ) (Before : Saying) (old : Router) (moment : �
       stays = λ o t area h. h;
     }
 
-    -- ---- the whole event
+    -- ---- the complete event
 
     pub ends : (outs : List Out) (new : Router) (happens : Happens old moment event outs new) → IsInOrder old → WasSettled → Stands (outcome (end_event old moment happens.after))
     ends outs new happens order was =

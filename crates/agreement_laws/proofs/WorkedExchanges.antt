@@ -1,4 +1,4 @@
--- Worked cases of what counts as exchanged in a conversation.
+-- Worked examples of what was exchanged in a conversation.
 use Rattle.std.proofs.Common.{◌≡◌, ℕ, true, nat_lt, List, [], ◌∷◌, Option, None, Some, refl, sym, ap, subst, ◌∙◌}
 use Rattle.std.specs.List.{Contains}
 use Rattle.lsdb.specs.Headers.{Header}
@@ -28,7 +28,7 @@ use Rattle.agreement_laws.specs.Exchanged.{Conversation, Converses, GoesOn, IsEx
 use Rattle.agreement_laws.specs.WorkedExchanges.{WorkedExchanges}
 use Rattle.agreement_laws.proofs.Sent.{goes_out}
 
--- who is shown is at an interface
+-- a neighbor that is shown is at an interface
 its_link : (o : Option Link) (from : ℕ) (state : State) → id_and_state (neighbor_on o) ≡ Some (from, state) → (link : Link) × (o ≡ Some link)
 its_link None from state e = absurd cc
 its_link (Some link) from state e = (link, refl)

@@ -1,4 +1,4 @@
--- Worked cases of two neighbors.
+-- Worked examples of two neighbors.
 use Rattle.std.proofs.Common.{◌≡◌, ℕ, ◌<◌, ◌≤◌, cond, List, [], ◌∷◌, None, Some, refl, sym, ap, subst, ◌∙◌, arith}
 use Rattle.std.specs.FinMap as finite
 use Rattle.lsdb.specs.Copies.{DatabaseCopy}

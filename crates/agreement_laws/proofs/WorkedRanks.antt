@@ -1,4 +1,4 @@
--- Worked cases of how new instances are.
+-- Worked examples of ranks.
 use Rattle.std.proofs.Common.{refl}
 use Rattle.agreement_laws.specs.WorkedRanks.{WorkedRanks}
 

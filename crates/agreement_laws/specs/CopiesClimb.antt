@@ -1,6 +1,6 @@
--- What becomes of a copy in an event (RFC 2328, sections 12.1.6, 13 and 14): one that is as new
--- takes its place, or it leaves the database, at MaxAge and off all retransmission lists. So what a
--- router has said of a key holds until it loses the key.
+-- What happens to a copy in an event (RFC 2328, sections 12.1.6, 13 and 14): it is replaced by one
+-- that is at least as new, or it is removed from the database at MaxAge, when it is on no
+-- retransmission list. So a router has what it has said about a key until it loses its copy.
 use Rattle.std.specs.Prelude.{◌≡◌, true, false, List, None, Some}
 use Rattle.std.specs.FinMap as finite
 use Rattle.words.specs.Numbers.{Moment}
@@ -15,18 +15,17 @@ use Rattle.events.specs.Routers.{Occurrence, Router}
 use Rattle.flood_laws.specs.InOrder.{IsInOrder}
 use Rattle.agreement_laws.specs.Ranks.{is_at_least}
 
--- after an event at the moment, in which the router became the new one
+-- after an event at the moment, with the router `new` as the result
 pub data BecameOf (moment : Moment) (instance : Instance) (key : Key) (new : Router) : Type 0 where
-  -- an instance that is as new is held
+  -- it holds an instance that is at least as new
   IsHeld : (copy : DatabaseCopy) → finite.get new.area.database key ≡ Some copy
       → is_at_least (copy_now moment copy) instance ≡ true → BecameOf moment instance key new
-  -- none is: the last one was as new, at MaxAge, and is on no retransmission list
+  -- it holds none: the last one was at least as new, at MaxAge, and is on no retransmission list
   IsGone : (last : Instance) → is_at_least last instance ≡ true → is_max_age last.age ≡ true
       → finite.get new.area.database key ≡ None
       → any_has_retransmission key new.area.links ≡ false → BecameOf moment instance key new
 
--- of routers in order, as they are in every run: so it is of each copy in each event, as new as it
--- is at the event's moment
+-- for routers of any run: this is so for each copy in each event, compared at the event's moment
 abbrev pub CopiesClimb : Type 0
 CopiesClimb =
     (old : Router) (moment : Moment) (event : Occurrence) (outs : List Out) (new : Router)

@@ -1,5 +1,5 @@
--- What a router and its neighbor tell each other of LSAs in one conversation (RFC 2328, sections
--- 10.6, 13 and 13.7): the headers that the neighbor's packets tell, and those that the router
+-- What a router and its neighbor say to each other about LSAs in one conversation (RFC 2328,
+-- sections 10.6, 13 and 13.7): the headers in the neighbor's packets, and those that the router
 -- describes to it.
 use Rattle.std.specs.Prelude.{◌≡◌, ℕ, ◌≤◌, true, List, [], ◌∷◌, Option, Some, map}
 use Rattle.std.specs.List.{Contains, filter_map}
@@ -21,7 +21,7 @@ use Rattle.events.specs.Routers.{Occurrence, Router}
 
 -- ---- a conversation
 
--- The neighbor's Router ID, and the DD sequence number with which the router began the attempt.
+-- The neighbor's Router ID, and the DD sequence number with which the router started the attempt.
 -- Each further attempt has another number, until the neighbor is Down.
 pub record Conversation : Type 0 where
   pub router : RouterNumber
@@ -30,7 +30,8 @@ pub record Conversation : Type 0 where
 abbrev pub conversation_with : Neighbor → Conversation
 conversation_with n = record { router = n.router; attempt = n.dd_sequence_start }
 
--- the router is in this conversation with the neighbor at the interface, in Exchange or later
+-- the router has this conversation with the neighbor at the interface, which is in Exchange or
+-- later
 pub record Converses (number : InterfaceNumber) (with_it : Conversation) (r : Router)
     : Type 0 where
   pub neighbor : Neighbor
@@ -38,10 +39,10 @@ pub record Converses (number : InterfaceNumber) (with_it : Conversation) (r : Ro
   pub exchanging : is_exchange_or_later neighbor.state ≡ true
   pub is : conversation_with neighbor ≡ with_it
 
--- ---- what is told in an event
+-- ---- what is said in an event
 
--- the headers that a packet tells: those of a Description, of an Update's readable LSAs, and of an
--- Acknowledgment
+-- the headers in a packet: those of a Database Description, of the LSAs in a Link State Update that
+-- can be parsed, and of a Link State Acknowledgment
 abbrev pub headers_told : Body → List Header
 headers_told (body.Hello h) = []
 headers_told (body.Description d) = d.headers
@@ -49,7 +50,7 @@ headers_told (body.Request keys) = []
 headers_told (body.Update lsas) = map (λ (l : Lsa). l.header) (filter_map lsa_in lsas)
 headers_told (body.Acknowledgment headers) = headers
 
--- the event's packet came in at this interface from this router, and tells the header
+-- the event's packet was received at this interface from this router, and has the header
 pub record Tells (event : Occurrence) (number : InterfaceNumber) (router : RouterNumber)
     (header : Header) : Type 0 where
   pub bytes : List ℕ
@@ -59,14 +60,14 @@ pub record Tells (event : Occurrence) (number : InterfaceNumber) (router : Route
   pub from : packet.router ≡ router
   pub told : Contains (headers_told packet.body) header
 
--- a Description with the header goes out at the interface
+-- a Database Description with the header is sent at the interface
 pub record Describes (own : RouterNumber) (outs : List Out) (number : InterfaceNumber)
     (header : Header) : Type 0 where
   pub description : Description
   pub sent : Contains outs (out_of own number (body.Description description))
   pub among : Contains description.headers header
 
--- the event tells the header to the router, or describes it to the neighbor
+-- the event's packet has the header, or the event describes it to the neighbor
 pub data IsExchanged (own : RouterNumber) (step : Step) (number : InterfaceNumber)
     (router : RouterNumber) (header : Header) : Type 0 where
   Told : Tells step.event number router header → IsExchanged own step number router header
@@ -74,7 +75,7 @@ pub data IsExchanged (own : RouterNumber) (step : Step) (number : InterfaceNumbe
 
 -- ---- in a run
 
--- a run from old to new in which the conversation goes on: it is the neighbor's at each point
+-- a run from `old` to `new` in which the conversation continues: it is the neighbor's at each point
 abbrev pub GoesOn : InterfaceNumber → Conversation → Router → List Step → Router → Type 0
 GoesOn number with_it old [] new = (new ≡ old) × Converses number with_it old
 GoesOn number with_it old (s ∷ steps) new =
@@ -82,8 +83,8 @@ GoesOn number with_it old (s ∷ steps) new =
     × (middle : Router) × Happens old s.moment s.event s.outs middle
     × GoesOn number with_it middle steps new
 
--- the header was exchanged in an event of the run, at the moment of the entry, and since then the
--- conversation has gone on
+-- the header was exchanged in an event of the run, at the moment of the entry, and the conversation
+-- has continued since
 pub data WasExchanged (number : InterfaceNumber) (with_it : Conversation) (entry : ListEntry)
     : Router → List Step → Router → Type 0 where
   Now : (old middle new : Router) (step : Step) (rest : List Step)

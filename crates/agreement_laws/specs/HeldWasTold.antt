@@ -1,7 +1,8 @@
--- What a router holds was told to its neighbors (RFC 2328, sections 10.3, 10.6 and 13.3): each of
+-- What a router holds was said to its neighbors (RFC 2328, sections 10.3, 10.6 and 13.3): each of
 -- its copies is on a neighbor's retransmission list, or is still to be described to it; or, in
--- their present conversation, it was described to the neighbor, or the neighbor told an instance
--- that is as new. Whatever comes in: nothing is supposed of what is lost, repeated or late.
+-- their present conversation, it was described to the neighbor, or a packet of the neighbor had an
+-- instance that is at least as new. This holds whatever is received: nothing is assumed about loss,
+-- repetition or delay.
 use Rattle.std.specs.Prelude.{◌≡◌, Bool, true, false, List, Some}
 use Rattle.std.specs.FinMap as finite
 use Rattle.words.specs.Numbers.{InterfaceNumber}
@@ -22,8 +23,8 @@ use Rattle.agreement_laws.specs.Exchanged.{ClockRunsOn, Conversation, WasExchang
 use Rattle.agreement_laws.specs.Exchanged.{conversation_with}
 use Rattle.agreement_laws.specs.Ranks.{is_at_least}
 
--- a header of the key that was exchanged in the conversation is, with its age by now, as new as the
--- instance
+-- a header of the key was exchanged in the conversation that, with its age now, is at least as new
+-- as the instance
 pub record WasExchangedAsNew (number : InterfaceNumber) (with_it : Conversation) (key : Key)
     (instance : Instance) (old : Router) (steps : List Step) (new : Router) : Type 0 where
   pub entry : ListEntry
@@ -31,13 +32,13 @@ pub record WasExchangedAsNew (number : InterfaceNumber) (with_it : Conversation)
   pub as_new : is_at_least (listed_now new.moment entry) instance ≡ true
   pub exchanged : WasExchanged number with_it entry old steps new
 
--- nothing of the key is left to be sent to the neighbor: it is on neither list
+-- nothing with this key is left to be sent to the neighbor: it is on neither list
 pub record IsNotOwed (n : Neighbor) (key : Key) : Type 0 where
   pub acknowledged : finite.contains_key n.retransmissions key ≡ false
   pub described : finite.contains_key n.summary key ≡ false
 
--- after every run: of what is held and isn't owed to a neighbor in Exchange or later, an instance
--- that is as new was exchanged
+-- after every run: if an instance is held and is on neither list of a neighbor in Exchange or
+-- later, one that is at least as new was exchanged
 abbrev pub WhatIsHeldWasTold : Type 0
 WhatIsHeldWasTold =
     (c : Config) (steps : List Step) (r : Router) → Run (initial c) steps r
@@ -50,7 +51,7 @@ WhatIsHeldWasTold =
 
 -- ---- Full neighbors
 
--- in Loading and Full all Descriptions have been exchanged
+-- in Loading and Full the exchange of Database Descriptions is completed
 abbrev pub is_exchange_done : State → Bool
 is_exchange_done Init = false
 is_exchange_done ExStart = false
@@ -58,15 +59,15 @@ is_exchange_done Exchange = false
 is_exchange_done Loading = true
 is_exchange_done Full = true
 
--- after every run: nothing is left to be described to a neighbor in Loading or Full
+-- after every run: the Database summary list of a neighbor in Loading or Full is empty
 abbrev pub NothingIsLeftToDescribe : Type 0
 NothingIsLeftToDescribe =
     (c : Config) (steps : List Step) (r : Router) → Run (initial c) steps r
     → (number : InterfaceNumber) (n : Neighbor) → neighbor_at number r.area.links ≡ Some n
     → is_exchange_done n.state ≡ true → n.summary ≡ finite.empty
 
--- so of what is held and isn't on the retransmission list of a Full neighbor one that is as new was
--- exchanged
+-- so if an instance is held and isn't on the retransmission list of a Full neighbor, one that is at
+-- least as new was exchanged
 abbrev pub FullNeighborsWereTold : Type 0
 FullNeighborsWereTold =
     (c : Config) (steps : List Step) (r : Router) → Run (initial c) steps r

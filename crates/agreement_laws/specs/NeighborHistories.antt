@@ -1,6 +1,6 @@
--- Two neighbors in whatever surroundings: what each sends the other may be lost, repeated, late and
--- reordered, but isn't forged; on their other interfaces anything may come in; either may begin
--- anew. Their clocks may differ.
+-- Two neighbors in any environment: what each sends the other may be lost, repeated, late and
+-- reordered, but isn't forged; on their other interfaces anything may be received; either may
+-- restart. Their clocks may differ.
 use Rattle.std.specs.Prelude.{◌≡◌, ◌⊎◌, ℕ, ◌==◌, ◌≤◌, Bool, true, false}
 use Rattle.std.specs.Prelude.{if◌then◌else◌, List, [], ◌∷◌, ◌++◌, length, Option, None, Some}
 use Rattle.std.specs.List.{AllByRecursion, Contains, filter_map}
@@ -23,8 +23,8 @@ abbrev pub other_side : Side → Side
 other_side Side.Left = Side.Right
 other_side Side.Right = Side.Left
 
--- a router; the texts that went out at its interface to the other one, from the first on; and how
--- many of them before it last began
+-- a router; the packets that it has sent at its interface to the other one, from the first on; and
+-- how many of them before its last start
 pub record Party : Type 0 where
   pub router : Router
   pub sent : List (List ℕ)
@@ -38,7 +38,7 @@ abbrev pub party : Side → Pair → Party
 party Side.Left w = w.left
 party Side.Right w = w.right
 
--- each one's interface to the other
+-- the interface of each to the other
 pub record Ends : Type 0 where
   pub left : InterfaceNumber
   pub right : InterfaceNumber
@@ -52,7 +52,7 @@ interface_of Side.Right ends = ends.right
 abbrev pub text_at : InterfaceNumber → Out → Option (List ℕ)
 text_at number out = if out.interface == number then Some out.bytes else None
 
--- an event happens to the router; what comes in at its interface to the other one, that one sent
+-- an event of the router; what it receives at its interface to the other one was sent by that one
 pub record TakesEvent (number : InterfaceNumber) (heard : List (List ℕ)) (before after : Party)
     : Type 0 where
   pub moment : Moment
@@ -64,13 +64,14 @@ pub record TakesEvent (number : InterfaceNumber) (heard : List (List ℕ)) (befo
   pub not_forged : (bytes : List ℕ) → event ≡ Occurrence.Packet number bytes → Contains heard bytes
   pub sent : after.sent ≡ before.sent ++ filter_map (text_at number) outs
   pub began : after.began ≡ before.began
-  -- the instances that it sends have their numbers in their ranges, and are written as texts
+  -- the instances that it sends have their numbers in their ranges, and its packets are encoded
+  -- correctly
   pub in_range : AllByRecursion IsInstance
       (instances_in_sends (end_event before.router moment happens.after).sends)
   pub texts : AreTexts before.router.id before.router.area.links
       (end_event before.router moment happens.after).sends
 
--- it begins anew under its Router ID
+-- it restarts with its Router ID
 pub record BeginsAnew (before after : Party) : Type 0 where
   pub config : Config
   pub same : config.router ≡ before.router.id
@@ -103,8 +104,7 @@ abbrev pub event_taken : {number : InterfaceNumber} {heard : List (List ℕ)} {b
 event_taken (Doing.Event t) = Some (record { moment = t.moment; event = t.event; outs = t.outs })
 event_taken (Doing.Start b) = None
 
--- the event that happens to the router of this side in the turn, if it is its turn and it doesn't
--- begin anew
+-- the event of the router of this side in the turn, if it is its turn and it doesn't restart
 abbrev pub event_of : (ends : Ends) (side : Side) (before after : Pair) → Turn ends before after
     → Option Step
 event_of ends side before after t =
@@ -123,18 +123,18 @@ abbrev pub IsHistory : Ends → Pair → List Pair → Type 0
 IsHistory ends now [] = HasBegun now.left × HasBegun now.right
 IsHistory ends now (before ∷ earlier) = Turn ends before now × IsHistory ends before earlier
 
--- what may be so of a turn
+-- a property of turns
 abbrev pub OfTurn : Ends → Type 1
 OfTurn ends = (before after : Pair) → Turn ends before after → Type 0
 
--- it is so of some turn of the history
+-- some turn of the history has the property
 abbrev pub InSomeTurn : (ends : Ends) → OfTurn ends → (now : Pair) (earlier : List Pair)
     → IsHistory ends now earlier → Type 0
 InSomeTurn ends Such now [] h = ⊥
 InSomeTurn ends Such now (before ∷ earlier) h =
     Such before now h.0 ⊎ InSomeTurn ends Such before earlier h.1
 
--- of some turn since which this has held
+-- some turn has the property, and since then this has held
 abbrev pub InSomeTurnSince : (ends : Ends) → (Pair → Type 0) → OfTurn ends → (now : Pair)
     (earlier : List Pair) → IsHistory ends now earlier → Type 0
 InSomeTurnSince ends Holds Such now [] h = ⊥

@@ -1,7 +1,7 @@
--- Full neighbors agree on what was renewed (RFC 2328, sections 10.3 and 13): if each is Full with
+-- Full neighbors agree on what was refreshed (RFC 2328, sections 10.3 and 13): if each is Full with
 -- the other, and an LSA is on neither one's retransmission list, both hold the same instance;
--- unless one of them described it to the other in their exchange, or was without a copy since it
--- told the other that it had it.
+-- unless one of them described it to the other in their exchange, or was without a copy after it
+-- had told the other that it has it.
 use Rattle.std.specs.Prelude.{◌≡◌, ◌⊎◌, ℕ, ◌<◌, Bool, true, false, List, [], length, map, None, Some}
 use Rattle.std.specs.Prelude.{slice_get}
 use Rattle.std.specs.FinMap as finite
@@ -31,19 +31,20 @@ use Rattle.agreement_laws.specs.SaidIsHeld.{IsToDescribe, Waits, young}
 
 -- ---- instances, whatever their ages
 
--- a is as new as b, or newer: by the sequence number, then the checksum
+-- `a` is at least as new as `b`: by the sequence number, then the checksum
 abbrev pub is_as_new : LsaInstance → LsaInstance → Bool
 is_as_new a b = is_at_least (young a) (young b)
 
--- the router holds an instance of the key that is as new
+-- the router holds an instance of the key that is at least as new
 pub record HoldsAsNew (r : Router) (name : LsaInstance) : Type 0 where
   pub copy : DatabaseCopy
   pub there : finite.get r.area.database name.key ≡ Some copy
   pub as_new : is_as_new (instance_of_lsa copy.lsa) name ≡ true
 
--- ---- what was told
+-- ---- what was said
 
--- the instances that a packet names: of a Description, an Update or an Acknowledgment
+-- the instances in a packet: in a Database Description, a Link State Update or a Link State
+-- Acknowledgment
 abbrev pub instances_told : Body → List LsaInstance
 instances_told (body.Hello h) = []
 instances_told (body.Description d) = map instance_of_header d.headers
@@ -51,7 +52,7 @@ instances_told (body.Request keys) = []
 instances_told (body.Update lsas) = instances_in_update lsas
 instances_told (body.Acknowledgment headers) = map instance_of_header headers
 
--- the event is this text of the other one, which names the instance
+-- the event is the receipt of these bytes, which have the instance
 pub record IsTold (number : InterfaceNumber) (bytes : List ℕ) (name : LsaInstance) (step : Step)
     : Type 0 where
   pub is : step.event ≡ Occurrence.Packet number bytes
@@ -59,13 +60,13 @@ pub record IsTold (number : InterfaceNumber) (bytes : List ℕ) (name : LsaInsta
   pub text : PacketText bytes packet
   pub told : Contains (instances_told packet.body) name
 
--- ---- what is said and then forgotten
+-- ---- what is said and then lost
 
 -- the router has no copy of the key
 abbrev pub IsWithout : Key → Router → Type 0
 IsWithout key r = finite.get r.area.database key ≡ None
 
--- the text acknowledges the instance at MaxAge
+-- the bytes acknowledge the instance at MaxAge
 pub record AcknowledgesMaxAge (bytes : List ℕ) (name : LsaInstance) : Type 0 where
   pub packet : Packet
   pub text : PacketText bytes packet
@@ -76,29 +77,29 @@ pub record AcknowledgesMaxAge (bytes : List ℕ) (name : LsaInstance) : Type 0 w
   pub named : instance_of_header header ≡ name
   pub flushed : is_max_age header.age ≡ true
 
--- Why the router may not hold what the text of this number among those that it sent tells: after
--- the turn, which takes it from before to after,
+-- Why the router may not hold what its packet with this index says: after the turn from `before` to
+-- `after`,
 pub data Forgets (number : InterfaceNumber) (name : LsaInstance) (text : ℕ) (before after : Party)
     : Type 0 where
-  -- it has no copy, and has sent the text by then
+  -- it has no copy, and the packet was sent by then
   Without : IsWithout name.key after.router → text < length after.sent
       → Forgets number name text before after
-  -- it has no copy, and an acknowledgment of the instance waits to be sent
+  -- it has no copy, and an acknowledgment of the instance is delayed
   WithoutWaiting : IsWithout name.key after.router → (header : Header)
       → Waits number header after.router.area.links → instance_of_header header ≡ name
       → Forgets number name text before after
   -- it has no copy, and the instance is to be described to the other one
   WithoutDescribed : IsWithout name.key after.router
       → IsToDescribe number name after.router.area.links → Forgets number name text before after
-  -- it has begun anew since it sent the text
+  -- it has restarted since it sent the packet
   BegunAnew : text < after.began → Forgets number name text before after
-  -- it had no copy before, and the text acknowledges the instance at MaxAge: there was nothing to
+  -- it had no copy before, and the packet acknowledges the instance at MaxAge: there was nothing to
   -- flush
   NothingToFlush : IsWithout name.key before.router → (bytes : List ℕ)
       → slice_get after.sent text ≡ Some bytes → AcknowledgesMaxAge bytes name
       → Forgets number name text before after
 
--- so it is in some turn of the history
+-- this is so in some turn of the history
 abbrev pub HasForgotten : (ends : Ends) → Side → LsaInstance → ℕ → (now : Pair)
     (earlier : List Pair) → IsHistory ends now earlier → Type 0
 HasForgotten ends side name text now earlier h =
@@ -106,9 +107,9 @@ HasForgotten ends side name text now earlier h =
     Forgets (interface_of side ends) name text (party side before) (party side after))
     now earlier h
 
--- ---- what may keep Full neighbors apart
+-- ---- why Full neighbors may disagree
 
--- such an event happened to the router of this side, and since then it has been in the conversation
+-- the router of this side had such an event, and has been in the conversation since
 abbrev pub InConversation : (ends : Ends) → Side → Conversation → (RouterNumber → Step → Type 0)
     → (now : Pair) (earlier : List Pair) → IsHistory ends now earlier → Type 0
 InConversation ends side with_it Such now earlier h =
@@ -118,19 +119,20 @@ InConversation ends side with_it Such now earlier h =
     (step : Step) × (event_of ends side before after t ≡ Some step)
     × Such (party side before).router.id step) now earlier h
 
--- The router of this side is in the conversation, and has this instance: why the other one may not
--- hold one that is as new.
+-- The router of this side is in the conversation, and has this instance: why the other one may hold
+-- none that is at least as new.
 pub data Exception (ends : Ends) (side : Side) (with_it : Conversation) (name : LsaInstance)
     (now : Pair) (earlier : List Pair) (h : IsHistory ends now earlier) : Type 0 where
-  -- it described one as new to the other one
+  -- it described one that is at least as new to the other one
   Described : (header : Header) → key_of header ≡ name.key
       → is_as_new (instance_of_header header) name ≡ true
       → InConversation ends side with_it
       (λ (own : RouterNumber) (step : Step).
       Describes own step.outs (interface_of side ends) header) now earlier h
       → Exception ends side with_it name now earlier h
-  -- the other one told one as new, in a Description, an Update or an Acknowledgment, and has
-  -- forgotten it: it did send these bytes, and has forgotten what they told each time
+  -- the other one sent one that is at least as new, in a Database Description, a Link State Update
+  -- or a Link State Acknowledgment, and has lost it: it did send these bytes, and each time has
+  -- lost what they say
   Forgotten : (bytes : List ℕ) (told : LsaInstance) → told.key ≡ name.key
       → is_as_new told name ≡ true
       → InConversation ends side with_it
@@ -143,7 +145,7 @@ pub data Exception (ends : Ends) (side : Side) (with_it : Conversation) (name : 
 
 -- ---- the law
 
--- the router of this side is Full with the other one, which owes it no acknowledgment of the key
+-- the router of this side is Full with the other one, and the key isn't on the retransmission list
 pub record IsAtRest (number : InterfaceNumber) (key : Key) (r : Router) : Type 0 where
   pub neighbor : Neighbor
   pub there : neighbor_at number r.area.links ≡ Some neighbor
@@ -151,7 +153,7 @@ pub record IsAtRest (number : InterfaceNumber) (key : Key) (r : Router) : Type 0
   pub acknowledged : finite.contains_key neighbor.retransmissions key ≡ false
 
 pub record NeighborsAgreeOnWhatWasRenewed : Type 0 where
-  -- what one of them holds, the other holds as new
+  -- if one of them holds an instance, the other holds one that is at least as new
   pub held : (ends : Ends) (now : Pair) (earlier : List Pair) (h : IsHistory ends now earlier)
       → (side : Side) (key : Key)
       → (at_rest : IsAtRest (interface_of side ends) key (party side now).router)
@@ -159,7 +161,7 @@ pub record NeighborsAgreeOnWhatWasRenewed : Type 0 where
       → HoldsAsNew (party (other_side side) now).router (instance_of_lsa copy.lsa)
       ⊎ Exception ends side (conversation_with at_rest.neighbor) (instance_of_lsa copy.lsa)
       now earlier h
-  -- so if both are at rest, they hold the same instance
+  -- so if this applies to both, they hold the same instance
   pub same : (ends : Ends) (now : Pair) (earlier : List Pair) (h : IsHistory ends now earlier)
       → (key : Key) (left : IsAtRest ends.left key now.left.router)
       → (right : IsAtRest ends.right key now.right.router)

@@ -1,7 +1,7 @@
--- What a router says of LSAs, it holds (RFC 2328, sections 10.3, 10.7, 10.8, 13, 13.3 and 13.5 to
--- 13.7): what an Update takes along when it is sent; what an acknowledgment names when it is made,
--- which may be long before it is sent, since it may wait for a Tick; and what is to be described
--- when the exchange begins, whenever the Description is sent.
+-- A router holds what it says about LSAs (RFC 2328, sections 10.3, 10.7, 10.8, 13, 13.3 and 13.5 to
+-- 13.7): the LSAs of a Link State Update when it is sent; what an acknowledgment identifies when it
+-- arises, which may be long before it is sent, since it may be delayed; and what is to be described
+-- when the exchange begins, whenever the Database Description is sent.
 use Rattle.std.specs.Prelude.{◌≡◌, true, List, None, Some}
 use Rattle.std.specs.FinMap as finite
 use Rattle.std.specs.List.{Contains}
@@ -26,30 +26,31 @@ use Rattle.agreement_laws.specs.CopiesClimb.{BecameOf}
 
 -- ---- what is said
 
--- an Update at the interface takes the LSA along, with its age before InfTransDelay is added
+-- the LSA is sent at the interface in a Link State Update; its age isn't incremented by
+-- InfTransDelay yet
 abbrev pub Updates : List Send → InterfaceNumber → Lsa → Type 0
 Updates sends number lsa =
     Contains sends (record { number = number; content = Content.Updates lsa })
 
--- an Acknowledgment at the interface names the header
+-- an acknowledgment of the header is sent at the interface
 abbrev pub Acknowledges : List Send → InterfaceNumber → Header → Type 0
 Acknowledges sends number header =
     Contains sends (record { number = number; content = Content.Acknowledges header })
 
--- the Description is sent at the interface
+-- the Database Description is sent at the interface
 abbrev pub Describes : List Send → InterfaceNumber → Description → Type 0
 Describes sends number d =
     Contains sends (record { number = number; content = Content.Describes d })
 
--- an acknowledgment of the header waits at the interface for a Tick
+-- the interface has a delayed acknowledgment of the header
 pub record Waits (number : InterfaceNumber) (header : Header) (links : List Link) : Type 0 where
   pub link : Link
   pub there : link_at number links ≡ Some link
   pub key : Key
   pub waits : finite.get link.acknowledgments key ≡ Some header
 
--- an instance is to be described to the neighbor at the interface: it is on the summary list, or in
--- the last Description, which may be sent again
+-- an instance is to be described to the neighbor at the interface: it is on the Database summary
+-- list, or in the last Database Description, which may be sent again
 pub data IsToDescribe (number : InterfaceNumber) (name : LsaInstance) (links : List Link) : Type 0
   where
     Listed : (n : Neighbor) (key : Key) (entry : ListEntry) → neighbor_at number links ≡ Some n
@@ -65,32 +66,33 @@ young name = record { sequence = name.sequence; checksum = name.checksum; age = 
 
 -- ---- why it is said
 
--- what the header names was received: after an event at the moment, in which the router became the
--- new one, and whose acknowledgments are of this interface
+-- the header's instance was received: after an event at the moment, with the router `new` as the
+-- result, for acknowledgments at this interface
 pub data IsReceived (old : Router) (moment : Moment) (new : Router) (number : InterfaceNumber)
     (header : Header) : Type 0 where
-  -- its acknowledgment waited before the event
+  -- its acknowledgment was delayed before the event
   Waited : Waits number header old.area.links → IsReceived old moment new number header
-  -- an instance that is as new is held; or it was, and left in this event, at MaxAge
+  -- an instance that is at least as new is held; or it was, and was removed in this event, at
+  -- MaxAge
   Held : BecameOf moment (instance_of header) (key_of header) new
       → IsReceived old moment new number header
 
--- why an acknowledgment goes out
+-- why an acknowledgment is sent
 pub data IsAcknowledged (old : Router) (moment : Moment) (new : Router)
     (number : InterfaceNumber) (header : Header) : Type 0 where
   Received : IsReceived old moment new number header
       → IsAcknowledged old moment new number header
-  -- there was nothing to flush: the header is at MaxAge, and none was held before the event
+  -- there was nothing to flush: the header is at MaxAge, and there was no copy before the event
   NothingToFlush : finite.get old.area.database (key_of header) ≡ None
       → is_max_age header.age ≡ true → IsAcknowledged old moment new number header
 
--- why an instance is to be described, or is
+-- why an instance is described, or is to be
 pub data IsOfDatabase (old : Router) (moment : Moment) (new : Router) (number : InterfaceNumber)
     (name : LsaInstance) : Type 0 where
   -- it was to be described before the event
   ToDescribe : IsToDescribe number name old.area.links
       → IsOfDatabase old moment new number name
-  -- one as new is held; or it was, and left in this event, at MaxAge
+  -- one that is at least as new is held; or it was, and was removed in this event, at MaxAge
   Held : BecameOf moment (young name) name.key new → IsOfDatabase old moment new number name
 
 pub record SaysWhatIsHeld (old : Router) (moment : Moment) (sends : List Send) (new : Router)
@@ -107,7 +109,7 @@ pub record SaysWhatIsHeld (old : Router) (moment : Moment) (sends : List Send) (
   pub to_describe : (number : InterfaceNumber) (name : LsaInstance)
       → IsToDescribe number name new.area.links → IsOfDatabase old moment new number name
 
--- of routers in order, as they are in every run: so it is of each event
+-- for routers of any run: this is so for each event
 abbrev pub WhatIsSaidIsHeld : Type 0
 WhatIsSaidIsHeld =
     (old : Router) (moment : Moment) (event : Occurrence) (outs : List Out) (new : Router)

@@ -1,5 +1,4 @@
--- Worked cases of what counts as exchanged in a conversation (RFC 2328, sections 10.6, 10.8 and
--- 13.7).
+-- Worked examples of what was exchanged in a conversation (RFC 2328, sections 10.6, 10.8 and 13.7).
 use Rattle.std.specs.Prelude.{◌≡◌, ℕ, true, nat_lt, List, [], ◌∷◌}
 use Rattle.std.specs.List.{Contains}
 use Rattle.words.specs.Numbers.{InterfaceNumber}
@@ -23,8 +22,9 @@ use Rattle.conversations.specs.WorkedRun.{receives}
 use Rattle.agreement_laws.specs.Exchanged.{Conversation, Converses, WasExchanged, headers_told}
 
 pub record WorkedExchanges : Type 0 where
-  -- a run of a router with one interface: a Hello of a neighbor with a larger Router ID, then its
-  -- opening Description: each header of the Description that this router answers with is exchanged
+  -- a run of a router with one interface: a Hello from a neighbor with a larger Router ID, then its
+  -- initial Database Description: each header in the Database Description with which this router
+  -- answers is exchanged
   pub described : (r new : Router) (link : Link) (moment later from sequence : ℕ)
       (hello_bytes bytes : List ℕ) (h : Hello) (outs answers : List Out)
       → NothingAges r moment → IsNamingHello r link hello_bytes from h → nat_lt r.id from ≡ true
@@ -41,7 +41,7 @@ pub record WorkedExchanges : Type 0 where
       → Contains (reply later sequence (young_copies later run.0.area.database)).headers header
       → WasExchanged 1 with_it (record { header = header; at = later }) (lonely r link)
       (receives moment hello_bytes outs ∷ receives later bytes answers ∷ []) new
-  -- an event: each header that a packet of the neighbor tells is exchanged
+  -- an event: each header in a packet from the neighbor is exchanged
   pub told : (old new : Router) (step : Step) (number : InterfaceNumber) (bytes : List ℕ)
       (packet : Packet) → Happens old step.moment step.event step.outs new
       → step.event ≡ Occurrence.Packet number bytes → PacketText bytes packet
@@ -49,13 +49,13 @@ pub record WorkedExchanges : Type 0 where
       → (header : Header) → Contains (headers_told packet.body) header
       → WasExchanged number with_it (record { header = header; at = step.moment }) old (step ∷ [])
       new
-  -- Hellos and Requests tell no header
+  -- Hellos and Link State Requests have no headers
   pub hellos : (hello : Hello) → headers_told (body.Hello hello) ≡ []
   pub requests : (keys : List Key) → headers_told (body.Request keys) ≡ []
   -- without an event nothing is exchanged
   pub nothing : (old new : Router) (number : InterfaceNumber) (with_it : Conversation)
       (entry : ListEntry) → WasExchanged number with_it entry old [] new → ⊥
-  -- what was exchanged counts only while the conversation stands
+  -- what was exchanged counts only while the conversation continues
   pub stands : (old new : Router) (steps : List Step) (number : InterfaceNumber)
       (with_it : Conversation) (entry : ListEntry)
       → WasExchanged number with_it entry old steps new → Converses number with_it new

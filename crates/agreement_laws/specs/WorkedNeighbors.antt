@@ -1,5 +1,5 @@
--- Worked cases of two neighbors: which instance is as new as another whatever their ages, what is
--- forgotten, and what counts in a conversation.
+-- Worked examples of two neighbors: which instance is at least as new as another whatever their
+-- ages, what is lost, and what counts in a conversation.
 use Rattle.std.specs.Prelude.{◌≡◌, ℕ, ℤ, pos, ◌<◌, ◌≤◌, false, true, List, [], length, None, Some}
 use Rattle.std.specs.FinMap as finite
 use Rattle.words.specs.Numbers.{InterfaceNumber, RouterNumber}
@@ -28,23 +28,24 @@ pub record WorkedNeighbors : Type 0 where
   pub checksum : is_as_new (named (pos 5) 8) (named (pos 5) 7) ≡ true
   pub lesser_checksum : is_as_new (named (pos 5) 7) (named (pos 5) 8) ≡ false
   pub same : is_as_new (named (pos 5) 7) (named (pos 5) 7) ≡ true
-  -- who has begun anew has forgotten each text that it sent before
+  -- a router that has restarted has lost what it sent before
   pub begun_anew : (number : InterfaceNumber) (name : LsaInstance) (text : ℕ) (before after : Party)
       → BeginsAnew before after → text < length before.sent
       → Forgets number name text before after
-  -- who has a copy before a turn and after it forgets no text in it that it sent since it began
+  -- a router that has a copy before and after a turn loses nothing in it that it sent since its
+  -- start
   pub kept : (number : InterfaceNumber) (name : LsaInstance) (text : ℕ) (before after : Party)
       (was is : DatabaseCopy) → finite.get before.router.area.database name.key ≡ Some was
       → finite.get after.router.area.database name.key ≡ Some is → after.began ≤ text
       → Forgets number name text before after → ⊥
-  -- without turns nothing is forgotten, and nothing was exchanged
+  -- without turns nothing is lost, and nothing was exchanged
   pub nothing_forgotten : (ends : Ends) (side : Side) (name : LsaInstance) (text : ℕ) (now : Pair)
       (h : IsHistory ends now []) → HasForgotten ends side name text now [] h → ⊥
   pub nothing_exchanged : (ends : Ends) (side : Side) (with_it : Conversation)
       (header : Header) (now : Pair) (h : IsHistory ends now [])
       → InConversation ends side with_it (λ (own : RouterNumber) (step : Step).
       Describes own step.outs (interface_of side ends) header) now [] h → ⊥
-  -- what was exchanged counts only while the conversation stands
+  -- what was exchanged counts only while the conversation continues
   pub stands : (ends : Ends) (side : Side) (with_it : Conversation)
       (header : Header) (now : Pair) (earlier : List Pair) (h : IsHistory ends now earlier)
       → InConversation ends side with_it (λ (own : RouterNumber) (step : Step).

@@ -1,4 +1,4 @@
--- What is done with an LSA of an Update in each of the ten cases.
+-- How an LSA of a Link State Update is processed in each of the ten cases.
 use Rattle.std.proofs.Common.{◌≡◌, ℕ, cond, List, ◌∷◌, Option, ap, ◌∙◌, append-nil}
 use Rattle.std.specs.FinMap as finite
 use Rattle.lsdb.specs.Copies.{install_flooded}
@@ -12,7 +12,7 @@ use Rattle.conversations.specs.CarriedOut.{EachCaseIsCarriedOut, IsInCase, havin
 use Rattle.conversations.specs.WorkedFlush.{full}
 use Rattle.conversations.specs.WorkedOwn.{loading}
 
--- by what the first bytes are
+-- by what the first bytes are parsed as
 abbrev first_read : ℕ → ℕ → List (List ℕ) → EventState → Option Lsa → EventState
 first_read moment number rest p o =
     cond (goes_on (case_in moment number o p)) (after_lsas moment number rest (after_unread moment number o p)) (after_unread moment number o p)

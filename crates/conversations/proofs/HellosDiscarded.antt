@@ -18,7 +18,7 @@ unheard own moment number from h link o e = cond-false (accepts own from h link)
 discarded : (own moment number from : ℕ) (h : Hello) (link : Link) (o : Outcome) → link_at number o.area.links ≡ Some link → accepts own from h link ≡ false → IsDiscarded own moment number from h o
 discarded own moment number from h link o there e = ap (λ l. heard_on own moment number from h l o) there ∙ unheard own moment number from h link o e
 
--- a Hello that is accepted at no link
+-- a Hello that is accepted on no link
 discarded_everywhere : (own moment number from : ℕ) (h : Hello) (o : Outcome) → ((link : Link) → accepts own from h link ≡ false) → (l : Option Link) → heard_on own moment number from h l o ≡ o
 discarded_everywhere own moment number from h o e None = refl
 discarded_everywhere own moment number from h o e (Some link) = unheard own moment number from h link o (e link)

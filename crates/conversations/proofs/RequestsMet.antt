@@ -1,4 +1,4 @@
--- Flooding's request half.
+-- Flooding and the request list.
 use Rattle.std.proofs.Common.{◌≡◌, ℤ, pos, Bool, true, false, None, Some, refl}
 use Rattle.std.specs.FinMap as finite
 use Rattle.std.specs.FinSet as set

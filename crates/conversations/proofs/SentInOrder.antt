@@ -1,4 +1,4 @@
--- What is sent at an interface stands in order.
+-- What is sent at an interface is in order.
 use Rattle.std.proofs.Common.{◌≡◌, ◌≤◌, ◌<◌, ℕ, ◌+◌, false, List, [], ◌∷◌, ◌++◌, map, Option, None, Some, map-id, refl, sym, ap, ◌∙◌, arith, append-nil}
 use Rattle.std.specs.List.{AllByRecursion, cons_option, filter_map, flat_map}
 use Rattle.std.specs.Ordering.{MatchOrdering, is_gt, nat_cmp, ordering_then}
@@ -56,7 +56,7 @@ module _ {X : Type 0} (key : X → Key) where
       let is = ordered key xs in
       record { ascending = ascends (in_key_order key xs) is.ascending; same = is.same }
 
--- ---- what is told of packets
+-- ---- the contents of packets
 
 module _ {Y : Type 0} (f : Body → List Y) where
   abbrev TellsNothing : Option Body → Type 0
@@ -81,7 +81,7 @@ module _ {Y : Type 0} (f : Body → List Y) where
   none_behind : (xs ys : List Body) → flat_map f ys ≡ [] → flat_map f (xs ++ ys) ≡ flat_map f xs
   none_behind xs ys none = flat_map-append f xs ys ∙ ap (λ l. flat_map f xs ++ l) none ∙ append-nil (flat_map f xs)
 
-  -- each packet tells its list
+  -- each packet contains its list
   each_told : {X : Type 0} (g : List X → Body) (F : X → Y) → ((xs : List X) → f (g xs) ≡ map F xs) → (xss : List (List X))
       → flat_map f (map g xss) ≡ map F (flat_map (λ p. p) xss)
   each_told g F is [] = refl
@@ -101,7 +101,7 @@ module _ {Y : Type 0} (f : Body → List Y) where
   of_descriptions none (Content.Updates lsa) = tt
   of_descriptions none (Content.Acknowledges h) = tt
 
--- ---- Updates and Acknowledgments
+-- ---- Link State Updates and Acknowledgments
 
 module _ (delay : ℕ) (cs : List Content) where
   abbrev lsas : List Lsa
@@ -119,7 +119,7 @@ module _ (delay : ℕ) (cs : List Content) where
   abbrev acknowledging : List Body
   acknowledging = map body.Acknowledgment (packed_groups header_size 24 headers)
 
-  -- Hellos, Descriptions and Requests tell none of it
+  -- Hellos, Database Descriptions and Link State Requests contain none
   none_of_three : {Y : Type 0} (f : Body → List Y) → ((h : Hello) → f (body.Hello h) ≡ []) → ((d : Description) → f (body.Description d) ≡ [])
       → ((keys : List Key) → f (body.Request keys) ≡ []) → flat_map f (filter_map hellos cs ++ filter_map descriptions cs ++ asking) ≡ []
   none_of_three f hello description request =

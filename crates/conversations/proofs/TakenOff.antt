@@ -1,4 +1,4 @@
--- What an Acknowledgment takes off a retransmission list.
+-- What a Link State Acknowledgment removes from a retransmission list.
 use Rattle.std.proofs.Common.{◌≡◌, ℕ, Bool, true, false, cond, ◌&&◌, ◌||◌, List, [], ◌∷◌, Option, None, Some, refl, sym, ap, ◌∙◌}
 use Rattle.std.specs.FinMap as finite
 use Rattle.words.specs.declared.key.Key.{Key}
@@ -13,7 +13,7 @@ use Rattle.conversations.specs.TakenOff.{AcknowledgmentsTakeOffWhatTheyName, is_
 
 -- ---- one header
 
--- the entry of this key, once that of a header's key is taken off, or isn't
+-- the entry of this key, after that of a header's key is removed, or isn't
 abbrev left : Key → Header → Neighbor → Bool → Option ListEntry
 left key h n b = finite.get (cond b (remove_retransmission (key_of h) n) n).retransmissions key
 

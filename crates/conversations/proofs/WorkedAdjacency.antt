@@ -1,4 +1,4 @@
--- An adjacency begins, is repeated and is begun again.
+-- An adjacency is formed, a Database Description is repeated, and the adjacency starts over.
 use Rattle.std.proofs.Common.{◌≡◌, ℕ, ◌%◌, ◌^◌, ◌==◌, true, false, cond, not, ◌&&◌, ◌||◌, List, [], ◌∷◌, None, Some, refl, ap, ◌∙◌}
 use Rattle.std.specs.FinSet as set
 use Rattle.packet.specs.declared.model.Body.TheVariants as body
@@ -28,7 +28,7 @@ use Rattle.conversations.specs.WorkedOwn.{beside, loading}
 use Rattle.conversations.proofs.WorkedEnds.{begins, describes_not, describes_not_later, differ_not, ended, ends_by, last}
 use Rattle.conversations.proofs.WorkedUpdates.{itself, start}
 
--- ---- a Hello that names this router
+-- ---- a Hello that lists this router
 
 abbrev pub last_heard : Router → Link → ℕ → ℕ → EventState
 last_heard r link moment from =
@@ -59,9 +59,9 @@ opens_it r new link moment from bytes h outs nothing hello event =
       event.sent ∙ ap (λ (q : EventState). outs_of r.id old.area.links q.sends) end,
     )
 
--- ---- a Description in Loading
+-- ---- a Database Description in Loading
 
--- the neighbor takes this step
+-- the neighbor's step
 abbrev stepping : Router → Link → Neighbor → ℕ → Step → EventState
 stepping r link n moment s = on_area (λ o. one_neighbor moment 1 (λ m. s) o) (start (beside r link (loading n)))
 

@@ -1,4 +1,4 @@
--- An LSA at MaxAge, without a copy here, comes from a Full neighbor.
+-- An LSA at MaxAge without a database copy is received from a Full neighbor.
 use Rattle.std.proofs.Common.{◌≡◌, ℕ, zero, suc, ◌+◌, ◌<◌, ◌==◌, Bool, true, false, cond, not, ◌&&◌, ◌||◌, List, [], ◌∷◌, Option, None, Some, refl, sym, ap, subst, ◌∙◌, arith, slice_get}
 use Rattle.std.specs.List.{Contains, enumerate_from, flat_map}
 use Rattle.std.specs.FinMap as finite
@@ -27,9 +27,9 @@ use Rattle.conversations.proofs.WorkedEnds.{ended, ends, got}
 use Rattle.conversations.proofs.WorkedLinks.{link_changed}
 use Rattle.conversations.proofs.WorkedUpdates.{IsStill, brought, inserted, mark_all, own_part, sender_after, sender_there, start}
 
--- ---- which case it is
+-- ---- the case of the LSA
 
--- nobody is in Exchange or Loading
+-- no neighbor is in Exchange or Loading
 nothing_to_flush : (moment number : ℕ) (lsa : Lsa) (a : Area) → finite.get a.database (lsa_key lsa) ≡ None → lsa.header.age ≡ 3600 → any_exchange_or_loading a.links ≡ false
     → case_at moment number lsa a ≡ Case.NothingToFlush
 nothing_to_flush moment number lsa a none aged nobody =
@@ -40,7 +40,7 @@ is_installed : (b : Bool) → cond (b && true && not true) Case.NothingToFlush C
 is_installed true = refl
 is_installed false = refl
 
--- somebody is
+-- some neighbor is
 newer : (moment number : ℕ) (lsa : Lsa) (a : Area) → finite.get a.database (lsa_key lsa) ≡ None → any_exchange_or_loading a.links ≡ true → case_at moment number lsa a ≡ Case.Newer
 newer moment number lsa a none busy = (λ i. case_of_readable moment (none i) (neighbor_at number a.links) (busy i) lsa) ∙ is_installed (is_max_age lsa.header.age)
 

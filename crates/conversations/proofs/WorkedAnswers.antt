@@ -1,4 +1,4 @@
--- Answers that change no database.
+-- Answers that don't change the database.
 use Rattle.std.proofs.Common.{◌≡◌, ℕ, cond, not, ◌||◌, List, [], None, Some, refl, ap, ◌∙◌}
 use Rattle.std.specs.FinMap as finite
 use Rattle.words.specs.declared.route.Route.{Route}
@@ -14,7 +14,7 @@ use Rattle.events.proofs.Sends.{no_outs_from}
 use Rattle.conversations.proofs.WorkedEnds.{begins, ended, ends, got}
 use Rattle.conversations.proofs.WorkedUpdates.{start}
 
--- ---- what stays
+-- ---- what stays the same
 
 kept : (r : Router) (moment : ℕ) (sends : List Send) (answers : List (Route × ℕ))
     → KeepsTheYoung r moment (ended moment (record { router = record r { answers = answers }; sends = sends })).router

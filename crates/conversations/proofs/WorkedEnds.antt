@@ -1,5 +1,5 @@
--- Events while nobody is in Exchange or Loading and no copy comes to MaxAge: their beginning and
--- their end.
+-- Events in which no neighbor is in Exchange or Loading and no copy reaches MaxAge: their beginning
+-- and their end.
 use Rattle.std.proofs.Common.{◌≡◌, ℕ, Bool, true, false, cond, not, ◌&&◌, ◌||◌, List, [], ◌∷◌, map, Option, None, Some, refl, sym, ap, ◌∙◌, true≢false}
 use Rattle.std.specs.List.{fold, list_any}
 use Rattle.std.specs.Cmp.{tied_itself}
@@ -45,12 +45,12 @@ pub not_both_ways : (b : Bool) → (b && not b) ≡ false
 not_both_ways true = refl
 not_both_ways false = refl
 
--- in one second nothing grows older
+-- within one second nothing ages
 pub no_time_passes : (moment : ℕ) (es : List (Key × DatabaseCopy)) → list_any (λ e. has_just_aged_out moment moment e.1) es ≡ false
 no_time_passes moment [] = refl
 no_time_passes moment (x ∷ es) = λ i. not_both_ways (is_aged_out moment x.1) i || no_time_passes moment es i
 
--- ---- nobody becomes Full
+-- ---- no neighbor becomes Full
 
 filled_in_rest : (s : State) (n : Neighbor) → is_exchange_or_loading s ≡ false → loading_done_in s n ≡ n
 filled_in_rest Init n e = refl
@@ -70,7 +70,7 @@ all_filled (x ∷ xs) e = λ i. record x { neighbor = filled_rest x.neighbor (le
 none_filled : (p : EventState) → any_exchange_or_loading p.router.area.links ≡ false → loading_done p ≡ p
 none_filled p e = λ i. record p { router = record p.router { area = record p.router.area { links = all_filled p.router.area.links e i } } }
 
--- ---- the router-LSA stays
+-- ---- the router-LSA stays the same
 
 same_itself : (b : Body) → same_body b b ≡ true
 same_itself b = ap is_eq (tied_itself nat_list_cmp_total (body_text b))
@@ -92,9 +92,9 @@ asks_not moment n e =
     (record { neighbor = record n { outstanding = set.from_list (next_request n); requested_at = moment }; sends = contents.Requests (next_request n) ∷ [] })
     (no_sends n)) e
 
--- ---- the whole end
+-- ---- the complete end
 
--- copies at MaxAge that nobody owes an acknowledgment leave
+-- copies at MaxAge that are on no retransmission list are removed
 abbrev pub removed : ℕ → Outcome → Outcome
 removed moment o = on_database (λ db. finite.retain_keys db (stays moment o.area)) o
 
@@ -111,7 +111,8 @@ last_rest moment p e =
     let left : remove_aged moment o ≡ removed moment o = ap (λ b. cond b o (removed moment o)) e in
     ap (λ (q : Outcome). record { router = record p.router { area = q.area; moment = moment }; sends = q.sends }) (ap (remove_aged moment) asked ∙ left)
 
--- an event that leaves the router-LSA's content, with nobody in Exchange or Loading after it
+-- an event that doesn't change the body of the router-LSA, with no neighbor in Exchange or Loading
+-- after it
 pub ends_by : (old : Router) (moment : ℕ) (p : EventState) → router_body old.area.links ≡ router_body p.router.area.links → any_exchange_or_loading p.router.area.links ≡ false
     → end_event old moment p ≡ ended moment p
 ends_by old moment p same still =
@@ -123,7 +124,7 @@ ends_by old moment p same still =
     ∙ ap (last moment) (describes_not_later p)
     ∙ last_rest moment p still
 
--- an event that leaves the neighbors and their states
+-- an event that doesn't change the neighbors and their states
 pub ends : (old : Router) (moment : ℕ) (p : EventState) → map seen p.router.area.links ≡ map seen old.area.links → any_exchange_or_loading old.area.links ≡ false
     → end_event old moment p ≡ ended moment p
 ends old moment p same rest =
@@ -138,7 +139,7 @@ kept_again : (moment : ℕ) (w : Bool) (x : Option DatabaseCopy) (b : Bool) → 
 kept_again moment w x true e = ap (λ b. cond b x None) e
 kept_again moment w x false e = refl
 
--- once they have left, nothing more leaves
+-- removing them again removes nothing
 pub removed_once : (moment : ℕ) (o : Outcome) → (removed moment (removed moment o)).area.database ≡ (removed moment o).area.database
 removed_once moment o =
     finite.same_map keys_total keys_exact _ _ (λ k.

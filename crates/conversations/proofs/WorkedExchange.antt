@@ -1,4 +1,4 @@
--- The exchange of Database Descriptions as the slave.
+-- The database exchange as the slave.
 use Rattle.std.proofs.Common.{◌≡◌, ℕ, ◌==◌, Bool, true, false, cond, not, ◌&&◌, ◌||◌, List, [], ◌∷◌, length, map, take, Some, refl, ap, ◌∙◌, nat_lt}
 use Rattle.std.specs.FinMap as finite
 use Rattle.std.specs.FinSet as set
@@ -36,7 +36,7 @@ use Rattle.conversations.proofs.WorkedAdjacency.{answered, at_moment}
 use Rattle.conversations.proofs.WorkedEnds.{begins, describes_not, describes_not_later, differ_not, last}
 use Rattle.conversations.proofs.WorkedUpdates.{itself, start}
 
--- the neighbor takes this step
+-- the neighbor's step
 abbrev taken : Router → Link → Neighbor → ℕ → Step → EventState
 taken r link n moment s = on_area (λ o. one_neighbor moment 1 (λ m. s) o) (start (beside r link n))
 
@@ -55,7 +55,7 @@ judged r new link n moment bytes d v outs nothing said same event =
     ∙ (λ i. taken r link n moment (cond (said.fits i) (no_sends n) (judge r.id moment r.area.database d n)))
     ∙ (λ i. taken r link n moment (act (said.is_judged i) moment r.area.database d n))
 
--- the router-LSA stays, and nobody becomes Full
+-- the router-LSA stays the same, and no neighbor becomes Full
 finishes : (old : Router) (moment : ℕ) (p x : EventState) → loading_done p ≡ p → router_body old.area.links ≡ router_body p.router.area.links → last moment p ≡ x → end_event old moment p ≡ x
 finishes old moment p x full same end =
     let later : EventState → EventState = λ q. last moment (describe_router_later q.router.area.links (loading_done q)) in

@@ -1,4 +1,4 @@
--- A router-LSA that comes back with MaxSequenceNumber.
+-- A router-LSA that is received with MaxSequenceNumber.
 use Rattle.std.proofs.Common.{◌≡◌, ℕ, ◌<◌, ◌==◌, pos, Bool, true, false, cond, not, ◌&&◌, ◌||◌, List, [], ◌∷◌, Option, None, Some, refl, sym, ap, ◌∙◌, subst, is_some, drop, arith}
 use Rattle.std.specs.FinMap as finite
 use Rattle.std.specs.Cmp.{int_cmp_total, nat_cmp_total, tied_itself}
@@ -136,7 +136,7 @@ flushes_it r new link n moment bytes lsa own outs back text event =
     subst (λ s. HasOnList s (router_key r.id) (Some (record { header = header_aged 3600 lsa.header; at = moment }))) (sym is) (on_list r link n moment lsa back.is_own) in
     (flushed_now, listed_now, sent)
 
--- ---- it leaves
+-- ---- it is removed
 
 abbrev acknowledged_by_it : Router → Link → Neighbor → Header → EventState
 acknowledged_by_it r link n h = start (beside r link (remove_retransmission (key_of h) (full n)))

@@ -1,4 +1,4 @@
--- A Hello of a new neighbor begins an adjacency, at any of the interfaces.
+-- A Hello from a new neighbor starts an adjacency, at any of the interfaces.
 use Rattle.std.proofs.Common.{◌≡◌, ℕ, zero, suc, ◌+◌, ◌%◌, ◌^◌, ◌==◌, Bool, true, false, cond, ◌&&◌, ◌||◌, List, [], ◌∷◌, ◌++◌, map, None, Some, refl, sym, ap, subst, ◌∙◌, arith, slice_get}
 use Rattle.std.specs.List.{enumerate_from, flat_map}
 use Rattle.std.proofs.lemmas.Bool.{eqb-true}
@@ -24,12 +24,12 @@ use Rattle.conversations.proofs.WorkedEnds.{begins, ended, ends_by}
 use Rattle.conversations.proofs.WorkedLinks.{link_changed}
 use Rattle.conversations.proofs.WorkedUpdates.{itself, start}
 
--- a neighbor that is neither Full nor in Exchange or Loading comes to a link on which nobody was
+-- a neighbor that is neither Full nor in Exchange or Loading appears on a link without a neighbor
 module _ (number : ℕ) (n : Neighbor) (not_full : is_full n.state ≡ false) (not_busy : is_exchange_or_loading n.state ≡ false) where
   abbrev changed : (ℕ × Link) → Link
   changed e = cond (e.0 == number) (with_neighbor n e.1) e.1
 
-  -- nobody is at the link of this number
+  -- the link with this number has no neighbor
   IsFree : ℕ → List Link → Type 0
   IsFree k xs = (i : ℕ) (x : Link) → slice_get xs i ≡ Some x → (k + i == number) ≡ true → x.neighbor ≡ None
 

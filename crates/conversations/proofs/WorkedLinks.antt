@@ -1,4 +1,4 @@
--- What changes of the links leave as it was: which neighbors there are, their states, and so the
+-- What changes of the links don't change: which neighbors there are, their states, and so the
 -- router-LSA.
 use Rattle.std.proofs.Common.{◌≡◌, ℕ, zero, suc, ◌+◌, ◌==◌, Bool, true, false, cond, ◌||◌, List, [], ◌∷◌, ◌++◌, map, Option, None, Some, refl, sym, ap, ◌∙◌, slice_get, true≢false, arith}
 use Rattle.std.specs.List.{enumerate_from, flat_map, fold, list_any}
@@ -28,7 +28,7 @@ pub right_false : (a b : Bool) → (a || b) ≡ false → b ≡ false
 right_false true b e = absurd (true≢false e)
 right_false false b e = e
 
--- ---- who is there
+-- ---- the neighbors
 
 abbrev pub seen : Link → Interface × Option (ℕ × State)
 seen link = (link.interface, id_and_state link.neighbor)
@@ -71,7 +71,7 @@ any_busy (x ∷ xs) = λ i. busy_on x.neighbor i || any_busy xs i
 pub same_rest : (xs ys : List Link) → map seen xs ≡ map seen ys → any_exchange_or_loading xs ≡ any_exchange_or_loading ys
 same_rest xs ys e = any_busy xs ∙ ap (list_any is_busy) e ∙ sym (any_busy ys)
 
--- ---- steps that leave everybody who they are
+-- ---- steps that don't change the neighbors
 
 abbrev pub who : Neighbor → ℕ × State
 who n = (n.router, n.state)
@@ -120,7 +120,7 @@ changed_from number h k (x ∷ xs) = λ i. chosen_seen (k == number) h x i ∷ c
 pub acknowledged_seen : (number : ℕ) (h : Header) (xs : List Link) → map seen (change_link number (acknowledge_later h) xs) ≡ map seen xs
 acknowledged_seen number h xs = changed_from number h 1 xs
 
--- ---- steps that do nothing
+-- ---- steps that change nothing
 
 module _ (f : Neighbor → Step) (does_nothing : (n : Neighbor) → is_exchange_or_loading n.state ≡ false → f n ≡ no_sends n) where
   step_rest : (o : Option Neighbor) → neighbor_is_exchange_or_loading o ≡ false → step_on f o ≡ o

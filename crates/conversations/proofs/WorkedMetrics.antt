@@ -1,4 +1,4 @@
--- A metric of LSInfinity withholds a destination, and the largest one below it announces it.
+-- LSInfinity as the metric withholds a destination, and the largest metric below it announces it.
 use Rattle.std.proofs.Common.{◌≡◌, ◌<◌, ℕ, true, cond, ◌&&◌, List, Option, None, Some, refl, ap, subst, ◌∙◌, arith}
 use Rattle.std.specs.FinMap as finite
 use Rattle.words.specs.declared.key.Key.{Key}

@@ -1,4 +1,4 @@
--- A router with one interface whose last request is met.
+-- A router with one interface whose last request is satisfied.
 use Rattle.std.proofs.Common.{◌≡◌, ℕ, ◌+◌, ◌-◌, ◌<◌, ◌==◌, Bool, true, false, cond, not, ◌&&◌, ◌||◌, List, [], ◌∷◌, Option, None, Some, refl, sym, ap, ◌∙◌, subst, is_some, nat_le, nat_lt, arith, true≢false}
 use Rattle.std.specs.FinMap as finite
 use Rattle.std.specs.FinSet as set
@@ -70,7 +70,7 @@ none_some e = cc
 abbrev brought : Lsa → ℕ → DatabaseCopy
 brought lsa moment = record { lsa = lsa; stored = moment; installed = Some moment; sent = None }
 
--- the own copy is another one
+-- the router's own copy has another key
 own_stays : (db : Database) (lsa : Lsa) (key : Key) (own : DatabaseCopy) (moment : ℕ) → finite.get db (lsa_key lsa) ≡ None → finite.get db key ≡ Some own
     → finite.get (install_flooded moment lsa db) key ≡ Some own
 own_stays db lsa key own moment absent there = by_same (eq_by_cmp key_cmp key (lsa_key lsa)) refl
@@ -82,7 +82,7 @@ own_stays db lsa key own moment absent there = by_same (eq_by_cmp key_cmp key (l
 pub wanted : (r : Router) → wanted_body r (router_key r.id) ≡ Some (router_body r.area.links)
 wanted r = ap (λ o. cond (is_eq o) (Some (router_body r.area.links)) (announced_body (finite.get r.announced (router_key r.id)))) (tied_itself keys_total (router_key r.id))
 
--- what the end of an event makes of changed links, by whether the five seconds are over
+-- what the end of an event does if the links have changed, by whether MinLSInterval has passed
 abbrev described : Bool → ℕ → DatabaseCopy → EventState → EventState
 described over moment own p =
     cond over (on_router (as_originated moment (router_key p.router.id)) (on_area (install_and_flood moment (next_router_lsa p.router own)) p)) (on_router (wait (router_key p.router.id)) p)
@@ -99,7 +99,7 @@ describes over moment own p there counts may =
     (cond (true && may i) (on_router (as_originated moment key) (on_area (install_and_flood moment (new_instance key (there i) says)) p)) (on_router (wait key) p)))
     ∙ (λ i. cond (counts i) (flush moment key p) (described over moment own p))
 
--- ---- the whole event
+-- ---- the complete event
 
 now_full : (r : Router) (link : Link) (n : Neighbor) (moment : ℕ) (lsa : Lsa) → links_differ (beside r link (loading n)).area.links (put r link moment lsa (full lsa n)).router.area.links ≡ true
 now_full r link n moment lsa = refl

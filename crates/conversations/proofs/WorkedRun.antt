@@ -1,4 +1,4 @@
--- A Hello begins an adjacency, and the exchange follows in the next event.
+-- A Hello starts an adjacency, and the exchange follows in the next event.
 use Rattle.std.proofs.Common.{◌≡◌, ℕ, ◌==◌, true, cond, None, Some, refl, sym, ap, subst, ◌∙◌}
 use Rattle.std.specs.FinMap as finite
 use Rattle.lsdb.specs.Instances.{ListEntry}
@@ -23,7 +23,7 @@ use Rattle.conversations.proofs.WorkedExchange.{negotiates_it}
 abbrev opener : ℕ → ℕ → Neighbor
 opener moment from = (enter_exstart moment (fresh from None moment)).neighbor
 
--- the router after the Hello, but for its neighbor
+-- the router after the Hello, except for its neighbor
 abbrev greeted_by : Router → Link → ℕ → ℕ → Router
 greeted_by r link moment from = (ended moment (last_heard r link moment from)).router
 

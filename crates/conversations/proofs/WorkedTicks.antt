@@ -1,4 +1,4 @@
--- A Tick that originates the router-LSA and acknowledges what waits.
+-- A Tick that originates the router-LSA and sends delayed acknowledgments.
 use Rattle.std.proofs.Common.{◌≡◌, ℕ, ◌==◌, Bool, true, false, cond, not, ◌&&◌, List, [], ◌∷◌, ◌++◌, map, Option, None, Some, refl, sym, ap, ◌∙◌, append_assoc, append-nil}
 use Rattle.std.specs.List.{filter}
 use Rattle.std.specs.FinMap as finite
@@ -34,13 +34,13 @@ use Rattle.conversations.proofs.WorkedLinks.{chosen_step, who}
 use Rattle.conversations.proofs.WorkedOwn.{wanted}
 use Rattle.conversations.proofs.WorkedUpdates.{start}
 
--- ---- what runs out
+-- ---- expired timers
 
 both_full : (b : Bool) (m n : Neighbor) → cond b (full m) (full n) ≡ full (cond b m n)
 both_full true m n = refl
 both_full false m n = refl
 
--- the last Description may be given up
+-- the last Database Description may be discarded
 abbrev settled : Link → Neighbor → ℕ → Neighbor
 settled link n moment = cond (is_over_for moment link.interface.dead_interval n.exchanged) (record n { described = None }) n
 
@@ -84,7 +84,7 @@ alone_due : (r : Router) (moment : ℕ) → finite.keys r.announced ≡ [] → i
 alone_due r moment none due =
     (λ i. filter (is_due moment r) (router_key r.id ∷ none i)) ∙ (λ i. cond (due i) (router_key r.id ∷ []) [])
 
--- ---- what is sent again leaves the neighbor in its state
+-- ---- what is retransmitted doesn't change the neighbor's state
 
 request_keeps : (moment interval : ℕ) (n : Neighbor) → who (request_again moment interval n).neighbor ≡ who n
 request_keeps moment interval n =
@@ -100,7 +100,7 @@ again_keeps : (moment interval : ℕ) (db : Database) (n : Neighbor) → who (se
 again_keeps moment interval db n =
     update_keeps moment interval db (request_again moment interval (full n)).neighbor ∙ request_keeps moment interval (full n)
 
--- ---- the whole event
+-- ---- the complete event
 
 abbrev rest_of_tick : ℕ → EventState → EventState
 rest_of_tick moment p = on_area (λ o. send_hellos moment (acknowledge_all moment (send_all_again moment o))) p

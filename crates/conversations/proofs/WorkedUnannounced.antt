@@ -1,4 +1,4 @@
--- An LSA under the router's own name that it doesn't announce.
+-- An LSA in the router's own name that it doesn't originate.
 use Rattle.std.proofs.Common.{◌≡◌, ℕ, ◌<◌, ◌==◌, Bool, true, false, cond, not, ◌||◌, Option, None, Some, refl, sym, ap, ◌∙◌, subst, is_some}
 use Rattle.std.specs.FinMap as finite
 use Rattle.words.specs.declared.key.Key.{Key}

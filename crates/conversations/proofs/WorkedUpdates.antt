@@ -1,4 +1,4 @@
--- An Update with a new LSA comes twice from a Full neighbor.
+-- A Link State Update with a new LSA is received twice from a Full neighbor.
 use Rattle.std.proofs.Common.{◌≡◌, ℕ, ◌+◌, ◌-◌, ◌<◌, ◌==◌, Bool, true, false, cond, not, ◌&&◌, ◌||◌, List, [], ◌∷◌, map, Option, None, Some, refl, sym, ap, ◌∙◌, subst, is_some, nat_lt, arith}
 use Rattle.std.specs.List.{list_any}
 use Rattle.std.specs.Cmp.{int_cmp_total, nat_cmp_total, tied_itself}
@@ -52,7 +52,7 @@ inserted m k x = finite.get-insert keys_total m k x k ∙ ap (λ (o : Ordering).
 pub taken_off : {X : Type 0} (m : ByKey X) (k : Key) → finite.get (finite.remove m k) k ≡ None
 taken_off m k = finite.get-remove keys_total m k k ∙ ap (λ (o : Ordering). cond (is_eq o) None (finite.get m k)) (tied_itself keys_total k)
 
--- ---- an instance and its copy of this second
+-- ---- an instance and its copy of the same second
 
 pub same_age : (age moment : ℕ) → age < 3600 → age_at age moment moment ≡ age
 same_age age moment young = omega (arith, young)
@@ -71,7 +71,7 @@ alike lsa c moment same now young =
     ∙ (λ i. ordering_then (tied_itself int_cmp_total lsa.header.sequence i) (ordering_then (tied_itself nat_cmp_total lsa.header.checksum i) (compare_ages lsa.header.age (same_age lsa.header.age moment young i))))
     ∙ ages_itself lsa.header.age
 
--- ---- one Update with one LSA
+-- ---- one Link State Update with one LSA
 
 pub after_one : (moment number : ℕ) (unread : List ℕ) (lsa : Lsa) (p : EventState) → lsa_in unread ≡ Some lsa
     → after_lsas moment number (unread ∷ []) p ≡ after_lsa (case_at moment number lsa p.router.area) moment number lsa p

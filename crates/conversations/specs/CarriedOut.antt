@@ -1,6 +1,6 @@
--- What is done with an LSA of an Update in each of the ten cases, and whether the LSAs behind it
--- are taken (RFC 2328, section 13). In the first seven the interface is any; in the last three it
--- is the router's only one.
+-- How an LSA of a Link State Update is processed in each of the ten cases, and whether the LSAs
+-- after it are processed (RFC 2328, section 13). In the first seven the interface is any one; in
+-- the last three it is the router's only one.
 use Rattle.std.specs.Prelude.{◌≡◌, ℕ, ◌==◌, false, List, [], ◌∷◌, ◌++◌, None, Some}
 use Rattle.std.specs.FinMap as finite
 use Rattle.words.specs.Numbers.{InterfaceNumber}
@@ -22,20 +22,20 @@ use Rattle.events.specs.Routers.{Router}
 use Rattle.conversations.specs.WorkedFlush.{full}
 use Rattle.conversations.specs.WorkedOwn.{beside, loading}
 
--- ---- words
+-- ---- terms
 
--- the bytes are this LSA's text, and it is in this case
+-- the bytes encode this LSA, and this is its case
 pub record IsInCase (moment number : ℕ) (bytes : List ℕ) (lsa : Lsa) (p : EventState)
     (case : Case) : Type 0 where
   pub is_read : lsa_in bytes ≡ Some lsa
   pub is_case : case_at moment number lsa p.router.area ≡ case
 
--- this goes out besides, at the interface of this number
+-- in addition this is sent at the interface with this number
 abbrev pub sending_too : InterfaceNumber → Content → EventState → EventState
 sending_too number content p =
     record p { sends = p.sends ++ (record { number = number; content = content } ∷ []) }
 
--- the copy of this key counts as sent at this moment
+-- the copy of this key is marked as sent at this moment
 abbrev pub counting_as_sent : ℕ → Key → EventState → EventState
 counting_as_sent moment key p = record p {
   router = record p.router {
@@ -43,18 +43,19 @@ counting_as_sent moment key p = record p {
   };
 }
 
--- the router's only interface has this neighbor, and so much was sent in this event
+-- the router's only interface has this neighbor, and this was sent so far in the event
 abbrev pub having_sent : List Send → Router → Link → Neighbor → EventState
 having_sent sends r link n = record { router = beside r link n; sends = sends }
 
--- nothing is done, and the LSAs behind it are taken
+-- nothing changes, and the LSAs after it are processed
 abbrev pub IsSkipped : Case → Type 0
 IsSkipped case =
     (moment number : ℕ) (bytes : List ℕ) (rest : List (List ℕ)) (lsa : Lsa) (p : EventState)
     → IsInCase moment number bytes lsa p case
     → after_lsas moment number (bytes ∷ rest) p ≡ after_lsas moment number rest p
 
--- an Acknowledgment with its header as it came goes to the sender, and nothing else is done
+-- a Link State Acknowledgment with its header as received is sent to the sender, and nothing else
+-- changes
 abbrev pub IsAcknowledgedAtOnce : Case → Type 0
 IsAcknowledgedAtOnce case =
     (moment number : ℕ) (bytes : List ℕ) (rest : List (List ℕ)) (lsa : Lsa) (p : EventState)
@@ -73,7 +74,8 @@ pub record EachCaseIsCarriedOut : Type 0 where
   pub duplicate : IsAcknowledgedAtOnce Case.Duplicate
   pub sequence_wraps : IsSkipped Case.SequenceWraps
   pub sent_just_now : IsSkipped Case.SentJustNow
-  -- the copy goes to the sender with its age now, and counts as sent; it goes on no list
+  -- the copy is sent to the sender with its present age, and marked as sent, without being put on
+  -- the retransmission list
   pub older : (moment number : ℕ) (bytes : List ℕ) (rest : List (List ℕ)) (lsa : Lsa)
       (p : EventState) (c : DatabaseCopy)
       → IsInCase moment number bytes lsa p Case.Older
@@ -81,8 +83,9 @@ pub record EachCaseIsCarriedOut : Type 0 where
       → after_lsas moment number (bytes ∷ rest) p ≡ after_lsas moment number rest
       (counting_as_sent moment (lsa_key c.lsa)
       (sending_too number (Content.Updates (lsa_now moment c)) p))
-  -- of another router, from a Full neighbor: the database has it, its acknowledgment waits for a
-  -- Tick, the old instance leaves the sender's retransmission list, and nothing goes to the sender
+  -- an LSA of another router from a Full neighbor: it is installed, its acknowledgment is delayed,
+  -- the old instance is removed from the sender's retransmission list, and nothing is sent to the
+  -- sender
   pub newer : (moment : ℕ) (bytes : List ℕ) (rest : List (List ℕ)) (lsa : Lsa) (r : Router)
       (link : Link) (n : Neighbor) (sends : List Send)
       → IsInCase moment 1 bytes lsa (having_sent sends r link (full n)) Case.Newer
@@ -96,15 +99,15 @@ pub record EachCaseIsCarriedOut : Type 0 where
         acknowledgments = finite.insert link.acknowledgments (lsa_key lsa) lsa.header;
       })
       (record (full n) { retransmissions = finite.remove n.retransmissions (lsa_key lsa) }))
-  -- the entry leaves the sender's retransmission list, and nothing is sent
+  -- the entry is removed from the sender's retransmission list, and nothing is sent
   pub implied_acknowledgment : (moment : ℕ) (bytes : List ℕ) (rest : List (List ℕ)) (lsa : Lsa)
       (r : Router) (link : Link) (n : Neighbor) (sends : List Send)
       → IsInCase moment 1 bytes lsa (having_sent sends r link n) Case.ImpliedAcknowledgment
       → after_lsas moment 1 (bytes ∷ rest) (having_sent sends r link n)
       ≡ after_lsas moment 1 rest (having_sent sends r link
       (record n { retransmissions = finite.remove n.retransmissions (lsa_key lsa) }))
-  -- from a neighbor in Loading: the exchange begins anew, by an opening Description of the next
-  -- number, and the LSAs behind it are dropped
+  -- from a neighbor in Loading: the exchange starts over with an initial Database Description with
+  -- the next sequence number, and the LSAs after it are dropped
   pub bad_request : (moment : ℕ) (bytes : List ℕ) (rest : List (List ℕ)) (lsa : Lsa) (r : Router)
       (link : Link) (n : Neighbor) (sends : List Send)
       → IsInCase moment 1 bytes lsa (having_sent sends r link (loading n)) Case.BadRequest

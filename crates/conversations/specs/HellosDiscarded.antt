@@ -1,5 +1,5 @@
--- Which received Hellos are discarded, in the words of RFC 2328, section 10.5, and which are of a
--- router that isn't heard.
+-- Which received Hellos are discarded, in the words of RFC 2328, section 10.5, and which because of
+-- their sender.
 use Rattle.std.specs.Prelude.{◌≡◌, ◌≢◌, ℕ, Some, bit_and}
 use Rattle.packet.specs.declared.model.Hello.{Hello}
 use Rattle.adjacency.specs.Neighbors.{Neighbor}
@@ -7,18 +7,19 @@ use Rattle.received.specs.Links.{Link, link_at}
 use Rattle.received.specs.Outcomes.{Outcome}
 use Rattle.events.specs.Packets.{after_hello}
 
--- nothing comes of the Hello: links and database stay, and nothing is sent
+-- the Hello changes nothing: links and database stay the same, and nothing is sent
 abbrev pub IsDiscarded : (own moment number from : ℕ) → Hello → Outcome → Type 0
 IsDiscarded own moment number from h o = after_hello own moment number from h o ≡ o
 
--- whatever the router is and has sent in this event, at an interface of its own
+-- whatever the router's state, and whatever it has sent so far in the event, at an interface of its
+-- own
 pub record HellosAreDiscarded : Type 0 where
-  -- another HelloInterval than the interface's
+  -- the HelloInterval isn't the interface's
   pub hello_interval : (own moment number from : ℕ) (h : Hello) (link : Link) (o : Outcome)
       → link_at number o.area.links ≡ Some link
       → h.hello_interval ≢ link.interface.hello_interval
       → IsDiscarded own moment number from h o
-  -- another RouterDeadInterval
+  -- the RouterDeadInterval isn't the interface's
   pub dead_interval : (own moment number from : ℕ) (h : Hello) (link : Link) (o : Outcome)
       → link_at number o.area.links ≡ Some link
       → h.dead_interval ≢ link.interface.dead_interval
@@ -27,17 +28,17 @@ pub record HellosAreDiscarded : Type 0 where
   pub e_bit : (own moment number from : ℕ) (h : Hello) (link : Link) (o : Outcome)
       → link_at number o.area.links ≡ Some link → bit_and h.options 2 ≡ 0
       → IsDiscarded own moment number from h o
-  -- from another router than the one that is heard there
+  -- from another router than the neighbor there
   pub another : (own moment number from : ℕ) (h : Hello) (link : Link) (n : Neighbor)
       (o : Outcome) → link_at number o.area.links ≡ Some link → link.neighbor ≡ Some n
       → n.router ≢ from → IsDiscarded own moment number from h o
-  -- from no router
+  -- without a Router ID
   pub nobody : (own moment number : ℕ) (h : Hello) (o : Outcome)
       → IsDiscarded own moment number 0 h o
   -- from this router
   pub own : (own moment number : ℕ) (h : Hello) (o : Outcome)
       → IsDiscarded own moment number own h o
-  -- the network mask decides nothing, since the link is point-to-point
+  -- the network mask doesn't matter, since the link is point-to-point
   pub mask : (own moment number from mask : ℕ) (h : Hello) (o : Outcome)
       → after_hello own moment number from (record h { mask = mask }) o
       ≡ after_hello own moment number from h o

@@ -1,6 +1,6 @@
--- Flooding's request half (RFC 2328, section 13.3, step 1b): an LSA that is flooded at moment 100,
--- and comes from interface 1, against what is requested under its key of the neighbor at interface
--- 2.
+-- Flooding and the request list (RFC 2328, section 13.3, step 1b): an LSA that is flooded at moment
+-- 100, and was received at interface 1, compared with the instance of its key on the request list
+-- of the neighbor at interface 2.
 use Rattle.std.specs.Prelude.{◌≡◌, ℤ, pos, true, false, [], ◌∷◌, None, Some}
 use Rattle.std.specs.FinMap as finite
 use Rattle.std.specs.FinSet as set
@@ -20,7 +20,7 @@ use Rattle.received.specs.WorkedTable.{external_lsa}
 abbrev pub instance : Body → ℤ → Lsa
 instance says sequence = external_lsa says sequence 10
 
--- the neighbor told of number 5 at moment 100, and is asked for it
+-- the neighbor described number 5 at moment 100, which is on its request list
 abbrev pub told_entry : Body → ListEntry
 told_entry says = record { header = (instance says (pos 5)).header; at = 100 }
 
@@ -35,13 +35,13 @@ pub record IsAskedFor (says : Body) (state : State) (n : Neighbor) : Type 0 wher
 abbrev pub flooded_on : Body → ℤ → Link → Neighbor → Step
 flooded_on says sequence link n = flood_to 100 (Some 1) (instance says sequence) 2 link n
 
--- ---- what becomes of the request, and of the LSA
+-- ---- what happens to the request and the LSA
 
--- it is on the request list as it was
+-- the request list still has its entry
 abbrev pub IsStillRequested : Body → Step → Type 0
 IsStillRequested says s = finite.get s.neighbor.requests (its_key says) ≡ Some (told_entry says)
 
--- it has left the request list, and is outstanding no more
+-- it was removed from the request list, and is no longer outstanding
 abbrev pub IsMet : Body → Step → Type 0
 IsMet says s =
     (finite.get s.neighbor.requests (its_key says) ≡ None)
@@ -59,9 +59,9 @@ IsSentOn says lsa s =
     × (finite.get s.neighbor.retransmissions (its_key says)
     ≡ Some (record { header = lsa.header; at = 100 }))
 
--- in a state in which requests count
+-- a state in which the request list matters
 pub record RequestsCountIn (state : State) : Type 0 where
-  -- number 4 is less recent than what is requested
+  -- number 4 is less recent than the requested instance
   pub less_recent : (b : Body) (link : Link) (n : Neighbor) → IsAskedFor b state n
       → IsStillRequested b (flooded_on b (pos 4) link n)
       × IsNotSent b (flooded_on b (pos 4) link n)
@@ -80,10 +80,10 @@ pub record RequestsCountIn (state : State) : Type 0 where
 pub record RequestsAreMetByFlooding : Type 0 where
   pub in_exchange : RequestsCountIn Exchange
   pub in_loading : RequestsCountIn Loading
-  -- a Full neighbor gets each LSA, whatever stands on its request list
+  -- each LSA is sent to a Full neighbor, whatever its request list
   pub full : (b : Body) (sequence : ℤ) (link : Link) (n : Neighbor) → n.state ≡ Full
       → IsSentOn b (instance b sequence) (flooded_on b sequence link n)
-  -- one that isn't asked for it gets it too
+  -- and to one that doesn't request it
   pub not_asked : (b : Body) (sequence : ℤ) (link : Link) (n : Neighbor)
       → is_exchange_or_later n.state ≡ true → finite.get n.requests (its_key b) ≡ None
       → IsSentOn b (instance b sequence) (flooded_on b sequence link n)

@@ -1,5 +1,5 @@
--- What is sent at an interface stands in order, said of the packets themselves (RFC 2328, sections
--- 13.3 and 13.5).
+-- What is sent at an interface is in order, in terms of the packets (RFC 2328, sections 13.3 and
+-- 13.5).
 use Rattle.std.specs.Prelude.{◌≡◌, ◌≤◌, ◌<◌, ℕ, ◌+◌, pos, List, [], ◌∷◌, map}
 use Rattle.std.specs.List.{AllByRecursion, filter, filter_map, flat_map}
 use Rattle.words.specs.declared.key.Key.{Key}
@@ -14,7 +14,7 @@ use Rattle.packet.specs.declared.model.Hello.{Hello}
 use Rattle.adjacency.specs.Contents.{Content}
 use Rattle.events.specs.Packing.{acknowledgments, bodies, sent_lsa, updates}
 
--- ---- by type, then Link State ID, then Advertising Router
+-- ---- by LS type, then Link State ID, then Advertising Router
 
 pub data IsNoLater (a b : Key) : Type 0 where
   ByType : a.ls_type < b.ls_type → IsNoLater a b
@@ -22,21 +22,21 @@ pub data IsNoLater (a b : Key) : Type 0 where
   ByRouter : a.ls_type ≡ b.ls_type → a.link_state_id ≡ b.link_state_id
       → a.advertising_router ≤ b.advertising_router → IsNoLater a b
 
--- each is no later than all behind it
+-- each is no greater than all after it
 abbrev pub AreAscending : {X : Type 0} → (X → Key) → List X → Type 0
 AreAscending key [] = Unit {0}
 AreAscending key (x ∷ xs) =
     AllByRecursion (λ y. IsNoLater (key x) (key y)) xs × AreAscending key xs
 
--- the same items in the order of their keys; those of one key stay in the order in which they arose
+-- the same items in the order of their keys; those with one key stay in their order
 pub record AreInOrder {X : Type 0} (key : X → Key) (xs sorted : List X) : Type 0 where
   pub ascending : AreAscending key sorted
   pub same : (k : Key) → filter (λ x. same_key k (key x)) sorted
       ≡ filter (λ x. same_key k (key x)) xs
 
--- ---- what the packets say, one after the other
+-- ---- the contents of the packets, in turn
 
--- the texts of the LSAs of Updates
+-- the bytes of the LSAs of Link State Updates
 abbrev pub lsas_told : Body → List (List ℕ)
 lsas_told (body.Hello h) = []
 lsas_told (body.Description d) = []
@@ -44,7 +44,7 @@ lsas_told (body.Request keys) = []
 lsas_told (body.Update texts) = texts
 lsas_told (body.Acknowledgment headers) = []
 
--- the headers of Acknowledgments
+-- the headers of Link State Acknowledgments
 abbrev pub headers_told : Body → List Header
 headers_told (body.Hello h) = []
 headers_told (body.Description d) = []
@@ -52,13 +52,14 @@ headers_told (body.Request keys) = []
 headers_told (body.Update texts) = []
 headers_told (body.Acknowledgment headers) = headers
 
--- the Updates say all LSAs that are sent, in the order of their keys
+-- the Link State Updates contain all LSAs that are sent, in the order of their keys
 pub record UpdatesAreInOrder (delay : ℕ) (contents : List Content) : Type 0 where
   pub lsas : List Lsa
   pub in_order : AreInOrder lsa_key (filter_map updates contents) lsas
   pub told : flat_map lsas_told (bodies delay contents) ≡ map (λ l. text (sent_lsa delay l)) lsas
 
--- the Acknowledgments say all headers that are acknowledged, in the order of their keys
+-- the Link State Acknowledgments contain all headers that are acknowledged, in the order of their
+-- keys
 pub record AcknowledgmentsAreInOrder (delay : ℕ) (contents : List Content) : Type 0 where
   pub headers : List Header
   pub in_order : AreInOrder key_of (filter_map acknowledgments contents) headers
@@ -66,7 +67,7 @@ pub record AcknowledgmentsAreInOrder (delay : ℕ) (contents : List Content) : T
 
 -- ---- four LSAs
 
--- an LSA of this key, this age and 36 bytes
+-- an LSA with this key, this age and 36 bytes
 abbrev pub lsa_of : ℕ → LsaBody → Key → Lsa
 lsa_of age says key = record {
   header = record {
@@ -92,30 +93,30 @@ arising says =
     map (lsa_of 10 says) (key_named 5 1 1 ∷ key_named 1 2 8 ∷ key_named 1 3 1 ∷ key_named 1 2 7
     ∷ [])
 
--- a second older: InfTransDelay
+-- a second older, by InfTransDelay
 abbrev pub told_in_order : LsaBody → List Lsa
 told_in_order says =
     map (lsa_of 11 says) (key_named 1 2 7 ∷ key_named 1 2 8 ∷ key_named 1 3 1 ∷ key_named 5 1 1
     ∷ [])
 
 pub record WhatIsSentStandsInOrder : Type 0 where
-  -- whatever is sent, if an Update has room for each LSA after 28 bytes
+  -- whatever is sent, if each LSA fits into a Link State Update after 28 bytes
   pub lsas : (delay : ℕ) (contents : List Content)
       → AllByRecursion (λ (l : Lsa). 28 + l.header.length ≤ 8192) (filter_map updates contents)
       → UpdatesAreInOrder delay contents
   pub headers : (delay : ℕ) (contents : List Content)
       → AcknowledgmentsAreInOrder delay contents
-  -- four LSAs are one Update, and their headers one Acknowledgment
+  -- four LSAs are in one Link State Update, and their headers in one Link State Acknowledgment
   pub four_lsas : (b : LsaBody) → bodies 1 (map Content.Updates (arising b))
       ≡ body.Update (map text (told_in_order b)) ∷ []
   pub four_headers : (b : LsaBody)
       → bodies 1 (map (λ (l : Lsa). Content.Acknowledges l.header) (arising b))
       ≡ body.Acknowledgment (map (λ (l : Lsa). record l.header { age = 10 }) (told_in_order b)) ∷ []
-  -- two of one key stay in the order in which they arose
+  -- two with one key stay in their order
   pub one_key : (a b : LsaBody)
       → bodies 1 (map (λ c. Content.Updates (lsa_of 10 c (key_named 1 2 7))) (a ∷ b ∷ []))
       ≡ body.Update (map (λ c. text (lsa_of 11 c (key_named 1 2 7))) (a ∷ b ∷ [])) ∷ []
-  -- first Hellos, then Descriptions, Requests, Updates and Acknowledgments
+  -- first Hellos, then Database Descriptions, Link State Requests, Updates and Acknowledgments
   pub kinds : (hello : Hello) (d : Description) (keys : List Key) (lsa : Lsa) (h : Header)
       → bodies 1
       (Content.Acknowledges h ∷ Content.Updates lsa ∷ Content.Requests keys

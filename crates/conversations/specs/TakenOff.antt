@@ -1,5 +1,4 @@
--- What an Acknowledgment takes off a retransmission list, read off the list (RFC 2328, section
--- 13.7).
+-- What a Link State Acknowledgment removes from a retransmission list (RFC 2328, section 13.7).
 use Rattle.std.specs.Prelude.{◌≡◌, ℕ, Bool, ◌&&◌, if◌then◌else◌, List, None, Some}
 use Rattle.std.specs.FinMap as finite
 use Rattle.std.specs.List.{list_any}
@@ -10,18 +9,18 @@ use Rattle.lsdb.specs.Keys.{same_key}
 use Rattle.adjacency.specs.Neighbors.{Neighbor}
 use Rattle.adjacency.specs.Retransmissions.{after_acknowledgment}
 
--- some header is of the entry's key and of the same instance as the entry is now
+-- some header has the entry's key and is the same instance as the entry at this moment
 abbrev pub is_named : ℕ → Key → ListEntry → List Header → Bool
 is_named moment key entry headers =
     list_any (λ (h : Header). same_key key (key_of h) && same_as_listed moment h entry) headers
 
 pub record AcknowledgmentsTakeOffWhatTheyName : Type 0 where
-  -- an entry that is named goes, wherever it is named; any other stays as it was
+  -- an entry that is acknowledged is removed, wherever its header is; any other stays the same
   pub entries : (moment : ℕ) (headers : List Header) (n : Neighbor) (key : Key)
       (entry : ListEntry) → finite.get n.retransmissions key ≡ Some entry
       → finite.get (after_acknowledgment moment headers n).retransmissions key
       ≡ (if is_named moment key entry headers then None else Some entry)
-  -- none comes
+  -- none is added
   pub no_entry : (moment : ℕ) (headers : List Header) (n : Neighbor) (key : Key)
       → finite.get n.retransmissions key ≡ None
       → finite.get (after_acknowledgment moment headers n).retransmissions key ≡ None

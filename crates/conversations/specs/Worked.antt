@@ -23,19 +23,20 @@ use Rattle.events.specs.declared.model.Out.{Out}
 use Rattle.events.specs.Refusals.{first_refusal}
 use Rattle.events.specs.Routers.{Occurrence, Router}
 
--- the network of 10.0.0.0 of the given length, and it as an external destination of metric 20
+-- the network of 10.0.0.0 with the given length, and it as an external destination with metric 20
 abbrev pub ten : ℕ → Network
 ten length = record { address = 167772160; length = length }
 
 abbrev pub destination : Network → External
 destination prefix = record { prefix = prefix; metric = 20; kind = Type2; tag = 0 }
 
--- a copy that flooding has brought at this moment
+-- a copy that was installed by flooding at this moment
 abbrev pub flooded_copy : Lsa → ℕ → DatabaseCopy
 flooded_copy lsa at = record { lsa = lsa; stored = at; installed = Some at; sent = None }
 
 pub record WorkedEvents : Type 0 where
-  -- 10.0.0.0/16 isn't announced beside 10.0.0.0/8, and withdrawing what isn't there does nothing
+  -- 10.0.0.0/16 can't be announced together with 10.0.0.0/8, and withdrawing what isn't announced
+  -- changes nothing
   pub clashes : (old : Router) (moment tag price : ℕ) → is_clock_back moment old ≡ false
       → finite.get old.announced (external_key old.id (ten 16)) ≡ Some (destination (ten 8))
       → first_refusal old moment
@@ -44,16 +45,16 @@ pub record WorkedEvents : Type 0 where
   pub unknown : (moment : ℕ) (prefix : Network) (p : EventState)
       → finite.get p.router.announced (external_key p.router.id prefix) ≡ None
       → after_withdraw moment prefix p ≡ p
-  -- the whole event of such a withdrawal, while nobody is in Exchange or Loading and no copy comes
-  -- to MaxAge, sends nothing
+  -- the complete event of such a withdrawal sends nothing, if no neighbor is in Exchange or Loading
+  -- and no copy reaches MaxAge
   pub unknown_event : (old new : Router) (moment : ℕ) (prefix : Network) (outs : List Out)
       → IsAtRest old moment
       → finite.get old.announced (external_key old.id prefix) ≡ None
       → Happens old moment (Occurrence.Withdraw prefix) outs new → outs ≡ []
-  -- the answers for the routes that were offered are kept, and nothing else is changed or sent
+  -- the answers for the offered routes are kept, and nothing else is changed or sent
   pub vetoed : (answers : List (Route × ℕ)) (p : EventState) → after_install answers p
       ≡ record p { router = record p.router { answers = answers } }
-  -- a metric of 16,777,215 withholds the destination, 16,777,214 is announced
+  -- a metric of 16,777,215 withholds the destination, 16,777,214 announces it
   pub withheld : (moment tag : ℕ) (e : External) (p : EventState)
       → after_redistribute moment e tag 16777215 p
       ≡ end_want moment (external_key p.router.id e.prefix) p
@@ -61,17 +62,17 @@ pub record WorkedEvents : Type 0 where
       → after_redistribute moment e tag 16777214 p
       ≡ announce_as moment (external_key p.router.id e.prefix)
       (record e { metric = 16777214; tag = tag % 2 ^ 32 }) p
-  -- after an instance at moment 0 the next one goes out at 5 and not before; a copy is renewed at
-  -- 1800
+  -- after an instance at moment 0 the next one is originated at 5 and not before; a copy is
+  -- refreshed at 1800
   pub too_early : interval_is_over 4 (Some 0) ≡ false
   pub in_time : interval_is_over 5 (Some 0) ≡ true
   pub young : (lsa : Lsa) → is_stale 1799 (Some (flooded_copy (lsa_aged 0 lsa) 0)) ≡ false
   pub renewed : (lsa : Lsa) → is_stale 1800 (Some (flooded_copy (lsa_aged 0 lsa) 0)) ≡ true
-  -- a copy of MaxSequenceNumber is flushed before its LSA is originated again
+  -- a copy with MaxSequenceNumber is flushed before its LSA is originated again
   pub wraps : (may_now : Bool) (moment : ℕ) (key : Key) (says : Body) (c : DatabaseCopy)
       (p : EventState) → finite.get p.router.area.database key ≡ Some c
       → c.lsa.header.sequence ≡ pos 2147483647 → originate_body may_now moment key (Some says) p
       ≡ flush moment key p
-  -- the age of what is sent grows up to MaxAge
+  -- the age in a packet is incremented up to MaxAge
   pub grows : (lsa : Lsa) → (sent_lsa 1 (lsa_aged 3598 lsa)).header.age ≡ 3599
   pub grows_no_more : (lsa : Lsa) → (sent_lsa 5 (lsa_aged 3598 lsa)).header.age ≡ 3600

@@ -1,5 +1,5 @@
--- Worked events of a router with one interface: an adjacency begins, is repeated and is begun again
--- (RFC 2328, sections 10.5, 10.6 and 10.8).
+-- Worked events of a router with one interface: an adjacency is formed, a Database Description is
+-- repeated, and the adjacency starts over (RFC 2328, sections 10.5, 10.6 and 10.8).
 use Rattle.std.specs.Prelude.{◌≡◌, ℕ, ◌%◌, ◌^◌, ◌==◌, true, false, nat_lt, List, [], ◌∷◌, None}
 use Rattle.std.specs.Prelude.{Some}
 use Rattle.std.specs.FinMap as finite
@@ -25,7 +25,7 @@ use Rattle.events.specs.Packing.{outs_of}
 use Rattle.events.specs.Routers.{Occurrence, Router, shown_at}
 use Rattle.conversations.specs.WorkedOwn.{beside, loading}
 
--- the router with this one interface, and nobody at it
+-- the router with only this interface, whose neighbor is Down
 abbrev pub lonely : Router → Link → Router
 lonely r link = record r { area = record r.area { links = record link { neighbor = None } ∷ [] } }
 
@@ -36,7 +36,7 @@ abbrev pub NothingAges : Router → ℕ → Type 0
 NothingAges r moment =
     list_any (λ e. has_just_aged_out r.moment moment e.1) (finite.entries r.area.database) ≡ false
 
--- a Hello of this router that is accepted, and names this one
+-- an accepted Hello from this router that lists this one
 pub record IsNamingHello (r : Router) (link : Link) (bytes : List ℕ) (from : ℕ)
     (h : Hello) : Type 0 where
   pub is_text : PacketText bytes (record { router = from; body = body.Hello h })
@@ -44,7 +44,7 @@ pub record IsNamingHello (r : Router) (link : Link) (bytes : List ℕ) (from : �
   pub is_accepted : accepts r.id from h (record link { neighbor = None }) ≡ true
   pub is_naming : names r.id h ≡ true
 
--- a Description of the neighbor in Loading, with this verdict
+-- a Database Description from the neighbor in Loading, with this verdict
 pub record IsDescription (r : Router) (n : Neighbor) (bytes : List ℕ) (d : Description)
     (v : Verdict) : Type 0 where
   pub is_text : PacketText bytes (record { router = n.router; body = body.Description d })
@@ -53,8 +53,8 @@ pub record IsDescription (r : Router) (n : Neighbor) (bytes : List ℕ) (d : Des
   pub is_judged : verdict r.id (loading n) d ≡ v
 
 pub record AnAdjacencyBegins : Type 0 where
-  -- a Hello from a new neighbor that names this router: ExStart, and the opening Description with
-  -- the moment's number is all that is sent
+  -- a Hello from a new neighbor that lists this router: ExStart, and only the initial Database
+  -- Description with the moment's number is sent
   pub opens : (r new : Router) (link : Link) (moment from : ℕ) (bytes : List ℕ) (h : Hello)
       (outs : List Out)
       → NothingAges r moment → IsNamingHello r link bytes from h
@@ -62,8 +62,8 @@ pub record AnAdjacencyBegins : Type 0 where
       → (shown_at new 1 ≡ Some (from, ExStart))
       × (outs ≡ outs_of r.id (lonely r link).area.links
       (describes (initial_description (moment % 2 ^ 32))))
-  -- in Loading, with a Request outstanding, the last Description delivered again: the answer is
-  -- sent again, alone
+  -- in Loading with an outstanding Link State Request, a duplicate of the last Database
+  -- Description: only the reply is sent again
   pub repeats : (r new : Router) (link : Link) (n : Neighbor) (moment : ℕ) (bytes : List ℕ)
       (d last : Description) (outs : List Out)
       → NothingAges r moment → IsDescription r n bytes d Verdict.Repeated → n.described ≡ Some last
@@ -71,8 +71,8 @@ pub record AnAdjacencyBegins : Type 0 where
       → Happens (beside r link (loading n)) moment (Occurrence.Packet 1 bytes) outs new
       → (shown_at new 1 ≡ Some (n.router, Loading))
       × (outs ≡ outs_of r.id (beside r link (loading n)).area.links (describes last))
-  -- in Loading a mismatch: ExStart, the three lists are empty, and the opening Description with the
-  -- next number is all that is sent
+  -- a mismatch in Loading: ExStart, the three lists are empty, and only the initial Database
+  -- Description with the next number is sent
   pub begins_again : (r new : Router) (link : Link) (n : Neighbor) (moment : ℕ) (bytes : List ℕ)
       (d : Description) (outs : List Out)
       → NothingAges r moment → IsDescription r n bytes d Verdict.Mismatch

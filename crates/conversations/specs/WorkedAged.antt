@@ -1,5 +1,5 @@
--- Worked events: an LSA at MaxAge, without a copy here, comes from a Full neighbor (RFC 2328,
--- section 13).
+-- Worked events: an LSA at MaxAge without a database copy is received from a Full neighbor (RFC
+-- 2328, section 13).
 use Rattle.std.specs.Prelude.{◌≡◌, ℕ, ◌==◌, false, List, None, Some}
 use Rattle.std.specs.FinMap as finite
 use Rattle.std.specs.List.{Contains, list_any}
@@ -17,8 +17,8 @@ use Rattle.events.specs.Routers.{Occurrence, Router}
 use Rattle.conversations.specs.WorkedUpdates.{HasBrought, HasFullNeighbor, IsAtRest, IsUpdateWith}
 use Rattle.conversations.specs.WorkedUpdates.{WaitsAt, acknowledges_at_once}
 
--- the interface of this number has this link, whose neighbor is in Loading, and wasn't asked for an
--- LSA of this key
+-- the interface with this number has this link, whose neighbor is in Loading and doesn't have this
+-- key on its request list
 pub record IsLoadingWithout (r : Router) (number : ℕ) (link : Link) (n : Neighbor)
     (lsa : Lsa) : Type 0 where
   pub link_there : link_at number r.area.links ≡ Some link
@@ -26,7 +26,7 @@ pub record IsLoadingWithout (r : Router) (number : ℕ) (link : Link) (n : Neigh
   pub is_loading : n.state ≡ Loading
   pub not_asked : requested_entry n (lsa_key lsa) ≡ None
 
--- the neighbor at the interface of this number is to acknowledge the LSA
+-- the LSA is on the retransmission list of the neighbor at the interface with this number
 abbrev pub IsOwedTo : Router → ℕ → ℕ → Lsa → Type 0
 IsOwedTo r moment number lsa =
     (n : Neighbor) × (neighbor_at number r.area.links ≡ Some n)
@@ -36,8 +36,8 @@ IsOwedTo r moment number lsa =
     }))
 
 pub record AnAgedLsaComes : Type 0 where
-  -- while nobody is in Exchange or Loading, it is acknowledged at once, alone, and isn't installed;
-  -- the links stay as they are
+  -- if no neighbor is in Exchange or Loading, it is only acknowledged, directly, and isn't
+  -- installed; the links stay the same
   pub all_full : (old new : Router) (moment number : ℕ) (bytes : List ℕ) (lsa : Lsa) (link : Link)
       (n : Neighbor) (outs : List Out)
       → IsAtRest old moment → HasFullNeighbor old number link n → IsUpdateWith bytes n.router lsa
@@ -45,8 +45,9 @@ pub record AnAgedLsaComes : Type 0 where
       → Happens old moment (Occurrence.Packet number bytes) outs new
       → (outs ≡ outs_of old.id old.area.links (acknowledges_at_once number lsa))
       × (finite.get new.area.database (lsa_key lsa) ≡ None) × (new.area.links ≡ old.area.links)
-  -- while another neighbor is in Loading and wasn't asked for it, the event's own part installs it,
-  -- sends it to that neighbor, which is to acknowledge it, and its acknowledgment waits for a Tick
+  -- if another neighbor is in Loading and it isn't requested of that, the event's own part installs
+  -- it, sends it to that neighbor, puts it on its retransmission list, and delays the
+  -- acknowledgment
   pub one_loading : (old new : Router) (moment number other : ℕ) (bytes : List ℕ) (lsa : Lsa)
       (link : Link) (n : Neighbor) (another : Link) (m : Neighbor) (outs : List Out)
       → list_any (λ e. has_just_aged_out old.moment moment e.1) (finite.entries old.area.database)

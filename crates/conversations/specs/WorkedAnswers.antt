@@ -1,4 +1,4 @@
--- Worked events: answers of the programs that change no database.
+-- Worked events: answers of the programs that don't change the database.
 use Rattle.std.specs.Prelude.{◌≡◌, ℕ, false, List, [], None, Some}
 use Rattle.std.specs.FinMap as finite
 use Rattle.words.specs.declared.key.Key.{Key}
@@ -9,15 +9,15 @@ use Rattle.events.specs.Events.{Happens}
 use Rattle.events.specs.Routers.{Occurrence, Router}
 use Rattle.conversations.specs.WorkedUpdates.{IsAtRest}
 
--- what hasn't come to MaxAge stays as it was, and nothing comes
+-- a copy that hasn't reached MaxAge stays the same, and none is added
 pub record KeepsTheYoung (old : Router) (moment : ℕ) (new : Router) : Type 0 where
   pub young : (key : Key) (c : DatabaseCopy) → finite.get old.area.database key ≡ Some c
       → is_aged_out moment c ≡ false → finite.get new.area.database key ≡ Some c
   pub none : (key : Key) → finite.get old.area.database key ≡ None
       → finite.get new.area.database key ≡ None
 
--- the answers of the programs, a veto among them, change the table of routes alone: nothing is
--- sent, and database and adjacencies stay
+-- the answers of the programs, vetoes included, change only the routing table: nothing is sent, and
+-- database and adjacencies stay the same
 abbrev pub AnswersChangeNoDatabase : Type 0
 AnswersChangeNoDatabase =
     (old new : Router) (moment : ℕ) (answers : List (Route × ℕ)) (outs : List Out)

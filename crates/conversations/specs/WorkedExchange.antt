@@ -1,5 +1,5 @@
--- Worked events of a router with one interface: the exchange of Database Descriptions as the slave
--- (RFC 2328, sections 10.6, 10.8 and 10.9).
+-- Worked events of a router with one interface: the database exchange as the slave (RFC 2328,
+-- sections 10.6, 10.8 and 10.9).
 use Rattle.std.specs.Prelude.{◌≡◌, ℕ, ◌==◌, true, false, nat_lt, List, [], ◌∷◌, map, take, Some}
 use Rattle.std.specs.FinMap as finite
 use Rattle.std.specs.FinSet as set
@@ -31,7 +31,7 @@ in_ex_start n = record n { state = ExStart }
 abbrev pub slave : Neighbor → Neighbor
 slave n = record n { state = Exchange; is_master = false }
 
--- the slave's Description of this number, with the first of these headers
+-- the slave's Database Description with this number and the first of these headers
 abbrev pub reply : ℕ → ℕ → ByKey ListEntry → Description
 reply moment sequence summary = record {
   mtu = 8192;
@@ -44,11 +44,11 @@ reply moment sequence summary = record {
       map (λ (e : Key × ListEntry). aged_header moment e.1) (take 408 (finite.entries summary));
 }
 
--- the master's last Description, with one header
+-- the master's last Database Description, with one header
 abbrev pub last_with : Header → Description → Description
 last_with h d = record d { more = false; headers = h ∷ [] }
 
--- a Description of this neighbor, with this verdict
+-- a Database Description from this neighbor, with this verdict
 pub record IsJudged (r : Router) (n : Neighbor) (bytes : List ℕ) (d : Description) (v : Verdict) :
     Type 0 where
   pub is_text : PacketText bytes (record { router = n.router; body = body.Description d })
@@ -57,8 +57,8 @@ pub record IsJudged (r : Router) (n : Neighbor) (bytes : List ℕ) (d : Descript
   pub is_judged : verdict r.id n d ≡ v
 
 pub record AnExchangeAsSlave : Type 0 where
-  -- in ExStart, an opening Description from the larger Router ID: Exchange, and what is sent is one
-  -- Description of its number, with the headers of the database, as many as fit
+  -- in ExStart, an initial Database Description from the larger Router ID: Exchange, and one
+  -- Database Description is sent with its number and as many of the database's headers as fit
   pub negotiates : (r new : Router) (link : Link) (n : Neighbor) (moment sequence : ℕ)
       (bytes : List ℕ) (outs : List Out)
       → NothingAges r moment
@@ -68,8 +68,8 @@ pub record AnExchangeAsSlave : Type 0 where
       → (shown_at new 1 ≡ Some (n.router, Exchange))
       × (outs ≡ outs_of r.id (beside r link (in_ex_start n)).area.links
       (describes (reply moment sequence (young_copies moment r.area.database))))
-  -- in Exchange, with room for all that is left to describe, the master's last Description, with
-  -- one header that is wanted: Loading, and what is sent is the reply of its number and then a
+  -- in Exchange, if all that is left to describe fits, the master's last Database Description with
+  -- one header that is wanted: Loading; the reply with its number is sent, and then a Link State
   -- Request for that one LSA
   pub loads : (r new : Router) (link : Link) (n : Neighbor) (moment : ℕ) (bytes : List ℕ)
       (d : Description) (h : Header) (outs : List Out)

@@ -1,4 +1,4 @@
--- Worked events of a router with one interface: its router-LSA comes back with MaxSequenceNumber
+-- Worked events of a router with one interface: its router-LSA is received with MaxSequenceNumber
 -- (RFC 2328, sections 12.1.6, 13.4 and 14.1).
 use Rattle.std.specs.Prelude.{◌≡◌, ◌<◌, ℕ, pos, true, false, List, [], ◌∷◌, Option, None, Some}
 use Rattle.std.specs.FinMap as finite
@@ -26,7 +26,7 @@ abbrev pub full : Neighbor → Neighbor
 full n = record n { state = Full }
 
 -- the LSA is this router's router-LSA with MaxSequenceNumber, newer than the copy, which flooding
--- hasn't brought in this second
+-- didn't install in the same second
 pub record ComesBack (r : Router) (n : Neighbor) (moment : ℕ) (lsa : Lsa)
     (own : DatabaseCopy) : Type 0 where
   pub nothing_ages : list_any (λ e. has_just_aged_out r.moment moment e.1)
@@ -55,7 +55,7 @@ HasOnList r key entry =
     (n : Neighbor) × (neighbor_at 1 r.area.links ≡ Some n)
     × (finite.get n.retransmissions key ≡ entry)
 
--- the neighbor still is to acknowledge this header's instance, and the copy has MaxAge
+-- this header's instance is on the neighbor's retransmission list, and the copy has MaxAge
 pub record AcknowledgesTheLast (r : Router) (n : Neighbor) (moment : ℕ) (bytes : List ℕ)
     (h : Header) (entry : ListEntry) (c : DatabaseCopy) : Type 0 where
   pub nothing_ages : list_any (λ e. has_just_aged_out r.moment moment e.1)
@@ -68,8 +68,8 @@ pub record AcknowledgesTheLast (r : Router) (n : Neighbor) (moment : ℕ) (bytes
   pub is_aged : is_aged_out moment c ≡ true
 
 pub record TheNumbersEnd : Type 0 where
-  -- from a Full neighbor: it is flushed, on its retransmission list, and all that is sent is one
-  -- Update with it at MaxAge
+  -- from a Full neighbor: it is flushed and on its retransmission list, and only one Link State
+  -- Update with it at MaxAge is sent
   pub flushes : (r new : Router) (link : Link) (n : Neighbor) (moment : ℕ) (bytes : List ℕ)
       (lsa : Lsa) (own : DatabaseCopy) (outs : List Out)
       → ComesBack r n moment lsa own → IsUpdateWith bytes n.router lsa
@@ -78,7 +78,7 @@ pub record TheNumbersEnd : Type 0 where
       × HasOnList new (router_key r.id)
       (Some (record { header = header_aged 3600 lsa.header; at = moment }))
       × (outs ≡ outs_of r.id (beside r link (full n)).area.links (sends_update (lsa_aged 3600 lsa)))
-  -- at MaxAge an entry is the same instance at each later moment, and a copy stays at MaxAge
+  -- an entry at MaxAge is the same instance at each later moment, and a copy stays at MaxAge
   pub entry_stays : (h : Header) (at moment : ℕ)
       → same_as_listed moment (header_aged 3600 h) (record { header = header_aged 3600 h; at = at })
       ≡ true
@@ -89,8 +89,8 @@ pub record TheNumbersEnd : Type 0 where
         installed = installed;
         sent = sent;
       }) ≡ true
-  -- the acknowledgment takes it off the list, and the copy leaves the database in that event;
-  -- nothing is sent
+  -- the acknowledgment removes it from the list, and the copy is removed from the database in the
+  -- same event; nothing is sent
   pub leaves : (r new : Router) (link : Link) (n : Neighbor) (moment : ℕ) (bytes : List ℕ)
       (h : Header) (entry : ListEntry) (c : DatabaseCopy) (outs : List Out)
       → AcknowledgesTheLast r n moment bytes h entry c

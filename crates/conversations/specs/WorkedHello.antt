@@ -1,4 +1,4 @@
--- A worked event of a router with any number of interfaces: a Hello of a new neighbor begins an
+-- A worked event of a router with any number of interfaces: a Hello from a new neighbor starts an
 -- adjacency (RFC 2328, sections 10.5 and 10.8).
 use Rattle.std.specs.Prelude.{◌≡◌, ℕ, ◌%◌, ◌^◌, List, [], ◌∷◌, None, Some}
 use Rattle.packet.specs.declared.model.Hello.{Hello}
@@ -13,9 +13,9 @@ use Rattle.events.specs.Routers.{Occurrence, Router, shown_at}
 use Rattle.conversations.specs.WorkedAdjacency.{IsNamingHello}
 use Rattle.conversations.specs.WorkedUpdates.{IsAtRest}
 
--- while nobody is in Exchange or Loading, and nobody at this interface: an accepted Hello that
--- names this router leads to ExStart, and the opening Description with the moment's number is all
--- that is sent, at whatever interface
+-- if no neighbor is in Exchange or Loading, and there is none at this interface, an accepted Hello
+-- that lists this router leads to ExStart, and only the initial Database Description with the
+-- moment's number is sent at any interface
 abbrev pub ANeighborIsHeard : Type 0
 ANeighborIsHeard =
     (old new : Router) (number : ℕ) (link : Link) (moment from : ℕ) (bytes : List ℕ) (h : Hello)

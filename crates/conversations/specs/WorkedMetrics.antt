@@ -1,5 +1,5 @@
--- Worked events: LSInfinity, 16,777,215, as the metric that is answered withholds a destination,
--- and the largest metric below it announces it (RFC 2328, section 12.4.4 and appendix B).
+-- Worked events: an answer with LSInfinity, 16,777,215, as the metric withholds a destination, and
+-- one with the largest metric below it announces it (RFC 2328, section 12.4.4 and appendix B).
 use Rattle.std.specs.Prelude.{◌≡◌, ℕ, true, List, Option, None, Some}
 use Rattle.std.specs.FinMap as finite
 use Rattle.words.specs.Numbers.{Moment}
@@ -12,14 +12,15 @@ use Rattle.events.specs.Originations.{external_body, external_key, interval_is_o
 use Rattle.events.specs.Routers.{Occurrence, Router}
 use Rattle.conversations.specs.WorkedUpdates.{IsAtRest}
 
--- nothing is announced or held under the destination's key, and its five seconds are over
+-- nothing is announced and there is no copy with the destination's key, and MinLSInterval has
+-- passed
 pub record MayAnnounce (r : Router) (moment : Moment) (e : External) : Type 0 where
   pub unannounced : finite.get r.announced (external_key r.id e.prefix) ≡ None
   pub no_copy : finite.get r.area.database (external_key r.id e.prefix) ≡ None
   pub is_over : interval_is_over moment
       (finite.get r.originated (external_key r.id e.prefix)) ≡ true
 
--- the first AS-external-LSA of the destination, with the metric and the tag that were answered
+-- the first AS-external-LSA for the destination, with the metric and the tag from the answers
 abbrev pub first_external : Router → External → (tag : ℕ) → (metric : ℕ) → Lsa
 first_external r e tag metric =
     new_instance (external_key r.id e.prefix) None (external_body (answered_external e tag metric))
@@ -38,7 +39,7 @@ pub record MetricsAnnounceOrWithhold : Type 0 where
         installed = None;
         sent = sent;
       })))
-  -- 16,777,215: it isn't announced, and the database has no LSA of it
+  -- 16,777,215: it isn't announced, and the database has no LSA for it
   pub withholds : (old new : Router) (moment tag : ℕ) (e : External) (outs : List Out)
       → IsAtRest old moment → MayAnnounce old moment e
       → Happens old moment (Occurrence.Redistribute e tag e 16777215) outs new

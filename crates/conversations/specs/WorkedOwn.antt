@@ -1,5 +1,5 @@
--- Worked events of a router with one interface: its last request is met, and it tells of the new
--- adjacency (RFC 2328, sections 10.9 and 12.4).
+-- Worked events of a router with one interface: its last request is satisfied, and its router-LSA
+-- gets the new adjacency (RFC 2328, sections 10.9 and 12.4).
 use Rattle.std.specs.Prelude.{◌≡◌, ◌<◌, ℕ, ◌+◌, ◌+ℤ◌, pos, ◌==◌, true, false, List, [], ◌∷◌, None}
 use Rattle.std.specs.Prelude.{Some}
 use Rattle.std.specs.FinMap as finite
@@ -23,7 +23,7 @@ use Rattle.events.specs.Packing.{outs_of}
 use Rattle.events.specs.Routers.{Occurrence, Router, shown_at}
 use Rattle.conversations.specs.WorkedUpdates.{IsUpdateWith, WaitsAt}
 
--- the router with this one interface, and this neighbor at it
+-- the router with only this interface and this neighbor
 abbrev pub beside : Router → Link → Neighbor → Router
 beside r link n =
     record r { area = record r.area { links = record link { neighbor = Some n } ∷ [] } }
@@ -31,8 +31,9 @@ beside r link n =
 abbrev pub loading : Neighbor → Neighbor
 loading n = record n { state = Loading }
 
--- the neighbor is asked for one LSA alone, and this one, of another router and without a copy here,
--- meets the request; the own router-LSA stands in the database, below MaxSequenceNumber and MaxAge
+-- the neighbor's request list has only one LSA, and this one, of another router and without a
+-- database copy, satisfies the request; the router's own router-LSA is in the database, below
+-- MaxSequenceNumber and MaxAge
 pub record MeetsTheLastRequest (r : Router) (n : Neighbor) (moment : ℕ) (lsa : Lsa)
     (own : DatabaseCopy) : Type 0 where
   pub nothing_ages : list_any (λ e. has_just_aged_out r.moment moment e.1)
@@ -46,7 +47,7 @@ pub record MeetsTheLastRequest (r : Router) (n : Neighbor) (moment : ℕ) (lsa :
   pub own_there : finite.get r.area.database (router_key r.id) ≡ Some own
   pub counts_on : has_max_sequence (Some own) ≡ false
 
--- the router-LSA with the links that the router now has, in the place of this copy
+-- the next instance of the router-LSA after this copy, with the router's present links
 abbrev pub next_router_lsa : Router → DatabaseCopy → Lsa
 next_router_lsa r own = new_instance (router_key r.id) (Some own) (router_body r.area.links)
 
@@ -54,12 +55,12 @@ abbrev pub sends_update : Lsa → List Send
 sends_update lsa = record { number = 1; content = Content.Updates lsa } ∷ []
 
 pub record ALastRequestIsMet : Type 0 where
-  -- the next instance has the next number, and age 0
+  -- the next instance has the next sequence number, and age 0
   pub next_number : (r : Router) (own : DatabaseCopy) → (next_router_lsa r own).header.sequence
       ≡ own.lsa.header.sequence +ℤ pos 1
   pub new_age : (r : Router) (own : DatabaseCopy) → (next_router_lsa r own).header.age ≡ 0
-  -- the last five seconds saw no own router-LSA: the neighbor is Full, and one Update with the next
-  -- router-LSA is all that is sent; the acknowledgment waits for a Tick
+  -- if MinLSInterval has passed since the last origination, the neighbor is Full, and only one Link
+  -- State Update with the next router-LSA is sent; the acknowledgment is delayed
   pub at_once : (r new : Router) (link : Link) (n : Neighbor) (moment : ℕ) (bytes : List ℕ)
       (lsa : Lsa) (own : DatabaseCopy) (outs : List Out)
       → MeetsTheLastRequest r n moment lsa own → IsUpdateWith bytes n.router lsa
@@ -68,7 +69,7 @@ pub record ALastRequestIsMet : Type 0 where
       → (shown_at new 1 ≡ Some (n.router, Full)) × WaitsAt new 1 lsa
       × (outs ≡ outs_of r.id (beside r link (loading n)).area.links
       (sends_update (next_router_lsa new own)))
-  -- else the neighbor is Full, nothing is sent, and the router-LSA waits for a Tick
+  -- otherwise the neighbor is Full, nothing is sent, and the router-LSA waits for a Tick
   pub later : (r new : Router) (link : Link) (n : Neighbor) (moment last : ℕ) (bytes : List ℕ)
       (lsa : Lsa) (own : DatabaseCopy) (outs : List Out)
       → MeetsTheLastRequest r n moment lsa own → IsUpdateWith bytes n.router lsa

@@ -1,4 +1,4 @@
--- A worked run of a router with one interface: a Hello begins an adjacency, and the exchange
+-- A worked run of a router with one interface: a Hello starts an adjacency, and the exchange
 -- follows in the next event (RFC 2328, sections 10.5, 10.6 and 10.8).
 use Rattle.std.specs.Prelude.{◌≡◌, ℕ, ◌%◌, ◌^◌, true, nat_lt, List, [], ◌∷◌, Some}
 use Rattle.packet.specs.declared.model.Body.TheVariants as body
@@ -15,7 +15,7 @@ use Rattle.events.specs.Routers.{Occurrence, Router, shown_at}
 use Rattle.conversations.specs.WorkedAdjacency.{IsNamingHello, NothingAges, describes, lonely}
 use Rattle.conversations.specs.WorkedExchange.{reply}
 
--- these bytes come in at the first interface, and this is sent
+-- these bytes are received at the first interface, and this is sent
 abbrev pub receives : ℕ → List ℕ → List Out → Step
 receives moment bytes outs = record {
   moment = moment;
@@ -23,10 +23,10 @@ receives moment bytes outs = record {
   outs = outs;
 }
 
--- a Hello of a new neighbor with a larger Router ID that names this router, and later that
--- neighbor's opening Description: the first is answered with the opening Description of the
--- moment's number, the second leads from ExStart to Exchange, and is answered with one Description
--- of its number, with the headers of the database
+-- a Hello from a new neighbor with a larger Router ID that lists this router, and later that
+-- neighbor's initial Database Description: the first is answered with the initial Database
+-- Description with the moment's number, the second leads from ExStart to Exchange, and is answered
+-- with one Database Description with its number and the headers of the database
 abbrev pub AnAdjacencyIsNegotiated : Type 0
 AnAdjacencyIsNegotiated =
     (r new : Router) (link : Link) (moment later from sequence : ℕ) (hello_bytes bytes : List ℕ)

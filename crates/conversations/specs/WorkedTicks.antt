@@ -1,5 +1,5 @@
--- A worked Tick of a router with one interface: its router-LSA is originated, and what waits is
--- acknowledged (RFC 2328, sections 12.4 and 13.5).
+-- A worked Tick of a router with one interface: its router-LSA is originated, and delayed
+-- acknowledgments are sent (RFC 2328, sections 12.4 and 13.5).
 use Rattle.std.specs.Prelude.{◌≡◌, ℕ, true, false, List, [], ◌∷◌, ◌++◌, map, Option, None, Some}
 use Rattle.std.specs.FinMap as finite
 use Rattle.std.specs.List.{list_any}
@@ -20,9 +20,10 @@ use Rattle.events.specs.Routers.{Occurrence, Router}
 use Rattle.conversations.specs.WorkedFlush.{full}
 use Rattle.conversations.specs.WorkedOwn.{beside}
 
--- the router-LSA waits, or has left the database, or is of LSRefreshTime, and may go out: five
--- seconds have passed and there is room; it isn't at MaxSequenceNumber; nothing else is announced,
--- no copy comes to MaxAge, and the neighbor was heard in time
+-- the router-LSA waits, or was removed from the database, or has an age of LSRefreshTime, and may
+-- be originated: MinLSInterval has passed and there is room; it doesn't have MaxSequenceNumber;
+-- nothing else is announced, no copy reaches MaxAge, and the neighbor's inactivity timer hasn't
+-- expired
 pub record IsDueAtTick (r : Router) (link : Link) (n : Neighbor) (moment : ℕ)
     (copy : Option DatabaseCopy) : Type 0 where
   pub nothing_ages : list_any (λ e. has_just_aged_out r.moment moment e.1)
@@ -43,8 +44,8 @@ abbrev pub waiting_acknowledgments : Link → List Send
 waiting_acknowledgments link =
     sends_at 1 (map Content.Acknowledges (finite.values link.acknowledgments))
 
--- no own LSA is due, nothing is announced, no copy comes to MaxAge, and the neighbor was heard in
--- time
+-- no self-originated LSA is due, nothing is announced, no copy reaches MaxAge, and the neighbor's
+-- inactivity timer hasn't expired
 pub record IsNothingDue (r : Router) (link : Link) (n : Neighbor) (moment : ℕ) : Type 0 where
   pub nothing_ages : list_any (λ e. has_just_aged_out r.moment moment e.1)
       (finite.entries r.area.database) ≡ false
@@ -53,13 +54,13 @@ pub record IsNothingDue (r : Router) (link : Link) (n : Neighbor) (moment : ℕ)
   pub not_due : is_due moment r (router_key r.id) ≡ false
 
 pub record ATickOriginates : Type 0 where
-  -- without a copy the number is InitialSequenceNumber, else the next one
+  -- without a copy the sequence number is InitialSequenceNumber, otherwise the next one
   pub first_number : (r : Router) (link : Link) (n : Neighbor)
       → (originated_lsa r link n None).header.sequence ≡ initial_sequence_number
   pub next_number : (r : Router) (link : Link) (n : Neighbor) (c : DatabaseCopy)
       → (originated_lsa r link n (Some c)).header.sequence ≡ next_sequence (Some c)
-  -- among what is sent are first an Update with the new router-LSA, and then all acknowledgments
-  -- that wait
+  -- a Link State Update with the new router-LSA is sent first, and later all delayed
+  -- acknowledgments
   pub sends : (r new : Router) (link : Link) (n : Neighbor) (moment : ℕ)
       (copy : Option DatabaseCopy) (outs : List Out)
       → IsDueAtTick r link n moment copy
@@ -70,7 +71,7 @@ pub record ATickOriginates : Type 0 where
         number = 1;
         content = Content.Updates (originated_lsa r link n copy);
       } ∷ (again ++ (waiting_acknowledgments link ++ more))))
-  -- if nothing is due, all acknowledgments that wait are among what is sent
+  -- if nothing is due, all delayed acknowledgments are sent
   pub acknowledges : (r new : Router) (link : Link) (n : Neighbor) (moment : ℕ) (outs : List Out)
       → IsNothingDue r link n moment
       → Happens (beside r link (full n)) moment Occurrence.Tick outs new

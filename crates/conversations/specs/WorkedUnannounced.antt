@@ -1,5 +1,5 @@
--- A worked event of a router with one interface: an LSA under its own name comes in that it doesn't
--- announce (RFC 2328, sections 13.4 and 14.1).
+-- A worked event of a router with one interface: it receives an LSA in its own name that it doesn't
+-- originate (RFC 2328, sections 13.4 and 14.1).
 use Rattle.std.specs.Prelude.{◌≡◌, ◌<◌, ℕ, true, false, List, None, Option, Some}
 use Rattle.std.specs.FinMap as finite
 use Rattle.std.specs.List.{list_any}
@@ -18,8 +18,8 @@ use Rattle.conversations.specs.WorkedFlush.{HasOnList, full}
 use Rattle.conversations.specs.WorkedOwn.{beside, sends_update}
 use Rattle.conversations.specs.WorkedUpdates.{IsUpdateWith, WaitsAt}
 
--- the LSA is this router's, but neither its router-LSA nor that of a destination that it announces,
--- as a summary-LSA is; there is no copy of it here
+-- the LSA is this router's, but neither its router-LSA nor that of an announced destination, such
+-- as a summary-LSA; the database has no copy of it
 pub record IsUnannounced (r : Router) (n : Neighbor) (moment : ℕ) (lsa : Lsa) : Type 0 where
   pub nothing_ages : list_any (λ e. has_just_aged_out r.moment moment e.1)
       (finite.entries r.area.database) ≡ false
@@ -30,7 +30,7 @@ pub record IsUnannounced (r : Router) (n : Neighbor) (moment : ℕ) (lsa : Lsa) 
   pub is_absent : finite.get r.area.database (lsa_key lsa) ≡ None
   pub is_young : lsa.header.age < 3600
 
--- the copy has MaxAge from this moment on, and the neighbor is to acknowledge that
+-- the copy has MaxAge from this moment on, and is on the neighbor's retransmission list
 pub record IsFlushed (r : Router) (moment : ℕ) (lsa : Lsa) : Type 0 where
   pub sent : Option ℕ
   pub copy : finite.get r.area.database (lsa_key lsa) ≡ Some (record {
@@ -42,8 +42,8 @@ pub record IsFlushed (r : Router) (moment : ℕ) (lsa : Lsa) : Type 0 where
   pub on_list : HasOnList r (lsa_key lsa)
       (Some (record { header = header_aged 3600 lsa.header; at = moment }))
 
--- from a Full neighbor: it is flushed, its acknowledgment as it came waits for a Tick, and all that
--- is sent is one Update with it at MaxAge
+-- from a Full neighbor: it is flushed, the acknowledgment of it as received is delayed, and only
+-- one Link State Update with it at MaxAge is sent
 abbrev pub WhatIsNotAnnouncedIsFlushed : Type 0
 WhatIsNotAnnouncedIsFlushed =
     (r new : Router) (link : Link) (n : Neighbor) (moment : ℕ) (bytes : List ℕ) (lsa : Lsa)

@@ -1,5 +1,5 @@
--- A worked event: an Update with a new LSA comes twice from a Full neighbor (RFC 2328, sections 13
--- and 13.5).
+-- A worked event: a Link State Update with a new LSA is received twice from a Full neighbor (RFC
+-- 2328, sections 13 and 13.5).
 use Rattle.std.specs.Prelude.{◌≡◌, ◌<◌, ℕ, ◌==◌, true, false, List, [], ◌∷◌, Option, None, Some}
 use Rattle.std.specs.FinMap as finite
 use Rattle.std.specs.List.{list_any}
@@ -20,33 +20,32 @@ use Rattle.events.specs.Hellos.{is_foreign}
 use Rattle.events.specs.Packing.{outs_of}
 use Rattle.events.specs.Routers.{Occurrence, Router}
 
--- nobody is in Exchange or Loading, and no copy comes to MaxAge at this moment
+-- no neighbor is in Exchange or Loading, and no copy reaches MaxAge at this moment
 pub record IsAtRest (r : Router) (moment : ℕ) : Type 0 where
   pub nobody : any_exchange_or_loading r.area.links ≡ false
   pub nothing_ages : list_any (λ e. has_just_aged_out r.moment moment e.1)
       (finite.entries r.area.database) ≡ false
 
--- the interface of this number has this link, and its neighbor is Full
+-- the interface with this number has this link, and its neighbor is Full
 pub record HasFullNeighbor (r : Router) (number : ℕ) (link : Link) (n : Neighbor) : Type 0 where
   pub link_there : link_at number r.area.links ≡ Some link
   pub neighbor_there : link.neighbor ≡ Some n
   pub is_other : is_foreign r.id n.router ≡ true
   pub is_full : n.state ≡ Full
 
--- the bytes are the text of that router's Update with this one LSA
+-- the bytes encode that router's Link State Update with this one LSA
 pub record IsUpdateWith (bytes : List ℕ) (from : ℕ) (lsa : Lsa) : Type 0 where
   pub unread : List ℕ
   pub is_text : PacketText bytes (record { router = from; body = body.Update (unread ∷ []) })
   pub is_read : lsa_in unread ≡ Some lsa
 
--- at the interface of this number an acknowledgment of the LSA, as it was received, waits for a
--- Tick
+-- the interface with this number has a delayed acknowledgment of the LSA as it was received
 abbrev pub WaitsAt : Router → ℕ → Lsa → Type 0
 WaitsAt r number lsa =
     (link : Link) × (link_at number r.area.links ≡ Some link)
     × (finite.get link.acknowledgments (lsa_key lsa) ≡ Some lsa.header)
 
--- the router got it at this moment by flooding; it may have sent it on
+-- the router installed it at this moment by flooding; it may have been sent
 abbrev pub HasBrought : Router → ℕ → Lsa → Type 0
 HasBrought r moment lsa =
     (sent : Option ℕ) × (finite.get r.area.database (lsa_key lsa) ≡ Some (record {
@@ -56,17 +55,17 @@ HasBrought r moment lsa =
       sent = sent;
     }))
 
--- what is sent is one acknowledgment of the LSA, at the interface of this number
+-- only an acknowledgment of the LSA is sent, at the interface with this number
 abbrev pub acknowledges_at_once : ℕ → Lsa → List Send
 acknowledges_at_once number lsa = record {
   number = number;
   content = Content.Acknowledges lsa.header;
 } ∷ []
 
--- one Update with a new LSA of another router is delivered twice in one second by a Full neighbor:
--- after the first the LSA is in the database and its acknowledgment waits for a Tick; the second is
--- acknowledged at once, with nothing else sent, and leaves the router, its database with it, as the
--- first left it
+-- a Full neighbor sends one Link State Update with a new LSA of another router twice in one second:
+-- after the first the LSA is in the database and its acknowledgment is delayed; the second is
+-- acknowledged directly, nothing else is sent, and the router, including its database, stays the
+-- same
 abbrev pub ANewLsaComesTwice : Type 0
 ANewLsaComesTwice =
     (old middle new : Router) (moment number : ℕ) (bytes : List ℕ) (lsa : Lsa) (link : Link)

@@ -1,4 +1,4 @@
--- The slot of each instruction of the code in the counted code, and what counts the turns.
+-- The slot of each instruction in the counted code, and the code that counts the turns.
 use Rattle.std.proofs.Common.{◌≡◌, ℕ, zero, suc, ◌+◌, ◌*◌, ◌^◌, ◌%◌, ◌<◌, ℤ, pos, ◌-ℤ◌, List, [], ◌∷◌, ◌++◌, length, refl, sym, ap, subst, ◌∙◌, Option, Some, None, arith, true, false, Bool, length-append, cond}
 use Rattle.std.specs.Prelude.{slice_get, position, nat_lt, ◌==◌, not, if◌then◌else◌}
 use Rattle.std.proofs.lemmas.Int.{ints}
@@ -15,7 +15,7 @@ use Rattle.isa.specs.Code.{slots_of, is_wide, IsInstruction, AreWhole}
 use Rattle.isa.specs.Flow.{jump_target, slot_at_distance}
 use Rattle.annotations.specs.CountedCode.{counted_code, place_of, distance_of, distance_between, with_distance_if_given, redirected_from, detour, detours, detour_at}
 
--- the instruction as it stands in counted code
+-- the instruction in the counted code
 abbrev pub redirected : ℕ → List ℕ → ℕ → Instruction → Instruction
 redirected slots heads slot i =
     with_distance_if_given i (distance_of slots slot (place_of heads slot (jump_target slot i)))
@@ -26,13 +26,13 @@ cast_wraps from to t f = omega (arith, ints)
 pub distance_leads : (from to : ℕ) → from + 1 < 2 ^ 63 → to < 2 ^ 63 → slot_at_distance from (distance_between from to) ≡ to
 distance_leads from to f t = cast_wraps (from + 1) to t f
 
--- a place before the end of the first list
+-- an index before the end of the first list
 pub got_before : (xs ys : List Slot) (n : ℕ) → n < length xs → slice_get (xs ++ ys) n ≡ slice_get xs n
 got_before [] ys n lt = absurd (omega arith)
 got_before (x ∷ xs) ys zero lt = refl
 got_before (x ∷ xs) ys (suc n) lt = got_before xs ys n (omega arith)
 
--- a place behind it
+-- an index after it
 pub got_behind : (xs ys : List Slot) (n : ℕ) → slice_get (xs ++ ys) (length xs + n) ≡ slice_get ys n
 got_behind [] ys n = ap (slice_get ys) (omega arith)
 got_behind (x ∷ xs) ys n =
@@ -108,7 +108,7 @@ module _ (slots : ℕ) (heads : List ℕ) where
   here x i first n none e =
       at_place x first (first + n) (omega arith) ∙ ap (λ (y : Instruction). Some (Start (redirected slots heads (first + n) y))) (same_start x i e)
 
-  -- each instruction of the code, redirected
+  -- each instruction of the code is in the counted code, redirected
   pub stands_at : (code : List Slot) → Whole code → (first n : ℕ) (i : Instruction) → slice_get code n ≡ Some (Start i)
       → slice_get (redirected_from slots heads first code) n ≡ Some (Start (redirected slots heads (first + n) i))
   stands_at code End first n i e = cc
@@ -124,7 +124,7 @@ module _ (slots : ℕ) (heads : List ℕ) where
       ap (λ xs. slice_get xs (suc (suc n))) (wide_is x rest first w) ∙ stands_at rest whole (first + 1 + 1) n i e
       ∙ at_place i (((first + 1) + 1) + n) (first + suc (suc n)) (omega arith)
 
--- ---- what counts the turns
+-- ---- the code that counts the turns
 
 abbrev is_head : ℕ → ℕ → Bool
 is_head to head = head == to

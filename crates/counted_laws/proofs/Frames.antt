@@ -1,5 +1,5 @@
 -- A register that no instruction of the code names, and slots one later: each step of the code is
--- made all the same.
+-- still possible.
 use Rattle.std.proofs.Common.{◌≡◌, ◌≢◌, ℕ, zero, suc, ◌+◌, ◌^◌, ◌%◌, ◌<◌, ◌≤◌, ℤ, List, [], ◌∷◌, length, drop, refl, sym, ap, ◌∙◌, Option, Some, None, arith, true, false, Bool, ◌||◌, ◌⊎◌, inl, inr, length-drop, ◌-◌}
 use Rattle.std.specs.Prelude.{slice_set, nat_le, ◌==◌, if◌then◌else◌}
 use Rattle.std.proofs.lemmas.Bool.{eq-eqb}
@@ -34,7 +34,7 @@ use Rattle.machine.specs.Helpers.{state_after_call}
 use Rattle.machine.specs.Steps.{Does, Fills, result_of, on_number, test_result}
 use Rattle.annotations.specs.CountedCode.{names, is_operand, place_of}
 
--- the state of the counted code: one slot later, with one turn more left
+-- the state of the counted code: one slot later, with the turns that are left
 abbrev pub later : ℕ → ℕ → State → State
 later counter left s = record {
   slot = s.slot + 1;
@@ -91,7 +91,7 @@ module _ (counter left : ℕ) (s : State) where
   stores_same size (pointers.Map Cells a) (Address p) label stack h = elim h [ ]
   stores_same size (pointers.Map Cells a) Nothing label stack h = elim h [ ]
 
--- a call leaves r6 to r9 as they are
+-- a call doesn't change r6 to r9
 pub called_later : (registers : List Content) (counter : ℕ) (left answer : Content) → 6 ≤ counter
     → answer ∷ Nothing ∷ Nothing ∷ Nothing ∷ Nothing ∷ Nothing ∷ drop 6 (slice_set registers counter left)
     ≡ slice_set (answer ∷ Nothing ∷ Nothing ∷ Nothing ∷ Nothing ∷ Nothing ∷ drop 6 registers) counter left
@@ -122,14 +122,14 @@ le_by a b false e lt = refl
 le_no : (a b : ℕ) → b < a → nat_le a b ≡ false
 le_no a b lt = le_by a b (nat_le a b) refl lt
 
--- a step to a slot behind is no turn
+-- a step to a later slot is no turn
 pub ahead : (heads : List ℕ) (slot next : ℕ) → slot < next → place_of heads slot (Some next) ≡ None
 ahead heads slot next lt = let no : nat_le next slot ≡ false = le_no next slot lt in rw no refl
 
--- ---- a step of an instruction that stands there as it was
+-- ---- a step of an unchanged instruction
 
--- The code makes the step too, which is no turn; then the states are as before, or the code has
--- jumped before its first slot.
+-- The code takes the step too, which is no turn; then the states correspond as before, or the code
+-- has jumped before its first slot.
 pub record Follows (counter left : ℕ) (heads : List ℕ) (setting : Setting) (s : State) (i : Instruction) (label : Label) (t : State) : Type 0 where
   pub next : State
   pub does : Does i setting s label next

@@ -51,7 +51,7 @@ after_one_more label xs others ys e =
     ap (λ l. l ++ others) (one_access label xs) ∙ append_assoc (accesses (label ∷ [])) (accesses xs) others
     ∙ ap (λ l. accesses (label ∷ []) ++ l) e ∙ sym (one_access label ys)
 
--- ---- one step more before a run
+-- ---- one more step before a run
 
 module _ (setting : Setting) (heads : List ℕ) (s next : State) (label : Label) (step : Step setting s label next) (answer word : ℕ)
     (rest labels : List Label) (same : accesses labels ≡ accesses (label ∷ rest)) where
@@ -96,7 +96,7 @@ by_order heads slot to place false e found = cc
 back_to : (heads : List ℕ) (slot to place : ℕ) → place_of heads slot (Some to) ≡ Some place → (to ≤ slot) × (position (λ head. head == to) heads ≡ Some place)
 back_to heads slot to place e = by_order heads slot to place (nat_le to slot) refl e
 
--- What the code does when the counted code goes to count a turn, or passes on.
+-- What the code does when the counted code goes to count a turn, or continues.
 record Turned (counter left : ℕ) (heads : List ℕ) (setting : Setting) (s : State) (i : Instruction) (place at : ℕ) (label : Label) (t : State) : Type 0 where
   next : State
   does : Does i setting s label next
@@ -171,7 +171,7 @@ module _ (counter left : ℕ) (heads : List ℕ) (hook : Hook) (input : Given) (
   turned (instructions.LoadNumber target number) unnamed back h = cc
   turned (instructions.LoadMap target map offset) unnamed back h = cc
 
--- an instruction that jumps isn't EXIT, to whatever distance
+-- an instruction that jumps isn't EXIT, whatever the distance
 no_exit : (heads : List ℕ) (slot place : ℕ) (distance : ℤ) (i : Instruction) → place_of heads slot (jump_target slot i) ≡ Some place
     → with_distance_if_given i (Some distance) ≡ instructions.Exit → ⊥
 no_exit heads slot place distance (instructions.Jump old) back e = cc
@@ -199,7 +199,7 @@ module _ (answer counter turns : ℕ) (heads : List ℕ) (code : List Slot) (who
   fits_word : (n : ℕ) → FitsSigned w32 (pos n) → n < 2 ^ 31
   fits_word n fits = fits.sfits
 
-  -- what is answered, and the turns, are numbers in instructions
+  -- the answer and the turns fit into instructions
   small_answer : (to place : ℕ) → position (λ head. head == to) heads ≡ Some place → answer < 2 ^ 31
   small_answer to place found =
       fits_word answer (fits_at (all answer counter turns heads code whole) sound (detour_at (length code) place + 2) (with_number operations.Move 0 (pos answer))
@@ -217,7 +217,7 @@ module _ (answer counter turns : ℕ) (heads : List ℕ) (code : List Slot) (who
   leaves_now : (s : State) (most : ℕ) (labels : List Label) → Stuck code_setting s Outside ⊎ Stuck code_setting s HalfWide → Leaves code_setting heads s most (accesses labels)
   leaves_now s most labels stuck = record { labels = []; turns = 0; last = s; leads = (refl, refl); stuck = stuck; few = omega arith; others = accesses labels; same = refl }
 
-  -- what is shown of each run of the counted code
+  -- the property of each run of the counted code
   abbrev Shown : State → ℕ → List Label → State → ℕ → Type 0
   Shown s most labels last word = most < 2 ^ 60 → 10 ≤ length s.registers → Leads counted_setting (later counter (most + 1) s) labels last
       → Exits counted_setting last word → IsRun code_setting heads s answer most labels word
@@ -243,7 +243,7 @@ module _ (answer counter turns : ℕ) (heads : List ℕ) (code : List Slot) (who
     a_turn : (next : State) (place : ℕ) → (next.slot ≤ s.slot) → position (λ head. head == next.slot) heads ≡ Some place → turns_between heads s next ≡ 1
     a_turn next place le found = let yes : nat_le next.slot s.slot ≡ true = le-leb next.slot s.slot le in rw (yes, found) refl
 
-    -- at an instruction that stands there as it was
+    -- at an unchanged instruction
     at_same : (i : Instruction) → slice_get code s.slot ≡ Some (Start i) → place_of heads s.slot (jump_target s.slot i) ≡ None
         → IsAt counted_setting (later counter (most + 1) s) i → (ls : List Label) → labels ≡ ls
         → Leads counted_setting (later counter (most + 1) s) ls last → Exits counted_setting last word → IsRun code_setting heads s answer most labels word

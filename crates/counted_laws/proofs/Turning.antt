@@ -1,4 +1,4 @@
--- What counts a turn: it goes on at the head, or gives the answer.
+-- The code that counts a turn: it continues at the head, or returns the answer.
 use Rattle.std.proofs.Common.{◌≡◌, ℕ, zero, suc, ◌+◌, ◌-◌, ◌^◌, ◌%◌, ◌<◌, ◌≤◌, pos, negsuc, List, [], ◌∷◌, length, refl, sym, ap, subst, ◌∙◌, Some, arith, true, false, Bool, ◌⊎◌, inl, inr}
 use Rattle.std.specs.Prelude.{slice_get, slice_set, position, ◌==◌, not, if◌then◌else◌}
 use Rattle.std.proofs.lemmas.Bool.{eqb-true}
@@ -30,7 +30,7 @@ use Rattle.counted_laws.proofs.Frames.{later}
 pub step_by : (setting : Setting) (s next : State) (label : Label) (i : Instruction) → IsAt setting s i → Step setting s label next → Does i setting s label next
 step_by setting s next label i at step = let same : step.instruction ≡ i = cc (step.at, at) in rw same at step.does
 
--- if EXIT answers, the machine is at no other instruction
+-- if EXIT returns, the machine is at no other instruction
 pub exit_only : (setting : Setting) (s : State) (word : ℕ) (i : Instruction) → IsAt setting s i → Exits setting s word → i ≡ instructions.Exit
 exit_only setting s word i at exits = cc (exits.at, at)
 
@@ -47,7 +47,7 @@ some_left (suc n) e = omega arith
 taken_of : (a b : Bool) → Some a ≡ Some b → b ≡ a
 taken_of a b e = cc
 
--- where the machine is while a turn is counted: the state of the code, at another slot
+-- the state while a turn is counted: that of the code, at another slot
 abbrev pub counting : ℕ → ℕ → State → ℕ → State
 counting counter left next slot = record { slot = slot; registers = slice_set next.registers counter (Number left); stack = next.stack }
 
@@ -80,7 +80,7 @@ module _ (answer counter turns : ℕ) (small : answer < 2 ^ 31) (heads : List �
         ap (λ (d : Content). record { slot = at + 1; registers = slice_set (slice_set next.registers counter (Number (left + 1))) counter d; stack = next.stack }) e
         ∙ ap (λ (r : List Content). record { slot = at + 1; registers = r; stack = next.stack }) (set-set next.registers counter (Number (left + 1)) (Number left))
 
-    -- one is taken off
+    -- one is subtracted
     pub first_step : (left : ℕ) (t : State) (label : Label) → left + 1 < 2 ^ 62 → Step mine (counting counter (left + 1) next at) label t
         → (label ≡ Silent) × (t ≡ counting counter left next (at + 1))
     first_step left t label few step =
@@ -128,7 +128,7 @@ module _ (answer counter turns : ℕ) (small : answer < 2 ^ 31) (heads : List �
           ap (λ (s : State). held s 0) h.after ∙ get_or-set_same (slice_set next.registers counter (Number 0)) 0 h.filling Nothing some ∙ filling,
         )
 
-    -- What is left of a run when a turn is counted: the answer, or the run from the head on.
+    -- The rest of a run when a turn is counted: the answer, or the run from the head on.
     abbrev Over : ℕ → List Label → ℕ → Type 0
     Over left labels word = (left ≡ 0) × (accesses labels ≡ []) × (word ≡ answer)
 

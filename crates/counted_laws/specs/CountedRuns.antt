@@ -1,4 +1,4 @@
--- What runs of code that counts turns have to do with runs of the given code.
+-- Runs of code that counts turns, compared with runs of the given code.
 use Rattle.std.specs.Prelude.{◌≡◌, ℕ, ◌+◌, ◌≤◌, ◌⊎◌, Option, Some, None, List, [], ◌∷◌, ◌++◌}
 use Rattle.isa.specs.declared.code.Slot.{Slot}
 use Rattle.isa.specs.declared.hook.Hook.{Hook}
@@ -13,7 +13,7 @@ use Rattle.machine.specs.Faults.{Stuck}
 use Rattle.machine.specs.Runs.{Ends}
 use Rattle.annotations.specs.CountedCode.{IsCounted, place_of}
 
--- what the labels say of counters and cells
+-- the labels of accesses to counters and cells
 abbrev pub accesses : List Label → List Label
 accesses [] = []
 accesses (Silent ∷ labels) = accesses labels
@@ -27,7 +27,7 @@ turns_of (Some place) = 1
 abbrev pub turns_between : List ℕ → State → State → ℕ
 turns_between heads s next = turns_of (place_of heads s.slot (Some next.slot))
 
--- Steps with these labels, in order, lead from the one state to the other, and the given number of
+-- Steps with these labels, in order, lead from the first state to the last, and the given number of
 -- them are turns.
 abbrev pub LeadsInTurns : Setting → List ℕ → State → List Label → ℕ → State → Type 0
 LeadsInTurns setting heads s [] turns end = (s ≡ end) × (turns ≡ 0)
@@ -36,7 +36,8 @@ LeadsInTurns setting heads s (label ∷ labels) turns end =
     × (more : ℕ) × (turns ≡ turns_between heads s next + more)
     × LeadsInTurns setting heads next labels more end
 
--- A run from the state, with these accesses, ends with the answer, in no more turns than that.
+-- A run from the state with these accesses returns the answer, in at most the given number of
+-- turns.
 pub record Answers (setting : Setting) (heads : List ℕ) (s : State) (most : ℕ) (found : List Label)
     (word : ℕ) : Type 0 where
   pub labels : List Label
@@ -47,7 +48,7 @@ pub record Answers (setting : Setting) (heads : List ℕ) (s : State) (most : �
   pub few : turns ≤ most
   pub same : accesses labels ≡ found
 
--- A run from the state, with these accesses, has the given number of turns.
+-- A run from the state with these accesses has the given number of turns.
 pub record Turns (setting : Setting) (heads : List ℕ) (s : State) (turns : ℕ) (found : List Label)
     : Type 0 where
   pub labels : List Label
@@ -55,7 +56,7 @@ pub record Turns (setting : Setting) (heads : List ℕ) (s : State) (turns : ℕ
   pub leads : LeadsInTurns setting heads s labels turns last
   pub same : accesses labels ≡ found
 
--- A run from the state, with the first of these accesses, comes to a slot at which no instruction
+-- A run from the state with the first of these accesses gets to a slot at which no instruction
 -- begins.
 pub record Leaves (setting : Setting) (heads : List ℕ) (s : State) (most : ℕ) (found : List Label)
     : Type 0 where
@@ -68,7 +69,7 @@ pub record Leaves (setting : Setting) (heads : List ℕ) (s : State) (most : ℕ
   pub others : List Label
   pub same : accesses labels ++ others ≡ found
 
--- What a run of the counted code, with these accesses and this word, comes to: of one of the code
+-- The outcome for a run of the counted code with these accesses and this word, in terms of the code
 -- that begins at this state.
 abbrev pub IsRunWith : Setting → List ℕ → State → (answer most : ℕ) → List Label → (word : ℕ) → Type 0
 IsRunWith setting heads s answer most found word =
@@ -80,8 +81,9 @@ abbrev pub IsRun : Setting → List ℕ → State → (answer most : ℕ) → Li
 IsRun setting heads s answer most labels word =
     IsRunWith setting heads s answer most (accesses labels) word
 
--- Each run of counted code is one of the code, with the same answer; or it answers what was chosen,
--- once the code has taken one turn more than are counted; or the code leaves its instructions.
+-- Each run of counted code is one of the code, with the same answer; or it returns the chosen
+-- answer, after the code has taken one turn more than are counted; or the code leaves its
+-- instructions.
 abbrev pub CountedRunsAreRuns : Type 0
 CountedRunsAreRuns = (answer turns : ℕ) (heads : List ℕ) (code counted : List Slot)
     → IsCode code → IsCode counted → IsCounted answer turns heads code counted

@@ -1,4 +1,4 @@
--- A loop without an end, and the code that counts two turns of it, slot for slot.
+-- An endless loop, and the code that counts two turns of it, slot by slot.
 use Rattle.std.specs.Prelude.{◌≡◌, pos, negsuc, List, [], ◌∷◌}
 use Rattle.isa.specs.declared.instruction.Instruction.TheVariants.{Branch, Exit, Jump}
 use Rattle.isa.specs.declared.instruction.Operation.TheVariants.{Add, Move}
@@ -22,6 +22,6 @@ with_two_turns = Start (with_number Move 6 (pos 3)) ∷ Start (with_number Move 
     ∷ Start (Branch Bits64 NotEqual 6 (Immediate (pos 0)) (negsuc 3))
     ∷ Start (with_number Move 0 (pos 7)) ∷ Start Exit ∷ []
 
--- with r6, two turns, and 7 once they are used up
+-- counted with r6 and two turns, with the answer 7 after that
 abbrev pub IsCountedSo : Type 0
 IsCountedSo = counted_code 7 6 2 (1 ∷ []) endless ≡ with_two_turns
