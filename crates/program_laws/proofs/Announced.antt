@@ -1,4 +1,4 @@
--- What an event makes of the destinations that are announced: only a Redistribute adds one.
+-- The announced destinations after an event: only a `Redistribute` adds one.
 use Rattle.std.proofs.Common.{◌≡◌, ℕ, ◌<◌, ◌⊎◌, inl, inr, Bool, true, false, cond, not, ◌&&◌, List, [], ◌∷◌, map, Option, None, Some, refl, sym, ◌∙◌, ap, subst}
 use Rattle.std.specs.Prelude.{◌==◌, nat_le}
 use Rattle.std.specs.FinMap as finite
@@ -46,7 +46,7 @@ tied_key q k is = keys_exact q k (equal (key_cmp q k) is)
     equal Equal e = refl
     equal Greater e = absurd cc
 
--- ---- parts that leave them as they are
+-- ---- parts that don't change them
 
 abbrev pub Told : Type 0
 Told = RouterNumber × ByKey External
@@ -139,7 +139,7 @@ ended old moment p =
 
 -- ---- what an event adds
 
--- a Redistribute that announces the destination under this key
+-- a `Redistribute` that announces the destination with this key
 pub record Adds (own : RouterNumber) (event : Occurrence) (key : Key) (e : External) : Type 0 where
   pub tagged : External
   pub tag : ℕ
@@ -233,7 +233,7 @@ withdrawn_id moment prefix p = by_choice_too (is_for prefix (finite.get p.router
     by_choice_too true = refl
     by_choice_too false = refl
 
--- ---- the event's own part, and the whole event
+-- ---- the event's own part, and the complete event
 
 abbrev announced_of : EventState → ByKey External
 announced_of p = p.router.announced

@@ -1,5 +1,5 @@
--- What is announced is what the operator's commands make of it, each under its own key: so two runs
--- that differ in the answers of one key announce the same elsewhere.
+-- What is announced is the result of the operator's commands, each for its own key: so two runs
+-- that differ in the answers for one key announce the same otherwise.
 use Rattle.std.proofs.Common.{◌≡◌, ℕ, Bool, true, false, cond, List, [], ◌∷◌, Option, None, Some, refl, sym, ◌∙◌, ap, subst}
 use Rattle.std.specs.Prelude.{nat_le}
 use Rattle.std.specs.List.{cons_option}
@@ -21,7 +21,7 @@ use Rattle.program_laws.specs.Announcements.{OtherAnnouncementsStayTheSame, aske
 use Rattle.program_laws.proofs.Announced.{Told, by_body, ended, received, redistributed_id, ticked, told, withdrawn_id}
 use Rattle.program_laws.proofs.Apart as apart
 
--- ---- what an event makes of what is announced
+-- ---- the announced destinations after an event
 
 abbrev redistributed : RouterNumber → External → ℕ → ℕ → ByKey External → ByKey External
 redistributed own e tag price m =
@@ -84,7 +84,7 @@ event_made old moment event outs new it =
       ap (λ (r : Router). r.announced) it.router ∙ ap (λ (t : Told). t.1) end ∙ own.1,
     )
 
--- ---- away from one key
+-- ---- other keys
 
 module _ (own : RouterNumber) (key : Key) where
   abbrev Agree : ByKey External → ByKey External → Type 0
@@ -101,7 +101,7 @@ module _ (own : RouterNumber) (key : Key) where
   by_either true x y z one other = one
   by_either false x y z one other = other
 
-  -- under the key itself
+  -- for the key itself
   removed_at : (k : Key) → same_key k key ≡ true → (m : ByKey External) → Agree (finite.remove m k) m
   removed_at k is m = subst (λ (q : Key). Agree (finite.remove m q) m) (sym (apart.tied_key k key is)) (apart.removed_agrees key m)
 
@@ -120,7 +120,7 @@ module _ (own : RouterNumber) (key : Key) where
       let k : Key = external_key own prefix in
       by_either (is_for prefix (finite.get m k)) (finite.remove m k) m m (removed_at k is m) (same m)
 
-  -- under another one
+  -- for another key
   redistributed_alike : (e : External) (tag price : ℕ) (m n : ByKey External) → Agree m n → same_key (external_key own e.prefix) key ≡ false
       → Agree (redistributed own e tag price m) (redistributed own e tag price n)
   redistributed_alike e tag price m n agree other =
@@ -137,7 +137,7 @@ module _ (own : RouterNumber) (key : Key) where
       subst (λ (o : Option External). Agree (withdrawn own prefix m) (cond (is_for prefix o) (finite.remove n k) n)) (agree k other)
       (by_test (is_for prefix (finite.get m k)) (finite.remove m k) m (finite.remove n k) n (apart.agree_removed key m n agree k) agree)
 
-  -- ---- what is asked, one after the other
+  -- ---- the commands, in turn
 
   abbrev made_of : Option Occurrence → ByKey External → ByKey External
   made_of None m = m

@@ -1,4 +1,4 @@
--- What an answer at a hook was made of.
+-- What an answer at a hook depends on.
 use Rattle.std.proofs.Common.{◌≡◌, ℕ, List, [], Option, Some, None, MatchOption, ◌++◌, length, sym, ◌∙◌, ap, subst, append-nil}
 use Rattle.isa.specs.declared.hook.Hook.{Hook}
 use Rattle.machine.specs.Given.{Given}

@@ -1,4 +1,4 @@
--- Maps, neighbors, links and databases that agree but for one key, and flooding over them.
+-- Maps, neighbors, links and databases that agree except for one key, and flooding over them.
 use Rattle.std.proofs.Common.{◌≡◌, ℕ, ◌+◌, Bool, true, false, cond, List, [], ◌∷◌, ◌++◌, map, Option, None, Some, refl, sym, ◌∙◌, ap, subst}
 use Rattle.std.specs.List.{enumerate_from, flat_map, fold}
 use Rattle.std.specs.Ordering.{is_eq}
@@ -38,7 +38,7 @@ changed_at k change d (Some c) = finite.insert d k (change c)
 module _ (key : Key) where
   -- ---- maps
 
-  -- the same under all keys but this one
+  -- the same for all keys except this one
   abbrev pub Agree : {X : Type 0} → ByKey X → ByKey X → Type 0
   Agree {X} m n = (q : Key) → same_key q key ≡ false → finite.get m q ≡ finite.get n q
 
@@ -77,14 +77,14 @@ module _ (key : Key) where
   abbrev pub without : Neighbor → Neighbor
   without = neighbor_without key
 
-  -- the same packets, and the same neighbor but for the key
+  -- the same packets, and the same neighbor except for the key
   abbrev pub AreAlike : Step → Step → Type 0
   AreAlike s t = (without s.neighbor ≡ without t.neighbor) × (s.sends ≡ t.sends)
 
   pub kept : (n : Neighbor) → without n ≡ without (without n)
   kept n = ap (λ (r : ByKey ListEntry). record n { retransmissions = r; retransmitted_at = 0 }) (twice n.retransmissions)
 
-  -- flooding's step, by its tests
+  -- the flooding step, by its tests
   abbrev pub step_by : Bool → Bool → Bool → Moment → Lsa → Neighbor → Step
   step_by later gets meets moment lsa n =
       cond later
@@ -114,7 +114,7 @@ module _ (key : Key) where
   pub flooding_alike : (moment : Moment) (lsa : Lsa) (n : Neighbor) → AreAlike (flooding moment false lsa n) (flooding moment false lsa (without n))
   flooding_alike moment lsa n = alike_by (is_exchange_or_later n.state) (passes moment lsa (request_of n lsa)) (meets moment lsa (request_of n lsa)) moment lsa n
 
-  -- ---- the LSA of the key itself, if nobody is asked for it
+  -- ---- the LSA of the key itself, if no neighbor requests it
 
   none_of : (b : Bool) (o : Option ListEntry) → o ≡ None → cond b o None ≡ None
   none_of true o is = is

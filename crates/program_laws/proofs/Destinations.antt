@@ -1,4 +1,4 @@
--- What an event makes of all that a router keeps under other keys than this one.
+-- What a router has for other keys than this one, after an event.
 use Rattle.std.proofs.Common.{◌≡◌, Bool, true, false, cond, not, ◌&&◌, ◌||◌, List, [], ◌∷◌, ◌++◌, map, Option, None, Some, is_some, refl, sym, ◌∙◌, ap, subst}
 use Rattle.std.specs.Prelude.{nat_lt}
 use Rattle.std.specs.Cmp.{tied_itself}
@@ -36,7 +36,7 @@ use Rattle.program_laws.specs.Destinations.{link_without, neighbor_on_without, r
 use Rattle.program_laws.proofs.Apart as apart
 
 module _ (key : Key) where
-  -- ---- an event in the making, but for the key
+  -- ---- an event in progress, except for the key
 
   abbrev pub cut : EventState → EventState
   cut p = record { router = router_without key p.router; sends = sends_without key p.sends }
@@ -47,7 +47,7 @@ module _ (key : Key) where
     sends = sends_without key o.sends;
   }
 
-  -- the part does to the rest just what it does without the key
+  -- the part does the same to the rest as without the key
   abbrev pub Overlooks : (EventState → EventState) → Type 0
   Overlooks f = (p : EventState) → cut (f p) ≡ cut (f (cut p))
 
@@ -207,7 +207,7 @@ module _ (key : Key) where
   left_set : (s : KeySet) (q : Key) → same_key q key ≡ false → set.contains s q ≡ set.contains (set.remove s key) q
   left_set s q other = sym (set.contains-remove keys_total s key q ∙ ap (λ b. not b && set.contains s q) other)
 
-  -- ---- a router's own LSAs
+  -- ---- self-originated LSAs
 
   noted : (moment : Moment) (k : Key) → Overlooks (on_router (as_originated moment k))
   noted moment k p =
@@ -254,7 +254,7 @@ module _ (key : Key) where
   chosen true x y z w one other = one
   chosen false x y z w one other = other
 
-  -- an own LSA of another key is originated, flushed first, or waits, by its tests
+  -- a self-originated LSA of another key is originated, flushed first, or waits, by its tests
   abbrev pub own_lsa : Bool → Bool → Moment → Key → Option DatabaseCopy → Body → EventState → EventState
   own_lsa wraps may moment k x says p =
       cond wraps (on_area (flush_copy moment k x) p)

@@ -1,5 +1,5 @@
--- What a Redistribute does, it does under the key of its destination; and two of them leave the
--- same but for that key.
+-- A `Redistribute` changes only what has the key of its destination; and two of them have the same
+-- result except for that key.
 use Rattle.std.proofs.Common.{◌≡◌, ℕ, ◌+◌, Bool, true, false, cond, not, ◌&&◌, ◌||◌, List, [], ◌∷◌, ◌++◌, map, Option, None, Some, is_some, refl, sym, ◌∙◌, ap, subst}
 use Rattle.std.specs.Prelude.{nat_le}
 use Rattle.std.specs.List.{enumerate_from, flat_map, fold}
@@ -96,13 +96,13 @@ module _ (key : Key) (is_external : key.ls_type ≡ 5) where
       (own_marked moment lsa is (marked_database moment d s.content) sends own)
       (subst (λ (c : Content). apart.Agree key (marked_database moment d c) d) (sym content) (apart.own_copy_agrees key (lsa_key lsa) is (λ c. record c { sent = Some moment }) d))
 
-  -- the rest stays
+  -- the rest stays the same
   abbrev IsKept : Outcome → Outcome → Type 0
   IsKept x o =
       (map (link_without key) x.area.links ≡ map (link_without key) o.area.links) × (finite.remove x.area.database key ≡ finite.remove o.area.database key)
       × (sends_without key x.sends ≡ sends_without key o.sends)
 
-  -- its own Updates don't count
+  -- its own Link State Updates don't count
   own_unsent : (lsa : Lsa) → lsa_key lsa ≡ key → (sends : List Send) → AllOwn lsa sends → sends_without key sends ≡ []
   own_unsent lsa is [] own = refl
   own_unsent lsa is (s ∷ sends) (content, own) =
@@ -140,7 +140,7 @@ module _ (key : Key) (is_external : key.ls_type ≡ 5) where
       let P : Key → Type 0 = λ k. finite.remove (finite.insert d k copy) key ≡ finite.remove d key in
       (kept.0, kept.1 ∙ subst P (sym is) (apart.same_but key _ _ (apart.inserted_agrees key d copy)), kept.2)
 
-  -- ---- in the making of an event
+  -- ---- during an event
 
   abbrev cut : EventState → EventState
   cut = rest.cut key
@@ -156,7 +156,7 @@ module _ (key : Key) (is_external : key.ls_type ≡ 5) where
     sends = kept.2 i;
   }
 
-  -- other wants, and other times
+  -- other announced destinations, and other times
   noted : (p : EventState) (announced : ByKey External) (waiting : KeySet) (originated : ByKey Moment)
       → apart.Agree key announced p.router.announced → ((q : Key) → same_key q key ≡ false → set.contains waiting q ≡ set.contains p.router.waiting q) → apart.Agree key originated p.router.originated
       → cut (on_router (λ (r : Router). record r { announced = announced; waiting = waiting; originated = originated }) p) ≡ cut p
@@ -217,7 +217,7 @@ module _ (key : Key) (is_external : key.ls_type ≡ 5) where
       (originated_ moment installed ∙ lifted (install_and_flood moment lsa) p (own_installed moment lsa (new_key key is_external copy e) (record { area = p.router.area; sends = p.sends }) none))
       (waiting_ p))
 
-  -- ---- ages, before the event's own part
+  -- ---- aging, before the event's own part
 
   abbrev Ready : Key → Outcome → Type 0
   Ready k o = NotRequested o.area.links × IsUnderItsKey key o.area.database × (finite.contains_key o.area.database k ≡ true)
@@ -300,7 +300,7 @@ module _ (key : Key) (is_external : key.ls_type ≡ 5) where
       by_age true = ready_flooded moment other (lsa_now moment e.1) o ready
       by_age false = ready
 
--- ---- a Redistribute
+-- ---- a `Redistribute`
 
 own_part : (moment : Moment) (e : External) (tag price : ℕ) (p : EventState) → is_requested (external_key p.router.id e.prefix) p.router.area.links ≡ false
     → IsUnderItsKey (external_key p.router.id e.prefix) p.router.area.database
@@ -317,7 +317,7 @@ own_part moment e tag price p none under =
 apart_from_router : (id own : RouterNumber) (e : External) → same_key (router_key id) (external_key own e.prefix) ≡ false
 apart_from_router id own e = refl
 
--- but for the key the event makes and sends what it would without it
+-- except for the key, the event does and sends what it would without it
 half : (old : Router) (moment : Moment) (e : External) (tagged : External) (tag price : ℕ) (outs : List Out) (new : Router)
     → is_requested (external_key old.id e.prefix) old.area.links ≡ false → finite.contains_key old.area.database (router_key old.id) ≡ true
     → IsUnderItsKey (external_key old.id e.prefix) old.area.database → (event : Happens old moment (Occurrence.Redistribute tagged tag e price) outs new)

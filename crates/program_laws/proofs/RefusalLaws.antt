@@ -1,4 +1,4 @@
--- What may be said of small programs.
+-- Refusals of small programs.
 use Rattle.std.proofs.Common.{◌≡◌, ℕ, zero, suc, ◌+◌, ◌<◌, Bool, true, false, cond, List, [], ◌∷◌, Some, None, IsSome, inl, inr, ⊎_elim, refl, sym, subst, eqb-true, arith}
 use Rattle.std.specs.Prelude.{◌==◌, ℤ, pos}
 use Rattle.isa.specs.declared.code.Slot.{Slot}
@@ -30,7 +30,7 @@ started i j is = cc
 
 -- ---- `r0 = 7; exit`
 
--- what holds of its two instructions holds wherever one begins
+-- a property of its two instructions is one of each instruction that begins at a slot
 each : (P : ℕ → Instruction → Type 0) → P 0 seven → P 1 Exit → (slot : ℕ) (i : Instruction) → BeginsAt i (then_exit seven) slot → P slot i
 each P first second zero i at = subst (λ k. P 0 k) (started seven i at) first
 each P first second (suc zero) i at = subst (λ k. P 1 k) (started Exit i at) second
@@ -107,7 +107,7 @@ only_where : (b : Bool) → IsSome (cond b (Some (says 3 any_number 0)) None) �
 only_where true stated = refl
 only_where false stated = never stated
 
--- something is stated at slot 3 alone
+-- there is a statement only at slot 3
 stray_not : (slot : ℕ) → IsSome (statement_at jumping_statements slot) → (Begins jumping_code slot → ⊥) → ⊥
 stray_not slot stated nowhere =
     let same : 3 ≡ slot = eqb-true 3 slot (only_where (3 == slot) stated) in
@@ -208,7 +208,7 @@ named_aptly = record {
   there = λ hook slot may. may.first;
 }
 
--- ---- `r0 = 7; if r0 == 0 goto L; L: exit`, with nothing stated at L
+-- ---- `r0 = 7; if r0 == 0 goto L; L: exit`, without a statement at L
 
 of_three : (P : ℕ → Instruction → Type 0) → P 0 seven → P 1 test_on → P 2 Exit → (slot : ℕ) (i : Instruction) → BeginsAt i unstated_code slot → P slot i
 of_three P first second third zero i at = subst (λ k. P 0 k) (started seven i at) first

@@ -1,4 +1,4 @@
--- What runs begin with.
+-- The start of runs.
 use Rattle.std.proofs.Common.{◌≡◌, ℕ, ◌<◌, true, false, List, [], ◌∷◌, Some, refl, sym, ◌∙◌, get_or, arith}
 use Rattle.std.specs.Prelude.{slice_get, pos, negsuc}
 use Rattle.std.proofs.lemmas.List.{get_or-replicate}
@@ -28,7 +28,7 @@ use Rattle.regions.specs.Regions.{AreKeptRegions}
 use Rattle.verifier.specs.Examples.{then_exit, says, seven}
 use Rattle.program_laws.specs.Runs.{LaterSlotsAreAsStated, LoadsAreOfTheirMap, StartsAsStated, loads_context, loads_of_map, says_first, stores_on_stack}
 
--- the run of no steps
+-- the run without steps
 no_steps : (hook : Hook) → Run (setting_of loads_context hook blank) 0 [] start
 no_steps hook = record { steps = refl; leads = refl }
 
@@ -39,7 +39,7 @@ pub stores_on_its_stack : (hook : Hook) (kept : List Region) → AreKeptRegions 
 stores_on_its_stack hook kept are =
     are blank 0 [] start (record { steps = refl; leads = refl }) (Store stored.Bits64 10 (negsuc 7) (Register 1)) 10 (pointers.Stack 512) refl refl refl
 
--- the state behind the pointer to a map
+-- the state after the pointer to a map is loaded
 abbrev with_map : Map → State
 with_map map = record (with_register start 1 (contents.Address (pointers.Map map 0))) { slot = 2 }
 
@@ -64,7 +64,7 @@ loads_of_its_map = record {
   cells = λ hook kept are. are blank 1 (Silent ∷ []) (with_map maps.Cells) (cells_step hook) (Load Unsigned64 0 1 (pos 0)) 1 (pointers.Map maps.Cells 0) refl refl refl;
 }
 
--- the state behind `r0 = 7`
+-- the state after `r0 = 7`
 abbrev behind_seven : State
 behind_seven = with_register start 0 (contents.Number 7)
 

@@ -1,4 +1,4 @@
--- Steps of a seat, one after the other.
+-- Consecutive steps of a seat.
 use Rattle.std.proofs.Common.{◌≡◌, ℕ, zero, suc, ◌+◌, ◌<◌, ◌≤◌, List, [], ◌∷◌, ◌++◌, length, get_or, refl, sym, ap, subst, ◌∙◌, inl, inr, append_assoc, append-nil, arith}
 use Rattle.std.specs.Prelude.{slice_index_or}
 use Rattle.std.specs.List.{Contains}
@@ -13,7 +13,7 @@ use Rattle.helpers.specs.Seats.{Allows, AllowsAll, Makes, acts, grown_by}
 use Rattle.helpers.proofs.Seats.{acts-append}
 use Rattle.program_laws.specs.Seats.{Grows, IsLawfulList}
 
--- the access is one that the list allows
+-- the list allows the access
 IsDue : List Access → Access → Type 0
 IsDue list (access.Add k a) = adds_made list < 2147483648
 IsDue list (access.Read k w) = floor k list ≤ w

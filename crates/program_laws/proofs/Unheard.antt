@@ -1,6 +1,6 @@
--- No event of a router looks at the answers of an Install, and an event has one outcome. So two
--- lives of a router, or two histories of a network, that are the same but for these answers send
--- the same.
+-- No event of a router depends on the answers of an `Install`, and an event has only one outcome.
+-- So two runs of a router, or two histories of a network, that are the same except for these
+-- answers send the same.
 use Rattle.std.proofs.Common.{◌≡◌, ℕ, zero, suc, Bool, true, false, cond, not, ◌&&◌, List, [], ◌∷◌}
 use Rattle.std.proofs.Common.{◌++◌, map, Option, None, Some, refl, sym, ◌∙◌, ap, subst}
 use Rattle.std.specs.Prelude.{◌==◌, nat_le, set, slice_get}
@@ -191,7 +191,7 @@ happens_without old moment event outs new it =
       sent = it.sent ∙ ap (λ (p : EventState). outs_of old.id old.area.links p.sends) same;
     }
 
--- ---- an event has one outcome
+-- ---- an event has only one outcome
 
 one_part : (moment : Moment) (event : Occurrence) (before after next : EventState)
     → OwnPart moment event before after → OwnPart moment event before next → after ≡ next
@@ -219,8 +219,8 @@ one_outcome old moment event outs these new next it other =
       it.router ∙ ap (λ (p : EventState). p.router) same ∙ sym other.router,
     )
 
--- two routers that are the same but for the answers, and two events that are the same but for the
--- words
+-- two routers that are the same except for the answers, and two events that are the same except for
+-- the answers in them
 alike : (old before : Router) (moment : Moment) (at : Moment) (event other : Occurrence)
     (outs these : List Out) (new next : Router)
     → without_answers old ≡ without_answers before → moment ≡ at → without_words event
@@ -247,7 +247,7 @@ alike old before moment at event other outs these new next routers moments event
     one_outcome (without_answers old) moment (without_words event) outs these
     (without_answers new) (without_answers next) first of_it
 
--- ---- lists that begin alike
+-- ---- lists with a common beginning
 
 abbrev head_or : {X : Type 0} → X → List X → X
 head_or x [] = x
@@ -270,7 +270,7 @@ tails x y xs ys e = ap tail_of e
 never : {X : Type 0} {A : Type 0} (y : X) (ys : List X) → [] ≡ y ∷ ys → A
 never y ys e = absurd cc
 
--- ---- two lives of a router
+-- ---- two runs of a router
 
 lives : (old before : Router) (steps others : List Step) (new next : Router)
     → without_answers old ≡ without_answers before → Run old steps new → Run before others next
@@ -325,13 +325,14 @@ delivered : (number : InterfaceNumber) (d : Option Datagram) → on_option witho
 delivered number None = refl
 delivered number (Some d) = refl
 
--- the event of a cause, but for the words
+-- the event of a cause, without its answers
 caused : (all : List Datagram) (cause : Cause) → on_option without_words (event_of all cause)
     ≡ event_of all (cause_without_words cause)
 caused all (Cause.Delivers datagram number) = delivered number (slice_get all datagram)
 caused all (Cause.Other event) = refl
 
--- two acts that are the same but for the words, in networks that are the same but for the answers
+-- two acts that are the same except for their answers, in networks that are the same except for the
+-- answers
 acted : (w v : Network) (act other : Act) (next after : Network)
     → network_without_answers w ≡ network_without_answers v → act_without_words act
     ≡ act_without_words other

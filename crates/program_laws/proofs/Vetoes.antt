@@ -1,4 +1,4 @@
--- No part of an event looks at the answers of the last Install.
+-- No part of an event depends on the answers of the last `Install`.
 use Rattle.std.proofs.Common.{◌≡◌, ℕ, Bool, true, false, cond, not, ◌&&◌, List, Option, None, Some, refl, sym, ◌∙◌, ap}
 use Rattle.std.specs.FinMap as finite
 use Rattle.words.specs.Numbers.{Moment}
@@ -15,7 +15,7 @@ use Rattle.events.specs.Routers.{Occurrence, Router}
 use Rattle.events.specs.declared.model.Out.{Out}
 use Rattle.program_laws.specs.Vetoes.{VetoesAreNotHeard, without_answers}
 
--- ---- a part that doesn't look at the answers does the same without them
+-- ---- a part that doesn't depend on the answers does the same without them
 
 abbrev pub without : EventState → EventState
 without p = on_router without_answers p
@@ -44,7 +44,7 @@ described before moment p =
     one_of b (originate_or_wait moment key p) p
     ∙ ap (λ (q : EventState). cond b q (without p)) (by_body (has_room key p.router) moment key (wanted_body p.router key) p)
 
--- the end from where the router-LSA was told
+-- the end after the router-LSA is originated
 abbrev rest : Moment → EventState → EventState
 rest moment p =
     let refilled : EventState = describe_router_later p.router.area.links (loading_done p) in
@@ -63,7 +63,7 @@ ended old moment p =
     rested moment (describe_router old.area.links moment (loading_done p))
     ∙ ap (rest moment) (described old.area.links moment (loading_done p))
 
--- ---- an Install
+-- ---- an `Install`
 
 end_of : (old : Router) (moment : Moment) (answers : List (Route × ℕ)) (outs : List Out) (new : Router) (event : Happens old moment (Occurrence.Install answers) outs new)
     → without (end_event old moment event.after) ≡ end_event old moment (without (start_event moment old))

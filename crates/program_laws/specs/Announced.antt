@@ -33,7 +33,7 @@ pub record WhatIsAnnouncedWasAskedFor : Type 0 where
   pub announced : (c : Config) (steps : List Step) (r : Router) → Run (initial c) steps r
       → (key : Key) (e : External) → finite.get r.announced key ≡ Some e
       → (key ≡ external_key r.id e.prefix) × IsAskedFor steps e
-  -- what each AS-external-LSA of the router's own is to say
+  -- the wanted body of each self-originated AS-external-LSA
   pub told : (c : Config) (steps : List Step) (r : Router) → Run (initial c) steps r
       → (key : Key) (lsa : ExternalLsa) → wanted_body r key ≡ Some (body.External lsa)
       → (e : External) × IsAskedFor steps e × (body.External lsa ≡ external_body e)

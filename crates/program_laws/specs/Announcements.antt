@@ -1,5 +1,5 @@
--- What follows from an answer at `tag` or `price`, however long after, and whatever other routers
--- make of it: what the router announces of every other destination stays the same.
+-- The consequences of an answer at `tag` or `price`, however much later, and whatever other routers
+-- do: what the router announces about every other destination stays the same.
 use Rattle.std.specs.Prelude.{◌≡◌, false, if◌then◌else◌, List, Option, None, Some}
 use Rattle.std.specs.List.{filter_map}
 use Rattle.std.specs.FinMap as finite
@@ -10,7 +10,7 @@ use Rattle.events.specs.Events.{Run, Step}
 use Rattle.events.specs.Originations.{external_key, router_key, wanted_body}
 use Rattle.events.specs.Routers.{Occurrence, Router}
 
--- what the operator asks for in the event, but for what programs answer about the destination whose
+-- what the operator asks for in the event, without what programs answer about the destination whose
 -- LSA has this key
 abbrev pub asked_in : RouterNumber → Key → Occurrence → Option Occurrence
 asked_in own key (Occurrence.Packet number bytes) = None
@@ -24,13 +24,14 @@ asked_in own key (Occurrence.Withdraw prefix) = Some (Occurrence.Withdraw prefix
 asked_in own key (Occurrence.Install answers) = None
 asked_in own key (Occurrence.LinkDown number) = None
 
--- in a run, in order
+-- the same for a run, in order
 abbrev pub asked_but : RouterNumber → Key → List Step → List Occurrence
 asked_but own key steps = filter_map (λ (s : Step). asked_in own key s.event) steps
 
--- Two runs of one router, in which the operator asks for the same and programs answer the same, but
--- for the answers about one destination. Whatever packets come in, at whatever moments: in the end
--- it announces the same under every other key, and wants to say the same in each of these LSAs.
+-- Two runs of one router, in which the operator asks for the same and programs answer the same,
+-- except for the answers about one destination. Whatever packets are received, at whatever moments:
+-- at the end it announces the same for every other key, and wants the same body for each of these
+-- LSAs.
 abbrev pub OtherAnnouncementsStayTheSame : Type 0
 OtherAnnouncementsStayTheSame =
     (old : Router) (key : Key) (steps others : List Step) (new next : Router)

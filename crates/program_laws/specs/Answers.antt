@@ -1,4 +1,4 @@
--- What an answer at a hook was made of.
+-- What an answer at a hook depends on.
 use Rattle.std.specs.Prelude.{◌≡◌, ◌≤◌, ℕ, List, ◌++◌, length, Some, None}
 use Rattle.isa.specs.declared.hook.Hook.{Hook}
 use Rattle.machine.specs.Given.{Given}
@@ -11,23 +11,24 @@ use Rattle.hooks.specs.Answered.{IsAnswered}
 use Rattle.hooks.specs.Operations.{Program, RunsTo, default_of, leaves}
 use Rattle.program_laws.specs.Seats.{IsLawfulList}
 
--- The program that the operations leave at the hook decides, and nothing else.
+-- It depends only on the program that is at the hook after the operations.
 pub record AnswersAreOfWhatStands : Type 0 where
-  -- if they leave none, the answer is the default, and the seat made no access
+  -- if there is none, the answer is the default, and the seat made no access
   pub default : (before now : List Operation) (old new : SeatView) (hook : Hook) (input : Given)
       (word : ℕ) → IsAnswered before now old new input word → IsOfHook hook input
       → leaves hook now ≡ None
       → (word ≡ default_of hook input) × (new.accesses ≡ old.accesses)
-  -- if they leave one, the answer is the word of a run of it, and the seat made its accesses
+  -- if there is one, the answer is the result of one of its runs, and the seat made the accesses of
+  -- that run
   pub program : (before now : List Operation) (old new : SeatView) (hook : Hook) (input : Given)
       (word : ℕ) (program : Program) → IsAnswered before now old new input word
       → IsOfHook hook input → leaves hook now ≡ Some program
       → (labels : List Label) × RunsTo program input labels word
       × (new.accesses ≡ old.accesses ++ acts labels)
-  -- the asker knows of no fewer operations than before
+  -- the caller knows of no fewer operations than before
   pub known : (before now : List Operation) (old new : SeatView) (input : Given) (word : ℕ)
       → IsAnswered before now old new input word → length before ≤ length now
-  -- and what the seat was told is still so
+  -- and the accesses of the seat are still lawful
   pub lawful : (before now : List Operation) (old new : SeatView) (input : Given) (word : ℕ)
       → IsAnswered before now old new input word → IsLawfulList old.accesses
       → IsLawfulList new.accesses

@@ -1,5 +1,5 @@
 -- What programs at `tag` and `price` can do: decide about the one destination that they are asked
--- about. Of two routers that differ in their answers alone, all else stays the same.
+-- about. If two routers differ only in these answers, all else stays the same.
 use Rattle.std.specs.Prelude.{◌≡◌, ℕ, Bool, true, false, not, List, map, Option, None, Some}
 use Rattle.std.specs.List.{filter, list_any}
 use Rattle.std.specs.FinMap as finite
@@ -21,10 +21,10 @@ use Rattle.events.specs.Originations.{external_key, router_key}
 use Rattle.events.specs.Routers.{Occurrence, Router}
 use Rattle.events.specs.declared.model.Out.{Out}
 
--- ---- all that isn't kept under a key
+-- ---- all that doesn't depend on a key
 
--- a neighbor, but for the key's entry of its retransmission list, and for when that list was last
--- sent
+-- a neighbor without the key's entry of its retransmission list, and without the moment of the last
+-- retransmission
 abbrev pub neighbor_without : Key → Neighbor → Neighbor
 neighbor_without key n = record n {
   retransmissions = finite.remove n.retransmissions key;
@@ -38,8 +38,8 @@ neighbor_on_without key (Some n) = Some (neighbor_without key n)
 abbrev pub link_without : Key → Link → Link
 link_without key link = record link { neighbor = neighbor_on_without key link.neighbor }
 
--- a router, but for what it keeps under the key: the copy in its database, the destination, whether
--- an instance waits, when one was originated, and entries of retransmission lists
+-- a router without what it has for the key: the copy in its database, the destination, whether an
+-- instance waits, when one was originated, and entries of retransmission lists
 abbrev pub router_without : Key → Router → Router
 router_without key r = record r {
   area = record {
@@ -51,7 +51,7 @@ router_without key r = record r {
   originated = finite.remove r.originated key;
 }
 
--- an Update of the LSA of the key
+-- a Link State Update of the LSA of the key
 abbrev pub updates : Key → Content → Bool
 updates key (Content.SendsHello hello) = false
 updates key (Content.Describes description) = false
@@ -59,26 +59,26 @@ updates key (Content.Requests keys) = false
 updates key (Content.Updates lsa) = same_key (lsa_key lsa) key
 updates key (Content.Acknowledges header) = false
 
--- what is sent at which interface, in the order in which it arises, but for those
+-- what is sent at each interface, in order, without those
 abbrev pub sends_without : Key → List Send → List Send
 sends_without key sends = filter (λ s. not (updates key s.content)) sends
 
 -- ---- two answers
 
--- some neighbor is still asked for the LSA of this key
+-- the key is on some neighbor's request list
 abbrev pub is_requested : Key → List Link → Bool
 is_requested key links = list_any (λ link. was_requested key link.neighbor) links
 
--- the copy stands under the key of its LSA, as all do in a router that runs
+-- the copy has the key of its LSA, as all do in any run
 abbrev pub IsUnderItsKey : Key → Database → Type 0
 IsUnderItsKey key database =
     (c : DatabaseCopy) → finite.get database key ≡ Some c → lsa_key c.lsa ≡ key
 
--- Two Redistributes of one destination at one moment, with any answers: what is sent is the same
--- but for Updates of the destination's LSA, and so is what the router is afterwards but for what it
--- keeps under that LSA's key. No neighbor is being asked for the LSA, whose flooding may end that
--- neighbor's Loading; and the router-LSA has its place in the database, which the external LSA
--- can't take then.
+-- Two `Redistribute`s of one destination at one moment, with any answers: what is sent is the same
+-- except for Link State Updates of the destination's LSA, and so is the router afterwards except
+-- for what it has for that LSA's key. This requires that the LSA is on no neighbor's request list,
+-- since flooding it may end that neighbor's Loading; and that the router-LSA is in the database, so
+-- that the AS-external-LSA can't take its room.
 abbrev pub AnswersReachOneDestination : Type 0
 AnswersReachOneDestination =
     (old : Router) (moment : Moment) (destination : External)

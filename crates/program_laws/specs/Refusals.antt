@@ -1,4 +1,4 @@
--- What the definitions of refusals say of small programs.
+-- The definitions of refusals, applied to small programs.
 use Rattle.std.specs.Prelude.{◌≡◌, ℕ, ◌<◌, List, [], ◌∷◌, pos}
 use Rattle.isa.specs.declared.code.Slot.{Slot}
 use Rattle.isa.specs.declared.code.Slot.TheVariants.{Start}
@@ -15,8 +15,9 @@ use Rattle.transfer.specs.declared.rule.Rule.TheVariants as rules
 use Rattle.segments.specs.Refusals.{IsFirst, MayRefuse}
 use Rattle.verifier.specs.Examples.{then_exit, says, seven, test_on}
 
--- Of a sound program: `Memory` at slot 0, and at its slots a rule of which only the domain can tell
--- if it is broken; none on jumps, statements, the code's end, helpers, the bound and r10.
+-- For a sound program: `Memory` at slot 0, and at its slots a rule for which only the domain knows
+-- whether it is broken; none of the rules on jumps, statements, the end of the code, helpers, the
+-- bound and r10.
 abbrev pub IsOfSound : (slots : ℕ) → ℕ → Rule → Type 0
 IsOfSound slots slot rules.Target = ⊥
 IsOfSound slots slot rules.FallsOff = ⊥
@@ -32,14 +33,14 @@ IsOfSound slots slot other = slot < slots
 abbrev pub test_by : ℕ → Instruction
 test_by distance = Branch Bits64 Equal 0 (Immediate (pos 0)) (pos distance)
 
--- `r0 = 7; if r0 == 0 goto L; exit; L: exit`, and what is stated at L: a number in r0, the rank 0
+-- `r0 = 7; if r0 == 0 goto L; exit; L: exit`, and the statement at L: a number in r0, the rank 0
 abbrev pub jumping_code : List Slot
 jumping_code = Start seven ∷ Start (test_by 1) ∷ Start Exit ∷ Start Exit ∷ []
 
 abbrev pub jumping_statements : List StatementParts
 jumping_statements = says 3 any_number 0 ∷ []
 
--- a sound program may be refused by no rule that the code and the statements alone can break:
+-- a sound program may not be refused by a rule that depends only on the code and the statements:
 -- neither `r0 = 7; exit`, nor one that jumps to a statement
 pub record SoundCodeIsNotNamed : Type 0 where
   pub straight : (hook : Hook) (slot : ℕ) (rule : Rule)
@@ -47,10 +48,10 @@ pub record SoundCodeIsNotNamed : Type 0 where
   pub jumping : (hook : Hook) (slot : ℕ) (rule : Rule)
       → MayRefuse hook jumping_code 0 jumping_statements slot rule → IsOfSound 4 slot rule
 
--- The rules on helpers and on the bound say what they are called after. No rule says that of
--- `call 1; exit`, whose helper there is, a helper is missing. With the rank 499,999 at its entry
--- `r0 = 7; exit` may execute just 1,000,000 instructions, which is within the bound; with the next
--- rank it is over, and that is told at slot 0.
+-- The rules on helpers and on the bound mean what their names say. No rule reports a missing helper
+-- for `call 1; exit`, whose helper exists. With the rank 499,999 at its entry, `r0 = 7; exit` may
+-- execute exactly 1,000,000 instructions, which is within the bound; with the next rank it exceeds
+-- the bound, which is reported at slot 0.
 pub record HelpersAndBoundAreNamedAptly : Type 0 where
   pub helper : (hook : Hook) (slot : ℕ) → MayRefuse hook (then_exit (Call (pos 1))) 0 [] slot
       rules.Helper
@@ -63,12 +64,12 @@ pub record HelpersAndBoundAreNamedAptly : Type 0 where
       → MayRefuse hook (then_exit seven) 500000 [] slot rules.Budget
       → slot ≡ 0
 
--- `r0 = 7; if r0 == 0 goto L; L: exit`, of which nothing is stated at L
+-- `r0 = 7; if r0 == 0 goto L; L: exit`, without a statement at L
 abbrev pub unstated_code : List Slot
 unstated_code = Start seven ∷ Start test_on ∷ Start Exit ∷ []
 
--- Its second slot breaks a rule of its own. So no rule that comes behind that one counts there, no
--- rule on an edge either, and none at a later slot.
+-- Its second slot breaks a rule. So no later rule counts there, not even one on an edge, and none
+-- at a later slot.
 pub record LaterRulesDontCount : Type 0 where
   pub unstated : IsFirst unstated_code [] 1 rules.Unstated
   pub kind : IsFirst unstated_code [] 1 rules.Kind → ⊥
@@ -81,27 +82,28 @@ pub record LaterRulesDontCount : Type 0 where
 abbrev pub astray_code : List Slot
 astray_code = Start seven ∷ Start (test_by 7) ∷ Start Exit ∷ []
 
--- and something is stated there
+-- with a statement at the target of the jump
 abbrev pub astray_statements : List StatementParts
 astray_statements = says 9 any_number 0 ∷ []
 
--- `r0 = 7`, behind which there is nothing
+-- `r0 = 7`, with nothing after it
 abbrev pub open_code : List Slot
 open_code = Start seven ∷ []
 
--- `exit; exit`, of which nothing is stated at the second
+-- `exit; exit`, without a statement at the second
 abbrev pub cut_code : List Slot
 cut_code = Start Exit ∷ Start Exit ∷ []
 
--- The rules on jumps, statements and the code's end have an order: if a slot breaks the one on
--- targets, none of the three after it counts there; if it breaks that on the end, neither of the
--- two; if it can't be reached, not the last. No rule on registers counts at any of these slots.
+-- The rules on jumps, statements and the end of the code have an order: if a slot breaks the one on
+-- targets, none of the three after it counts there; if it breaks the one on the end, neither of the
+-- two after it; if it is unreachable, the last doesn't count. No rule on registers counts at any of
+-- these slots.
 pub record RulesCountInTheirOrder : Type 0 where
   pub astray_ends : IsFirst astray_code [] 1 rules.FallsOff → ⊥
   pub astray_unreached : IsFirst astray_code [] 1 rules.Unreached → ⊥
   pub astray_unstated : IsFirst astray_code [] 1 rules.Unstated → ⊥
   pub astray_kind : IsFirst astray_code [] 1 rules.Kind → ⊥
-  -- and if the rule on targets alone is broken
+  -- the same if only the rule on targets is broken
   pub stated_kind : IsFirst astray_code astray_statements 1 rules.Kind → ⊥
   pub open_unreached : IsFirst open_code [] 0 rules.Unreached → ⊥
   pub open_unstated : IsFirst open_code [] 0 rules.Unstated → ⊥

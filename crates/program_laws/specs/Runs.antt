@@ -1,4 +1,4 @@
--- What the definitions of an accepted program say of small ones.
+-- The definitions of accepted programs, applied to small ones.
 use Rattle.std.specs.Prelude.{◌≡◌, ℕ, List, [], ◌∷◌, Some, pos, negsuc, slice_get}
 use Rattle.isa.specs.declared.code.Slot.{Slot}
 use Rattle.isa.specs.declared.code.Slot.TheVariants.{SecondHalf, Start}
@@ -22,7 +22,7 @@ use Rattle.verifier.specs.Stated.{RunsMeetStatements}
 abbrev pub loads_context : List Slot
 loads_context = then_exit (Load Unsigned64 0 1 (pos 0))
 
--- its load goes into the context
+-- its load is from the context
 abbrev pub LoadsAreOfTheContext : Type 0
 LoadsAreOfTheContext =
     (hook : Hook) (kept : List Region) → AreKeptRegions loads_context hook kept
@@ -32,7 +32,7 @@ LoadsAreOfTheContext =
 abbrev pub stores_on_stack : List Slot
 stores_on_stack = then_exit (Store stored.Bits64 10 (negsuc 7) (Register 1))
 
--- its store goes to the stack
+-- its store is to the stack
 abbrev pub StoresAreOfTheStack : Type 0
 StoresAreOfTheStack =
     (hook : Hook) (kept : List Region) → AreKeptRegions stores_on_stack hook kept
@@ -43,14 +43,14 @@ abbrev pub loads_of_map : ℕ → List Slot
 loads_of_map number =
     Start (LoadMap 1 (pos number) (pos 0)) ∷ SecondHalf ∷ then_exit (Load Unsigned64 0 1 (pos 0))
 
--- its load, which comes after a step, goes into that map
+-- its load, which comes after a step, is from that map
 pub record LoadsAreOfTheirMap : Type 0 where
   pub counters : (hook : Hook) (kept : List Region) → AreKeptRegions (loads_of_map 0) hook kept
       → slice_get kept 2 ≡ Some regions.Counters
   pub cells : (hook : Hook) (kept : List Region) → AreKeptRegions (loads_of_map 1) hook kept
       → slice_get kept 2 ≡ Some regions.Cells
 
--- at the first slot this is said of r0 and r1, and of these bytes of the stack
+-- the statement at the first slot about r0 and r1, and these bytes of the stack
 abbrev pub says_first : Kind → Kind → StatementParts
 says_first first second = record {
   slot = 0;
@@ -60,7 +60,7 @@ says_first first second = record {
 }
 
 -- A run begins with r1 at the first byte of the context, and with nothing in r0 and on the stack:
--- so no program is accepted that states otherwise at slot 0, whatever the domain.
+-- so no program with another statement at slot 0 is accepted, whatever the domain.
 pub record StartsAsStated {D : Type 0} (contains : D → ℕ → Type 0) (gives : GivesStated D)
     (hook : Hook) : Type 0 where
   pub offset : RunsMeetStatements contains gives loads_context hook
@@ -70,8 +70,8 @@ pub record StartsAsStated {D : Type 0} (contains : D → ℕ → Type 0) (gives 
   pub byte : RunsMeetStatements contains gives loads_context hook
       (record (says_first Empty Empty) { stack = with_range 0 1 no_bytes } ∷ []) → ⊥
 
--- `r0 = 7; exit` doesn't leave a pointer in r0: so no program is accepted that states one behind
--- it.
+-- `r0 = 7; exit` doesn't leave a pointer in r0: so no program with such a statement after it is
+-- accepted.
 abbrev pub LaterSlotsAreAsStated : {D : Type 0} → (D → ℕ → Type 0) → GivesStated D → Hook → Type 0
 LaterSlotsAreAsStated contains gives hook =
     RunsMeetStatements contains gives (then_exit seven) hook (says 1 (Context 0) 0 ∷ []) → ⊥

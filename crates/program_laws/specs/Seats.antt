@@ -1,4 +1,4 @@
--- What the steps that a seat may make come to.
+-- The steps that a seat may make.
 use Rattle.std.specs.Prelude.{◌≡◌, ◌≤◌, List, ◌++◌}
 use Rattle.std.specs.List.{Contains}
 use Rattle.machine.specs.Label.{Label, Spent}
@@ -7,8 +7,8 @@ use Rattle.maps.specs.Access.{CellsFind, ReadsSee, adds_made}
 use Rattle.maps.specs.Words.{SeatView}
 use Rattle.helpers.specs.Seats.{Makes, acts}
 
--- Each read of a counter found at least what the list knew of it, each load of a cell what was last
--- stored there, and there are at most 2^31 additions.
+-- Each read of a counter found at least what the list knew about it, each load of a cell what was
+-- last stored there, and there are at most 2^31 additions.
 pub record IsLawfulList (list : List Access) : Type 0 where
   pub reads : ReadsSee list
   pub cells : CellsFind list
@@ -26,8 +26,7 @@ AdditionsAreRefusedLast =
     (old new : SeatView) (labels : List Label) → Makes old labels new → Contains labels Spent
     → 2147483648 ≤ adds_made new.accesses
 
--- The seat stays the same one of the same table, and its list grows by the accesses of the steps
--- alone.
+-- The seat and its table stay the same, and its list grows only by the accesses of the steps.
 pub record Grows (old : SeatView) (labels : List Label) (new : SeatView) : Type 0 where
   pub table : new.table ≡ old.table
   pub number : new.number ≡ old.number

@@ -1,5 +1,5 @@
--- What a program at `veto` can do: keep candidates out of its own router's table. It can't bring in
--- a route, nor change one.
+-- What a program at `veto` can do: keep candidates out of its own router's routing table. It can't
+-- add a route, nor change one.
 use Rattle.std.specs.Prelude.{List}
 use Rattle.std.specs.List.{Contains}
 use Rattle.words.specs.declared.route.Route.{Route}

@@ -1,5 +1,5 @@
--- Nobody but the router itself ever notices what a program at `veto` answers: over every run of a
--- router, and over every history of a network.
+-- Only the router itself ever notices what a program at `veto` answers: in every run of a router,
+-- and in every history of a network.
 use Rattle.std.specs.Prelude.{◌≡◌, ℕ, List, [], ◌∷◌, ◌++◌, map, Option, None, Some, slice_get}
 use Rattle.std.specs.Prelude.{slice_set}
 use Rattle.words.specs.Numbers.{InterfaceNumber, Moment}
@@ -8,7 +8,7 @@ use Rattle.events.specs.Routers.{Occurrence, Router}
 use Rattle.events.specs.declared.model.Out.{Out}
 use Rattle.program_laws.specs.Vetoes.{without_answers}
 
--- the event, but for the answers that an Install brings
+-- the event without the answers of an `Install`
 abbrev pub without_words : Occurrence → Occurrence
 without_words (Occurrence.Packet number bytes) = Occurrence.Packet number bytes
 without_words Occurrence.Tick = Occurrence.Tick
@@ -20,7 +20,7 @@ without_words (Occurrence.LinkDown number) = Occurrence.LinkDown number
 
 -- ---- a router
 
--- when something happens, and what, but for the answers of an Install
+-- when an event happens, and which, without the answers of an `Install`
 abbrev pub asked : Step → Moment × Occurrence
 asked step = (step.moment, without_words step.event)
 
@@ -29,7 +29,7 @@ sent step = step.outs
 
 -- ---- a network
 
--- a datagram, and the place of the router that sent it
+-- a datagram, and the index of the router that sent it
 pub record Datagram : Type 0 where
   pub place : ℕ
   pub out : Out
@@ -39,12 +39,12 @@ pub record Network : Type 0 where
   -- all that was ever sent, in order
   pub sent : List Datagram
 
--- why something happens to a router
+-- the cause of a router's event
 pub data Cause : Type 0 where
-  -- the datagram at this place among all that were ever sent comes in: each may be lost, or come
-  -- late, again, and anywhere
+  -- the datagram at this index among all that were ever sent is received: each may be lost, or
+  -- received late, repeatedly, and anywhere
   Delivers : (datagram : ℕ) (interface : InterfaceNumber) → Cause
-  -- anything else, also bytes that no router sent
+  -- any other event, including bytes that no router sent
   Other : (event : Occurrence) → Cause
 
 pub record Act : Type 0 where
@@ -56,7 +56,7 @@ abbrev pub received_at : InterfaceNumber → Option Datagram → Option Occurren
 received_at number None = None
 received_at number (Some d) = Some (Occurrence.Packet number d.out.bytes)
 
--- what happens then, unless no such datagram was sent
+-- the event, unless no such datagram was sent
 abbrev pub event_of : List Datagram → Cause → Option Occurrence
 event_of all (Cause.Delivers datagram number) = received_at number (slice_get all datagram)
 event_of all (Cause.Other event) = Some event
@@ -64,7 +64,7 @@ event_of all (Cause.Other event) = Some event
 abbrev pub sent_at : ℕ → Out → Datagram
 sent_at place out = record { place = place; out = out }
 
--- the act, from one state of the network to the next
+-- the act leads from one state of the network to the next
 pub record Acts (before : Network) (act : Act) (after : Network) : Type 0 where
   pub old : Router
   pub here : slice_get before.routers act.place ≡ Some old
@@ -78,7 +78,7 @@ pub record Acts (before : Network) (act : Act) (after : Network) : Type 0 where
     sent = before.sent ++ map (sent_at act.place) outs;
   }
 
--- acts one after the other
+-- consecutive acts
 abbrev pub History : Network → List Act → Network → Type 0
 History before [] last = last ≡ before
 History before (act ∷ acts) last = (next : Network) × Acts before act next × History next acts last
@@ -90,20 +90,20 @@ cause_without_words (Cause.Other event) = Cause.Other (without_words event)
 abbrev pub act_without_words : Act → Act
 act_without_words act = record act { cause = cause_without_words act.cause }
 
--- the network, but for the answers that its routers keep
+-- the network without the answers that its routers keep
 abbrev pub network_without_answers : Network → Network
 network_without_answers w = record w { routers = map without_answers w.routers }
 
 -- ---- the law
 
 pub record VetoesAreNeverHeard : Type 0 where
-  -- a router to which the same happens but for the answers of its Installs sends the same at each
-  -- event, and is the same in the end but for the answers
+  -- a router with the same events except for the answers of its `Install`s sends the same at each
+  -- event, and is the same at the end except for the answers
   pub by_a_router : (old : Router) (steps others : List Step) (new next : Router)
       → Run old steps new → Run old others next → map asked steps ≡ map asked others
       → (map sent steps ≡ map sent others) × (without_answers new ≡ without_answers next)
-  -- in a network in which the same happens but for the answers of Installs, the same datagrams are
-  -- sent in the same order, and all routers are the same but for the answers
+  -- in a network with the same acts except for the answers of `Install`s, the same datagrams are
+  -- sent in the same order, and all routers are the same except for the answers
   pub by_a_network : (before : Network) (acts others : List Act) (last final : Network)
       → History before acts last → History before others final
       → map act_without_words acts ≡ map act_without_words others

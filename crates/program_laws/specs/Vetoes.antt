@@ -1,4 +1,4 @@
--- What a program at `veto` can't do: other routers notice nothing of its answers.
+-- What a program at `veto` can't do: other routers don't notice its answers.
 use Rattle.std.specs.Prelude.{◌≡◌, ℕ, List, []}
 use Rattle.words.specs.Numbers.{Moment}
 use Rattle.words.specs.declared.route.Route.{Route}
@@ -6,11 +6,11 @@ use Rattle.events.specs.Events.{Happens}
 use Rattle.events.specs.Routers.{Occurrence, Router}
 use Rattle.events.specs.declared.model.Out.{Out}
 
--- a router, but for the answers of its last Install
+-- a router without the answers of its last `Install`
 abbrev pub without_answers : Router → Router
 without_answers r = record r { answers = [] }
 
--- two Installs of one router at one moment, with any answers
+-- two `Install`s of one router at one moment, with any answers
 abbrev pub VetoesAreNotHeard : Type 0
 VetoesAreNotHeard =
     (old : Router) (moment : Moment) (answers others : List (Route × ℕ)) (outs these : List Out)

@@ -1,5 +1,5 @@
--- Candidates of which each prefix has one best offer, and the offers of a database that is given as
--- a list of copies.
+-- Candidates if each prefix has one best offer, and the offers of a database that is given as a
+-- list of copies.
 use Rattle.std.proofs.Common.{◌≡◌, ℕ, ◌+◌, ◌≤◌, ◌⊎◌, inl, inr, Bool, true, false, IsTrue, List, filter, arith, refl, sym, ◌∙◌, ap, subst}
 use Rattle.std.specs.List.{AllPairs, Contains, list_all}
 use Rattle.std.proofs.lemmas.Bool.{cases_eq}
@@ -35,7 +35,7 @@ route_of o = record { prefix = o.prefix; kind = o.kind; cost = o.cost; distance 
 pub no_worse_itself : (o : Offer) → IsNoWorse o o
 no_worse_itself o = ByDistance refl refl (omega arith)
 
--- another offer of its prefix is the same one, or is worse
+-- another offer for its prefix is the same one, or is worse
 abbrev pub IsAloneAmong : (Offer → Type 0) → Offer → Type 0
 IsAloneAmong IsOffered o = (other : Offer) → IsOffered other → other.prefix ≡ o.prefix → (other ≡ o) ⊎ (IsNoWorse o other × (IsNoWorse other o → ⊥))
 
@@ -114,7 +114,7 @@ pub record StubOffer (said : Said) (root : Root) (router : ℕ) (l : Link) (leng
   pub is : intra (record { address = network_address length l.link_id; length = length }) (way.distance + l.metric) hops ≡ o
 
 module _ (moment : ℕ) (es : Entries) (root : Root) (P : Offer → Type 0) where
-  -- if each stub link has an offer of which P holds, P holds of all offers within the area
+  -- if each stub link has an offer with the property P, all offers within the area have it
   abbrev pub Known : ℕ → Link → Type 0
   Known router l = (length : ℕ) × (o : Offer) × StubOffer (said_at moment (database es)) root router l length o × P o
 

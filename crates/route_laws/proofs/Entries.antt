@@ -1,4 +1,4 @@
--- What a database says that is given as a list of copies.
+-- The LSAs of a database that is given as a list of copies.
 use Rattle.std.proofs.Common.{◌≡◌, ℕ, inl, inr, Bool, true, false, cond, ◌&&◌, List, [], ◌∷◌, ◌++◌, map, filter, Option, None, Some, arith, refl, sym, ◌∙◌, ap, subst}
 use Rattle.std.specs.Cmp.{Equal-is}
 use Rattle.std.specs.FinMap as finite
@@ -74,7 +74,7 @@ Sayings = List (Key × Body)
 abbrev pub sayings : Entries → Sayings
 sayings es = map (λ (e : Key × DatabaseCopy). (e.0, e.1.lsa.body)) es
 
--- the copy that says it
+-- the copy with that body
 pub record IsHeard (moment : ℕ) (o : Option DatabaseCopy) (says : Body) : Type 0 where
   pub copy : DatabaseCopy
   pub stands : o ≡ Some copy

@@ -1,4 +1,4 @@
--- The worked external destinations: what each external LSA offers, if it offers anything, and the
+-- The worked external destinations: what each AS-external-LSA offers, if anything, and the
 -- candidates.
 use Rattle.std.proofs.Common.{◌≡◌, ◌≢◌, ℕ, ◌<◌, ◌≤◌, ◌⊎◌, inl, inr, Bool, true, false, not, ◌&&◌, nat_eq, eq-eqb, List, [], ◌∷◌, ◌++◌, None, Some, arith, refl, sym, ◌∙◌, ap, subst}
 use Rattle.std.specs.FinMap as finite
@@ -128,9 +128,9 @@ no_forward way f =
     one_of (λ (x : Offer). IsUnder (ipv4 172 16 0 1) x.prefix → ⊥) nearby (not_under near_net refl, (not_under near_net refl, (not_under next_net refl, tt)))
     k.first (nearby_inside k.first k.is_best.offered) (subst P (sym k.is_best.is_for) f.under)
 
--- ---- what an external LSA offers
+-- ---- what an AS-external-LSA offers
 
--- all that is asked of an external LSA of this originator beyond that it stands in the database
+-- the conditions for an AS-external-LSA of this router, besides being in the database
 record Given (id originator : ℕ) (lsa : ExternalLsa) (o : Offer) : Type 0 where
   reachable : lsa.metric < 16777215
   of_another : originator ≢ near
@@ -311,7 +311,7 @@ by_own_offered = External (record {
 
 -- ---- candidates
 
--- an offer of this prefix is this one, or is worse
+-- an offer for this prefix is this one, or is worse
 abbrev IsBeaten : Offer → Offer → Type 0
 IsBeaten c x = x.prefix ≡ c.prefix → (x ≡ c) ⊎ (IsNoWorse c x × (IsNoWorse x c → ⊥))
 

@@ -1,4 +1,4 @@
--- A forwarding address has one way, and so has an AS boundary router.
+-- A forwarding address has only one way, and so has an AS boundary router.
 use Rattle.std.proofs.Common.{◌≡◌, ℕ, ◌≤◌, arith, sym, ◌∙◌, ap, subst}
 use Rattle.words.specs.Prefixes.{network_address}
 use Rattle.words.specs.declared.route.Route.{Route}

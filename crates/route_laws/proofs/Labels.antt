@@ -1,5 +1,5 @@
--- Labels of the vertices by which a way is checked: a distance and next hops that no link
--- undercuts, and walks that have them.
+-- Labels of the vertices by which a way is checked: a distance and next hops that no link improves,
+-- and walks that have them.
 use Rattle.std.proofs.Common.{◌≡◌, ℕ, zero, suc, ◌+◌, ◌<◌, ◌≤◌, ◌⊎◌, inl, inr, Bool, true, false, ◌&&◌, ◌||◌, not, IsTrue, nat_eq, nat_lt, ltb-true, eqb-true, eq-eqb, List, [], ◌∷◌, Some, slice_get, bit_or, max, arith, refl, sym, ◌∙◌, ap, subst}
 use Rattle.std.specs.Int.{bit_at}
 use Rattle.std.specs.List.{list_all}
@@ -21,7 +21,7 @@ use Rattle.routes.specs.Said.{said_at}
 
 -- ---- labels over any links
 
--- no link leads to less than its end's distance, and one that leads to just that carries the next
+-- no link leads to less than its end's distance, and one that leads to exactly that passes the next
 -- hops on
 pub record AreLabels {V : Type 0} (leads : V → Step V → Type 0) (from : V) (distance hops : V → ℕ) : Type 0 where
   pub start : distance from ≡ 0
@@ -50,7 +50,7 @@ module _ {V : Type 0} (leads : V → Step V → Type 0) (from : V) (distance hop
   least : (walk : List (Step V)) (w : V) → IsWalk leads from walk w → price_of walk ≡ distance w → IsLeastWalk leads from walk w
   least walk w p e = record { is_walk = p; least = λ other q. omega (arith, e, are.start, costs from other w q) }
 
-  -- a walk of just the distance, and one for each next hop, make the labels the way
+  -- a walk with exactly the distance, and one for each next hop, make the labels the way
   pub way_by : (w : V) (walk : List (Step V)) → IsWalk leads from walk w → price_of walk ≡ distance w
       → ((i : ℕ) → IsTrue (has_interface (hops w) i) → (first : Step V) × (rest : List (Step V)) × IsWalk leads from (first ∷ rest) w × (price_of (first ∷ rest) ≡ distance w) × (first.exit ≡ i))
       → IsWay leads from w (record { distance = distance w; hops = hops w })
@@ -73,7 +73,7 @@ is_point Transit = false
 is_point Stub = false
 is_point Virtual = false
 
--- each place of the link's data among the root's addresses is a next hop
+-- each index of the Link Data among the root's addresses is a next hop
 abbrev pub exits_in : List ℕ → ℕ → ℕ → ℕ → Bool
 exits_in [] address n hops = true
 exits_in (a ∷ addresses) address n hops = (not (nat_eq a address) || has_interface hops (n + 1)) && exits_in addresses address (n + 1) hops
@@ -100,7 +100,8 @@ exit_of (a ∷ addresses) address n hops (suc k) e p =
     let same : n + 1 + k + 1 ≡ n + suc k + 1 = omega arith in
     subst P same rest
 
--- a point-to-point link leads to more than its end's distance, or to just that with the next hops
+-- a point-to-point link leads to more than its end's distance, or to exactly that with the next
+-- hops
 abbrev pub carries_on : Root → (ℕ → ℕ) → ℕ → Link → Bool
 carries_on root hops router l = nat_eq (bit_or (hops router) (hops l.link_id)) (hops l.link_id) && (not (nat_eq router root.router) || exits_in root.addresses l.link_data 0 (hops l.link_id))
 

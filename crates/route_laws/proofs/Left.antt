@@ -1,4 +1,4 @@
--- What the worked examples of what is left rest on.
+-- Lemmas for the worked examples of unchanged copies.
 use Rattle.std.proofs.Common.{◌≡◌, ◌≢◌, ◌⊎◌, inl, inr, refl, sym, ap, ◌∙◌, ℕ, ◌≤◌, ◌<◌, Bool, true, false, cond, Option, None, Some, eqb-true, arith}
 use Rattle.std.specs.Prelude.{◌==◌}
 use mathlib.Core.Bool.{false≢true}
@@ -27,13 +27,13 @@ pub neither : (A B : Type 0) → (A → ⊥) → (B → ⊥) → A ⊎ B → ⊥
 neither A B no_a no_b (inl a) = no_a a
 neither A B no_a no_b (inr b) = no_b b
 
--- nothing was there and nothing is
+-- there was none and there is none
 pub nowhere : (was is : Option DatabaseCopy) → was ≡ None → is ≡ None → IsLeft 100 110 was is
 nowhere None None a b = record { same = tt; old_copy = λ c none. absurd (cc) }
 nowhere (Some c) is a b = absurd (cc)
 nowhere None (Some c) a b = absurd (cc)
 
--- one came
+-- one was added
 pub came : (was is : Option DatabaseCopy) (c : DatabaseCopy) → was ≡ None → is ≡ Some c → IsLeft 100 110 was is → ⊥
 came None (Some d) c a b h = h.same
 came None None c a b h = absurd (cc)

@@ -1,5 +1,5 @@
 -- Labels over routers and transit networks, checked link by link, and the offers within the area of
--- a database that is given as a list of copies and may hold network-LSAs.
+-- a database that is given as a list of copies and may have network-LSAs.
 use Rattle.std.proofs.Common.{◌≡◌, ℕ, ◌+◌, ◌≤◌, ◌⊎◌, inl, inr, Bool, true, false, ◌&&◌, ◌||◌, not, IsTrue, nat_eq, nat_lt, ltb-true, eqb-true, eq-eqb, List, [], ◌∷◌, ◌++◌, map, filter, bit_or, arith, refl, sym, ◌∙◌, ap, subst}
 use Rattle.std.specs.List.{Contains, list_all}
 use Rattle.std.proofs.lemmas.Bool.{cases_eq}
@@ -71,7 +71,7 @@ is_transit PointToPoint = false
 is_transit Stub = false
 is_transit Virtual = false
 
--- a link leads to more than its end's distance, or to just that with the next hops
+-- a link leads to more than its end's distance, or to exactly that with the next hops
 abbrev pub rises : ℕ → ℕ → ℕ → ℕ → ℕ → Bool → Bool
 rises dv hv price dw hw exits = nat_lt dw (dv + price) || (nat_eq dw (dv + price) && (nat_eq (bit_or hv hw) hw && exits))
 
@@ -81,7 +81,7 @@ leaves_by root router l hops = not (nat_eq router root.router) || exits_in root.
 abbrev pub point_rises : Root → (ℕ → ℕ) → (ℕ → ℕ) → ℕ × Link → Bool
 point_rises root dr hr x = not (is_point x.1.kind) || rises (dr x.0) (hr x.0) x.1.metric (dr x.1.link_id) (hr x.1.link_id) (leaves_by root x.0 x.1 (hr x.1.link_id))
 
--- the link is one between this router and this network
+-- the link is between this router and this network
 abbrev pub between : Member → ℕ × Link → Bool → Bool
 between m x says = not (is_transit x.1.kind) || (not (nat_eq x.0 m.1) || (not (nat_eq x.1.link_id m.0.0) || says))
 
@@ -185,7 +185,7 @@ module _ (root : Root) (moment : ℕ) (es : Entries) (dr hr : ℕ → ℕ) (dn h
     exits = λ s l same. (edge (ARouter root.router) s.target s.price s.exit l).exits refl same;
   }
 
--- ---- routers that no link leads to
+-- ---- routers to which no link leads
 
 arrives : {V : Type 0} (leads : V → Step V → Type 0) (from : V) (walk : List (Step V)) (to : V) → IsWalk leads from walk to → (from ≡ to) ⊎ ((v : V) × (s : Step V) × leads v s × (s.target ≡ to))
 arrives leads from [] to p = inl p
@@ -229,7 +229,7 @@ pub record NetworkOffer (said : Said) (root : Root) (id by : ℕ) (lsa : Network
   pub is : intra (record { address = network_address length id; length = length }) (way.distance + 0) way.hops ≡ o
 
 module _ (moment : ℕ) (es : Entries) (root : Root) (P : Offer → Type 0) where
-  -- the router of a stub link isn't reached, or P holds of its offer
+  -- the router of a stub link isn't reached, or its offer has the property P
   abbrev pub IsStubKnown : ℕ → Link → Type 0
   IsStubKnown router l =
       ((way : Way) → IsWay (Leads (said_at moment (database es)) root) (ARouter root.router) (ARouter router) way → ⊥)

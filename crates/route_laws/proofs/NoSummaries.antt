@@ -1,4 +1,4 @@
--- A database without summary-LSAs, given as a list of copies: all is as within the area.
+-- A database without summary-LSAs, given as a list of copies: only what is within the area counts.
 use Rattle.std.proofs.Common.{◌≡◌, ℕ, inl, inr, Bool, true, false}
 use Rattle.std.specs.List.{list_all}
 use Rattle.words.specs.declared.key.Key.{Key}

@@ -1,4 +1,4 @@
--- Lists whose elements are looked at one by one.
+-- Lists whose elements are checked one by one.
 use Rattle.std.proofs.Common.{◌≡◌, ℕ, zero, suc, ◌<◌, ◌&&◌, not, inl, inr, Bool, true, nat_eq, eq-eqb, List, [], ◌∷◌, arith, subst}
 use Rattle.std.specs.List.{All, AllByRecursion, AllPairs, Contains}
 use Rattle.std.proofs.lemmas.Bool.{cases_lt}
@@ -21,14 +21,14 @@ all_of : {X : Type 0} (P : X → Type 0) (xs : List X) → AllByRecursion P xs �
 all_of P [] all = All-nil P
 all_of P (x ∷ xs) all = All-cons P x xs all.0 (all_of P xs all.1)
 
--- the first one is in order with each of the others
+-- the first one is in the relation to each of the others
 pub in_front : {X : Type 0} (R : X → X → Type 0) (x : X) (xs : List X) → AllByRecursion (R x) xs → AllPairs R xs → AllPairs R (x ∷ xs)
 in_front R x xs first rest = AllPairs-cons R x xs (all_of (R x) xs first) rest
 
 pub nobody : {X : Type 0} (R : X → X → Type 0) → AllPairs R []
 nobody R i j d before within = absurd (omega (arith, before, within))
 
--- networks of other addresses
+-- networks with different addresses
 pub apart : (a b : Network) → not (nat_eq a.address b.address) ≡ true → a ≡ b → ⊥
 apart a b other e = not_both (nat_eq a.address b.address) other (eq-eqb a.address b.address (λ i. (e i).address))
 

@@ -75,7 +75,7 @@ border_way = record { distance = 10; hops = 2 }
 abbrev distant_way : Way
 distant_way = record { distance = 100; hops = 4 }
 
--- the way to 9.9.9.9, which only a summary tells of
+-- the way to 9.9.9.9, which only summaries advertise
 abbrev beyond_way : Way
 beyond_way = record { distance = 17; hops = 2 }
 
@@ -94,7 +94,7 @@ of_beyond_2 = external_offer Type2 (network_24 203 0 114) (external Type2 20 0 0
 abbrev of_distant : Offer
 of_distant = external_offer Type1 (network_24 203 0 115) (external Type1 20 0 0) distant distant_way
 
--- of another router than 9.9.9.9, or no router-LSA
+-- a router-LSA of another router than 9.9.9.9, or another LSA
 abbrev is_of_another : Key × Body → Bool
 is_of_another s = not (nat_eq s.0.ls_type 1 && nat_eq s.0.link_state_id beyond)
 
@@ -154,7 +154,7 @@ module _ (flags distant_flags : ℕ) (has_e : bit_and distant_flags 2 ≡ 2) whe
   no_within : (o : Offer) → OffersWithin said summaries_root o → ⊥
   no_within o x = each_within 0 (told_entries flags distant_flags) summaries_root (λ _. ⊥) refl (λ router l t. absurd (of_empty (router, l) t)) o x
 
-  -- the routers of a summary that counts are the neighbors
+  -- the only router whose summaries count is the neighbor
   border_alone : (way : Way) → IsWay (Leads said summaries_root) (ARouter near) (ARouter border) way → border_way ≡ way
   border_alone way is = one_way (Leads said summaries_root) (ARouter near) (ARouter border) border_way way border_is is
 
@@ -174,7 +174,7 @@ module _ (flags distant_flags : ℕ) (has_e : bit_and distant_flags 2 ≡ 2) whe
       let e : false ≡ true = all_pass is_of_another (sayings (told_entries flags distant_flags)) refl (key 1 beyond beyond, body.Router x.lsa) (is_said 0 (told_entries flags distant_flags) (key 1 beyond beyond) (body.Router x.lsa) x.its) in
       cc
 
-  -- ---- what is told
+  -- ---- what is advertised
 
   abbrev IsTold : Key → Body → Type 0
   IsTold k (body.Router r) = Unit {0}
@@ -196,7 +196,7 @@ module _ (flags distant_flags : ℕ) (has_e : bit_and distant_flags 2 ≡ 2) whe
   far_flags : (lsa : RouterLsa) → IsRouterLsa said distant lsa → flagged distant_flags distant_links ≡ lsa
   far_flags lsa e = let both : Some (body.Router (flagged distant_flags distant_links)) ≡ Some (body.Router lsa) = sym distant_says ∙ e in cc
 
-  -- an offer between areas
+  -- an inter-area offer
   between_is : (o : Offer) → OffersBetween said summaries_root o → (of_summary ≡ o) × (bit_and flags 1 ≡ 1)
   between_is o x =
       let t = told_of (summary_key 3 x.id x.originator) (body.NetworkSummary x.lsa) x.its in
@@ -250,7 +250,7 @@ module _ (flags distant_flags : ℕ) (has_e : bit_and distant_flags 2 ≡ 2) whe
         | inr t ↦ inr (by_distant cost way x t.0 t.1)
       ]
 
-  -- without flag B nobody tells of it
+  -- without flag B no one advertises it
   not_beyond : (bit_and flags 1 ≡ 1 → ⊥) → (bit_and distant_flags 1 ≡ 1 → ⊥) → (way : Way) → IsBoundaryWay said summaries_root beyond way → ⊥
   not_beyond no_b nor_b way (Inside x) = none_beyond way x
   not_beyond no_b nor_b way (Outside none x) =
@@ -259,7 +259,7 @@ module _ (flags distant_flags : ℕ) (has_e : bit_and distant_flags 2 ≡ 2) whe
         | inr by ↦ nor_b by.2
       ]
 
-  -- ---- externals
+  -- ---- external destinations
 
   record Given (id originator : ℕ) (lsa : ExternalLsa) (o : Offer) : Type 0 where
     prefix : Network

@@ -1,4 +1,4 @@
--- The table is determined, and is part of the candidates; answers to all of them leave nothing
+-- The table is determined, and is part of the candidates; after answers to all of them it isn't
 -- stale.
 use Rattle.std.proofs.Common.{◌≡◌, List, [], ◌∷◌, refl}
 use Rattle.std.specs.List.{Contains}

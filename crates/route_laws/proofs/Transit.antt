@@ -283,7 +283,7 @@ nearby_inside o x = within o (is_within 0 transit_entries refl transit_root o x)
 reached_inside : (router : ℕ) (way : Way) → IsBoundaryWay said transit_root router way → ReachesBoundaryRouter said transit_root router way
 reached_inside = is_inside 0 transit_entries refl transit_root
 
--- ---- the forwarding address, which lies in both of the nearer networks
+-- ---- the forwarding address, which is in both of the nearer networks
 
 abbrev forwarding : ℕ
 forwarding = ipv4 10 1 0 9
@@ -313,7 +313,7 @@ forwarded_way = record {
   is = refl;
 }
 
--- ---- what an external LSA offers
+-- ---- what an AS-external-LSA offers
 
 record Given (id originator : ℕ) (lsa : ExternalLsa) (o : Offer) : Type 0 where
   prefix : Network
@@ -386,7 +386,7 @@ is_forwarded e = omega (arith, e)
 forwarded_known : IsKnown (key 5 (ipv4 203 0 114 0) designated) (body.External forwarded_lsa)
 forwarded_known o g = (5, omega arith, forward_known (ipv4 203 0 114 0) designated forwarded_lsa forward_way refl is_forwarded forwarded_way o g)
 
--- the router-LSA of the inner router hasn't flag E
+-- the router-LSA of the inner router doesn't have flag E
 abbrev has_no_e : Body → Bool
 has_no_e (body.Router r) = nat_eq (bit_and r.flags 2) 0
 has_no_e (body.Network n) = true
@@ -420,7 +420,7 @@ complete o (External x) =
     one_of (λ (s : Key × Body). IsKnown s.0 s.1) (sayings transit_entries) all_known (key 5 x.id x.originator, body.External x.lsa) (is_said 0 transit_entries _ (body.External x.lsa) x.its) o
     (record { prefix = x.prefix; is_prefix = x.is_prefix; way = x.way; is_way = x.is_way; is = x.is })
 
--- ---- the external ones are offered
+-- ---- the external destinations are offered
 
 designated_offered : Offers said transit_root designated_offer
 designated_offered = External (record {
@@ -508,7 +508,7 @@ behind_alone = beaten behind_offer (elsewhere behind_offer wide_offer refl, (els
 forwarded_alone : IsAlone said transit_root forwarded_offer
 forwarded_alone = beaten forwarded_offer (elsewhere forwarded_offer wide_offer refl, (elsewhere forwarded_offer network_offer refl, (elsewhere forwarded_offer behind_offer refl, (elsewhere forwarded_offer designated_offer refl, (elsewhere forwarded_offer other_offer refl, (itself forwarded_offer, tt))))))
 
--- the two offers for the shared network, as good as each other
+-- the two offers for the shared network, which are equally good
 abbrev IsShared : Offer → Type 0
 IsShared o = (designated_offer ≡ o) ⊎ (other_offer ≡ o)
 

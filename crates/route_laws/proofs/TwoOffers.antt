@@ -25,7 +25,7 @@ either P a b p q o t =
           ]
     ]
 
--- if all is offered for the prefix of one route, that is all
+-- if all offers are for the prefix of one route, it is the only one
 only : (IsOffered : Offer → Type 0) (r : Route) → IsRouteAmong IsOffered r → ((o : Offer) → IsOffered o → o.prefix ≡ r.prefix) → AreRoutesAmong IsOffered (r ∷ [])
 only IsOffered r is all = record {
   each = λ s. (

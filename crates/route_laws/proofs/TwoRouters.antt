@@ -148,7 +148,7 @@ module _ (others : Entries) (labels : AreChecked near_router (sayings (two_route
     is = refl;
   }
 
-  -- with offers of other prefixes beyond those within the area
+  -- with offers for other prefixes in addition to those within the area
   module _ (Beyond : Offer → Type 0) (all : (o : Offer) → Offers (said_at 0 (database (two_routers others))) near_router o → IsWithin o ⊎ Beyond o)
       (not_own : (o : Offer) → Beyond o → o.prefix ≡ network_24 10 0 1 → ⊥) (not_next : (o : Offer) → Beyond o → o.prefix ≡ network_24 10 0 2 → ⊥) where
     own_alone : IsAlone (said_at 0 (database (two_routers others))) near_router own_offer
@@ -183,7 +183,7 @@ module _ (others : Entries) (labels : AreChecked near_router (sayings (two_route
           | inr beyond ↦ absurd (not_next o beyond e)
         ]
 
-    -- the two routes within the area, and those beyond it
+    -- the two routes within the area, and the others
     with_routes : (rest : List Route) → ((r : Route) → Contains rest r → IsCandidate (said_at 0 (database (two_routers others))) near_router r) → ((o : Offer) → Beyond o → (s : Route) × Contains rest s × (s.prefix ≡ o.prefix))
         → AllPairs (λ (a : Route) (b : Route). IsBefore a.prefix b.prefix) (own_network ∷ next_network ∷ rest) → AreCandidates (said_at 0 (database (two_routers others))) near_router (own_network ∷ next_network ∷ rest)
     with_routes rest sound beyond ascending =
@@ -258,7 +258,7 @@ module _ (t : ExternalType) where
   labels_abroad : AreChecked near_router (sayings (two_routers (abroad t))) distance hops
   labels_abroad = record { start = refl; routers = refl; links = refl }
 
-  -- what an external LSA of the database is
+  -- the contents of an AS-external-LSA of the database
   record Abroad (id originator : ℕ) (lsa : ExternalLsa) : Type 0 where
     id_is : ipv4 203 0 113 0 ≡ id
     originator_is : far ≡ originator

@@ -1,4 +1,5 @@
--- The worked links that don't count: no walk leaves the router and its neighbor.
+-- The worked links that don't count: no walk leads from the router and its neighbor to another
+-- router.
 use Rattle.std.proofs.Common.{◌≡◌, ℕ, zero, suc, inl, inr, Bool, true, false, cond, ◌&&◌, ◌||◌, not, nat_eq, eq-eqb, eqb-true, List, [], ◌∷◌, filter, Some, slice_get, arith, refl, sym, ◌∙◌, ap, subst}
 use Rattle.std.specs.List.{AllByRecursion, list_all}
 use Rattle.words.specs.declared.key.Key.{Key}
@@ -43,7 +44,7 @@ no_exit (a ∷ addresses) address zero e p =
 no_exit (a ∷ addresses) address (suc n) e p = no_exit addresses address n (both_true (not (nat_eq a address)) (has_no_exit addresses address) e).1 p
 
 -- a point-to-point link of a router inside leads inside, has no link back, has metric 0, or is one
--- of the root by no own address
+-- of the root by an address that isn't its own
 abbrev has_no_back : List (ℕ × Link) → ℕ → ℕ → Bool
 has_no_back links from to = list_all (λ (y : ℕ × Link). not (nat_eq y.0 to) || (not (is_point y.1.kind) || not (nat_eq y.1.link_id from))) links
 
@@ -116,7 +117,7 @@ near = ipv4 1 1 1 1
 abbrev neighbor : ℕ
 neighbor = ipv4 2 2 2 2
 
--- of the routers that aren't reached any will do that no link undercuts
+-- for the routers that aren't reached, any distance works that no link improves
 abbrev dr : ℕ → ℕ
 dr r = cond (nat_eq r neighbor) 10 (cond (nat_eq r (ipv4 4 4 4 4)) 9 0)
 

@@ -1,4 +1,4 @@
--- Laws of the candidates and of the routing table (RFC 2328, sections 16.1 and 16.4).
+-- Laws about the candidates and the routing table (RFC 2328, sections 16.1 and 16.4).
 use Rattle.std.specs.Prelude.{◌≡◌, ℕ, ◌↔◌, List, []}
 use Rattle.std.specs.List.{Contains}
 use Rattle.words.specs.declared.route.Route.{Route}
@@ -10,16 +10,16 @@ use Rattle.routes.specs.Said.{Said}
 use Rattle.routes.specs.Routes.{IsForwarded}
 use Rattle.routes.specs.Summaries.{IsBoundaryWay, OffersInside}
 
--- ---- one answer
+-- ---- determinacy
 
--- a forwarding address has one way
+-- a forwarding address has only one way
 abbrev pub ForwardingIsDetermined : Type 0
 ForwardingIsDetermined =
     (said : Said) (root : Root) (address : ℕ) (a b : Way)
     → IsForwarded (OffersInside said root) address a
     → IsForwarded (OffersInside said root) address b → a ≡ b
 
--- an AS boundary router has one way, within the area or between areas
+-- an AS boundary router has only one way, within the area or between areas
 abbrev pub BoundaryWaysAreDetermined : Type 0
 BoundaryWaysAreDetermined =
     (said : Said) (root : Root) (router : ℕ) (a b : Way) → IsBoundaryWay said root router a
@@ -32,8 +32,8 @@ TablesAreDetermined =
     (said : Said) (root : Root) (answers : Answers) (left right : List Route)
     → IsTable said root answers left → IsTable said root answers right → left ≡ right
 
--- the table has a route exactly if it is among the candidates and is let in, so it has none before
--- the first answers
+-- the table has a route if and only if it is among the candidates and is let in, so it has none
+-- before the first answers
 pub record TablesArePartsOfCandidates : Type 0 where
   pub part : (said : Said) (root : Root) (answers : Answers) (routes table : List Route)
       → AreCandidates said root routes → IsTable said root answers table
@@ -41,7 +41,7 @@ pub record TablesArePartsOfCandidates : Type 0 where
   pub empty : (said : Said) (root : Root) (table : List Route) → IsTable said root [] table
       → table ≡ []
 
--- right after answers to all candidates nothing is stale
+-- right after answers to all candidates the table isn't stale
 abbrev pub AnswersToAllAreNotStale : Type 0
 AnswersToAllAreNotStale =
     (said : Said) (root : Root) (answers : Answers) (routes : List Route)

@@ -1,5 +1,5 @@
--- Worked databases with their candidates. The rules of routes read only what the LSAs say and their
--- ages, so the headers carry no checksum or length.
+-- Worked databases with their candidates. The rules of routes depend only on the bodies of the LSAs
+-- and their ages, so the headers have no checksum or length.
 use Rattle.std.specs.Prelude.{ℕ, ◌+◌, ◌*◌, negsuc, List, [], ◌∷◌, None, Some}
 use Rattle.std.specs.FinMap as finite
 use Rattle.words.specs.Prefixes.{Network}
@@ -21,7 +21,7 @@ use Rattle.routes.specs.Tables.{IsTable}
 use Rattle.routes.specs.declared.root.Root.{Root}
 use Rattle.routes.specs.Said.{said_at}
 
--- ---- words for the examples
+-- ---- shorthand for the examples
 
 abbrev pub ipv4 : ℕ → ℕ → ℕ → ℕ → ℕ
 ipv4 a b c d = ((a * 256 + b) * 256 + c) * 256 + d
@@ -36,7 +36,7 @@ abbrev pub key : ℕ → ℕ → ℕ → Key
 key ls_type id router =
     record { ls_type = ls_type; link_state_id = id; advertising_router = router }
 
--- an LSA of age 0 that came at moment 0
+-- an LSA with age 0 that was stored at moment 0
 abbrev pub copy_of : Key → Body → DatabaseCopy
 copy_of k says = record {
   lsa = record {
@@ -60,7 +60,7 @@ copy_of k says = record {
 abbrev pub router_lsa : List Link → RouterLsa
 router_lsa links = record { flags = 2; links = links }
 
--- the router-LSA of a router with these links, an AS boundary router
+-- the router-LSA of an AS boundary router with these links
 abbrev pub of_router : ℕ → List Link → Key × DatabaseCopy
 of_router router links =
     (key 1 router router, copy_of (key 1 router router) (body.Router (router_lsa links)))
@@ -112,7 +112,7 @@ square =
     of_router (ipv4 1 1 1 1) square_corner ∷ of_router (ipv4 2 2 2 2) square_left
     ∷ of_router (ipv4 3 3 3 3) square_right ∷ of_router (ipv4 4 4 4 4) square_far ∷ []
 
--- 192.0.2.0/24 at cost 20 by interfaces 1 and 2
+-- 192.0.2.0/24 with cost 20 by interfaces 1 and 2
 abbrev pub across : Route
 across =
     record { prefix = network_24 192 0 2; kind = Intra; cost = 20; distance = 0; hops = 6; tag = 0 }
@@ -122,7 +122,7 @@ pub record WorkedSquare : Type 0 where
   pub let_in : IsTable (said_at 0 (database square)) square_root ((across, 0) ∷ []) (across ∷ [])
   pub vetoed : IsTable (said_at 0 (database square)) square_root ((across, 1) ∷ []) []
 
--- ---- two routers on one link, the other one with a further network and an external destination
+-- ---- two routers on one link; the other one has a further network and an external destination
 
 abbrev pub near_router : Root
 near_router = record { router = ipv4 1 1 1 1; addresses = ipv4 10 0 1 1 ∷ [] }
@@ -144,7 +144,7 @@ abbrev pub abroad_lsa : ExternalType → ExternalLsa
 abroad_lsa kind =
     record { mask = mask_24; kind = kind; metric = 20; forwarding = 0; tag = 0; tos = [] }
 
--- 203.0.113.0/24 of metric 20, announced by the other router
+-- 203.0.113.0/24 with metric 20, advertised by the other router
 abbrev pub abroad : ExternalType → Entries
 abroad kind = of_external (ipv4 203 0 113 0) (ipv4 2 2 2 2) (abroad_lsa kind) ∷ []
 

@@ -1,4 +1,4 @@
--- What is left as it was from moment 100 to moment 110, worked on copies of one LSA and on LSAs of
+-- Which copies are unchanged from moment 100 to moment 110, for copies of one LSA and for LSAs of
 -- several types (RFC 2328, sections 13.2 and 16).
 use Rattle.std.specs.Prelude.{◌≡◌, ◌≢◌, ◌==◌, ℕ, ℤ, pos, Option, None, Some, if◌then◌else◌}
 use Rattle.std.specs.FinMap as finite
@@ -11,7 +11,7 @@ use Rattle.routes.specs.Said.{Said}
 
 -- ---- one LSA
 
--- a copy of an instance of this number that says this, which had this age at this moment
+-- a copy with this sequence number and body, which had this age at this moment
 abbrev pub copy : Body → ℤ → Seconds → Moment → DatabaseCopy
 copy says number age stored = record {
   lsa = record {
@@ -36,23 +36,23 @@ abbrev pub IsLeftThen : Option DatabaseCopy → Option DatabaseCopy → Type 0
 IsLeftThen old new = IsLeft 100 110 old new
 
 pub record WorkedCopies : Type 0 where
-  -- there is none, or it stays
+  -- there is none, or it stays the same
   pub none : IsLeftThen None None
   pub stays : (b : Body) → IsLeftThen (Some (copy b (pos 4) 10 90)) (Some (copy b (pos 4) 10 90))
   -- it was sent
   pub was_sent : (b : Body) → IsLeftThen (Some (copy b (pos 4) 10 90))
       (Some (record (copy b (pos 4) 10 90) { sent = Some 105 }))
-  -- it is refreshed: a new instance says the same, also if the old one had come near to MaxAge
+  -- it is refreshed: a new instance says the same, even if the old one was close to MaxAge
   pub refreshed : (b : Body)
       → IsLeftThen (Some (copy b (pos 4) 1800 90)) (Some (copy b (pos 5) 0 105))
   pub refreshed_late : (b : Body)
       → IsLeftThen (Some (copy b (pos 4) 3579 90)) (Some (copy b (pos 5) 0 105))
-  -- it had come to MaxAge before, at moment 100 at the latest
+  -- it had reached MaxAge before, at moment 100 at the latest
   pub was_aged : (b : Body)
       → IsLeftThen (Some (copy b (pos 4) 3600 90)) (Some (copy b (pos 4) 3600 90))
   pub just_aged : (b : Body)
       → IsLeftThen (Some (copy b (pos 4) 3590 90)) (Some (copy b (pos 4) 3590 90))
-  -- it comes or leaves, at MaxAge too
+  -- it is added or removed, at MaxAge too
   pub comes : (b : Body) → IsLeftThen None (Some (copy b (pos 4) 10 105)) → ⊥
   pub comes_aged : (b : Body) → IsLeftThen None (Some (copy b (pos 4) 3600 105)) → ⊥
   pub leaves : (b : Body) → IsLeftThen (Some (copy b (pos 4) 10 90)) None → ⊥
@@ -62,14 +62,14 @@ pub record WorkedCopies : Type 0 where
       → IsLeftThen (Some (copy b (pos 4) 10 90)) (Some (copy c (pos 5) 0 105)) → ⊥
   pub changes_aged : (b c : Body) → b ≢ c
       → IsLeftThen (Some (copy b (pos 4) 3600 90)) (Some (copy c (pos 4) 3600 90)) → ⊥
-  -- it comes to MaxAge, at moment 101 or 110, and is flushed
+  -- it reaches MaxAge, at moment 101 or 110, and is flushed
   pub ages : (b : Body)
       → IsLeftThen (Some (copy b (pos 4) 3589 90)) (Some (copy b (pos 4) 3589 90)) → ⊥
   pub ages_now : (b : Body)
       → IsLeftThen (Some (copy b (pos 4) 3580 90)) (Some (copy b (pos 4) 3580 90)) → ⊥
   pub is_flushed : (b : Body)
       → IsLeftThen (Some (copy b (pos 4) 10 90)) (Some (copy b (pos 4) 3600 105)) → ⊥
-  -- it had MaxAge, or would have it by now, and another instance is there, young or at MaxAge
+  -- it had MaxAge, or would have reached it, and another instance is there, young or at MaxAge
   pub is_back : (b : Body)
       → IsLeftThen (Some (copy b (pos 4) 3600 90)) (Some (copy b (pos 5) 0 105)) → ⊥
   pub is_back_at_once : (b : Body)
@@ -81,7 +81,7 @@ pub record WorkedCopies : Type 0 where
 
 -- ---- types
 
--- the LSAs of a type say this, and no others say anything
+-- the LSAs of a type have this body, and no others say anything
 abbrev pub saying : ℕ → Body → Said
 saying ls_type says key = if key.ls_type == ls_type then Some says else None
 
@@ -91,24 +91,24 @@ silent key = None
 abbrev pub key : ℕ → Key
 key ls_type = record { ls_type = ls_type; link_state_id = 1; advertising_router = 1 }
 
--- there was no LSA, and now there is this one alone
+-- there was no LSA, and now there is only this one
 pub record Comes (key : Key) (copy : DatabaseCopy) (old new : Database) : Type 0 where
   pub before : (k : Key) → finite.get old k ≡ None
   pub here : finite.get new key ≡ Some copy
   pub elsewhere : (k : Key) → k ≢ key → finite.get new k ≡ None
 
 pub record WorkedTypes : Type 0 where
-  -- those of the last type count and of types before it, and of later types none
+  -- those of the last type and of types before it count, and those of later types don't
   pub before : (b : Body) → SayTheSame (Some 2) silent (saying 1 b) → ⊥
   pub last : (b : Body) → SayTheSame (Some 2) silent (saying 2 b) → ⊥
   pub behind : (b : Body) → SayTheSame (Some 2) silent (saying 3 b)
-  -- if there is no last one, all count
+  -- without a last type, all count
   pub every : (b : Body) → SayTheSame None silent (saying 5 b) → ⊥
-  -- what they say counts, and that one leaves
+  -- their bodies count, and whether one is removed
   pub other : (b c : Body) → b ≢ c → SayTheSame (Some 2) (saying 2 b) (saying 2 c) → ⊥
   pub leaves : (b : Body) → SayTheSame (Some 2) (saying 2 b) silent → ⊥
   pub same : (b : Body) → SayTheSame (Some 2) (saying 2 b) (saying 2 b)
-  -- so it is with copies, of which one comes from moment 100 to moment 110
+  -- the same with copies, one of which is added between moments 100 and 110
   pub comes_before : (b : Body) (old new : Database) → Comes (key 1) (copy b (pos 4) 10 105) old new
       → AreLeft (Some 2) 100 110 old new → ⊥
   pub comes_last : (b : Body) (old new : Database) → Comes (key 2) (copy b (pos 4) 10 105) old new

@@ -1,5 +1,5 @@
--- A worked database with external destinations (RFC 2328, section 16.4): by their originator or by
--- a forwarding address, of both types, and some that offer nothing.
+-- A worked database with external destinations (RFC 2328, section 16.4): by the advertising router
+-- or by a forwarding address, of both types, and some that offer nothing.
 use Rattle.std.specs.Prelude.{ℕ, [], ◌∷◌, ◌++◌}
 use Rattle.words.specs.declared.key.Key.{Key}
 use Rattle.words.specs.declared.route.ExternalType.{ExternalType}
@@ -24,7 +24,7 @@ external kind metric forwarding tag = record {
   tos = [];
 }
 
--- announced by the other of the two routers
+-- advertised by the other one of the two routers
 abbrev pub by_other : ℕ → ExternalLsa → Key × DatabaseCopy
 by_other id lsa = of_external id (ipv4 2 2 2 2) lsa
 
@@ -32,7 +32,7 @@ by_other id lsa = of_external id (ipv4 2 2 2 2) lsa
 abbrev pub at_max_age : Key × DatabaseCopy → Key × DatabaseCopy
 at_max_age e = (e.0, record e.1 { lsa = lsa_aged 3600 e.1.lsa })
 
--- one network of both types, told apart by the host bits of their Link State IDs; a forwarding
+-- one network with both types, distinguished by the host bits of their Link State IDs; a forwarding
 -- address in 10.0.2.0/24, which the other router offers at 15; one in 10.0.1.0/24, which both
 -- offer, the nearer router itself at 10
 abbrev pub announced_entries : Entries
@@ -43,8 +43,9 @@ announced_entries =
     ∷ by_other (ipv4 192 0 2 0) (external Type2 20 (ipv4 10 0 1 9) 6)
     ∷ []
 
--- nobody offers the forwarding address; the metric is LSInfinity; it is this router's own; its
--- originator has no router-LSA; the copy is at MaxAge; the ones of the mask aren't in front
+-- no one offers the forwarding address; the metric is LSInfinity; it is this router's own; its
+-- advertising router has no router-LSA; the copy is at MaxAge; the one bits of the mask aren't
+-- leading
 abbrev pub passed_over : Entries
 passed_over =
     by_other (ipv4 198 18 0 0) (external Type1 20 (ipv4 172 16 0 1) 0)
@@ -58,7 +59,7 @@ passed_over =
 abbrev pub destinations : Entries
 destinations = two_routers (announced_entries ++ passed_over)
 
--- of type 2: the metric is the cost, and the distance that to the forwarding address, by the
+-- type 2: the metric is the cost, and the distance is that to the forwarding address, by the
 -- router's own interface
 abbrev pub by_own_network : Route
 by_own_network = record {
@@ -70,7 +71,7 @@ by_own_network = record {
   tag = 6;
 }
 
--- of type 1: the distance to the forwarding address and the metric
+-- type 1: the distance to the forwarding address plus the metric
 abbrev pub by_next_network : Route
 by_next_network = record {
   prefix = network_24 198 51 100;
@@ -81,7 +82,7 @@ by_next_network = record {
   tag = 5;
 }
 
--- of type 1 at 30, though type 2 has metric 1
+-- type 1 at 30, although type 2 has metric 1
 abbrev pub of_first_type : Route
 of_first_type = record {
   prefix = network_24 203 0 113;

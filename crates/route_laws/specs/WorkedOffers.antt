@@ -1,5 +1,4 @@
--- Worked offers for one prefix, with the one route that comes of them (RFC 2328, sections 11 and
--- 16.4).
+-- Worked offers for one prefix, with the one route that results (RFC 2328, sections 11 and 16.4).
 use Rattle.std.specs.Prelude.{ℕ, List, [], ◌∷◌}
 use Rattle.std.specs.List.{Contains}
 use Rattle.words.specs.declared.route.Route.{Route}
@@ -9,7 +8,7 @@ use Rattle.routes.specs.Routes.{AreRoutesAmong}
 use Rattle.routes.specs.declared.offer.Offer.{Offer}
 use Rattle.route_laws.specs.Worked.{ipv4, network_24}
 
--- an offer for 203.0.113.0/24 of cost 20 by router 2.2.2.2
+-- an offer for 203.0.113.0/24 with cost 20 by router 2.2.2.2
 abbrev pub offer_of : RouteKind → ℕ → ℕ → ℕ → Offer
 offer_of kind distance hops tag = record {
   prefix = network_24 203 0 113;
@@ -31,15 +30,15 @@ route_to kind distance hops tag = record {
   tag = tag;
 }
 
--- tags 5 and 3 of one originator at one cost
+-- tags 5 and 3 by one router at one cost
 abbrev pub two_tags : List Offer
 two_tags = offer_of External1 0 2 5 ∷ offer_of External1 0 2 3 ∷ []
 
--- one metric of type 2, with the distances 10 and 20
+-- one type 2 metric, with the distances 10 and 20
 abbrev pub two_distances : List Offer
 two_distances = offer_of External2 10 2 0 ∷ offer_of External2 20 4 0 ∷ []
 
--- of type 2, the metric 10 at distance 30, and the metric 20 at distance 5
+-- type 2, the metric 10 at distance 30, and the metric 20 at distance 5
 abbrev pub metric_10 : Offer
 metric_10 = record (offer_of External2 30 2 0) { cost = 10 }
 
@@ -52,7 +51,7 @@ two_metrics = metric_20 ∷ metric_10 ∷ []
 abbrev pub by_metric_10 : Route
 by_metric_10 = record (route_to External2 30 2 0) { cost = 10 }
 
--- the network 198.51.100.0/24 within the area at 100, and between areas at 15
+-- the network 198.51.100.0/24, intra-area at 100, and inter-area at 15
 abbrev pub intra_100 : Offer
 intra_100 = record (offer_of Intra 0 2 0) { prefix = network_24 198 51 100; cost = 100 }
 
@@ -68,9 +67,9 @@ within_100 = record (route_to Intra 0 2 0) { prefix = network_24 198 51 100; cos
 pub record WorkedOffers : Type 0 where
   -- the tag is 3
   pub least_tag : AreRoutesAmong (λ o. Contains two_tags o) (route_to External1 0 2 3 ∷ [])
-  -- the nearer one alone
+  -- only the nearer one
   pub nearer : AreRoutesAmong (λ o. Contains two_distances o) (route_to External2 10 2 0 ∷ [])
-  -- the one of the lesser metric alone, though it is farther
+  -- only the one with the lesser metric, although it is farther
   pub metric_first : AreRoutesAmong (λ o. Contains two_metrics o) (by_metric_10 ∷ [])
-  -- the one within the area, though it is dearer
+  -- only the intra-area one, although its cost is greater
   pub within_first : AreRoutesAmong (λ o. Contains two_kinds o) (within_100 ∷ [])

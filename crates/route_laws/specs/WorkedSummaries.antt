@@ -1,5 +1,5 @@
 -- A worked database with destinations in other areas (RFC 2328, sections 16.2 and 16.4): a network,
--- and AS boundary routers, as an area border router tells of them.
+-- and AS boundary routers, as an area border router advertises them.
 use Rattle.std.specs.Prelude.{ℕ, List, [], ◌∷◌}
 use Rattle.words.specs.declared.key.Key.{Key}
 use Rattle.words.specs.declared.route.ExternalType.TheVariants.{Type1, Type2}
@@ -19,14 +19,14 @@ use Rattle.route_laws.specs.WorkedExternals.{external}
 abbrev pub summary : ℕ → SummaryLsa
 summary metric = record { mask = mask_24; metric = metric; tos = [] }
 
--- told by the neighbor 2.2.2.2
+-- advertised by the neighbor 2.2.2.2
 abbrev pub of_network_summary : ℕ → ℕ → Key × DatabaseCopy
 of_network_summary id metric = (
   key 3 id (ipv4 2 2 2 2),
   copy_of (key 3 id (ipv4 2 2 2 2)) (body.NetworkSummary (summary metric)),
 )
 
--- told by this router
+-- advertised by this router
 abbrev pub of_router_summary : ℕ → ℕ → ℕ → Key × DatabaseCopy
 of_router_summary router id metric =
     (key 4 id router, copy_of (key 4 id router) (body.RouterSummary (summary metric)))
@@ -54,9 +54,9 @@ border_links = point_to_point (ipv4 1 1 1 1) (ipv4 10 0 1 2) 10 ∷ []
 abbrev pub distant_links : List Link
 distant_links = point_to_point (ipv4 1 1 1 1) (ipv4 10 0 2 2) 100 ∷ []
 
--- 2.2.2.2 and 3.3.3.3 have these flags. The first tells of a network at 5, of one that can't be
--- reached, of the AS boundary router 9.9.9.9 at 7, and of 3.3.3.3 at 7, which is dearer within the
--- area; the second tells of 9.9.9.9 at 1, but is itself farther.
+-- 2.2.2.2 and 3.3.3.3 have these flags. The first advertises a network at 5, one that is
+-- unreachable, the AS boundary router 9.9.9.9 at 7, and 3.3.3.3 at 7, which has a greater cost
+-- within the area; the second advertises 9.9.9.9 at 1, but is itself farther away.
 abbrev pub told_entries : (flags : ℕ) → (distant_flags : ℕ) → Entries
 told_entries flags distant_flags =
     of_router (ipv4 1 1 1 1) summaries_links

@@ -1,5 +1,5 @@
--- A worked database with a transit network, external destinations of two originators, and routers
--- that don't count (RFC 2328, sections 16.1 and 16.4).
+-- A worked database with a transit network, external destinations of two advertising routers, and
+-- routers that don't count (RFC 2328, sections 16.1 and 16.4).
 use Rattle.std.specs.Prelude.{ℕ, List, [], ◌∷◌}
 use Rattle.words.specs.Prefixes.{Network}
 use Rattle.words.specs.declared.key.Key.{Key}
@@ -46,7 +46,7 @@ designated_links =
     ∷ transit (ipv4 10 1 0 2) (ipv4 10 1 0 2) 5 ∷ stub (ipv4 10 0 0 0) (ipv4 255 0 0 0) 1
     ∷ []
 
--- as near over the network as by its own link
+-- at the same cost over the network and by its own link
 abbrev pub other_links : List Link
 other_links =
     point_to_point (ipv4 1 1 1 1) (ipv4 10 0 2 2) 15
@@ -66,9 +66,9 @@ network_lsa = record {
   attached = ipv4 2 2 2 2 ∷ ipv4 3 3 3 3 ∷ ipv4 4 4 4 4 ∷ ipv4 5 5 5 5 ∷ [];
 }
 
--- 203.0.113.0/24 is announced by two routers, to which it costs the same in all; 203.0.114.0/24
--- with a forwarding address on the transit network; the last two by the router that is no boundary
--- router and by the one that isn't reached
+-- 203.0.113.0/24 is advertised by two routers, at the same total cost; 203.0.114.0/24 with a
+-- forwarding address on the transit network; the last two by the router that is no boundary router
+-- and by the one that isn't reached
 abbrev pub transit_entries : Entries
 transit_entries =
     of_router (ipv4 1 1 1 1) root_links
@@ -102,12 +102,12 @@ abbrev pub transit_route : Route
 transit_route =
     record { prefix = network_24 10 1 0; kind = Intra; cost = 15; distance = 0; hops = 2; tag = 0 }
 
--- behind the other router, by interfaces 1 and 2
+-- beyond the other router, by interfaces 1 and 2
 abbrev pub behind_route : Route
 behind_route =
     record { prefix = network_24 192 0 2; kind = Intra; cost = 25; distance = 0; hops = 6; tag = 0 }
 
--- by both originators, with the tag of the lesser one
+-- by both advertising routers, with the lesser tag
 abbrev pub shared_route : Route
 shared_route = record {
   prefix = network_24 203 0 113;
@@ -118,8 +118,8 @@ shared_route = record {
   tag = 9;
 }
 
--- the forwarding address lies in the transit network and in the nearer one that contains it; the
--- longer prefix counts
+-- the forwarding address is in the transit network and in the nearer one that contains it; the
+-- longest match counts
 abbrev pub longest_route : Route
 longest_route = record {
   prefix = network_24 203 0 114;

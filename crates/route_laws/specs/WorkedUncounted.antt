@@ -14,7 +14,7 @@ abbrev pub virtual : ℕ → ℕ → ℕ → Link
 virtual neighbor address cost =
     record { link_id = neighbor; link_data = address; kind = Virtual; metric = cost; tos = [] }
 
--- to the neighbor; and to 3.3.3.3 by an address that no interface of this router has
+-- to the neighbor; and to 3.3.3.3 by an address of none of this router's interfaces
 abbrev pub counting_links : List Link
 counting_links =
     point_to_point (ipv4 2 2 2 2) (ipv4 10 0 1 1) 10
