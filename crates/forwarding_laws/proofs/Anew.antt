@@ -1,4 +1,4 @@
--- The worked topology in which the middle router has begun anew: its candidates, premises, and the
+-- The worked topology in which the middle router has restarted: its candidates, premises, and the
 -- packet that comes back.
 use Rattle.std.proofs.Common.{◌≡◌, ℕ, ◌≤◌, inl, inr, cond, nat_eq, List, [], ◌∷◌, filter, Some, slice_get, arith, refl, sym, subst}
 use Rattle.std.specs.List.{Contains}

@@ -1,5 +1,4 @@
--- Along the routers that hand a packet on the routes are better and better, so that it comes to
--- none twice.
+-- Along the routers that forward a packet the routes become better, so that it visits none twice.
 use Rattle.std.proofs.Common.{◌≡◌, ℕ, zero, suc, ◌<◌, ◌≤◌, inl, inr, List, [], ◌∷◌, Some, length, get_or, arith, refl, sym, ◌∙◌, ap, subst}
 use Rattle.std.specs.List.{Contains}
 use Rattle.std.proofs.lemmas.Bool.{cases_lt}
@@ -28,7 +27,7 @@ upto zero = []
 upto (suc n) = n ∷ upto n
 
 module _ (topology : Topology) (converged : HasConverged topology) (hop : EachHopLeadsOn) (address : ℕ) where
-  -- the router at the place forwards packets to the address by this route
+  -- the router with this index forwards packets to the address by this route
   pub record ForwardsBy (place : ℕ) (route : Route) : Type 0 where
     pub forwarder : Forwarder
     pub stands : StandsAt topology place forwarder
@@ -46,7 +45,7 @@ module _ (topology : Topology) (converged : HasConverged topology) (hop : EachHo
       let P : Forwarder → Type 0 = λ x. IsLongest x.table address s in
       longest_is place f.forwarder f.stands r s f.longest (subst P e g.longest)
 
-  -- what holds of a router that a packet comes to later
+  -- a property of a router that a packet visits later
   pub data IsLater (route : Route) (place : ℕ) : Type 0 where
     ByBetter : (its : Route) → ForwardsBy place its → IsBetter its route → IsLater route place
     Announcing : IsAnnouncedAt topology address place → IsLater route place
@@ -103,7 +102,7 @@ module _ (topology : Topology) (converged : HasConverged topology) (hop : EachHo
       never f (Announcing x) = handed.1 x
       never f (ByBetter its g good) = not_itself its handed.0.route (one_route first its handed.0.route g f) good
 
-  -- ---- how many there are
+  -- ---- the number of routers
 
   stands_there : (first : ℕ) (others : List ℕ) → IsHandedAlong topology address (first ∷ others) → (route : Route) → ForwardsBy first route → (k d : ℕ) → k < length others → get_or others k d < length topology.routers
   stands_there first others handed route f k d low = by_case (each_later first others handed route f k d low)

@@ -1,5 +1,5 @@
--- A packet is handed on past a router that announces a default route, by the longer route that this
--- has.
+-- A packet is forwarded past a router that announces a default route, by that router's longer
+-- route.
 use Rattle.std.proofs.Common.{◌≡◌, ◌≢◌, ℕ, ◌<◌, ◌≤◌, inl, inr, [], ◌∷◌, arith, refl, ap, subst}
 use Rattle.words.specs.Prefixes.{Network}
 use Rattle.words.specs.declared.key.Key.{Key}
@@ -22,7 +22,7 @@ use Rattle.forwarding_laws.specs.WorkedTopologies.{left_id, middle_id, narrow, w
 use Rattle.forwarding_laws.proofs.ThreeRouters.{narrow_longest, three_places}
 use Rattle.forwarding_laws.proofs.ZeroCosts.{each_of}
 
--- ---- the external LSA
+-- ---- the AS-external-LSA
 
 abbrev IsTheDefault : Key → Body → Type 0
 IsTheDefault k (body.Router r) = Unit {0}
@@ -38,7 +38,7 @@ the_default k lsa its =
     (tt, (tt, (tt, ((refl, refl), tt)))) (k, body.External lsa)
     (is_said 0 with_default_lsa k (body.External lsa) its)
 
--- ---- nobody is an end
+-- ---- no router is the end
 
 longest_left : IsLongest default_left.table address (narrow 15 2)
 longest_left = record {

@@ -1,4 +1,4 @@
--- A router with a route for the address that hands its packets to nobody is attached to the
+-- A router with a route for the address that doesn't forward its packets is attached to the
 -- network.
 use Rattle.std.proofs.Common.{◌≡◌, ℕ, zero, suc, inl, inr, IsTrue, List, [], ◌∷◌, length, get_or, arith, refl, sym, subst}
 use Rattle.std.proofs.lemmas.Bool.{cases_lt}

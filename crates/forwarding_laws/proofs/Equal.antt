@@ -1,4 +1,4 @@
--- The worked topology in which two interfaces of the middle router have one address: its
+-- The worked topology in which two interfaces of the middle router have the same address: its
 -- candidates, premises, and the packet that comes back.
 use Rattle.std.proofs.Common.{◌≡◌, ◌≢◌, ℕ, ◌+◌, inl, inr, cond, IsTrue, nat_eq, List, [], ◌∷◌, Some, slice_get, arith, refl, sym, ◌∙◌, ap, subst}
 use Rattle.words.specs.Interfaces.{has_interface}
@@ -60,8 +60,8 @@ left_to_middle = (from_root equal at_left (lsa_of left_links) left_says middle_i
 right_to_middle : LeadsTo equal_says at_right (ARouter right_id) (ARouter middle_id) 5 1
 right_to_middle = (from_root equal at_right (lsa_of right_links) right_says middle_id (ipv4 192 0 2 1) 5 0 (0, omega arith, refl) (omega arith) refl, back equal middle_id (lsa_of equal_links) middle_says right_id (ipv4 10 0 0 1) 5 (2, omega arith, refl))
 
--- the middle router's link to the left one, and that to the right one, leave by each interface of
--- this address
+-- the middle router's links to the left one and to the right one use each interface with this
+-- address
 middle_to_left : (n : ℕ) → slice_get at_middle.addresses n ≡ Some (ipv4 10 0 0 1) → LeadsTo equal_says at_middle (ARouter middle_id) (ARouter left_id) 5 (n + 1)
 middle_to_left n at = (from_root equal at_middle (lsa_of equal_links) middle_says left_id (ipv4 10 0 0 1) 5 n (0, omega arith, refl) (omega arith) at, back equal left_id (lsa_of left_links) left_says middle_id (ipv4 192 0 3 1) 5 (0, omega arith, refl))
 

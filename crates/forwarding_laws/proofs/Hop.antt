@@ -1,5 +1,5 @@
--- One hop: the next router has a better route of the same prefix, which is its longest for the
--- address, or announces the address itself.
+-- One hop: the next router has a better route with the same prefix, which is its longest match for
+-- the address, or announces the address itself.
 use Rattle.std.proofs.Common.{◌≡◌, ◌≢◌, ℕ, ◌+◌, ◌<◌, ◌≤◌, inl, inr, IsTrue, List, [], ◌∷◌, Some, length, arith, refl, sym, ◌∙◌, ap, subst}
 use Rattle.std.specs.List.{Contains}
 use Rattle.std.proofs.lemmas.Bool.{cases_eq, cases_lt}
@@ -50,7 +50,7 @@ use Rattle.forwarding_laws.proofs.Inside.{LongestInside, from_candidate, is_intr
 prefix_of : (said : Said) (root : Root) (o : Offer) (x : OffersExternal said root o) → o.prefix ≡ x.prefix
 prefix_of said root o x = ap (λ (y : Offer). y.prefix) x.is ∙ external_prefix x.lsa.kind x.prefix x.lsa x.originator x.way
 
--- the router that an external LSA comes from tells of its destination
+-- the router that originated an AS-external-LSA advertises its destination
 tells_of : (said : Said) (root : Root) (o : Offer) (x : OffersExternal said root o) (router address : ℕ)
     → x.originator ≡ router → IsUnder address o.prefix → TellsOf said router address o.prefix
 tells_of said root o x router address e under =
@@ -58,7 +58,7 @@ tells_of said root o x router address e under =
     let P : Network → Type 0 = λ n. IsPrefix x.id x.lsa.mask n in
     record { id = x.id; lsa = x.lsa; its = subst S e x.its; is_prefix = subst P (sym (prefix_of said root o x)) x.is_prefix; under = under }
 
--- an external destination is of another kind than one between areas
+-- an external destination has another kind than an inter-area one
 external_not_inter : (kind : ExternalType) (prefix : Network) (lsa : ExternalLsa) (by : ℕ) (way : Way) → (external_offer kind prefix lsa by way).kind ≡ Inter → ⊥
 external_not_inter Type1 prefix lsa by way e = cc
 external_not_inter Type2 prefix lsa by way e = cc
@@ -105,7 +105,7 @@ module _ (topology : Topology) (converged : HasConverged topology) (premises : O
           intra = cheapest.preferred (says_of a.router) (root_of a.router) r.0 cost exit ((mine.candidates.each r.0).0 r.1) (subst P (sym r.2) y);
         }
 
-    -- a route of the other router, among what may lead to a forwarding address
+    -- a route of the other router, among those that may lead to a forwarding address
     inside_here : (r : Route) → IsRouteAmong (OffersInside (says_of a.router) (root_of b.router)) r → HasIntra r.prefix
     inside_here r k = by_case k.is_best.offered
       where
@@ -187,7 +187,7 @@ module _ (topology : Topology) (converged : HasConverged topology) (premises : O
         let h = here address k.first (subst T (sym k.is_best.is_for) silent) k.is_best.offered (subst U (sym k.is_best.is_for) under) in
         (h.0, h.1, h.2 ∙ k.is_best.is_for)
 
-    -- the other router has no route of a longer prefix, unless this one announces the address
+    -- the other router has no route with a longer prefix, unless this one announces the address
     pub no_longer : (address : ℕ) (r : Route) → IsLongest a.table address r → (Announces a address → ⊥) → (route : Route) → Contains b.table route → IsUnder address route.prefix
         → route.prefix.length ≤ r.prefix.length
     no_longer address r longest silent route t under =
@@ -231,12 +231,12 @@ module _ (topology : Topology) (converged : HasConverged topology) (premises : O
       let E : ℕ → Type 0 = λ n. IsOtherEnd (says_of a.router) (root_of a.router) i n in
       record { other = across.other; is_across = across.is_across; next = across.forwarder; stands = across.stands; price = hop.price; link = subst L (sym across.is) hop.leads; end = subst E (sym across.is) end }
 
-  -- it has a better route of the prefix, or announces the address itself
+  -- it has a better route for the prefix, or announces the address itself
   pub data Forth (address : ℕ) (r : Route) (place : ℕ) (next : Forwarder) : Type 0 where
     Better : (following : Route) → Contains next.table following → following.prefix ≡ r.prefix → IsBetter following r → Forth address r place next
     Announcing : IsAnnouncedAt topology address place → Forth address r place next
 
-  -- an external LSA by which packets are sent, and the way to the router that it comes from
+  -- an AS-external-LSA by which packets are sent, and the way to the router that originated it
   record IsSent (place : ℕ) (a : Forwarder) (o : Offer) : Type 0 where
     x : OffersExternal (says_of a.router) (root_of a.router) o
     inside : ReachesBoundaryRouter (says_of a.router) (root_of a.router) x.originator x.is_way.boundary
@@ -249,7 +249,7 @@ module _ (topology : Topology) (converged : HasConverged topology) (premises : O
   hops_of : (place : ℕ) (a : Forwarder) (o : Offer) (s : IsSent place a o) → o.hops ≡ s.x.way.hops
   hops_of place a o s = ap (λ (y : Offer). y.hops) s.x.is ∙ external_hops s.x.lsa.kind s.x.prefix s.x.lsa s.x.originator s.x.way
 
-  -- the route to a forwarding address is one of the table
+  -- the route to a forwarding address is in the table
   record IsBy (a : Forwarder) (way : Way) (address : ℕ) : Type 0 where
     f : IsForwarded (OffersInside (says_of a.router) (root_of a.router)) address way
     among : Contains a.table f.by
@@ -266,13 +266,13 @@ module _ (topology : Topology) (converged : HasConverged topology) (premises : O
         hops = ap (λ (w : Way). w.hops) f.is;
       }
 
-  -- a route that isn't within the area comes of no offer that is
+  -- a route that isn't intra-area comes from no intra-area offer
   outside : (place : ℕ) (a : Forwarder) → StandsAt topology place a → (r : Route) → Contains a.table r → (r.kind ≡ Intra → ⊥) → (o : Offer) → IsBest (says_of a.router) (root_of a.router) r.prefix o → rank o.kind ≡ 0 → ⊥
   outside place a p r t other o best e =
       other (same_kind r.kind Intra ((candidate_is_as_good (says_of a.router) (root_of a.router) r o (candidate place a p r t) best).kind ∙ e))
 
   module _ (hops : EachHopIsNearer) (toward : EachHopLeadsToAnOriginator) (ends : RoutesEndAtTheNetwork) where
-    -- the next router's route of a prefix within the area
+    -- the next router's intra-area route for a prefix
     record IsOn (r : Route) (next : Forwarder) : Type 0 where
       following : Route
       among : Contains next.table following
@@ -321,7 +321,7 @@ module _ (topology : Topology) (converged : HasConverged topology) (premises : O
         } in
         record { price = its.metric; exit = named.0 + 1; link = (counts, (n.link.0.link, n.link.0.its, n.link.0.is_kind, n.link.0.is_id)) }
 
-    -- the next router offers the same destination at less
+    -- the next router offers the same destination at a lower cost
     module _ (place : ℕ) (a : Forwarder) (p : StandsAt topology place a) (o : Offer) (s : IsSent place a o) (i : ℕ) (is_hop : IsTrue (has_interface o.hops i)) (n : IsNext place a i)
         (other_router : n.next.router.id ≡ s.x.originator → ⊥) (some : s.x.lsa.forwarding ≢ 0) (away : 0 < i) where
       by : IsBy a s.x.way s.x.lsa.forwarding
@@ -408,7 +408,7 @@ module _ (topology : Topology) (converged : HasConverged topology) (premises : O
         among_theirs : (route : Route) → Contains n.next.table route → IsCandidate its_said (root_of n.next.router) route
         among_theirs route t = ((member topology converged premises place n.other a n.next p n.stands).candidates.each route).0 t
 
-        -- a route within the area would be known here too
+        -- an intra-area route would be known here too
         not_within : (route : Route) → Contains n.next.table route → route.prefix ≡ r.prefix → route.kind ≡ Intra → ⊥
         not_within route t same intra =
             let h = inside_here place n.other a n.next p n.stands n.price i n.link route (from_candidate its_said (root_of n.next.router) none_there route (among_theirs route t) intra) in
@@ -473,7 +473,7 @@ module _ (topology : Topology) (converged : HasConverged topology) (premises : O
 
     -- ---- the next hop 0
 
-    -- if the way is the one to the router that the LSA comes from, it has a next hop, and 0 is none
+    -- if the way is that to the router that originated the LSA, it has a next hop, and 0 is none
     away_from : (place : ℕ) (a : Forwarder) (o : Offer) (s : IsSent place a o) → s.x.lsa.forwarding ≡ 0 → (i : ℕ) → IsTrue (has_interface o.hops i) → 0 < i
     away_from place a o s direct i t =
         let Has : ℕ → Type 0 = λ h. IsTrue (has_interface h i) in

@@ -1,5 +1,5 @@
--- Routes within the area among what may lead to a forwarding address, and as candidates: if nothing
--- is offered between areas, they are the same.
+-- Intra-area routes among those that may lead to a forwarding address, and as candidates: if
+-- nothing is offered between areas, they are the same.
 use Rattle.std.proofs.Common.{◌≡◌, ℕ, ◌<◌, ◌≤◌, ◌⊎◌, inl, inr, List, [], ◌∷◌, arith, refl, sym, ◌∙◌, ap, subst}
 use Rattle.std.specs.List.{Contains}
 use Rattle.std.proofs.lemmas.Bool.{cases_eq, cases_lt}
@@ -68,7 +68,7 @@ module _ (said : Said) (root : Root) (none : (o : Offer) → OffersBetween said 
   best_inside : (prefix : Network) (o : Offer) → IsBest said root prefix o → rank o.kind ≡ 0 → IsBestAmong Inside prefix o
   best_inside prefix o k e = record { offered = lowered o k.offered e; is_for = k.is_for; best = λ other given same. k.best other (lifted other given) same }
 
-  -- each best one is as good in kind
+  -- each best offer has the same kind
   also_inside : (prefix : Network) (first other : Offer) → IsBest said root prefix first → rank first.kind ≡ 0 → IsBest said root prefix other → IsBestAmong Inside prefix other
   also_inside prefix first other k e best =
       let low = rank_low other first (best.best first k.offered k.is_for) in
@@ -112,7 +112,7 @@ module _ (said : Said) (root : Root) (none : (o : Offer) → OffersBetween said 
         );
       }
 
--- ---- the longest prefix of an address among routes within the area
+-- ---- the longest match of an address among intra-area routes
 
 under_or_not : (address : ℕ) (n : Network) → IsUnder address n ⊎ (IsUnder address n → ⊥)
 under_or_not address n = cases_eq (network_address n.length address) n.address

@@ -1,4 +1,4 @@
--- What holds of each router of a converged topology, and that no walk leads out of the topology.
+-- Properties of each router of a converged topology; no walk leads out of the topology.
 use Rattle.std.proofs.Common.{◌≡◌, ℕ, List, [], ◌∷◌, Some, bit_and, arith, refl, sym, ◌∙◌, ap, subst}
 use Rattle.std.specs.List.{flat_map}
 use Rattle.lsa.specs.declared.body.Body.TheVariants as body
@@ -19,7 +19,7 @@ use Rattle.forwarding_laws.proofs.Nearer.{leads_there}
 use Rattle.forwarding_laws.specs.Premises.{HaveOwnAddresses, IsCurrent, OwnRouterLsasMeetThePremises}
 use Rattle.forwarding_laws.specs.Topologies.{Forwarder, HasConverged, IsUpToDate, StandsAt, Topology, root_of, says_of}
 
--- of one router whose database says this
+-- for one router whose database says this
 pub record IsMember (said : Said) (f : Forwarder) : Type 0 where
   pub current : IsCurrent said f.router.id f.router.area.links
   pub candidates : AreCandidates said (root_of f.router) f.table
@@ -37,7 +37,7 @@ module _ (topology : Topology) (converged : HasConverged topology) (premises : O
   pub same_says : (place other : ℕ) (a b : Forwarder) → StandsAt topology place a → StandsAt topology other b → says_of a.router ≡ says_of b.router
   same_says place other a b p q = λ i. λ key. converged.agree place other a b p q key i
 
-  -- of each router, in the words of any router's database
+  -- for each router, in terms of any router's database
   pub member : (place other : ℕ) (a b : Forwarder) → StandsAt topology place a → StandsAt topology other b → IsMember (says_of a.router) b
   member place other a b p q =
       let P : Said → Type 0 = λ s. IsMember s b in
@@ -90,7 +90,7 @@ module _ (topology : Topology) (converged : HasConverged topology) (premises : O
       let none : 0 ≡ 1 = ap (λ (x : RouterLsa). bit_and x.flags 1) (sym are) ∙ r.has_b in
       omega (arith, none)
 
-  -- so nothing is offered by another area
+  -- so nothing is offered from another area
   pub none_between : (place root : ℕ) (a b : Forwarder) → StandsAt topology place a → StandsAt topology root b → (o : Offer) → OffersBetween (says_of a.router) (root_of b.router) o → ⊥
   none_between place root a b p q o x = no_border place root a b p q x.originator x.border x.counts.reaches
 

@@ -55,7 +55,7 @@ module _ {X : Type 0} (prefix : X → Network) where
   three_in_order a b c p q r (suc i) zero d before low = absurd (omega (arith, before))
   three_in_order a b c p q r (suc i) (suc j) d before low = two_in_order b c r i j d (omega (arith, before)) (omega (arith, low))
 
-  -- two of one prefix are one
+  -- two with the same prefix are the same
   pub one_of : (xs : List X) → InOrder xs → (a b : X) → Contains xs a → Contains xs b → prefix a ≡ prefix b → a ≡ b
   one_of [] up a b p q same = absurd (of_empty a p)
   one_of (x ∷ xs) up a b p q same =
@@ -101,7 +101,7 @@ candidates_of said root offers ordered offered only up =
     subst P k.2 (alone said root k.0 (offered k.0 k.1) alone_is))
     (λ o given. (route_of o, mapped (λ (x : Offer). route_of x) offers o (only o given), refl)) up
 
--- ---- what stub links offer
+-- ---- the offers of stub links
 
 pub stub_offered : (es : Entries) (root : Root) (router : ℕ) (links : List Link) → IsRouterLsa (said_at 0 (database es)) router (router_lsa links) → (l : Link) → Contains links l → l.kind ≡ Stub → (length : ℕ) (o : Offer)
     → StubOffer (said_at 0 (database es)) root router l length o → Offers (said_at 0 (database es)) root o
@@ -118,7 +118,7 @@ stub_offered es root router links its l among kind length o s = Within (record {
   is = sym s.is;
 })
 
--- ---- router-LSAs alone
+-- ---- only router-LSAs
 
 abbrev pub is_router : Key × Body → Bool
 is_router (k, body.Router r) = true

@@ -1,4 +1,5 @@
--- The links of an own router-LSA are those of interfaces with Full neighbors, and of subnets.
+-- The links of a router's own router-LSA are those of interfaces with Full neighbors, and of
+-- subnets.
 use Rattle.std.proofs.Common.{◌≡◌, ℕ, ◌<◌, ◌≤◌, zero, suc, ◌⊎◌, ◌&&◌, ◌||◌, ◌==◌, inl, inr, Bool, true, false, cond, not, IsTrue, eq-eqb, leb-true, nat_le, List, [], ◌∷◌, map, Option, None, Some, slice_get, arith, refl, sym, ◌∙◌, ap, subst}
 use Rattle.std.specs.List.{Contains, flat_map, list_all, list_any}
 use Rattle.std.proofs.lemmas.List.Elements.{Contains-append_cases}

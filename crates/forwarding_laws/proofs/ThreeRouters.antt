@@ -325,7 +325,7 @@ right_candidates : AreCandidates row_says at_right right_routes
 right_candidates =
     candidates_are row 5 (lsa_of middle_links) is_row at_right (way 10 2) (way 5 2) (way 0 0) right_left right_middle right_right 2 2 1 (hops_from at_right left_id (λ e. omega (arith, e)) 2) (hops_from at_right middle_id (λ e. omega (arith, e)) 2) (hops_at at_right right_id refl 0) (silent_offers at_right)
 
--- ---- each router for itself
+-- ---- each router by itself
 
 pub is_current : (es : Entries) (id : ℕ) (links : List Link) (routes : List Route) → Says (said_at 0 (database es)) (router_key id) (router_body links) → AreCandidates (said_at 0 (database es)) (root_by id links) routes → IsCurrentForwarder (forwarder id links es routes)
 is_current es id links routes current are = record {

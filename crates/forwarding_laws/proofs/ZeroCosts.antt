@@ -1,5 +1,5 @@
--- The worked topology in which the interface of the left router costs 0: its candidates, premises,
--- and the packet that is lost.
+-- The worked topology in which the interface of the left router has cost 0: its candidates,
+-- premises, and the packet that is lost.
 use Rattle.std.proofs.Common.{◌≡◌, ◌≢◌, ℕ, ◌+◌, ◌≤◌, ◌||◌, inl, inr, Bool, true, false, cond, not, nat_eq, eqb-true, eq-eqb, List, [], ◌∷◌, filter, Some, slice_get, arith, refl, sym, ◌∙◌, ap, subst}
 use Rattle.std.specs.List.{AllByRecursion, AllPairs, Contains}
 use Rattle.std.proofs.lemmas.List.Elements.{All-cons, All-nil}
@@ -217,7 +217,7 @@ left_candidates =
     candidates_of zero_says at_left (home_offer ∷ []) (alone_in_order (λ (o : Offer). o.prefix) home_offer)
     (λ o t. each_of (λ (x : Offer). Offers zero_says at_left x) (home_offer ∷ []) (home_offered, tt) o t) home_offers (alone_in_order (λ (x : Route). x.prefix) (wide 0 1))
 
--- ---- the external LSA
+-- ---- the AS-external-LSA
 
 abbrev IsTheOne : Key → Body → Type 0
 IsTheOne k (body.Router r) = Unit {0}
@@ -252,7 +252,7 @@ nearby_offered = offered zero_cost 0 (lsa_of middle_links) is_row at_middle (way
 nearby_inside : (o : Offer) → OffersInside zero_says at_middle o → Contains nearby o
 nearby_inside o x = within_nearby o (is_within 0 zero_cost refl at_middle o x)
 
--- ---- the forwarding address, which lies in the left router's network
+-- ---- the forwarding address, which is in the left router's network
 
 wide_there : OffersWithin zero_says at_middle (wide_offer 5 2)
 wide_there = record {
@@ -274,7 +274,7 @@ forwarding = ipv4 192 0 3 9
 nearby_in_order : AllPairs (λ (a : Offer) (b : Offer). IsBefore a.prefix b.prefix) nearby
 nearby_in_order = three_in_order (λ (o : Offer). o.prefix) (between_offer 5 1) (wide_offer 5 2) (narrow_offer 10 4) (ByAddress (omega arith)) (ByAddress (omega arith)) (ByLength refl (omega arith))
 
--- a network of no more than 23 bits, or one that the address lies outside of
+-- a network with a prefix of at most 23 bits, or one that doesn't contain the address
 abbrev IsShort : Network → Type 0
 IsShort n = IsUnder forwarding n → n.length ≤ 23
 

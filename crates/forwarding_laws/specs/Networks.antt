@@ -1,5 +1,5 @@
--- Routers whose databases say the same forward no packet in a loop, and it arrives (RFC 2328,
--- sections 11, 16.1 and 16.4).
+-- Routers whose databases say the same don't forward packets in a loop, and the packets arrive (RFC
+-- 2328, sections 11, 16.1 and 16.4).
 use Rattle.std.specs.Prelude.{◌≡◌, ◌≢◌, ℕ, ◌≤◌, IsTrue, List, [], ◌∷◌, Some, length}
 use Rattle.std.specs.List.{AllPairs}
 use Rattle.words.specs.Interfaces.{has_interface}
@@ -19,7 +19,7 @@ use Rattle.forwarding_laws.specs.Topologies.{says_of}
 -- ---- one hop
 
 -- the router is attached by a stub link of its own: to the network of the route, at the route's
--- cost, or to that of the forwarding address of an external LSA that the route comes of
+-- cost, or to that of the forwarding address of an AS-external-LSA from which the route comes
 pub data IsAttached (forwarder : Forwarder) (route : Route) : Type 0 where
   ToNetwork : Attaches (says_of forwarder.router) (ARouter forwarder.router.id) route.prefix
       route.cost → IsAttached forwarder route
@@ -30,13 +30,13 @@ pub data IsAttached (forwarder : Forwarder) (route : Route) : Type 0 where
       → Attaches (says_of forwarder.router) (ARouter forwarder.router.id) prefix cost
       → IsAttached forwarder route
 
--- what becomes of a packet to the address that a router sends by this next hop of its route
+-- what happens to a packet to the address that a router sends by this next hop of its route
 pub data LeadsOn (topology : Topology) (address place : ℕ) (forwarder : Forwarder) (route : Route)
     (interface : InterfaceNumber) : Type 0 where
   -- 0 stands for the router itself, which is attached
   AtHome : interface ≡ 0 → IsAttached forwarder route
       → LeadsOn topology address place forwarder route interface
-  -- the router at the other end forwards it by a better route of the same prefix
+  -- the router at the other end forwards it by a better route with the same prefix
   Further : (to : ℕ) (next : Forwarder) (following : Route)
       → topology.across place interface ≡ Some to
       → StandsAt topology to next → IsLongest next.table address following
@@ -60,10 +60,10 @@ EachHopLeadsOn =
 -- ---- many hops
 
 pub record RoutersForwardWithoutLoops : Type 0 where
-  -- a packet comes to no router twice
+  -- a packet visits no router twice
   pub no_twice : (topology : Topology) → HasConverged topology → (address : ℕ) (places : List ℕ)
       → IsHandedAlong topology address places → AllPairs (λ (a : ℕ) (b : ℕ). a ≢ b) places
-  -- so it comes to no more routers than there are
+  -- so it visits at most as many routers as there are
   pub short : (topology : Topology) → HasConverged topology → (address first : ℕ)
       (others : List ℕ) (forwarder : Forwarder) → StandsAt topology first forwarder
       → IsHandedAlong topology address (first ∷ others)
@@ -75,18 +75,18 @@ abbrev pub last_of : ℕ → List ℕ → ℕ
 last_of place [] = place
 last_of place (next ∷ others) = last_of next others
 
--- a packet to the address needs to go no further than to the router at this place
+-- a packet to the address has arrived at the router with this index
 pub data IsThere (topology : Topology) (address place : ℕ) : Type 0 where
-  -- the router is attached, by its route of the longest prefix
+  -- the router is attached, by its longest match
   Attached : (forwarder : Forwarder) → StandsAt topology place forwarder → (route : Route)
       → IsLongest forwarder.table address route → IsAttached forwarder route
       → IsThere topology address place
   -- the router announces the address itself
   Announced : IsAnnouncedAt topology address place → IsThere topology address place
 
--- If a router has a route for the address, whichever next hops are chosen on the way: a router that
--- hands the packet to nobody is the one that it is sent to. Since no way is longer than there are
--- routers, each packet arrives.
+-- If a router has a route for the address, whichever next hops are chosen: a router that doesn't
+-- forward the packet is its destination. Since no path is longer than the number of routers, each
+-- packet arrives.
 abbrev pub PacketsArrive : Type 0
 PacketsArrive =
     (topology : Topology) → HasConverged topology → (address first : ℕ) (others : List ℕ)

@@ -1,5 +1,5 @@
--- Routers that run, the links between them, and how they forward packets by their routing tables
--- (RFC 2328, section 11). What the laws of forwarding take for granted of them.
+-- Running routers, the links between them, and how they forward packets by their routing tables
+-- (RFC 2328, section 11). What the laws of forwarding assume about them.
 use Rattle.std.specs.Prelude.{◌≡◌, ◌≢◌, ◌⊎◌, ℕ, ◌<◌, IsTrue, List, [], ◌∷◌, Option, Some, slice_get}
 use Rattle.words.specs.Interfaces.{has_interface}
 use Rattle.words.specs.Numbers.{InterfaceNumber, RouterNumber}
@@ -29,8 +29,8 @@ pub record Forwarder : Type 0 where
   pub router : Router
   pub table : List Route
 
--- Routers, each at a place of its own, and the links between them: from a router's place and one
--- of its interfaces to the place of the router at the other end.
+-- Routers, each with an index, and the links between them: from a router's index and one of its
+-- interfaces to the index of the router at the other end.
 pub record Topology : Type 0 where
   pub routers : List Forwarder
   pub across : (place : ℕ) → InterfaceNumber → Option ℕ
@@ -46,19 +46,19 @@ says_of router = said_at router.moment router.area.database
 abbrev pub root_of : Router → Root
 root_of router = root_by router.id router.area.links
 
--- ---- what the laws rest on
+-- ---- the assumptions of the laws
 
 abbrev pub external_key : ℕ → RouterNumber → Key
 external_key id router =
     record { ls_type = 5; link_state_id = id; advertising_router = router }
 
--- its LSAs and its table are those of now
+-- its LSAs and its table are up to date
 pub record IsCurrentForwarder (forwarder : Forwarder) : Type 0 where
-  -- its database has the router-LSA that its interfaces and neighbors make now
+  -- its database has the router-LSA for its present interfaces and neighbors
   pub current : (let router = forwarder.router in
       IsCurrent (says_of router) router.id router.area.links)
-  -- its table is that of its candidates and of its program's answers, which `Core::rows` answers
-  -- (the `IsTableNow` of `flood`)
+  -- its table is that of its candidates and its program's answers, which `Core::rows` returns
+  -- (`IsTableNow` in `flood`)
   pub is_table : (let router = forwarder.router in
       IsTableOf router.id router.area router.moment router.answers forwarder.table)
   -- which let in each candidate
@@ -66,11 +66,11 @@ pub record IsCurrentForwarder (forwarder : Forwarder) : Type 0 where
       → IsCandidate (says_of forwarder.router) (root_of forwarder.router) route
       → IsLetIn forwarder.router.answers route
 
--- what each router owes alone
+-- the assumptions about each router by itself
 pub record IsUpToDate (forwarder : Forwarder) : Type 0 where
   pub is_current : IsCurrentForwarder forwarder
-  -- no two of its interfaces have one address, and each costs at least 1, as in each configuration
-  -- that a router takes
+  -- no two of its interfaces have the same address, and each has a cost of at least 1, as in each
+  -- valid configuration
   pub addresses : HaveOwnAddresses forwarder.router.area.links
   pub costs : HaveCosts forwarder.router.area.links
 
@@ -108,8 +108,8 @@ pub record HasConverged (topology : Topology) : Type 0 where
 
 -- ---- forwarding
 
--- The router at the one place hands packets to the address to the router at the other one: by a
--- next hop, 0 aside, of the route of the longest prefix in its table.
+-- The first router forwards packets to the address to the second: by a next hop, except 0, of the
+-- longest match in its table.
 pub record HandsTo (topology : Topology) (address : ℕ) (from to : ℕ) : Type 0 where
   pub forwarder : Forwarder
   pub stands : StandsAt topology from forwarder
@@ -120,7 +120,8 @@ pub record HandsTo (topology : Topology) (address : ℕ) (from to : ℕ) : Type 
   pub is_hop : IsTrue (has_interface route.hops interface)
   pub is_across : topology.across from interface ≡ Some to
 
--- an external LSA of the router's own tells of this destination, and the address lies in it
+-- a self-originated AS-external-LSA of the router advertises this destination, which contains the
+-- address
 pub record TellsOf (said : Said) (router : RouterNumber) (address : ℕ) (prefix : Network) : Type 0
   where
     pub id : ℕ
@@ -129,28 +130,28 @@ pub record TellsOf (said : Said) (router : RouterNumber) (address : ℕ) (prefix
     pub is_prefix : IsPrefix id lsa.mask prefix
     pub under : IsUnder address prefix
 
--- what a router announces comes before its route: it is of a longer prefix, or of as long a one
--- that the route leads to outside of the autonomous system
+-- what a router announces takes precedence over its route: it has a longer prefix, or one of the
+-- same length and the route is external
 abbrev pub ComesBefore : Network → Route → Type 0
 ComesBefore prefix route =
     (route.prefix.length < prefix.length)
     ⊎ ((route.prefix.length ≡ prefix.length) × (route.kind ≢ Intra) × (route.kind ≢ Inter))
 
--- The router announces the address, and forwards no packet to it by a better route of its own. So
--- one that announces a default route is no end for packets that it has a longer route for.
+-- The router announces the address, and forwards no packet to it by a better route of its own. So a
+-- router that announces a default route isn't the end for packets for which it has a longer route.
 pub record Announces (forwarder : Forwarder) (address : ℕ) : Type 0 where
   pub prefix : Network
   pub tells : TellsOf (says_of forwarder.router) forwarder.router.id address prefix
   pub before : (route : Route) → IsLongest forwarder.table address route
       → ComesBefore prefix route
 
--- the router at this place announces the address itself
+-- the router with this index announces the address itself
 pub record IsAnnouncedAt (topology : Topology) (address place : ℕ) : Type 0 where
   pub forwarder : Forwarder
   pub stands : StandsAt topology place forwarder
   pub announces : Announces forwarder address
 
--- Each router but the last hands the packet to the one after it, and doesn't announce the address
+-- Each router except the last forwards the packet to the next one, and doesn't announce the address
 -- itself.
 abbrev pub IsHandedAlong : Topology → ℕ → List ℕ → Type 0
 IsHandedAlong topology address [] = Unit {0}

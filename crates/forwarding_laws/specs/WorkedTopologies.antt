@@ -1,7 +1,7 @@
 -- Worked topologies (RFC 2328, sections 11, 16.1 and 16.4): three routers in a row, along which a
--- packet is handed on, also past a default route; three ways in which packets do come back: two
--- databases differ, a link leads elsewhere than the routers know, and interfaces of a router have
--- one address; and one in which a packet is lost: an interface costs 0.
+-- packet is forwarded, also past a default route; three cases in which packets do come back: the
+-- databases differ, a link leads elsewhere than the routers know, and two interfaces of a router
+-- have the same address; and one in which a packet is lost: an interface has cost 0.
 use Rattle.std.specs.Prelude.{◌≢◌, ℕ, ◌&&◌, Bool, List, [], ◌∷◌, Option, Some, None, map, nat_eq}
 use Rattle.std.specs.Prelude.{if◌then◌else◌}
 use Rattle.std.specs.FinMap as finite
@@ -29,7 +29,7 @@ use Rattle.forwarding_laws.specs.Topologies.{HasConverged}
 use Rattle.forwarding_laws.specs.Topologies.{IsCurrentForwarder, IsHandedAlong, IsUpToDate}
 use Rattle.forwarding_laws.specs.Topologies.{SayTheSame, StandsAt, TellsOf, Topology, says_of}
 
--- ---- three routers in a row, on links of cost 5; the interface of the left one lies in
+-- ---- three routers in a row, on links with cost 5; the interface of the left one is in
 -- 192.0.2.0/23, that of the right one in 192.0.2.0/24, and both of the middle one in 10.0.0.0/24
 
 abbrev pub interface_at : (address length : ℕ) → Interface
@@ -43,7 +43,7 @@ interface_at address length = record {
   delay = 1;
 }
 
--- a neighbor that is Full, with all lists empty
+-- a neighbor that is Full, with empty lists
 abbrev pub full : RouterNumber → Neighbor
 full router = record (fresh router None 0) { state = Full }
 
@@ -75,7 +75,7 @@ middle_links =
 abbrev pub right_links : List Link
 right_links = link_with (interface_at (ipv4 192 0 2 1) 24) (Some (full middle_id)) ∷ []
 
--- the copy of the router-LSA that these links make
+-- the copy of the router-LSA for these links
 abbrev pub its_copy : RouterNumber → List Link → Key × DatabaseCopy
 its_copy router links = (router_key router, copy_of (router_key router) (router_body links))
 
@@ -141,7 +141,7 @@ abbrev pub is_at : ℕ → ℕ → ℕ → ℕ → Bool
 is_at place interface this that = nat_eq place this && nat_eq interface that
 
 -- interface 1 of the left and of the right router leads to the middle one, interface 1 of that to
--- the left one, and interface 2 to the router at this place
+-- the left one, and interface 2 to the router with this index
 abbrev pub across_row : (second : ℕ) → (place interface : ℕ) → Option ℕ
 across_row second place interface =
     if is_at place interface 0 1 then Some 1
@@ -162,7 +162,7 @@ pub record WorkedTopology : Type 0 where
   pub handed_along : IsHandedAlong in_a_row address (0 ∷ 1 ∷ 2 ∷ [])
   pub is_there : IsThere in_a_row address 2
 
--- ---- the same routers; the middle one announces a default route of metric 20
+-- ---- the same routers; the middle one announces a default route with metric 20
 
 abbrev pub default_prefix : Network
 default_prefix = record { address = 0; length = 0 }
@@ -201,33 +201,34 @@ around_a_default = record {
   across = across_row 2;
 }
 
--- The middle router tells of a destination that each address lies in, and yet hands the packet on
--- by its longer route: so the laws speak of what becomes of it behind that router.
+-- The middle router advertises a destination that contains each address, but forwards the packet by
+-- its longer route: so the laws cover what happens to it after that router.
 pub record DefaultRoutesAreNoEnd : Type 0 where
   pub tells : TellsOf (says_of default_middle.router) middle_id address default_prefix
   pub handed_along : IsHandedAlong around_a_default address (0 ∷ 1 ∷ 2 ∷ [])
 
--- ---- the same routers; the second interface of the middle one is joined to the left one
+-- ---- the same routers; the second interface of the middle one is connected to the left one
 
 abbrev pub crossed_row : Topology
 crossed_row = record in_a_row { across = across_row 0 }
 
--- the middle router sends the packet by the interface on which it knows the right one, and it
--- comes back to the left one
+-- the middle router sends the packet by the interface on which it knows the right one, and it comes
+-- back to the left one
 pub record CrossedLinksMayLoop : Type 0 where
   pub up_to_date : AreUpToDate crossed_row
   pub agree : SayTheSame crossed_row
   pub comes_back : IsHandedAlong crossed_row address (0 ∷ 1 ∷ 0 ∷ [])
 
--- ---- the left and the middle router; the middle one has begun anew, and hasn't met the right one
--- yet
+-- ---- the left and the middle router; the middle one has restarted, and doesn't have the right one
+-- as
+-- neighbor yet
 
 abbrev pub anew_links : List Link
 anew_links =
     link_with (interface_at (ipv4 10 0 0 1) 24) (Some (full left_id))
     ∷ link_with (interface_at (ipv4 10 0 0 2) 24) None ∷ []
 
--- the new router-LSA hasn't come to the left router yet, nor that of the right one to the middle
+-- the left router hasn't received the new router-LSA yet, nor the middle one that of the right one
 abbrev pub anew : Entries
 anew = its_copy left_id left_links ∷ its_copy middle_id anew_links ∷ []
 
@@ -247,7 +248,7 @@ pub record DifferingDatabasesMayLoop : Type 0 where
   pub joined : AreJoined differing
   pub comes_back : IsHandedAlong differing address (0 ∷ 1 ∷ 0 ∷ [])
 
--- ---- the same routers in their row; both interfaces of the middle one have one address
+-- ---- the same routers in a row; both interfaces of the middle one have the same address
 
 abbrev pub equal_links : List Link
 equal_links =
@@ -259,7 +260,7 @@ equal =
     its_copy left_id left_links ∷ its_copy middle_id equal_links ∷ its_copy right_id right_links
     ∷ []
 
--- each of its two links leaves by both interfaces, since the address that it has is that of both
+-- each of its two links uses both interfaces, since its address is that of both
 abbrev pub equal_routes : List Route
 equal_routes = between 5 1 ∷ wide 10 6 ∷ narrow 10 6 ∷ []
 
@@ -277,7 +278,7 @@ with_equal_addresses = record {
 -- the middle router knows the right one by both interfaces, and sends the packet by the first one,
 -- back to the left router
 pub record EqualAddressesMayLoop : Type 0 where
-  -- of the middle router, all but that its interfaces have addresses of their own
+  -- for the middle router, all assumptions except that its interfaces have different addresses
   pub is_current : IsCurrentForwarder equal_middle
   pub costs : HaveCosts equal_links
   pub others : (place : ℕ) (other : Forwarder) → StandsAt with_equal_addresses place other
@@ -286,14 +287,14 @@ pub record EqualAddressesMayLoop : Type 0 where
   pub joined : AreJoined with_equal_addresses
   pub comes_back : IsHandedAlong with_equal_addresses address (0 ∷ 1 ∷ 0 ∷ [])
 
--- ---- the same routers in their row; the interface of the left one costs 0
+-- ---- the same routers in a row; the interface of the left one has cost 0
 
 abbrev pub zero_links : List Link
 zero_links =
     link_with (record (interface_at (ipv4 192 0 3 1) 23) { cost = 0 }) (Some (full middle_id))
     ∷ []
 
--- 203.0.113.0/24 of metric 20, which the right router announces with a forwarding address in the
+-- 203.0.113.0/24 with metric 20, which the right router announces with a forwarding address in the
 -- network of the left one
 abbrev pub abroad_lsa : ExternalLsa
 abroad_lsa = external Type1 20 (ipv4 192 0 3 9) 0
@@ -303,7 +304,7 @@ zero_cost =
     its_copy left_id zero_links ∷ its_copy middle_id middle_links ∷ its_copy right_id right_links
     ∷ of_external (ipv4 203 0 113 0) right_id abroad_lsa ∷ []
 
--- its one link has metric 0, which doesn't count: the left router knows its own network alone
+-- its only link has metric 0, which doesn't count: the left router knows only its own network
 abbrev pub zero_left : Forwarder
 zero_left = forwarder left_id zero_links zero_cost (wide 0 1 ∷ [])
 
@@ -335,10 +336,10 @@ abbrev pub address_abroad : ℕ
 address_abroad = ipv4 203 0 113 5
 
 -- the middle router sends the packet to the left one, toward the forwarding address; that one has
--- no way to the right router, so no route for the packet, though the forwarding address lies in its
--- own network: it hands the packet to nobody, and isn't the one that it is sent to
+-- no way to the right router, so no route for the packet, although the forwarding address is in its
+-- own network: it doesn't forward the packet, and isn't its destination
 pub record ZeroCostsMayLosePackets : Type 0 where
-  -- of the left router, all but that its interface costs at least 1
+  -- for the left router, all assumptions except that its interface has a cost of at least 1
   pub is_current : IsCurrentForwarder zero_left
   pub addresses : HaveOwnAddresses zero_links
   pub others : (place : ℕ) (other : Forwarder) → StandsAt with_zero_cost place other
