@@ -1,13 +1,13 @@
-//! How a figure of speed is taken, and how it is printed.
+//! How a figure of speed is measured and printed.
 use anyhow::{Result, ensure};
 use std::fmt;
 use std::rt::Clock;
 use std::time::Instant;
 
-/// How many measurements each figure is taken of, behind one that isn't counted.
+/// The number of measurements of each figure, after one that isn't counted.
 pub const MEASUREMENTS: usize = 11;
 
-/// The shortest measurement of a figure and the middle one, in nanoseconds.
+/// The least and the median time of the measurements of a figure, in nanoseconds.
 #[derive(Clone, Copy)]
 pub struct Times {
     pub least: u64,
@@ -15,7 +15,7 @@ pub struct Times {
 }
 
 impl Times {
-    /// Of all measurements.
+    /// The times of all measurements.
     pub fn of(measured: [u64; MEASUREMENTS]) -> Times {
         let mut nanos = measured;
         nanos.sort_unstable();
@@ -33,11 +33,11 @@ pub fn nanoseconds_since<R: Clock>(rt: &R, start: Instant) -> Result<u64> {
 
 /// Work that is measured, round by round.
 pub trait Round {
-    /// Does it once, and tells whether that succeeded.
+    /// Does it once; returns whether it succeeded.
     fn succeeds(&mut self) -> bool;
 }
 
-// How many of so many rounds succeed.
+// How many of that many rounds succeed.
 fn successes<W: Round>(rounds: u64, work: &mut W) -> u64 {
     let mut done = 0u64;
     for _round in 0..rounds {
@@ -48,8 +48,8 @@ fn successes<W: Round>(rounds: u64, work: &mut W) -> u64 {
     done
 }
 
-// One measurement: how long so many rounds take. A round that fails is an error, since it would
-// count as a fast one.
+// One measurement: how long that many rounds take. If one fails, that is an error, since it would
+// be too fast.
 fn measure_once<R: Clock, W: Round>(rt: &R, rounds: u64, work: &mut W) -> Result<u64> {
     let start = Instant::now(rt)?;
     let done = successes(rounds, work);
@@ -58,7 +58,7 @@ fn measure_once<R: Clock, W: Round>(rt: &R, rounds: u64, work: &mut W) -> Result
     Ok(nanos)
 }
 
-// How long so many rounds of the work take.
+// How long that many rounds of the work take.
 fn measure<R: Clock, W: Round>(rt: &R, rounds: u64, work: &mut W) -> Result<Times> {
     let _warm_up = measure_once(rt, rounds, work)?;
     let mut measured = [0; MEASUREMENTS];
@@ -75,7 +75,7 @@ struct Hundredths {
 }
 
 impl Hundredths {
-    /// So many nanoseconds, divided among so many.
+    /// The time of each, if this many of them take that many nanoseconds.
     fn each(nanos: u64, many: u64) -> Hundredths {
         Hundredths {
             amount: nanos as u128 * 100 / (many.max(1) as u128),
@@ -91,8 +91,8 @@ impl fmt::Display for Hundredths {
     }
 }
 
-/// Measures so many rounds of the work, each of which handles so many of a `unit`, and prints the
-/// least time of each of these and the median.
+/// Measures that many rounds of the work, each of which handles the given number of a `unit`, and
+/// prints the least and the median time for one unit.
 pub fn report<R: Clock + Print, W: Round>(
     rt: &R,
     what: &str,

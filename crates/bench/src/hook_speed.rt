@@ -1,4 +1,4 @@
-//! How long a question takes at each hook.
+//! How long it takes to ask a program at each hook.
 ghost use Rattle.maps.specs.Words.{IsOf};
 
 use crate::figures::{Round, report};
@@ -15,7 +15,7 @@ use words::{Address, External, ExternalType, Hops, Prefix, Route, RouteKind, Sec
 /// How many questions one measurement asks.
 const QUESTIONS: u64 = 10_000;
 
-/// An asker with a seat of a table of its own, and what it asks, which has this answer.
+/// An asker with a seat of a table of its own, and what it asks, with the expected answer.
 #[derive(Drop)]
 struct Asking {
     asker: Asker,
@@ -84,7 +84,7 @@ impl Round for Asking {
     }
 }
 
-// Measures the questions at a hook, beside this loader.
+// Measures the questions at a hook, with this loader.
 fn print_questions<R: Clock + Print + AllocGlobal>(
     rt: &R,
     what: &str,

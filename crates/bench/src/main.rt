@@ -1,5 +1,6 @@
-//! Figures of what can't be timed from outside, printed on demand: `bench run`, and so with the
-//! other names. With no words it prints nothing. `tools/figures` times what the programs do.
+//! Figures of what can't be timed from outside, printed on demand: `bench run`, and likewise with
+//! the other names. Without arguments it prints nothing. `tools/figures` times what the programs
+//! do.
 #![tactic(auto)]
 
 mod figures;
@@ -18,7 +19,7 @@ use std::thread::Threads;
 
 const USAGE: &str = "usage: bench run | hooks | maps | turn";
 
-// Prints the figures of this name, if there are such, or how the program is used.
+// Prints the figures with this name, if there are any, or how the program is used.
 fn print<R: Clock + Print + AllocGlobal + Threads + Wait + Copy + Send + Sync + 'static>(
     rt: &R,
     name: &str,

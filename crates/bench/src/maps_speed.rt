@@ -1,4 +1,4 @@
-//! How many adds to the shared counters one, two and four seats make.
+//! How many additions to the shared counters one, two and four seats make.
 ghost use Rattle.std.specs.Prelude.{◌≡◌, ◌<◌, length};
 ghost use Rattle.std.specs.List.{All};
 ghost use Rattle.std.specs.Arc.{arc_value};
@@ -13,11 +13,11 @@ use std::thread;
 use std::thread::{JoinHandle, Threads};
 use std::time::Instant;
 
-/// How often each seat adds.
+/// How many additions each seat makes.
 const ADDS: u64 = 4_000_000;
 
-/// When a thread's adds began and ended, in nanoseconds since a common start, and how many were
-/// made.
+/// When a thread's additions began and ended, in nanoseconds since a common start, and how many
+/// were made.
 #[derive(Clone, Copy)]
 struct Adds {
     began: u64,
@@ -25,7 +25,7 @@ struct Adds {
     made: u64,
 }
 
-// Adds 1 so often to one counter, and answers how many of these adds were made.
+// Adds 1 that many times to one counter, and returns how many of these additions were made.
 fn add_many(shared: &Shared, seat: &mut Seat, index: usize) -> u64
     requires table { IsOf shared.now seat.old }
     requires index { index < 256 }
@@ -77,7 +77,7 @@ fn start_thread<R: Clock + Threads + Wait + Copy + Send + 'static>(
     Ok(thread::spawn(&rt, job)?)
 }
 
-// The same with the signal and the table of others too.
+// The same with clones of the signal and the table.
 fn start_another<R: Clock + Threads + Wait + Copy + Send + 'static>(
     rt: R,
     signal: &Arc<Barrier>,
@@ -94,7 +94,7 @@ fn start_another<R: Clock + Threads + Wait + Copy + Send + 'static>(
     start_thread(rt, signal, start, shared, seat, index)
 }
 
-// Starts a thread for each seat: all on counter 0, or each on one that lies apart.
+// Starts a thread for each seat: all on counter 0, or each on a separate one.
 fn start_threads<R: Clock + AllocGlobal + Threads + Wait + Copy + Send + 'static>(
     rt: R,
     signal: &Arc<Barrier>,
@@ -127,7 +127,7 @@ fn span<R: Threads>(rt: &R, threads: Vec<JoinHandle<Result<Adds>>>) -> Result<u6
     Ok(ended.saturating_sub(began))
 }
 
-// One measurement: how long it takes so many seats, each on a thread of its own.
+// One measurement: how long it takes that many seats, each on a thread of its own.
 fn measure_once<R: Clock + AllocGlobal + Threads + Wait + Copy + Send + 'static>(
     rt: R,
     count: usize,
@@ -154,7 +154,7 @@ fn measure<R: Clock + AllocGlobal + Threads + Wait + Copy + Send + 'static>(
     Ok(Times::of(measured))
 }
 
-// Prints the most adds a second and the median.
+// Prints the most additions per second, and the median.
 fn print_each<R: Clock + Print + AllocGlobal + Threads + Wait + Copy + Send + 'static>(
     rt: R,
     count: usize,
@@ -177,8 +177,8 @@ fn print_each<R: Clock + Print + AllocGlobal + Threads + Wait + Copy + Send + 's
     Ok(())
 }
 
-/// Prints how many adds a second one, two and four seats make, side by side where there are as many
-/// cores.
+/// Prints how many additions per second one, two and four seats make, in parallel if there are
+/// enough cores.
 pub fn print<R: Clock + Print + AllocGlobal + Threads + Wait + Copy + Send + 'static>(
     rt: R,
 ) -> Result<()> {

@@ -21,7 +21,7 @@ fn push_slot(
     bytes.extend_from_slice(&[opcode, registers, offset, sign, number, 0, 0, 0])
 }
 
-/// `r0 = 0`, so many slots of arithmetic in all with the first and the last, `exit`.
+/// `r0 = 0`, arithmetic, `exit`: that many slots in all.
 pub fn straight_line(alloc: Global, slots: usize) -> Result<Vec<u8>, AllocError>
     requires { 2 ≤ slots }
     ensures { IfOk result (λ bytes. vec_len bytes ≡ 8 * slots) }

@@ -1,4 +1,4 @@
-//! How long an instruction takes: of a checked run, and of a run of an accepted program.
+//! How long an instruction takes: in a checked run, and in a run of an accepted program.
 ghost use Rattle.std.specs.Prelude.{◌≡◌, slice_range};
 ghost use Rattle.isa.specs.Hooks.{hook_number};
 ghost use Rattle.machine.specs.Memory.{number_of};
@@ -16,13 +16,13 @@ use std::alloc::Global;
 use std::rt::Clock;
 use verifier::Accepted;
 
-/// How many slots the code has.
+/// The number of slots of the code.
 const SLOTS: usize = 4_000;
 
-/// How often it is run for a measurement.
+/// The number of runs in a measurement.
 const ROUNDS: u64 = 1_000;
 
-// Runs the code once, and answers how many instructions it took; 0 where it didn't end.
+// Runs the code once, and returns how many instructions it took; 0 if it didn't end.
 fn once(code: &Code, input: &Input, shared: &Shared, seat: &mut Seat) -> u64
     requires { IsOf shared.now seat.old }
     ensures { IsOf shared.now seat.new }
@@ -42,7 +42,7 @@ fn empty_input() -> Input<'static> {
     }
 }
 
-// Runs code that takes so many instructions, on the only seat of a table of its own.
+// Runs code that takes that many instructions, on the only seat of a table of its own.
 #[derive(Drop)]
 struct Checked<'a> {
     code: &'a Code,
@@ -115,7 +115,7 @@ fn context_of(hook: Hook) -> [u8; 64]
     context
 }
 
-// Runs the program once, and answers how many instructions it took.
+// Runs the program once, and returns how many instructions it took.
 fn run_once(accepted: &Accepted, shared: &Shared, seat: &mut Seat) -> u64
     requires { IsOf shared.now seat.old }
     ensures { IsOf shared.now seat.new }
@@ -128,7 +128,7 @@ fn run_once(accepted: &Accepted, shared: &Shared, seat: &mut Seat) -> u64
     run(accepted, &input, shared, seat).used
 }
 
-// Runs a program that takes so many instructions, on the only seat of a table of its own.
+// Runs a program that takes that many instructions, on the only seat of a table of its own.
 #[derive(Drop)]
 struct Running<'a> {
     accepted: &'a Accepted,
@@ -173,7 +173,7 @@ fn object_of(alloc: Global) -> Result<Object> {
     }
 }
 
-/// Prints how long an instruction takes: of a checked run, and of an accepted program.
+/// Prints how long an instruction takes: in a checked run, and in a run of an accepted program.
 pub fn print<R: Clock + Print + AllocGlobal>(rt: &R) -> Result<()> {
     print_checked(rt)?;
     let object = object_of(rt.alloc())?;

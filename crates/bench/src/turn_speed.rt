@@ -1,5 +1,5 @@
-//! How long a turn takes for a Hello at a router with one interface: what a turn costs beside its
-//! event.
+//! How long a turn takes for a Hello at a router with one interface: the cost of a turn in addition
+//! to its event.
 ghost use Rattle.std.specs.Prelude.{◌≡◌};
 ghost use Rattle.worker.specs.Opening.{IsSetUpFor};
 
@@ -41,19 +41,19 @@ fn config(alloc: Global) -> Result<Config, AllocError> {
     })
 }
 
-// A Hello of 2.2.2.2, which has heard of nobody.
+// A Hello of 2.2.2.2 that lists no router.
 const HELLO: &[u8] = &[
     2, 1, 0, 44, 2, 2, 2, 2, 0, 0, 0, 0, 0xf8, 0x9a, 0, 0, 0, 0, 0, 0, 0, 0, 0, 0, 255, 255, 255,
     0, 0, 10, 2, 1, 0, 0, 0, 40, 0, 0, 0, 0, 0, 0, 0, 0,
 ];
 
-// What comes in.
+// The packet that is received.
 fn packet(alloc: Global) -> Result<Work, AllocError> {
     let bytes = Vec::from_slice(alloc, HELLO)?;
     Ok(Work::Datagram(1, Sequence::from_vec(bytes)))
 }
 
-// Takes the turns: how many weren't refused.
+// Takes the turns, and returns how many weren't refused.
 fn labor<L: Site, R: Wait>(rt: &R, hub: &Hub<L, Book<L>>, port: &mut Port<L>, work: &Work) -> u64 {
     let mut taken = 0u64;
     for _turn in 0..TURNS {
@@ -82,7 +82,7 @@ fn measure<L: Site, R: Wait + Clock>(
     Ok(nanoseconds)
 }
 
-// At a hub that begins with this router.
+// At a hub that starts with this router.
 fn measure_at<L: Site, R: Wait + Clock>(
     rt: &R,
     alloc: Global,
@@ -99,7 +99,7 @@ fn measure_at<L: Site, R: Wait + Clock>(
     measured
 }
 
-// Beside a program at `count`, if there is to be one.
+// With a program at `count`, if there is to be one.
 fn measure_beside<L: Site, R: Wait + Clock>(
     rt: &R,
     alloc: Global,
@@ -145,7 +145,7 @@ fn print_turns<R: Wait + Clock + Print + AllocGlobal>(
 /// `count` that adds to a counter.
 ///
 /// # Errors
-/// The clock or the output failed, memory ran out, or a turn was refused.
+/// If the clock or the output fails, an allocation is refused, or a turn is refused.
 pub fn print<R: Wait + Clock + Print + AllocGlobal>(rt: &R) -> Result<()> {
     print_turns(rt, "a Hello", false)?;
     print_turns(rt, "the same, counted by a program", true)

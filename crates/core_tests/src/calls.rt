@@ -1,4 +1,5 @@
-//! A router's calls, each once: trials/router.rows has 47 conversations, played by the program.
+//! A router's functions, each once: trials/router.rows has 47 conversations, which the program
+//! plays.
 use crate::member::begun;
 use flood::{ConfigError, Core, CoreError, Event};
 use packet::Fault;
@@ -6,7 +7,7 @@ use std::alloc::{AllocError, Global};
 use std::test::Fail;
 use words::{Address, Prefix, Route, Second};
 
-// The candidates of a router that walks anew.
+// The candidates of a copy of the router, with a walk of its own.
 fn candidates_anew(core: &Core) -> Result<Vec<Route>, AllocError> {
     let copy = core.copy()?;
     let routes = copy.candidates();
@@ -24,14 +25,14 @@ fn offers_its_networks(core: &mut Core) -> Result<bool, AllocError> {
     Ok(is_same && candidates.len() == 2 && has_no_rows && core.stale()?)
 }
 
-// Whether it sends a Hello at each interface, and takes no moment before the last one.
+// Whether it sends a Hello at each interface, and refuses a moment before the last one.
 fn greets(core: &mut Core) -> Result<bool, CoreError> {
     let sent = core.step(Second::new(7), &Event::Tick)?;
     let early = core.step(Second::new(6), &Event::Tick).err();
     Ok(sent.len() == 2 && early == Some(CoreError::ClockBack))
 }
 
-// Whether it announces nothing, and has its own LSA alone.
+// Whether it announces nothing, and has only its own LSA.
 fn announces_nothing(core: &Core) -> bool {
     let network = Prefix::new(Address::new(0xcb00_7100), 24);
     let wanted = network.is_some_and(|prefix| core.wants(prefix));

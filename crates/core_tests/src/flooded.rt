@@ -1,10 +1,11 @@
-//! What has to stand on a router's retransmission lists, and what no longer may, as far as its
-//! packets tell (RFC 2328, sections 13.3, 13.6 and 13.7).
+//! What has to be on a router's retransmission lists, and what no longer may be, as far as its
+//! packets show it (RFC 2328, sections 13.3, 13.6 and 13.7).
 use crate::named::{Kind, Named};
 use std::alloc::Global;
 
-// An instance that was flooded at an interface, when it was last sent there by the list, and
-// whether the neighbor has it. It is lost from sight where its place on the list may be another's.
+// An instance that was flooded at an interface, when it was last sent there, and whether the
+// neighbor has acknowledged it. It is no longer tracked if another instance may have replaced it on
+// the list.
 #[derive(Clone, Copy)]
 struct Entry {
     interface: u16,
@@ -14,7 +15,7 @@ struct Entry {
     is_lost: bool,
 }
 
-/// What was flooded at a router's interfaces, while the neighbors there were Full.
+/// What was flooded at a router's interfaces while the neighbors there were Full.
 #[derive(Drop)]
 pub struct Flooded {
     entries: Vec<Entry>,
@@ -24,14 +25,15 @@ pub struct Flooded {
 const INTERVAL: u64 = 2;
 
 impl Flooded {
-    /// Nothing was flooded.
+    /// Nothing was flooded so far.
     pub fn new(alloc: Global) -> Flooded {
         Flooded {
             entries: Vec::new(alloc),
         }
     }
 
-    /// What comes in at this interface names an instance. An Update may bring another one.
+    /// Notes an instance in a packet received at this interface. A Link State Update may have
+    /// another instance of the LSA.
     pub fn hears(&mut self, interface: u16, kind: Kind, instance: &Named) {
         for entry in &mut self.entries {
             if entry.instance == *instance {
@@ -42,8 +44,8 @@ impl Flooded {
         }
     }
 
-    /// An instance goes out at this interface, which isn't for what came in there. At a Tick none
-    /// may that is acknowledged.
+    /// Notes an instance that is sent at this interface other than in reply to a packet there. At a
+    /// Tick it may not be one that was acknowledged.
     pub fn tells(&mut self, interface: u16, instance: &Named, moment: u64, is_tick: bool) -> bool {
         let mut is_there = false;
         for entry in &mut self.entries {
@@ -77,7 +79,7 @@ impl Flooded {
         self.entries.push(entry).is_ok() && has_room
     }
 
-    /// The neighbor at this interface isn't Full.
+    /// Forgets this interface, whose neighbor isn't Full.
     pub fn forgets(&mut self, interface: u16) {
         for entry in &mut self.entries {
             if entry.interface == interface {

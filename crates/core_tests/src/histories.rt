@@ -1,8 +1,9 @@
-//! Made histories of three routers in a row: packets come in order, twice, early, late or never,
-//! time goes on, destinations come and go, links go down, and two routers begin anew. At each
-//! step what is acknowledged was received, and after calm seconds all neighbors are Full.
+//! Generated histories of three routers in a row: packets arrive in order, twice, early, late or
+//! never, time passes, destinations are announced and withdrawn, links go down, and two routers
+//! restart. At each step what is acknowledged was received, and after some seconds without
+//! disturbance all neighbors are Full.
 //!
-//! That databases are the same then isn't promised: see `networks`, a flushed LSA that comes back.
+//! The databases need not be the same then: see `networks`, a flushed LSA that comes back.
 ghost use Rattle.std.specs.Prelude.{◌<◌};
 
 use crate::network::{Act, CALM, DESTINATIONS, Fate, Network};
@@ -12,12 +13,13 @@ use std::alloc::Global;
 use std::sync::Wait;
 use std::test::Fail;
 
-// How many histories a test plays, each of so many steps, in two of which a router begins anew.
+// The number of histories that a test plays, and below the number of steps of each, in two of which
+// a router restarts.
 const HISTORIES: u64 = 50;
 
 const STEPS: u32 = 500;
 
-// The generator of Knuth's MMIX.
+// Knuth's MMIX generator.
 #[derive(Drop)]
 struct Random {
     state: u64,
@@ -35,12 +37,12 @@ impl Random {
         u32::try_from(self.state >> 33).unwrap_or(0) % limit
     }
 
-    // A router's place.
+    // The index of a router.
     fn place(&mut self) -> usize {
         self.below(3) as usize
     }
 
-    // A destination comes, or goes.
+    // A destination is announced or withdrawn.
     fn destination(&mut self) -> Act {
         let (place, number) = (self.place(), self.below(DESTINATIONS));
         if self.below(2) == 0 {
@@ -73,7 +75,7 @@ impl Random {
     }
 }
 
-// The steps of a history, and calm seconds.
+// The steps of a history, and then some seconds without disturbance.
 fn comes_out(network: &mut Network, events: &[Event], random: &mut Random) -> bool {
     for number in 0..STEPS {
         let act = if number == 150 || number == 330 {
@@ -88,7 +90,8 @@ fn comes_out(network: &mut Network, events: &[Event], random: &mut Random) -> bo
     network.does(events, Act::Seconds(20, CALM)) && network.does(events, Act::Full)
 }
 
-// How many instances were acknowledged in the history of this number, if it comes out so.
+// How many instances were acknowledged in the history with this seed, if it has the expected
+// result.
 fn played(alloc: Global, events: &[Event], number: u64) -> Option<usize> {
     let mut network = Network::new(alloc, 3)?;
     let is_right = comes_out(&mut network, events, &mut Random { state: number });
@@ -97,7 +100,8 @@ fn played(alloc: Global, events: &[Event], number: u64) -> Option<usize> {
     is_right.then_some(acknowledged)
 }
 
-// Plays so many histories, from this number on, in which many instances are acknowledged.
+// Plays the histories with the seeds from this number on; many instances have to be acknowledged in
+// them.
 fn play_histories(alloc: Global, events: &[Event], first: u64) -> Result<(), Fail> {
     let mut acknowledged = 0_usize;
     for number in first..first.saturating_add(HISTORIES) {

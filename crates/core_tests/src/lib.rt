@@ -1,5 +1,5 @@
-//! Tests of the router as a whole by its public calls: two and three routers in memory, in
-//! `networks` and `histories`, and each call once. What one router does packet by packet stands in
+//! Tests of the whole router by its public functions: two and three routers in memory, in
+//! `networks` and `histories`, and each function once. What one router does packet by packet is in
 //! trials/router.rows.
 #![tactic(auto)]
 

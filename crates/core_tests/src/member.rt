@@ -1,4 +1,4 @@
-//! A router, and what it knows.
+//! A router, and the instances that it knows.
 use crate::flooded::Flooded;
 use crate::named::{Kind, Named, first_place, header_in, kind_of, place_behind};
 use flood::{Config, Core, CoreError, Event, Interface, Out, State};
@@ -6,8 +6,8 @@ use lsa::Header;
 use std::alloc::Global;
 use words::{Address, RouterId, Second, Sequence};
 
-/// A router, and the instances that it has received or originated, before it began anew too. Who has
-/// it closes it.
+/// A router, and the instances that it has received or originated, also before a restart. Its owner
+/// closes it.
 pub struct Member {
     pub core: Core,
     /// How many instances it has acknowledged.
@@ -16,8 +16,7 @@ pub struct Member {
     flooded: Flooded,
 }
 
-// Whether a packet came in or went out: at a Tick, for a packet that came in there, or for what
-// else happened.
+// Whether a packet was received or sent: at a Tick, in reply to a packet there, or otherwise.
 #[derive(Clone, Copy, PartialEq, Eq)]
 enum Way {
     In,
@@ -26,7 +25,7 @@ enum Way {
     Out,
 }
 
-// How what an event makes goes out at an interface.
+// How an event's packets are sent at an interface.
 fn way_of(event: &Event, interface: u16) -> Way {
     match event {
         Event::Tick => Way::AtTick,
@@ -35,7 +34,7 @@ fn way_of(event: &Event, interface: u16) -> Way {
     }
 }
 
-/// The Router ID of the router at a place: 0.0.0.1 and so on.
+/// The Router ID of the router at an index: 0.0.0.1 and so on.
 pub fn router_at(place: usize) -> RouterId {
     match place {
         0 => RouterId::new(1),
@@ -59,7 +58,7 @@ fn interface(router: u32, number: u32) -> Interface {
     }
 }
 
-// The router with interfaces 1 and 2 that begins at this moment.
+// The configuration of the router, with interfaces 1 and 2, that starts at this moment.
 fn configuration(alloc: Global, router: RouterId, start: Second) -> Option<Config> {
     let number = router.number();
     match Vec::from_slice(alloc, &[interface(number, 1), interface(number, 2)]) {
@@ -72,7 +71,7 @@ fn configuration(alloc: Global, router: RouterId, start: Second) -> Option<Confi
     }
 }
 
-// The router of a place as it begins at this moment.
+// The router at an index, which starts at this moment.
 fn started(alloc: Global, place: usize, start: Second) -> Option<Core> {
     let config = configuration(alloc, router_at(place), start)?;
     match Core::new(alloc, &config) {
@@ -81,7 +80,7 @@ fn started(alloc: Global, place: usize, start: Second) -> Option<Core> {
     }
 }
 
-/// The router of a place as it begins at this moment. One allocation may be refused.
+/// The router at an index, which starts at this moment. One allocation may be refused.
 pub fn begun(alloc: Global, place: usize, start: Second) -> Option<Core> {
     match started(alloc, place, start) {
         None => started(alloc, place, start),
@@ -89,7 +88,7 @@ pub fn begun(alloc: Global, place: usize, start: Second) -> Option<Core> {
     }
 }
 
-// What is sent; None where the event is refused. One allocation may be refused.
+// What is sent; `None` if the event is refused. One allocation may be refused.
 fn stepped(core: &mut Core, moment: Second, event: &Event) -> Option<Vec<Out>> {
     match core.step(moment, event) {
         Ok(outs) => Some(outs),
@@ -99,7 +98,7 @@ fn stepped(core: &mut Core, moment: Second, event: &Event) -> Option<Vec<Out>> {
 }
 
 impl Member {
-    /// The router of a place, which begins at 0 and knows nothing.
+    /// The router at an index, which starts at 0 and knows nothing.
     pub fn new(alloc: Global, place: usize) -> Option<Member> {
         let core = begun(alloc, place, Second::new(0))?;
         Some(Member {
@@ -110,7 +109,7 @@ impl Member {
         })
     }
 
-    /// Lets the router go.
+    /// Drops the router.
     pub fn close(self) {
         let Member {
             core,
@@ -139,8 +138,8 @@ impl Member {
         self.known.push(*instance).is_ok() && has_room
     }
 
-    // Acknowledged was received: what an Update brings is known from now on, as is an own instance
-    // that an Update takes out; all else that goes out has to be known.
+    // What is acknowledged was received: what a received Link State Update contains is known from
+    // now on, and so is an own instance in one that is sent; all else that is sent has to be known.
     fn takes_note(&mut self, way: Way, kind: Kind, header: &Header) -> bool {
         let instance = Named::by(header);
         let is_own = header.advertising_router == self.core.router_id();
@@ -156,7 +155,7 @@ impl Member {
         }
     }
 
-    // Acknowledged isn't sent again, as far as packets tell.
+    // What was acknowledged isn't sent again, as far as packets show it.
     fn lists(&mut self, way: Way, place: (u16, u64), kind: Kind, header: &Header) -> bool {
         let instance = Named::by(header);
         let (interface, moment) = place;
@@ -173,7 +172,7 @@ impl Member {
         }
     }
 
-    // Takes note of each instance that the packet names, at this interface and moment.
+    // Checks each instance in the packet, at this interface and moment.
     fn looks_at(&mut self, way: Way, place: (u16, u64), bytes: &[u8]) -> bool {
         let kind = kind_of(bytes);
         let mut at = first_place(kind, bytes);
@@ -208,7 +207,7 @@ impl Member {
         true
     }
 
-    // Whether what isn't acknowledged was sent again to neighbors that are Full.
+    // Whether what isn't acknowledged was retransmitted to neighbors that are Full.
     fn sends_again(&mut self, moment: u64, event: &Event) -> bool {
         for interface in 1..=2u16 {
             match self.core.neighbor(interface) {
@@ -222,8 +221,8 @@ impl Member {
         }
     }
 
-    /// What the router sends; None where it refuses the event, tells what it doesn't know, or sends
-    /// again what is acknowledged or not what isn't.
+    /// What the router sends; `None` if it refuses the event, sends what it doesn't know,
+    /// retransmits what was acknowledged, or doesn't retransmit what wasn't.
     pub fn takes(&mut self, moment: u64, event: &Event) -> Option<Vec<Out>> {
         if !self.hears(moment, event) {
             return None;

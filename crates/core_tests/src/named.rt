@@ -1,10 +1,10 @@
-//! What a packet names, read from its bytes: the instances of the LSAs in an Update or in an
-//! Acknowledgment (RFC 2328, A.3.5, A.3.6 and A.4.1).
+//! The contents of a packet, from its bytes: the instances in a Link State Update or in a Link
+//! State Acknowledgment (RFC 2328, sections A.3.5, A.3.6 and A.4.1).
 use lsa::{HEADER_LENGTH, Header, header_at};
 use words::{Key, SequenceNumber};
 
-/// An instance of an LSA, and whether it is at MaxAge. No LSA of these tests is so old unless it is
-/// flushed.
+/// An instance of an LSA, and whether it is at MaxAge. No LSA of these tests gets that old unless
+/// it is flushed.
 #[derive(Clone, Copy, PartialEq, Eq)]
 pub struct Named {
     pub key: Key,
@@ -14,7 +14,7 @@ pub struct Named {
 }
 
 impl Named {
-    /// The instance that has this header.
+    /// The instance with this header.
     pub fn by(header: &Header) -> Named {
         Named {
             key: header.key(),
@@ -25,7 +25,7 @@ impl Named {
     }
 }
 
-/// What kind of packet it is.
+/// The kind of a packet.
 #[derive(Clone, Copy, PartialEq, Eq)]
 pub enum Kind {
     Update,
@@ -42,7 +42,7 @@ pub fn kind_of(bytes: &[u8]) -> Kind {
     }
 }
 
-/// Where the first header stands; the end, where there is none.
+/// The index of the first header, or of the end if there is none.
 pub fn first_place(kind: Kind, bytes: &[u8]) -> usize {
     match kind {
         Kind::Update => 28,
@@ -51,7 +51,7 @@ pub fn first_place(kind: Kind, bytes: &[u8]) -> usize {
     }
 }
 
-/// The header at a place.
+/// The header at an index.
 pub fn header_in(bytes: &[u8], at: usize) -> Option<Header> {
     let after = at.checked_add(HEADER_LENGTH)?;
     if after > bytes.len() {
@@ -60,7 +60,7 @@ pub fn header_in(bytes: &[u8], at: usize) -> Option<Header> {
     Some(header_at(bytes, at))
 }
 
-/// The place behind the LSA or the header at a place.
+/// The index after the LSA or the header at an index.
 pub fn place_behind(kind: Kind, at: usize, header: &Header) -> usize {
     match kind {
         Kind::Update => at.saturating_add(usize::from(header.length)),

@@ -1,17 +1,17 @@
-//! Routers in a row, in memory: what one of them sends is under way to the next one, where it may
-//! be lost, come twice, late or in another order.
+//! Routers in a row, in memory: what one of them sends is in transit to the next one, and may be
+//! lost, or arrive twice, late or in another order.
 //!
-//! What happens to them is a list of acts. Those of `networks` stand there one by one. Those of
-//! `histories` are stored too, as seeds: a fixed generator makes of each number the same list
-//! whenever it is played.
+//! What happens to them is a list of acts. Those of `networks` are written out. Those of
+//! `histories` are stored as seeds: a fixed generator makes the same list from each number whenever
+//! it is played.
 //!
-//! After each event the instances are looked at that the router tells, in Acknowledgments and in
-//! Updates: it has received or originated each, in this life or an earlier one. What leaves a
-//! retransmission list isn't shown by `flood::Core`. But only what the packet that comes in names
-//! leaves it as acknowledged (`flood::Core::step`, clause `keeps`), and packets come as they were
-//! sent: so that all senders know what they tell is what "acknowledged was received" rests on. What
-//! was flooded to a neighbor that is Full ever since shows besides what its list holds: at a Tick
-//! it comes again once RxmtInterval has passed, unless the neighbor has acknowledged it.
+//! After each event, the instances are checked that the router sends in Link State Acknowledgments
+//! and Updates: it has received or originated each, before or after a restart. `flood::Core`
+//! doesn't show what is removed from a retransmission list. But as acknowledged only what the
+//! received packet has is removed (`flood::Core::step`, clause `keeps`), and packets arrive as they
+//! were sent: so "acknowledged was received" relies on all senders knowing what they send. What was
+//! flooded to a neighbor that has been Full since also shows what is on its list: a Tick sends it
+//! again once RxmtInterval has passed, unless the neighbor has acknowledged it.
 use crate::member::{Member, begun, router_at};
 use flood::{Core, Event, Out, State};
 use simulated_networks::{holds_the_same, prefix};
@@ -19,83 +19,82 @@ use std::alloc::{AllocFailed, Global};
 use std::mem::replace;
 use words::{Prefix, Route, Second};
 
-/// What becomes of the next packet that is under way; nothing, where there is none.
+/// What happens to the next packet in transit, if there is one.
 #[derive(Clone, Copy)]
 pub enum Fate {
     Comes,
     Lost,
     Twice,
-    /// It comes after the one behind it.
+    /// It arrives after the next one.
     Exchanged,
 }
 
-/// What is done with a network, and what is seen of it.
+/// An act of a network, or an observation of it.
 #[derive(Clone, Copy)]
 pub enum Act {
-    /// What becomes of the next packet.
+    /// What happens to the next packet.
     Next(Fate),
-    /// A packet comes that was sent before so many others, early or once more.
+    /// A packet arrives that was sent that many packets ago, early or once more.
     Again(usize),
-    /// A Tick at the router at the place.
+    /// A Tick at the router with this index.
     Tick(usize),
-    /// So many seconds go by at once, with a Tick at each router.
+    /// That many seconds pass at once, with a Tick at each router.
     Passes(u64),
-    /// So many seconds go by one by one. What becomes of the packets of each is what the list says,
-    /// from its start on and over again.
+    /// That many seconds pass one by one. The list says what happens to the packets of each, from
+    /// its start on and repeatedly.
     Seconds(u32, &'static [Fate]),
-    /// The router at the place announces the destination of this number, or withdraws it.
+    /// The router with this index announces the destination with this number, or withdraws it.
     Announce(usize, usize),
     Withdraw(usize, u32),
-    /// The interface of this number goes down at the router at the place.
+    /// The interface with this number goes down at the router with this index.
     LinkDown(usize, u16),
-    /// The router at the place begins anew.
+    /// The router with this index restarts.
     Restart(usize),
-    /// All are Full.
+    /// All neighbors are Full.
     Full,
     /// All neighbors are Down.
     Apart,
     /// All databases hold the same LSAs.
     Same,
-    /// The database of the router at the place holds so many LSAs.
+    /// The database of the router with this index holds that many LSAs.
     Holds(usize, usize),
-    /// The router at the place has a route to the destination of a number that leaves by this
-    /// interface.
+    /// The router with this index has a route to the destination with a number, by this interface.
     Leads(usize, u16, u32),
 }
 
-/// How many destinations there are.
+/// The number of destinations.
 pub const DESTINATIONS: u32 = 4;
 
-/// Packets come one after the other.
+/// Packets arrive in order.
 pub const CALM: &[Fate] = &[Fate::Comes];
 
-/// What is under way to the router at a place.
+/// A packet in transit to the router with an index.
 #[derive(Drop)]
 struct Coming {
     to: usize,
     event: Event,
 }
 
-/// The first interface of the router at place 0 leads to that at place 1, whose second one leads
-/// to that at place 2. It has no `Drop`: who has it closes it, so that this crate doesn't prove once
-/// more how the parts of a router are let go.
+/// The first interface of router 0 leads to router 1, whose second one leads to router 2. It has no
+/// `Drop`: its owner closes it, so that this crate doesn't prove the drop of a router's parts
+/// again.
 pub struct Network {
     alloc: Global,
     moment: u64,
     members: Vec<Member>,
-    // all that was sent; what stands before `at` has come, or was lost
+    // all that was sent; the packets before index `at` have arrived, or were lost
     packets: Vec<Coming>,
     at: usize,
 }
 
-// In a second there are fewer packets.
+// More packets than are sent in a second.
 const MOST_PACKETS: usize = 10_000;
 
-// Each interface that leads somewhere: its router's place, its number, and the place at the other
-// end.
+// Each interface that leads somewhere: its router's index, its number, and the index of the router
+// at the other end.
 const ENDS: [(usize, u16, usize); 4] = [(0, 1, 1), (1, 1, 0), (1, 2, 2), (2, 1, 1)];
 
-// The place and the interface at the other end of an interface.
+// The router's index and the interface at the other end of an interface.
 fn other_end(place: usize, interface: u16) -> Option<(usize, u16)> {
     match (place, interface) {
         (0, 1) => Some((1, 1)),
@@ -106,7 +105,7 @@ fn other_end(place: usize, interface: u16) -> Option<(usize, u16)> {
     }
 }
 
-// Some route to the prefix leaves by the interface.
+// Whether some route to the prefix uses the interface.
 fn some_leads(routes: &[Route], prefix: Prefix, interface: u16) -> bool {
     for route in routes {
         if route.prefix == prefix && interface < 64 && route.hops.bits() >> interface & 1 == 1 {
@@ -124,12 +123,12 @@ fn candidates(core: &Core) -> Option<Vec<Route>> {
     }
 }
 
-// What the router at a place sends; None where it isn't there or doesn't take the event.
+// What the router with an index sends; `None` if it doesn't exist or refuses the event.
 fn taken(members: &mut [Member], place: usize, moment: u64, event: &Event) -> Option<Vec<Out>> {
     members.get_mut(place)?.takes(moment, event)
 }
 
-// The router of the place is one of them from now on.
+// Adds the router with the index.
 fn joins(members: &mut Vec<Member>, alloc: Global, place: usize) -> bool {
     match Member::new(alloc, place) {
         None => false,
@@ -157,7 +156,7 @@ fn all_join(members: &mut Vec<Member>, alloc: Global, count: usize) -> bool {
 }
 
 impl Network {
-    /// So many routers, at most three, that begin at 0.
+    /// That many routers, at most three, which start at 0.
     pub fn new(alloc: Global, count: usize) -> Option<Network> {
         let mut network = Network {
             alloc,
@@ -174,7 +173,7 @@ impl Network {
         }
     }
 
-    /// Lets the routers go.
+    /// Drops the routers.
     pub fn close(self) {
         let Network {
             alloc: _,
@@ -194,7 +193,7 @@ impl Network {
         self.packets.reserve(1).is_ok() || self.packets.reserve(1).is_ok()
     }
 
-    // The packet is under way, if its interface leads somewhere.
+    // Puts the packet in transit, if its interface leads somewhere.
     fn sends(&mut self, place: usize, out: Out) -> bool {
         match other_end(place, out.interface) {
             Some((to, at)) if to < self.members.len() => {
@@ -221,7 +220,7 @@ impl Network {
         }
     }
 
-    // The event happens to the router at this place.
+    // The event happens to the router with this index.
     fn happens(&mut self, place: usize, event: &Event) -> bool {
         let outs = taken(&mut self.members, place, self.moment, event);
         self.sends_what_is(place, outs)
@@ -241,8 +240,8 @@ impl Network {
         }
     }
 
-    // The packet of this index comes, once more or for the first time; nothing, where there is
-    // none.
+    // The packet with this index arrives, once more or for the first time; nothing happens if there
+    // is none.
     fn comes(&mut self, index: usize) -> bool {
         let Some(coming) = self.packets.get(index) else {
             return true;
@@ -252,7 +251,7 @@ impl Network {
         self.sends_what_is(place, outs)
     }
 
-    // The next packet has come, or was lost.
+    // The next packet has arrived, or was lost.
     fn goes_on(&mut self) -> bool {
         self.at = self.packets.len().min(self.at.saturating_add(1));
         true
@@ -321,7 +320,7 @@ impl Network {
         true
     }
 
-    // The router at this place begins anew.
+    // The router with this index restarts.
     fn restarts(&mut self, place: usize) -> bool {
         let Some(core) = begun(self.alloc, place, Second::new(self.moment)) else {
             return false;
@@ -338,8 +337,8 @@ impl Network {
         }
     }
 
-    // The router at the place sees the one at the other end in this state; None is Down. Where one
-    // of them isn't there, nothing is looked at.
+    // Whether the router has the one at the other end as a neighbor in this state; `None` is Down.
+    // True if one of them doesn't exist.
     fn sees(&self, place: usize, interface: u16, other: usize, state: Option<State>) -> bool {
         let Some(member) = self.members.get(place) else {
             return true;
@@ -404,8 +403,8 @@ impl Network {
         }
     }
 
-    /// Whether the act comes out so, with these announcements of the destinations: no event is
-    /// refused, what is acknowledged was received, and what is to be seen is.
+    /// Whether the act has the expected result, with these announcements of the destinations: no
+    /// event is refused, what is acknowledged was received, and what is observed is as expected.
     pub fn does(&mut self, announcements: &[Event], act: Act) -> bool {
         match act {
             Act::Next(fate) => self.next(fate),

@@ -1,5 +1,5 @@
 //! Two and three routers in a row: they become Full, and their databases the same, whatever is
-//! lost, comes twice or in another order.
+//! lost, or arrives twice or in another order.
 use crate::network::{Act, CALM, DESTINATIONS, Fate, Network};
 use flood::Event;
 use simulated_networks::announcements;
@@ -16,7 +16,7 @@ fn play_at(network: &mut Network, events: &[Event], name: &str, acts: &[Act]) ->
     Ok(())
 }
 
-// Plays the acts with so many routers.
+// Plays the acts with that many routers.
 fn play<R: Wait + Drop + Copy>(
     alloc: Global,
     rt: R,
@@ -96,7 +96,7 @@ const SILENCE: &[Act] = &[
     Act::Holds(0, 3),
 ];
 
-// It takes its router-LSA back, and flushes what it no longer announces.
+// It originates its router-LSA again, and flushes what it no longer announces.
 const RESTART: &[Act] = &[
     Act::Seconds(15, CALM),
     Act::Announce(0, 1),
@@ -125,10 +125,10 @@ const LINK_DOWN: &[Act] = &[
     Act::Holds(0, 3),
 ];
 
-// The last router misses the flush. A Description comes once more, so that the last two exchange
-// their databases in the second in which the second one takes the flush and forgets it: it has the
-// LSA back. The flush that answers this is passed over, and an acknowledgment that was for the
-// first one takes it off the list.
+// The last router doesn't receive the flushed LSA. A Database Description arrives once more, so
+// that the last two exchange their databases in the second in which the second router receives the
+// flushed LSA and removes it: it gets the LSA back. The flushed LSA that is sent in reply is
+// ignored, and an acknowledgment that was for the first one removes it from the list.
 const A_FLUSHED_LSA_COMES_BACK: &[Act] = &[
     Act::Seconds(15, CALM),
     Act::Announce(0, 1),
@@ -147,12 +147,12 @@ const A_FLUSHED_LSA_COMES_BACK: &[Act] = &[
     Act::Holds(2, 4),
 ];
 
-// A flushed LSA comes back though no packet is lost, late or repeated. The link from the second
-// router to the first goes down as the last one withdraws. In the second after, the flush comes to
-// the second router, which forgets it, since it is at no neighbor any more; the first router tells
-// of the LSA as both exchange their databases anew, so that it is back. The last router flushes it
-// again; that instance comes within MinLSArrival and is passed over; and the delayed acknowledgment
-// of the first flush takes it off the last router's list.
+// A flushed LSA comes back although no packet is lost, late or repeated. The link from the second
+// router to the first goes down when the last one withdraws. In the next second, the second router
+// receives the flushed LSA and removes it, since it has no other neighbor to acknowledge it; the
+// first router describes the LSA when both exchange their databases again, so that it is back. The
+// last router flushes it again; that instance arrives within MinLSArrival and is ignored; and the
+// delayed acknowledgment of the first flushed instance removes it from the last router's list.
 const BACK_IN_SIX_ACTS: &[Act] = &[
     Act::Seconds(9, CALM),
     Act::Announce(2, 1),
@@ -167,8 +167,8 @@ const BACK_IN_SIX_ACTS: &[Act] = &[
     Act::Holds(2, 3),
 ];
 
-// The same, where the first router announces the destination, too: the second one takes the last
-// one for an announcer still, which sends what comes for the destination back.
+// The same if the first router announces the destination, too: the second one still believes that
+// the last one announces it, which sends packets for the destination back.
 const A_LOOP_IN_SEVEN_ACTS: &[Act] = &[
     Act::Seconds(9, CALM),
     Act::Announce(2, 1),
@@ -183,7 +183,7 @@ const A_LOOP_IN_SEVEN_ACTS: &[Act] = &[
     Act::Leads(2, 1, 1),
 ];
 
-// It ends as the LSA that came back is at MaxAge.
+// It ends when the LSA that came back reaches MaxAge.
 const THE_LOOP_ENDS: &[Act] = &[
     Act::Seconds(9, CALM),
     Act::Announce(2, 1),
@@ -198,7 +198,7 @@ const THE_LOOP_ENDS: &[Act] = &[
     Act::Holds(0, 4),
 ];
 
-// A name, how many routers, and what they do.
+// A name, the number of routers, and what they do.
 const NETWORKS: &[(&str, usize, &[Act])] = &[
     ("two routers become full", 2, TWO),
     ("three routers become full", 3, THREE),

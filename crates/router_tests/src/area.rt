@@ -1,5 +1,5 @@
-//! An area to test with: the LSAs that came in, and the router that calculates its routes. The
-//! checksums are those of tools/area-rows.
+//! An area for tests: the LSAs that were received, and the router that calculates its routes. The
+//! checksums are from tools/area-rows.
 use candidates::candidates;
 use lsa::{Lsa, read};
 use lsdb::Lsdb;
@@ -8,8 +8,8 @@ use std::alloc::{AllocError, Global};
 use std::test::Fail;
 use words::{Address, Route, RouterId, Second, Sequence};
 
-/// 1.1.1.1 with interfaces 1 and 2 of cost 5 to 2.2.2.2 and 3.3.3.3, each with a link of cost 5 to
-/// 4.4.4.4, which has the stub network 192.0.2.0/24 of metric 10.
+/// 1.1.1.1 with interfaces 1 and 2 with cost 5 to 2.2.2.2 and 3.3.3.3, each with a link with cost 5
+/// to 4.4.4.4, which has the stub network 192.0.2.0/24 with metric 10.
 pub const SQUARE: &[&[u8]] = &[
     b"\x00\x01\x02\x01\x01\x01\x01\x01\x01\x01\x01\x01\x80\x00\x00\x01\x82\x85\x00\x30\x00\x00\x00\
         \x02\x02\x02\x02\x02\x0a\x00\x01\x01\x01\x00\x00\x05\x03\x03\x03\x03\x0a\x00\x02\x01\x01\
@@ -25,8 +25,8 @@ pub const SQUARE: &[&[u8]] = &[
         \x00\x00\x05\xc0\x00\x02\x00\xff\xff\xff\x00\x03\x00\x00\x0a",
 ];
 
-/// 1.1.1.1 and 2.2.2.2, an AS boundary router, on a link of cost 10 with the network 10.0.1.0/24;
-/// the second has 10.0.2.0/24 too, at cost 5.
+/// 1.1.1.1 and 2.2.2.2, an AS boundary router, on a link with cost 10 with the network 10.0.1.0/24;
+/// the second also has 10.0.2.0/24, with cost 5.
 pub const TWO: &[&[u8]] = &[
     b"\x00\x01\x02\x01\x01\x01\x01\x01\x01\x01\x01\x01\x80\x00\x00\x01\x59\xae\x00\x30\x02\x00\x00\
         \x02\x02\x02\x02\x02\x0a\x00\x01\x01\x01\x00\x00\x0a\x0a\x00\x01\x00\xff\xff\xff\x00\x03\
@@ -36,28 +36,27 @@ pub const TWO: &[&[u8]] = &[
         \x00\x00\x0a\x0a\x00\x02\x00\xff\xff\xff\x00\x03\x00\x00\x05",
 ];
 
-/// The AS-external-LSAs of 203.0.113.0/24 with metric 20: of 2.2.2.2, of type 2 and of type 1, and
-/// of 9.9.9.9, of type 1.
+/// The AS-external-LSA of 2.2.2.2 for 203.0.113.0/24 with metric 20, type 2.
 pub const OF_TYPE_2: &[u8] =
     b"\x00\x01\x02\x05\xcb\x00\x71\x00\x02\x02\x02\x02\x80\x00\x00\x01\x36\x43\x00\x24\xff\xff\xff\
         \x00\x80\x00\x00\x14\x00\x00\x00\x00\x00\x00\x00\x00";
 
-/// The second of them.
+/// The AS-external-LSA of 2.2.2.2 for 203.0.113.0/24 with metric 20, type 1.
 pub const OF_TYPE_1: &[u8] =
     b"\x00\x01\x02\x05\xcb\x00\x71\x00\x02\x02\x02\x02\x80\x00\x00\x01\xb2\x47\x00\x24\xff\xff\xff\
         \x00\x00\x00\x00\x14\x00\x00\x00\x00\x00\x00\x00\x00";
 
-/// The third of them.
+/// The AS-external-LSA of 9.9.9.9 for 203.0.113.0/24 with metric 20, type 1.
 pub const OF_ANOTHER: &[u8] =
     b"\x00\x01\x02\x05\xcb\x00\x71\x00\x09\x09\x09\x09\x80\x00\x00\x01\xdf\xfd\x00\x24\xff\xff\xff\
         \x00\x00\x00\x00\x14\x00\x00\x00\x00\x00\x00\x00\x00";
 
-/// When every LSA came in, and when the routes are asked for.
+/// When every LSA was received, and when the routes are calculated.
 pub fn moment() -> Second {
     Second::new(1000)
 }
 
-/// The seconds since every LSA came in.
+/// The moment that many seconds after every LSA was received.
 pub fn later(seconds: u64) -> Second {
     Second::new(moment().count().saturating_add(seconds))
 }
@@ -67,12 +66,12 @@ pub fn empty(alloc: Global) -> Lsdb {
     Lsdb::new(alloc, RouterId::new(0x0101_0101))
 }
 
-/// The LSA that the bytes are read as.
+/// The LSA in the bytes.
 pub fn loaded(alloc: Global, bytes: &[u8]) -> Result<Lsa, Fail> {
     Ok(read(alloc, bytes)?)
 }
 
-/// These LSAs come in, each as a settled event.
+/// Installs these LSAs as received, each as a settled event.
 pub fn install_all(alloc: Global, db: &mut Lsdb, texts: &[&[u8]]) -> Result<(), Fail> {
     for text in texts {
         db.install_flooded(moment(), loaded(alloc, text)?)?;

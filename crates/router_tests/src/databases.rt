@@ -1,4 +1,4 @@
-//! The database: its limits, its copies, and what is taken back.
+//! The database: its limits, its copies, and rolling back.
 use crate::made::external;
 use lsdb::Lsdb;
 use std::alloc::{AllocError, Global};
@@ -18,16 +18,18 @@ fn key(router: u32, number: u32) -> Key {
     }
 }
 
-// What is done with a database of 1.1.1.1.
+// An operation on a database of 1.1.1.1.
 #[derive(Clone, Copy)]
 enum Deed {
-    // a router's externals from the first number on below the second are installed as originated
+    // AS-external-LSAs of a router, with numbers from the first up to but not including the second,
+    // are installed as originated
     Originate(u32, u32, u32),
-    // those of 2.2.2.2 come in at a moment
+    // those of 2.2.2.2 are received at a moment
     Flood(u64, u32, u32),
-    // the external of a router and a number leaves
+    // the AS-external-LSA of a router with a number is removed
     Remove(u32, u32),
-    // this router's of the number 0 is sent at a moment; that of 2.2.2.2 and a number is aged out
+    // this router's with number 0 is sent at a moment; that of 2.2.2.2 with a number is set to
+    // MaxAge
     Send(u64),
     AgeOut(u64, u32),
     Settle,
@@ -35,20 +37,20 @@ enum Deed {
     RollBack,
 }
 
-// What is seen of it.
+// An observation of it.
 #[derive(Clone, Copy)]
 enum Sight {
-    // how many LSAs and own externals there are, and whether those are too many
+    // the numbers of LSAs and of self-originated AS-external-LSAs, and whether those exceed a limit
     Counts(usize, usize, bool),
-    // whether there is room for the external of a router and a number
+    // whether there is room for the AS-external-LSA of a router with a number
     Room(u32, u32, bool),
     // the routers and numbers of all keys, in order
     Keys(&'static [(u32, u32)]),
-    // the router and number of the first key from that of a router and a number on
+    // the router and number of the first key not less than that of a router and a number
     Next(u32, u32, Option<(u32, u32)>),
-    // when this router's external of the number 0 was sent
+    // when this router's AS-external-LSA with number 0 was sent
     Sent(u64),
-    // of which routers and numbers the externals are that have come of age at a moment
+    // the routers and numbers of the AS-external-LSAs at MaxAge at a moment
     Aged(u64, &'static [(u32, u32)]),
 }
 
@@ -184,13 +186,13 @@ fn are_seen(database: &Lsdb, alloc: Global, sights: &[Sight]) -> Result<bool, Al
     Ok(are)
 }
 
-// Whether all is seen of the row after what it does.
+// Whether all observations of the row are made after its operations.
 fn comes_out(database: &mut Lsdb, alloc: Global, row: &Row) -> Result<bool, AllocError> {
     does_all(database, alloc, row.0)?;
     are_seen(database, alloc, row.1)
 }
 
-// The first of the rows that doesn't come out.
+// The first of the rows that fails.
 fn first_wrong(
     database: &mut Lsdb,
     alloc: Global,
@@ -263,7 +265,7 @@ const UP_TO_THE_LIMIT: &[Row] = &[
     ),
 ];
 
-// Another router's 7, 3 and 9, and this router's 3; then its 7 leaves.
+// Another router's 7, 3 and 9, and this router's 3; then its 7 is removed.
 const MIXED: &[Row] = &[(
     &[
         Deed::Flood(1, 7, 8),
@@ -280,7 +282,7 @@ const MIXED: &[Row] = &[(
     ],
 )];
 
-// Two externals, a third and the mark of the first, which can both be taken back.
+// Two AS-external-LSAs, then a third and the mark of the first, both of which can be rolled back.
 const UNSETTLED: &[Deed] = &[
     Deed::Originate(OWN, 0, 2),
     Deed::Settle,
@@ -290,7 +292,7 @@ const UNSETTLED: &[Deed] = &[
 
 const TAKEN_BACK: &[Deed] = &[Deed::RollBack];
 
-// All three in the copy, which is rolled back.
+// The copy has all three, and is rolled back.
 const WHOLE: Row = (TAKEN_BACK, &[Sight::Counts(3, 3, false), Sight::Sent(4)]);
 
 const FIRST_TWO: Row = (TAKEN_BACK, &[Sight::Counts(2, 2, false)]);
@@ -309,7 +311,7 @@ fn is_copied(database: &mut Lsdb, alloc: Global) -> Result<bool, AllocError> {
     are_apart(database, &mut copy, alloc)
 }
 
-// Three externals of another router, which are 0 seconds old at moment 1.
+// Three AS-external-LSAs of another router, whose age is 0 at moment 1.
 const GROWN: &[Deed] = &[
     Deed::Originate(OTHER, 0, 3),
     Deed::Settle,

@@ -1,4 +1,4 @@
-//! What the AS-external-LSAs of a database tell of external destinations.
+//! The external destinations that the AS-external-LSAs of a database advertise.
 use crate::area::{OF_ANOTHER, OF_TYPE_1, OF_TYPE_2, TWO, empty, install_all, later};
 use candidates::{External, externals_at};
 use std::alloc::Global;
@@ -6,11 +6,11 @@ use std::process::Abort;
 use std::test::Fail;
 use words::ExternalType;
 
-// Who originated the LSA of 203.0.113.0/24, and the destination's type.
+// The advertising router of an AS-external-LSA for 203.0.113.0/24, and the destination's type.
 type Told = (u32, ExternalType);
 
-// A name; LSAs beside those of the two routers; when it is looked at, so many seconds after they
-// came in; what is told.
+// A name; LSAs in addition to those of the two routers; the seconds since they were received; what
+// is advertised.
 type Case = (&'static str, &'static [&'static [u8]], u64, &'static [Told]);
 
 // 198.51.100.0/24, and 9.9.9.9, an AS boundary router in another area.
@@ -69,7 +69,7 @@ fn are_told(externals: &[External], told: &[Told]) -> bool {
     are
 }
 
-// Whether the case comes out so.
+// Whether the case has the expected result.
 fn comes_out(alloc: Global, case: &Case) -> Result<bool, Fail> {
     let (_name, others, seconds, told) = *case;
     let mut db = empty(alloc);

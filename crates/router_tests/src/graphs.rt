@@ -1,4 +1,4 @@
-//! The graph of an area after an event: followed, or to be made anew.
+//! The graph of an area after an event: updated, or to be rebuilt.
 ghost use Rattle.std.specs.Prelude.{◌≤◌, length};
 ghost use Rattle.std.specs.FinMap as finite;
 
@@ -12,7 +12,7 @@ use std::alloc::Global;
 use std::process::Abort;
 use std::test::Fail;
 
-// The graph of what the database holds, followed over this LSA, which comes in a second later.
+// The graph of the database, updated for this LSA, which is received a second later.
 fn follow_one(
     alloc: Global,
     db: &mut Lsdb,
@@ -45,8 +45,7 @@ fn have_same_links(one: &[Vertex], other: &[Vertex]) -> bool {
     have
 }
 
-// Whether these are the links of the graph that is made of what the database holds; None without
-// any.
+// Whether these are the links of the graph that is built from the database; `None` without any.
 fn are_its_links(
     alloc: Global,
     db: &Lsdb,
@@ -63,8 +62,8 @@ fn are_its_links(
     Ok(Some(have_same_links(&made.vertices, &graph.vertices)))
 }
 
-// Whether the graph of two routers followed this LSA to what the database holds then; None if it is
-// to be made anew.
+// Whether the graph of two routers, updated for this LSA, is that of the database; `None` if it has
+// to be rebuilt.
 fn followed(alloc: Global, db: &mut Lsdb, root: &Root, text: &[u8]) -> Result<Option<bool>, Fail> {
     install_all(alloc, db, TWO)?;
     let lsa = loaded(alloc, text)?;
@@ -75,8 +74,8 @@ fn followed(alloc: Global, db: &mut Lsdb, root: &Root, text: &[u8]) -> Result<Op
     are_its_links(alloc, db, root, &next)
 }
 
-// A name; a router's LSA with one link to the first router; whether the graph of two routers
-// follows it.
+// A name; a router's LSA with one link to the first router; whether the graph of two routers can be
+// updated for it.
 const CHANGES: &[(&str, &[u8], Option<bool>)] = &[
     (
         "the other router's link costs something else",

@@ -1,4 +1,4 @@
-//! Which of two instances is newer, and how ages grow.
+//! Which of two instances is newer, and how LSAs age.
 use crate::outcomes::each_is_so;
 use lsdb::{Instance, age_at, compare, newer};
 use std::cmp::Ordering;
@@ -25,7 +25,7 @@ fn numbered(sequence: SequenceNumber) -> Instance {
 fn the_newer_instance(rt: HostRuntime) -> Result<(), Fail> {
     let first = numbered(SequenceNumber::INITIAL);
     let last = numbered(SequenceNumber::MAX);
-    // at most 899 seconds of age are no difference; MaxAge is newer
+    // ages that differ by at most 899 seconds don't matter; MaxAge is newer
     each_is_so(&[
         compare(aged(1000), aged(100)) == Ordering::Equal,
         compare(aged(1000), aged(99)) == Ordering::Less,

@@ -1,4 +1,4 @@
-//! Walks that are kept, and what makes LSAs say something else.
+//! Walks that are kept, and when LSAs say something else.
 ghost use Rattle.std.specs.Prelude.{◌≤◌, length};
 ghost use Rattle.std.specs.FinMap as finite;
 
@@ -15,31 +15,33 @@ use std::process::Abort;
 use std::test::Fail;
 use words::{Key, LinkStateId, Route, RouterId};
 
-// What is done with the database of two routers, a second after it was settled.
+// A step with the database of two routers, a second after it was settled.
 #[derive(Clone, Copy)]
 enum Step {
-    // this LSA of the other router comes in
+    // this LSA of the other router is received
     Install(&'static [u8]),
-    // each LSA comes in again
+    // each LSA is received again
     Renew,
-    // so many external destinations come in
+    // that many external destinations are received
     Announce(u32),
     // the LSA of the other router is sent, flushed, removed
     Send,
     Flush,
     Remove,
-    // all of this is taken back
+    // all of this is rolled back
     RollBack,
-    // so many seconds after it was settled, the LSAs of types 1 and 2 say the same or don't, and so
-    // do all
+    // that many seconds after it was settled, whether the LSAs of types 1 and 2 say the same, and
+    // whether all do
     Same(u64, bool, bool),
-    // what the LSAs of these Link State IDs say so many seconds after isn't what they said
+    // the LSAs with these Link State IDs say something else that many seconds later
     Changed(u64, &'static [u32]),
-    // what the other router's LSA said counts so many seconds after, and has so many links
+    // what the other router's LSA said is still valid that many seconds later, and has that many
+    // links
     Said(u64, Option<usize>),
 }
 
-// The router-LSA of the other router with its only link to 1.1.1.1, of metric 3 and of metric 4.
+// The router-LSA of the other router with only its link to 1.1.1.1, with metric 3 and with metric
+// 4.
 const OF_METRIC_3: &[u8] =
     b"\x00\x01\x02\x01\x02\x02\x02\x02\x02\x02\x02\x02\x80\x00\x00\x01\x0a\x25\x00\x24\x02\x00\x00\
         \x01\x01\x01\x01\x01\x0a\x00\x01\x02\x01\x00\x00\x03";
@@ -48,7 +50,7 @@ const OF_METRIC_4: &[u8] =
     b"\x00\x01\x02\x01\x02\x02\x02\x02\x02\x02\x02\x02\x80\x00\x00\x01\x1c\x12\x00\x24\x02\x00\x00\
         \x01\x01\x01\x01\x01\x0a\x00\x01\x02\x01\x00\x00\x04";
 
-// The router-LSA of the other router.
+// The key of the other router's router-LSA.
 fn other_key() -> Key {
     Key {
         ls_type: 1,
@@ -78,8 +80,8 @@ fn announce(alloc: Global, db: &mut Lsdb, count: u32) -> Result<bool, Fail> {
     Ok(true)
 }
 
-// Whether the LSAs of types 1 and 2, and whether all LSAs, say so many seconds later what those of
-// the settled database said at first.
+// Whether the LSAs of types 1 and 2, and whether all LSAs, say that many seconds later what those
+// of the settled database said at first.
 fn same_later(alloc: Global, db: &Lsdb, seconds: u64) -> Result<(bool, bool), Fail> {
     let before = moment();
     let now = later(seconds);
@@ -104,7 +106,8 @@ fn links_said(db: &Lsdb, seconds: u64) -> Option<usize> {
     }
 }
 
-// Does the step; false if LSAs say the same and were expected not to, or the other way round.
+// Carries out the step; `false` if the LSAs don't say the same although that was expected, or
+// conversely.
 fn took(alloc: Global, db: &mut Lsdb, step: Step) -> Result<bool, Fail> {
     match step {
         Step::Install(text) => install_each(alloc, db, &[text]),
@@ -124,27 +127,28 @@ fn took(alloc: Global, db: &mut Lsdb, step: Step) -> Result<bool, Fail> {
 }
 
 const STEPS: &[Step] = &[
-    // nothing is new; the LSAs were of age 1 when they came in, and are of MaxAge 3599 seconds
+    // nothing is new; the LSAs had age 1 when they were received, and reach MaxAge 3599 seconds
     // later
     Step::Same(0, true, true),
     Step::Same(100, true, true),
     Step::Same(3598, true, true),
     Step::Same(3599, false, false),
-    // that one is sent changes nothing
+    // sending one changes nothing
     Step::Send,
     Step::Same(1, true, true),
     Step::RollBack,
-    // what comes in again a second later says the same, until what was there is of MaxAge
+    // what is received again a second later says the same, until the old instance would be at
+    // MaxAge
     Step::Renew,
     Step::Same(3598, true, true),
     Step::Same(3599, false, false),
     Step::RollBack,
-    // external destinations leave links alone
+    // external destinations don't change links
     Step::Announce(100),
     Step::Same(1, true, false),
     Step::RollBack,
     Step::Same(1, true, true),
-    // an LSA of type 1 is installed, and that is taken back; it is flushed; it is removed
+    // an LSA of type 1 is installed, and that is rolled back; it is flushed; it is removed
     Step::Install(OF_METRIC_3),
     Step::Same(1, false, false),
     Step::RollBack,
@@ -157,17 +161,18 @@ const STEPS: &[Step] = &[
 ];
 
 const CHANGES: &[Step] = &[
-    // nothing is new; the LSAs were of age 1 when they came in, and are of MaxAge 3599 seconds
+    // nothing is new; the LSAs had age 1 when they were received, and reach MaxAge 3599 seconds
     // later
     Step::Changed(3599, &[]),
     Step::Said(3598, Some(3)),
     Step::Said(3599, None),
-    // what comes in again a second later says the same, until what was there is of MaxAge
+    // what is received again a second later says the same, until the old instance would be at
+    // MaxAge
     Step::Renew,
     Step::Changed(3598, &[]),
     Step::Changed(3599, &[0x0101_0101, 0x0202_0202]),
     Step::RollBack,
-    // of two edits the first tells what was said; and then what was said comes back
+    // the first of two edits has what was said; and then the same is said again
     Step::Install(OF_METRIC_3),
     Step::Install(OF_METRIC_4),
     Step::Changed(1, &[0x0202_0202]),
@@ -175,7 +180,7 @@ const CHANGES: &[Step] = &[
     Step::Renew,
     Step::Changed(1, &[]),
     Step::RollBack,
-    // destinations come in; that one LSA is sent changes nothing
+    // destinations are received; sending one LSA changes nothing
     Step::Announce(2),
     Step::Send,
     Step::Changed(1, &[0xcb00_0000, 0xcb00_0100]),
@@ -191,7 +196,7 @@ const CHANGES: &[Step] = &[
     Step::Said(1, Some(3)),
 ];
 
-// The first step after which something else was expected, of the settled database of two routers.
+// The first step with an unexpected result, from the settled database of two routers.
 fn first_wrong(alloc: Global, db: &mut Lsdb, steps: &[Step]) -> Result<Option<usize>, Fail> {
     install_all(alloc, db, TWO)?;
     for at in 0..steps.len() {
@@ -218,7 +223,8 @@ fn what_lsas_say_is_followed(rt: HostRuntime) -> Result<(), Fail> {
     Ok(())
 }
 
-// Whether the walk that is made at the moment, and once more, gives these candidates, and counts.
+// Whether the walk that is made at the moment, and another one, give these candidates, and are
+// counted.
 fn serves_again(alloc: Global, db: &Lsdb, root: &Root, anew: &[Route]) -> Result<bool, Fail> {
     if db.len() > 16384 || root.addresses.as_slice().len() > 63 {
         return Err(Fail::from("a database or a router that is too large"));
@@ -227,7 +233,7 @@ fn serves_again(alloc: Global, db: &Lsdb, root: &Root, anew: &[Route]) -> Result
     serves(alloc, db, root, &mut kept, anew)
 }
 
-// The same once the first walk has been made.
+// The same after the first walk was made.
 fn serves(
     alloc: Global,
     db: &Lsdb,

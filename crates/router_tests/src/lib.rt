@@ -1,7 +1,7 @@
-//! Tests of a router's parts by their public calls: `keyed_map`, `lsdb`, `neighbor_places`,
-//! `routes`, `candidates`, `tables`, `kept_routes`, `area_routes` and
-//! `forwarding_loops`; and of `words`, `lsa`, `packet` and `console`. They stand above, since a
-//! crate is proved once more for its tests.
+//! Tests of a router's parts by their public functions: `keyed_map`, `lsdb`, `neighbor_places`,
+//! `routes`, `candidates`, `tables`, `kept_routes`, `area_routes` and `forwarding_loops`; and of
+//! `words`, `lsa`, `packet` and `console`. They are in a crate of their own, since a crate is
+//! proved once more for its tests.
 #![tactic(auto)]
 
 #[cfg(test)]

@@ -1,4 +1,4 @@
-//! Which routers a packet comes back to, over hops of a few routers by hand.
+//! To which routers a packet comes back, over hops of a few routers written by hand.
 ghost use Rattle.std.specs.Prelude.{IfOk, length};
 ghost use Rattle.std.specs.List.{All};
 ghost use Rattle.forwarding_loops.specs.Loops.{IsAmong};
@@ -12,7 +12,7 @@ struct Case {
     name: &'static str,
     costs: &'static [u32],
     hops: &'static [(usize, usize)],
-    // which routers lie on a loop, and how many
+    // which routers are on a loop, and how many
     marks: &'static [bool],
     count: usize,
 }

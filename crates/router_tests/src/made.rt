@@ -1,4 +1,4 @@
-//! LSAs that are made by their fields.
+//! LSAs that are built from their fields.
 ghost use Rattle.std.specs.Prelude.{◌≡◌, ◌≢◌};
 ghost use Rattle.lsa.specs.Text.{reserved_sequence};
 
@@ -6,7 +6,7 @@ use lsa::{Body, ExternalLsa, Header, Lsa};
 use std::alloc::{AllocError, Global};
 use words::{Address, ExternalType, LinkStateId, RouterId, Sequence, SequenceNumber};
 
-/// A header of age 0 and 36 bytes with the first sequence number.
+/// A header with age 0, 36 bytes and the initial sequence number.
 pub fn header(ls_type: u8, router: u32, number: u32) -> Header
     ensures age { result.age ≡ 0 }
     ensures sequence { result.sequence ≢ reserved_sequence }
@@ -23,7 +23,7 @@ pub fn header(ls_type: u8, router: u32, number: u32) -> Header
     }
 }
 
-/// An AS-external-LSA of 24 bits, type 2 and metric 20: 36 bytes.
+/// An AS-external-LSA for a prefix of 24 bits, type 2, with metric 20: 36 bytes.
 pub fn external(alloc: Global, router: u32, number: u32) -> Result<Lsa, AllocError> {
     let body = Body::External(ExternalLsa {
         mask: Address::new(0xffff_ff00),

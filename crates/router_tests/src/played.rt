@@ -1,5 +1,5 @@
-//! A neighbor by its calls: conversations as tables of what comes and what is seen of it. A refusal
-//! is taken back, and the event played again.
+//! A neighbor by its functions: conversations as tables of what is received and what is observed.
+//! An event that is refused is rolled back and played again.
 mod descriptions;
 mod hellos;
 mod inactivity;
@@ -18,8 +18,8 @@ use std::process::Abort;
 use std::test::Fail;
 use words::{Address, Key, RouterId, Second, Sequence};
 
-// A Description: its fields, with the headers of the neighbor's LSAs of one type and of the numbers
-// from `first` on below `end`.
+// A Database Description: its fields, with the headers of the neighbor's LSAs with one LS type and
+// the numbers from `first` up to but not including `end`.
 #[derive(Clone, Copy)]
 struct Coming {
     mtu: u16,
@@ -56,26 +56,27 @@ const OPENING: Coming = Coming {
     ..FROM_MASTER
 };
 
-// What comes from the neighbor, or is due.
+// What is received from the neighbor, or is due.
 #[derive(Clone, Copy)]
 enum Happening {
-    // A Hello, which names this router or doesn't.
+    // A Hello, which lists this router or doesn't.
     Hello(bool),
     // A Database Description to 1.1.1.1, which is the neighbor's slave.
     ToSlave(Coming),
     // One to 3.3.3.3, which is its master.
     ToMaster(Coming),
-    // A Link State Request for this router's external of this number.
+    // A Link State Request for this router's AS-external-LSA with this number.
     Request(u32),
-    // The neighbor's externals from the first number on below the second are installed and flooded:
-    // they came from it, or from elsewhere.
+    // The neighbor's AS-external-LSAs, with numbers from the first up to but not including the
+    // second, are installed and flooded: received from it, or from elsewhere.
     Externals(bool, u32, u32),
-    // The same of router-LSAs, and of summary-LSAs, which came from elsewhere.
+    // The same for router-LSAs, and for summary-LSAs, received from elsewhere.
     RouterLsas(u32, u32),
     Summaries(u32, u32),
-    // An Acknowledgment of the neighbor's external of this number.
+    // A Link State Acknowledgment of the neighbor's AS-external-LSA with this number.
     Acknowledgment(u32),
-    // The neighbor itself floods its external of this number, which is to be acknowledged.
+    // The neighbor itself floods its AS-external-LSA with this number, which is on its
+    // retransmission list.
     ImpliedAcknowledgment(u32),
     NextRequest,
     // A Tick at an interface with RouterDeadInterval 40, RxmtInterval 5 and InfTransDelay 1.
@@ -83,29 +84,28 @@ enum Happening {
     Silence,
 }
 
-// A Description that is sent: its sequence number, how many headers it has, and whether more
-// follow.
+// A Database Description that is sent: its sequence number, how many headers it has, and the M-bit.
 type Sent = (u32, usize, bool);
 
-// What is to be seen of an event: the neighbor's state, and what is sent.
+// What is observed after an event: the neighbor's state, and what is sent.
 #[derive(Clone, Copy)]
 enum Seen {
     Down,
     // Nothing is sent.
     Rests(State),
-    // One Description is sent, as in `Sent`, or two.
+    // One Database Description is sent, as in `Sent`, or two.
     Answers(State, u32, usize, bool),
     AnswersTwice(State, Sent, Sent),
-    // One of this sequence number begins an attempt.
+    // One with this sequence number starts an attempt.
     Begins(u32),
-    // In Loading, the one Request has this many keys; of 0, none is sent.
+    // In Loading, the only Link State Request has this many keys; 0 if none is sent.
     Asks(usize),
-    // So many LSAs are sent.
+    // That many LSAs are sent.
     Sends(State, usize),
 }
 
-// The neighbor's state unless it is Down, how many Descriptions are sent and the first two, how
-// many keys the one Request has, and how many LSAs are sent.
+// The neighbor's state unless it is Down, how many Database Descriptions are sent and the first
+// two, how many keys the only Link State Request has, and how many LSAs are sent.
 #[derive(Clone, Copy)]
 struct Observed {
     state: Option<State>,
@@ -116,11 +116,11 @@ struct Observed {
     lsas: usize,
 }
 
-// At this moment, this happens, and this is to be seen.
+// The moment, what happens, and what is observed.
 type Row = (u64, Happening, Seen);
 
-// A name; how many externals this router has; how many of the neighbor's it wants in an exchange
-// that comes first; what comes first; what comes behind that.
+// A name; how many AS-external-LSAs this router has; how many of the neighbor's it wants in an
+// exchange that comes first; what comes first; what comes after that.
 type Conversation = (
     &'static str,
     u32,
@@ -136,7 +136,7 @@ const PEER: u32 = 0x0202_0202;
 // A router that is the neighbor's master, as 1.1.1.1 is its slave.
 const LARGER: u32 = 0x0303_0303;
 
-// ---- what is seen
+// ---- observations
 
 const DOWN: Observed = Observed {
     state: None,
@@ -233,8 +233,8 @@ fn is_alike(seen: &Observed, expected: &Observed) -> bool {
         && seen.lsas == expected.lsas
 }
 
-// Whether the one Description that is sent has all flags (I, M, MS), the interface MTU 8,192 and
-// the Options 2.
+// Whether the only Database Description that is sent has all flags (I, M, MS), the interface MTU
+// 8,192 and the Options 2.
 fn has_all_flags(sent: &Draft) -> bool {
     match sent.descriptions() {
         [only] => {
@@ -252,7 +252,7 @@ fn is_seen(place: &Place, sent: &Draft, seen: &Seen) -> bool {
     is_alike(&observe(place, sent), &expected(seen)) && (!begins || has_all_flags(sent))
 }
 
-// ---- LSAs and Descriptions
+// ---- LSAs and Database Descriptions
 
 // A router-LSA of 24 bytes.
 fn router_lsa(alloc: Global, number: u32) -> Result<Lsa, AllocError> {
@@ -273,7 +273,7 @@ fn summary(alloc: Global, number: u32) -> Result<Lsa, AllocError> {
     Lsa::new(alloc, header(3, PEER, number), body)
 }
 
-// The neighbor's LSA of this type and number.
+// The neighbor's LSA with this LS type and number.
 fn made(alloc: Global, ls_type: u8, number: u32) -> Result<Lsa, AllocError> {
     match ls_type {
         1 => router_lsa(alloc, number),
@@ -290,7 +290,8 @@ fn originate_all(database: &mut Lsdb, alloc: Global, count: u32) -> Result<(), A
     Ok(())
 }
 
-// So many externals of this router come into an empty database. What is refused is made again.
+// Installs that many AS-external-LSAs of this router in an empty database. If that is refused, it
+// is tried again.
 fn fill(database: &mut Lsdb, alloc: Global, count: u32) -> Result<(), AllocError> {
     if originate_all(database, alloc, count).is_err() {
         database.roll_back();
@@ -316,7 +317,7 @@ fn told(alloc: Global, coming: &Coming) -> Result<Description, AllocError> {
     })
 }
 
-// ---- what happens
+// ---- events
 
 // The neighbor and this router's database.
 #[derive(Drop)]
@@ -336,7 +337,7 @@ impl Scene {
         }
     }
 
-    // Floods the LSA of this key, which came from the neighbor or from elsewhere.
+    // Floods the LSA of this key, which was received from the neighbor or from elsewhere.
     fn floods_key(
         &mut self,
         moment: Second,
@@ -454,7 +455,7 @@ impl Scene {
         Ok(draft)
     }
 
-    // The same after a refusal is taken back, which leaves the place and the database as they were.
+    // The same after a refusal is rolled back, which leaves the place and the database unchanged.
     fn played_again(
         &mut self,
         moment: Second,
@@ -469,8 +470,7 @@ impl Scene {
         Ok(self.played_once(moment, happening)?)
     }
 
-    // What is sent in an event. An allocation may be refused once, as a run of the tests with a
-    // refusal makes it.
+    // What an event sends. One allocation may be refused, since the tests also run with refusals.
     fn played(&mut self, moment: Second, happening: &Happening) -> Result<Draft, Fail> {
         let before = (self.place.neighbor(), self.database.len());
         match self.played_once(moment, happening) {
@@ -479,7 +479,7 @@ impl Scene {
         }
     }
 
-    // Whether this is to be seen of the event.
+    // Whether this is observed after the event.
     fn comes_out(&mut self, row: &Row) -> Result<bool, Fail> {
         let (moment, happening, seen) = *row;
         let sent = self.played(Second::new(moment), &happening)?;
@@ -488,7 +488,7 @@ impl Scene {
         Ok(is_seen(&self.place, &sent, &seen))
     }
 
-    // The first of the rows of which something else is seen.
+    // The first of the rows with another observation.
     fn first_wrong(&mut self, rows: &[Row]) -> Result<Option<usize>, Fail> {
         for at in 0..rows.len() {
             if !self.comes_out(&rows[at])? {
@@ -498,7 +498,8 @@ impl Scene {
         Ok(None)
     }
 
-    // The same of a conversation, once the router has its externals and the exchange is done.
+    // The same for a conversation, after the router has its AS-external-LSAs and the exchange is
+    // done.
     fn first_wrong_of(&mut self, conversation: &Conversation) -> Result<Option<usize>, Fail> {
         let (_name, count, wanted, first, rows) = *conversation;
         fill(&mut self.database, self.alloc, count)?;
@@ -516,7 +517,7 @@ impl Scene {
 
 // ---- conversations
 
-// The attempt of the number 0.
+// The attempt with number 0.
 const BEGINS: Row = (
     0,
     Happening::Hello(true),
@@ -532,8 +533,8 @@ const OPENS_100: Row = (
     Seen::Answers(State::Exchange, 100, 0, false),
 );
 
-// The exchange of a slave without LSAs, which wants so many of the neighbor's externals: 408 in one
-// Description, and what is left in another.
+// The exchange of a slave without LSAs, which wants that many of the neighbor's AS-external-LSAs:
+// 408 in one Database Description, and the rest in another.
 fn exchange(wanted: u32) -> [Row; 4] {
     let first = wanted.min(408);
     let next = Coming {

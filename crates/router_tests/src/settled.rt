@@ -1,29 +1,29 @@
-//! Maps whose edits can be taken back: what a key held when the map was last settled.
+//! Maps that can be rolled back: what a key held when the map was last settled.
 use keyed_map::{ChangeTest, KeyedMap};
 use std::alloc::{AllocError, Global};
 use std::process::Abort;
 use std::test::Fail;
 use words::{Key, LinkStateId, RouterId};
 
-// What is done with a map of numbers, or seen of it.
+// A step with a map of numbers, or an observation of it.
 #[derive(Clone, Copy)]
 enum Step {
-    // the key of this number holds that one
+    // the key with this number gets that value
     Insert(u32, u32),
     Remove(u32),
     Settle,
     RollBack,
-    // what the key of this number holds, and what it held when the map was last settled
+    // the value of the key with this number, and its value when the map was last settled
     Held(u32, Option<u32>, Option<u32>),
-    // the keys of these numbers hold something else than then
+    // the keys with these numbers have another value than then
     Changed(&'static [u32]),
-    // the first key from the key of the first number on has the second one
+    // the first key not less than that with the first number has the second one
     Next(u32, Option<u32>),
-    // whether the key of this number comes after all others
+    // whether the key with this number is greater than all others
     Beyond(u32, bool),
 }
 
-// Whether both are one number, or there is neither.
+// Whether both are the same number, or neither exists.
 struct Equal {}
 
 impl ChangeTest<u32> for Equal {
@@ -102,7 +102,7 @@ fn have_changed(alloc: Global, map: &KeyedMap<u32>, numbers: &[u32]) -> Result<b
     Ok(have_ids(&keys, numbers))
 }
 
-// Does the step; false where something else was expected.
+// Carries out the step; `false` if something else was expected.
 fn took(alloc: Global, map: &mut KeyedMap<u32>, step: Step) -> Result<bool, AllocError> {
     match step {
         Step::Insert(number, held) => done(map.insert(key(number), held)),
@@ -125,7 +125,7 @@ fn took(alloc: Global, map: &mut KeyedMap<u32>, step: Step) -> Result<bool, Allo
 const STEPS: &[Step] = &[
     Step::Held(1, None, None),
     Step::Changed(&[]),
-    // what came since it was settled wasn't there then
+    // what was added since the map was settled wasn't there then
     Step::Insert(1, 10),
     Step::Insert(2, 20),
     Step::Held(1, Some(10), None),
@@ -133,7 +133,7 @@ const STEPS: &[Step] = &[
     Step::Settle,
     Step::Held(1, Some(10), Some(10)),
     Step::Changed(&[]),
-    // of two edits of a key the first tells what it held then
+    // the first of two edits of a key has its value then
     Step::Insert(1, 11),
     Step::Insert(1, 12),
     Step::Remove(2),
@@ -142,17 +142,17 @@ const STEPS: &[Step] = &[
     Step::Held(2, None, Some(20)),
     Step::Held(3, Some(30), None),
     Step::Changed(&[1, 2, 3]),
-    // a key that holds again what it held then hasn't changed, nor has one that came and left
+    // a key that has its value again hasn't changed, nor has one that was added and removed
     Step::Insert(1, 10),
     Step::Remove(3),
     Step::Changed(&[2]),
-    // all of this is taken back
+    // all of this is rolled back
     Step::RollBack,
     Step::Held(1, Some(10), Some(10)),
     Step::Held(2, Some(20), Some(20)),
     Step::Held(3, None, None),
     Step::Changed(&[]),
-    // a walk passes over keys that left, and so does what comes next
+    // an iterator skips removed keys, and so does the search for the next key
     Step::Insert(3, 30),
     Step::Settle,
     Step::Remove(2),
@@ -161,7 +161,7 @@ const STEPS: &[Step] = &[
     Step::Next(4, None),
     Step::Beyond(3, false),
     Step::Beyond(4, true),
-    // keys that left are forgotten, at last all of them
+    // removed keys are dropped, at last all of them
     Step::Settle,
     Step::Remove(1),
     Step::Settle,

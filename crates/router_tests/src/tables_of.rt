@@ -6,12 +6,12 @@ use std::test::Fail;
 use tables::{is_stale, rows_of, table};
 use words::Route;
 
-// An answer: which of the candidates was asked about, the word, and by how much the cost was
-// another.
+// An answer: the index of the candidate that it is for, the answer, and by how much the cost
+// differed.
 type Answer = (usize, u64, u32);
 
-// A name; whether it is of the square, or of two routers with an external destination of type 2; the
-// answers; which of the candidates are in the table; whether that is stale.
+// A name; whether it is about the square, or about two routers with a type 2 external destination;
+// the answers; which of the candidates are in the table; whether that is stale.
 type Case = (
     &'static str,
     bool,
@@ -36,7 +36,7 @@ fn answered(
     Ok(made)
 }
 
-// Whether the table has just these of the candidates.
+// Whether the table has exactly these of the candidates.
 fn is_table(table: &[Route], routes: &[Route], places: &[usize]) -> bool {
     if table.len() != places.len() {
         return false;
@@ -48,7 +48,7 @@ fn is_table(table: &[Route], routes: &[Route], places: &[usize]) -> bool {
     is
 }
 
-// Whether the case comes out so for these candidates.
+// Whether the case has the expected result for these candidates.
 fn comes_out(alloc: Global, routes: &[Route], case: &Case) -> Result<bool, Fail> {
     let (_name, _is_square, answers, places, wanted_stale) = *case;
     let answers = answered(alloc, routes, answers)?;
@@ -99,7 +99,7 @@ fn answers_let_candidates_in(rt: HostRuntime) -> Result<(), Fail> {
     Ok(())
 }
 
-// Of the external destination of type 2 the metric alone.
+// For the type 2 external destination only the metric.
 const ROWS: &str =
     "[TableRow { prefix: Prefix { bits: 167772416, length: 24 }, cost: 10 }, TableRow { prefix: Prefix { bits: 167772672, length: 24 }, cost: 15 }, TableRow { prefix: Prefix { bits: 3405803776, length: 24 }, cost: 20 }]";
 

@@ -1,4 +1,4 @@
-//! Examples of the search for least walks, their answers counted by hand.
+//! Examples of shortest-path searches, with results calculated by hand.
 use routes::{Kind, Link, Vertex, Way, is_graph, least_ways};
 use std::alloc::{AllocError, Global};
 use std::process::Abort;
@@ -7,7 +7,7 @@ use std::test::Fail;
 // A link: the vertex that it leads to, its cost and its interface.
 type LinkRow = (usize, u16, u8);
 
-// Vertices from the number 0 on, each with its links.
+// Vertices, numbered from 0, each with its links.
 type Row = (Kind, &'static [LinkRow]);
 
 fn links_of(alloc: Global, rows: &[LinkRow]) -> Result<Vec<Link>, AllocError> {
@@ -33,7 +33,7 @@ fn graph_of(alloc: Global, rows: &[Row]) -> Result<Vec<Vertex>, AllocError> {
     Ok(graph)
 }
 
-// The distance and the next hops of a way to a vertex; none where there is no way.
+// The distance and the next hops of a way to a vertex; `None` if there is no way.
 type Expected = Option<(u32, u64)>;
 
 fn is_its_way(way: Option<Way>, expected: Expected) -> bool {
@@ -55,7 +55,7 @@ fn are_their_ways(ways: &[Option<Way>], expected: &[Expected]) -> bool {
     are
 }
 
-// Whether the ways to the vertices, from the number 0 on, are these.
+// Whether the ways to the vertices, numbered from 0, are these.
 fn have_ways(alloc: Global, rows: &[Row], expected: &[Expected]) -> Result<bool, AllocError> {
     let graph = graph_of(alloc, rows)?;
     if graph.is_empty() || graph.len() > 16384 || !is_graph(&graph) {
@@ -65,7 +65,7 @@ fn have_ways(alloc: Global, rows: &[Row], expected: &[Expected]) -> Result<bool,
     Ok(are_their_ways(&ways, expected))
 }
 
-// Two neighbors at the same cost, a router behind both, and one that nothing leads to.
+// Two neighbors at the same cost, a router behind both, and one to which no link leads.
 const SQUARE: &[Row] = &[
     (Kind::Router, &[(1, 5, 1), (2, 5, 2)]),
     (Kind::Router, &[(0, 5, 0), (3, 5, 0)]),
@@ -93,7 +93,7 @@ const NETWORK: &[Row] = &[
 
 const NETWORK_WAYS: &[Expected] = &[Some((0, 0)), Some((10, 6)), Some((11, 6)), Some((10, 2))];
 
-// A router with a dear link of its own and a cheaper walk over two others, and one behind it.
+// A router with an expensive link of its own and a cheaper walk over two others, and one behind it.
 const DETOUR: &[Row] = &[
     (Kind::Router, &[(1, 30, 1), (2, 10, 2)]),
     (Kind::Router, &[(4, 1, 0)]),
@@ -133,7 +133,7 @@ fn least_ways_are_found(rt: HostRuntime) -> Result<(), Fail> {
     Ok(())
 }
 
-// Graphs of one router, and whether they are lawful.
+// Graphs of one router, and whether they are valid.
 const ALONE: &[(&str, Row, bool)] = &[
     ("a link to itself", (Kind::Router, &[(0, 1, 63)]), true),
     (

@@ -111,7 +111,8 @@ const DESCRIBES_A_ROUTER_LSA: Happening = Happening::ToSlave(Coming {
     ..FROM_MASTER
 });
 
-// 2.2.2.2 describes a router-LSA that 1.1.1.1 lacks; its Description comes twice.
+// 2.2.2.2 describes a router-LSA that 1.1.1.1 doesn't have; its Database Description is received
+// twice.
 const WITH_A_ROUTER_LSA: &[Row] = &[
     BEGINS,
     (1, OPENS_7, Seen::Answers(State::Exchange, 7, 1, false)),
@@ -172,7 +173,8 @@ const IN_INIT: &[Row] = &[
     ),
 ];
 
-// The master's next has the number 8, the flag of a master alone, the same Options and known types.
+// The master's next one has the number 8, only the MS-bit of a master, the same Options and known
+// LS types.
 const NEXT: Coming = Coming {
     more: true,
     sequence: 8,
@@ -180,7 +182,7 @@ const NEXT: Coming = Coming {
     ..FROM_MASTER
 };
 
-// What comes after the opening of number 7 to the slave.
+// What comes after the initial Database Description with number 7 to the slave.
 const OPENED: &[Row] = &[
     BEGINS,
     (1, OPENS_7, Seen::Answers(State::Exchange, 7, 0, false)),
@@ -245,7 +247,8 @@ const DOES_NOT_NEGOTIATE: &[Row] = &[
     ),
 ];
 
-// A Hello is heard at 9, and then comes a Tick; then the last Description comes again.
+// A Hello is received at 9, and then there is a Tick; then the last Database Description is
+// received again.
 const HEARD: Row = (9, Happening::Hello(true), Seen::Rests(State::Full));
 
 const TICK_AT_41: Row = (41, Happening::Tick, Seen::Rests(State::Full));

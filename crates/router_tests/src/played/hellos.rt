@@ -22,7 +22,7 @@ const BACK_AND_ON: &[Row] = &[
 
 const LATE: u64 = 0x7_ffff_ffff;
 
-// Attempts are begun and left; a neighbor that was Down is counted anew.
+// Attempts are started and abandoned; after the neighbor was Down, the numbers start over.
 const OVER_A_WRAP: &[Row] = &[
     (
         LATE,

@@ -1,4 +1,5 @@
-//! Descriptions and Requests that are sent again (RFC 2328, sections 10.8 and 10.9).
+//! Retransmission of Database Descriptions and Link State Requests (RFC 2328, sections 10.8 and
+//! 10.9).
 use super::*;
 
 const EXSTART_AGAIN: Seen = Seen::Answers(State::ExStart, 0, 0, true);

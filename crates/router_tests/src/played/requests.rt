@@ -13,7 +13,7 @@ const BEFORE_EXCHANGE: &[Row] = &[
     (4, Happening::Request(5), Seen::Rests(State::ExStart)),
 ];
 
-// Of the externals from 0 to 2 one is requested, and then another.
+// Of the AS-external-LSAs 0 to 2 one is requested, and then another.
 const ASKED: &[Row] = &[
     BEGINS,
     (
@@ -32,7 +32,7 @@ const ASKED: &[Row] = &[
     ),
 ];
 
-// The first 680 come, and what is left is requested.
+// The first 680 are received, and the rest is requested.
 const REQUESTED_ALL: &[Row] = &[
     (3, Happening::NextRequest, Seen::Asks(680)),
     (4, Happening::Externals(true, 0, 680), Seen::Asks(0)),

@@ -1,4 +1,4 @@
-//! LSAs that are sent again until they are acknowledged (RFC 2328, section 13.6).
+//! LSAs that are retransmitted until they are acknowledged (RFC 2328, section 13.6).
 use super::*;
 
 const UNTIL_ACKNOWLEDGED: &[Row] = &[
@@ -33,7 +33,7 @@ const IMPLIED: &[Row] = &[
     (8, Happening::Tick, Seen::Sends(State::Full, 0)),
 ];
 
-// LSAs of 28 and of 226 times 36 bytes: with the packet's header and the count 8,192 bytes.
+// One LSA of 28 and 226 of 36 bytes: with the packet's header and the number of LSAs 8,192 bytes.
 const THAT_FIT: &[Row] = &[
     (3, Happening::Summaries(0, 1), Seen::Sends(State::Full, 1)),
     (

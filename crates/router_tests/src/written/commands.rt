@@ -6,7 +6,7 @@ use std::process::Abort;
 use std::test::Fail;
 use words::{Address, External, ExternalType, Prefix};
 
-// What a line asks for, without the path of an `attach`.
+// The command of a line, without the path of an `attach`.
 #[derive(Clone, Copy, PartialEq, Eq)]
 enum Asked {
     Nothing,
@@ -42,7 +42,7 @@ fn read(alloc: Global, line: &str) -> Result<Asked, AllocError> {
     }
 }
 
-// Whether the line asks to attach what is at this path.
+// Whether the line is an `attach` with this path.
 fn attaches(alloc: Global, line: &str, path: &str) -> Result<bool, AllocError> {
     let command = read_command(alloc, line);
     match &command {
@@ -52,7 +52,7 @@ fn attaches(alloc: Global, line: &str, path: &str) -> Result<bool, AllocError> {
     }
 }
 
-// Whether the line is read so.
+// Whether the line is parsed as this.
 fn is_read(alloc: Global, line: &str, wanted: &Asked) -> Result<bool, AllocError> {
     Ok(read(alloc, line)? == *wanted)
 }
@@ -103,7 +103,7 @@ fn each_command_is_read(rt: HostRuntime) -> Result<(), Fail> {
     Ok(())
 }
 
-// Lines that ask for nothing.
+// Lines that are no command.
 const UNKNOWN: &[&str] = &[
     "",
     "hello",

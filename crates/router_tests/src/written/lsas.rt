@@ -1,6 +1,6 @@
-//! LSAs by their calls, made and read by their fields. What is read and written again, and what is
-//! refused, are rows of trials/lsas.rows. Another program computed the checksums, by the two sums of
-//! RFC 1008.
+//! LSAs by their functions, built and parsed. What is parsed and encoded again, and what is
+//! refused, are rows of trials/lsas.rows. Another program computed the checksums, by the two sums
+//! of RFC 1008.
 ghost use Rattle.std.specs.Prelude.{◌≡◌, ◌≢◌};
 ghost use Rattle.lsa.specs.Text.{reserved_sequence};
 
@@ -13,12 +13,12 @@ use std::process::Abort;
 use std::test::Fail;
 use words::{Address, ExternalType, LinkStateId, RouterId, Sequence, SequenceNumber};
 
-// 203.0.113.0/24 of 1.1.1.1: type 2, metric 20, checksum 0x5429.
+// 203.0.113.0/24 by 1.1.1.1: type 2, metric 20, checksum 0x5429.
 const EXTERNAL: &[u8] =
     b"\x00\x00\x02\x05\xcb\x00\x71\x00\x01\x01\x01\x01\x80\x00\x00\x01\x54\x29\x00\x24\xff\xff\xff\
         \x00\x80\x00\x00\x14\x00\x00\x00\x00\x00\x00\x00\x00";
 
-// The first at MaxAge.
+// `EXTERNAL` at MaxAge.
 const OLD: &[u8] =
     b"\x0e\x10\x02\x05\xcb\x00\x71\x00\x01\x01\x01\x01\x80\x00\x00\x01\x54\x29\x00\x24\xff\xff\xff\
         \x00\x80\x00\x00\x14\x00\x00\x00\x00\x00\x00\x00\x00";
@@ -45,17 +45,17 @@ const SECOND_255: &[u8] =
     b"\x00\x00\x02\x05\xcb\x00\x71\x00\x01\x01\x01\x01\x80\x00\x00\x01\x60\xff\x00\x24\xff\xff\xff\
         \x00\x80\x00\x00\x14\x00\x00\x00\x00\x00\x00\x00\x1d";
 
-// 198.51.100.0/24 of 2.2.2.2: type 3, metric 5, checksum 0x925f.
+// 198.51.100.0/24 by 2.2.2.2: LS type 3, metric 5, checksum 0x925f.
 const NETWORK: &[u8] =
     b"\x00\x00\x02\x03\xc6\x33\x64\x00\x02\x02\x02\x02\x80\x00\x00\x01\x92\x5f\x00\x1c\xff\xff\xff\
         \x00\x00\x00\x00\x05";
 
-// 9.9.9.9 of 2.2.2.2: type 4, metric 7, checksum 0xc761.
+// 9.9.9.9 by 2.2.2.2: LS type 4, metric 7, checksum 0xc761.
 const ROUTER: &[u8] =
     b"\x00\x00\x02\x04\x09\x09\x09\x09\x02\x02\x02\x02\x80\x00\x00\x01\xc7\x61\x00\x1c\x00\x00\x00\
         \x00\x00\x00\x00\x07";
 
-// The summary of the network with metrics for two other types of service.
+// The summary-LSA of the network with metrics for two other types of service.
 const TOS: &[u8] =
     b"\x00\x00\x02\x03\xc6\x33\x64\x00\x02\x02\x02\x02\x80\x00\x00\x01\x73\xb1\x00\x24\xff\xff\xff\
         \x00\x00\x00\x00\x05\x08\x00\x00\x14\x0c\x12\x34\x56";
@@ -77,7 +77,7 @@ fn header(link_state_id: u32, router: u32) -> Header
     }
 }
 
-// The first, of its fields.
+// `EXTERNAL` from its fields.
 fn external(alloc: Global) -> Result<Lsa, AllocError> {
     let body = Body::External(ExternalLsa {
         mask: Address::new(0xffff_ff00),
@@ -127,14 +127,14 @@ fn lsas_are_made_of_their_fields(rt: HostRuntime) -> Result<(), Fail> {
     ])
 }
 
-// Whether it has the checksum and the type of the first, and is written so at MaxAge.
+// Whether it has the checksum and the LS type of `EXTERNAL`, and is encoded as `OLD` at MaxAge.
 fn is_old_at_max_age(alloc: Global, lsa: &Lsa) -> Result<bool, AllocError> {
     let header = lsa.header();
     let is_first = (header.checksum == 0x5429) & (header.key().ls_type == 5);
     Ok(is_first && are_bytes(write_at_age(alloc, lsa, 3600), OLD)?)
 }
 
-// The same of a copy, which is then of that age.
+// The same for a copy whose age is set.
 fn ages(alloc: Global, lsa: &Lsa) -> Result<bool, AllocError> {
     let mut copy = lsa.copy()?;
     let is_old = is_old_at_max_age(alloc, &copy)?;
@@ -158,7 +158,7 @@ fn with_other_check_bytes(alloc: Global, bytes: &[u8]) -> Result<Vec<u8>, AllocE
     Ok(changed)
 }
 
-// Whether other check bytes don't hold, and its own are those that sealing gives.
+// Whether other check bytes are refused, and sealing gives its own.
 fn is_sealed(alloc: Global, text: &[u8]) -> Result<bool, AllocError> {
     let mut bytes = with_other_check_bytes(alloc, text)?;
     if bytes.len() < 20 || bytes.len() > 65535 || checksum_holds(&bytes) {
@@ -193,7 +193,7 @@ const BODIES: &[(&[u8], &str)] = &[
     ),
 ];
 
-// What the LSA says that the bytes are read as.
+// The body of the LSA in the bytes, printed.
 fn says(alloc: Global, bytes: &[u8]) -> Result<String, Fail> {
     let lsa = read(alloc, bytes)?;
     let body = lsa.body();

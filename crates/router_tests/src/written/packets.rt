@@ -1,31 +1,31 @@
-//! Packets by their calls, read by their fields. What is read and written again, and what is refused,
-//! are rows of trials/packets.rows. Another program computed their checksums.
+//! Packets by their functions, parsed. What is parsed and encoded again, and what is refused, are
+//! rows of trials/packets.rows. Another program computed their checksums.
 use crate::outcomes::are_bytes;
 use packet::{read, write};
 use std::alloc::Global;
 use std::process::Abort;
 use std::test::Fail;
 
-// 1.1.1.1 with the same, naming 2.2.2.2: checksum 0xf694.
+// A Hello of 1.1.1.1 that lists 2.2.2.2; checksum 0xf694.
 const HELLO_NAMING: &[u8] =
     b"\x02\x01\x00\x30\x01\x01\x01\x01\x00\x00\x00\x00\xf6\x94\x00\x00\x00\x00\x00\x00\x00\x00\x00\
         \x00\xff\xff\xff\x00\x00\x0a\x02\x01\x00\x00\x00\x28\x00\x00\x00\x00\x00\x00\x00\x00\x02\
         \x02\x02\x02";
 
-// A Description of 2.2.2.2: M alone, two headers.
+// A Database Description of 2.2.2.2: only the M-bit, two headers.
 const DESCRIPTION: &[u8] =
     b"\x02\x02\x00\x48\x02\x02\x02\x02\x00\x00\x00\x00\xf9\x90\x00\x00\x00\x00\x00\x00\x00\x00\x00\
         \x00\x05\xdc\x02\x02\x01\x02\x03\x04\x00\x01\x02\x01\x01\x01\x01\x01\x01\x01\x01\x01\x80\
         \x00\x00\x01\x59\xae\x00\x30\x00\x00\x02\x05\xcb\x00\x71\x00\x01\x01\x01\x01\x80\x00\x00\
         \x01\x54\x29\x00\x24";
 
-// A Request for two LSAs, the second of a type above 255.
+// A Link State Request for two LSAs, the second with an LS type above 255.
 const REQUEST: &[u8] =
     b"\x02\x03\x00\x30\x01\x01\x01\x01\x00\x00\x00\x00\xb7\xca\x00\x00\x00\x00\x00\x00\x00\x00\x00\
         \x00\x00\x00\x00\x01\x01\x01\x01\x01\x01\x01\x01\x01\xff\xff\xff\xf5\xcb\x00\x71\x00\x02\
         \x02\x02\x02";
 
-// An Update with a router-LSA of 48 bytes and an AS-external-LSA of 36.
+// A Link State Update with a router-LSA of 48 bytes and an AS-external-LSA of 36.
 const UPDATE: &[u8] =
     b"\x02\x04\x00\x70\x01\x01\x01\x01\x00\x00\x00\x00\x69\x19\x00\x00\x00\x00\x00\x00\x00\x00\x00\
         \x00\x00\x00\x00\x02\x00\x01\x02\x01\x01\x01\x01\x01\x01\x01\x01\x01\x80\x00\x00\x01\x59\
@@ -34,7 +34,7 @@ const UPDATE: &[u8] =
         \x00\x00\x01\x54\x29\x00\x24\xff\xff\xff\x00\x80\x00\x00\x14\x00\x00\x00\x00\x00\x00\x00\
         \x00";
 
-// An Acknowledgment with a header and 20 bytes of ones.
+// A Link State Acknowledgment with a header and 20 bytes of ones.
 const ACKNOWLEDGMENT: &[u8] =
     b"\x02\x05\x00\x40\x01\x01\x01\x01\x00\x00\x00\x00\xe7\x61\x00\x00\x00\x00\x00\x00\x00\x00\x00\
         \x00\x00\x00\x02\x05\xcb\x00\x71\x00\x01\x01\x01\x01\x80\x00\x00\x01\x54\x29\x00\x24\xff\
@@ -63,7 +63,7 @@ const PACKETS: &[(&[u8], &str)] = &[
     ),
 ];
 
-// What the packet says that the bytes are read as; what it is written as is what they were.
+// The body of the packet in the bytes, printed, if it is encoded as these bytes again.
 fn says(alloc: Global, bytes: &[u8]) -> Result<Option<String>, Fail> {
     let packet = read(alloc, bytes)?;
     if !are_bytes(write(alloc, &packet), bytes)? {

@@ -4,7 +4,7 @@ use Rattle.std.specs.Arc.{arc_value}
 use Rattle.maps.specs.Words.{IsOf}
 use Rattle.bench.proofs.maps_speed.start_threads.Given as goal
 
--- the seats that are left are of the table
+-- the remaining seats are of the table
 abbrev pub invariant-loop-seat : goal.invariant-loop-seat
 invariant-loop-seat g l = All (λ s. IsOf (arc_value l.shared) s) l.seats.items
 
