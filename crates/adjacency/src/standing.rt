@@ -50,7 +50,7 @@ pub struct Standing {
     pub sequence: u32,
     /// The DD sequence number of the last attempt since the neighbor was Down.
     pub dd_sequence_start: Option<u32>,
-    /// The last Description received.
+    /// The last Database Description received.
     pub received: Option<ReceivedDescription>,
     /// The moment at which the exchange was completed.
     pub exchanged: Option<Second>,

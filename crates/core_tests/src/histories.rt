@@ -13,8 +13,8 @@ use std::alloc::Global;
 use std::sync::Wait;
 use std::test::Fail;
 
-// The number of histories that a test plays, and below the number of steps of each, in two of which
-// a router restarts.
+// The number of histories that a test plays. Each has `STEPS` steps, in two of which a router
+// restarts.
 const HISTORIES: u64 = 50;
 
 const STEPS: u32 = 500;

@@ -45,7 +45,7 @@ abbrev pub is_for : Network → Option External → Bool
 is_for prefix None = false
 is_for prefix (Some e) = same_network prefix e.prefix
 
--- ---- wants
+-- ---- the announced destinations
 
 abbrev pub announce : Key → External → Router → Router
 announce key e r = record r { announced = finite.insert r.announced key e }

@@ -17,7 +17,7 @@ abbrev pub OfEachNeighbor : (Neighbor → Type 0) → Router → Type 0
 OfEachNeighbor P r = HoldsOfEach P r.area.links
 
 -- each copy fits into a Link State Update; the last Database Description and the outstanding keys
--- fit into a packet; with at most so many links the router-LSA fits too
+-- fit into a packet; with at most 63 links the router-LSA fits too
 pub record IsRoomy (r : Router) : Type 0 where
   pub fit : AllFit r.area.database
   pub lists : OfEachNeighbor HasRoomyLists r

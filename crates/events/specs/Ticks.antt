@@ -21,7 +21,8 @@ abbrev pub settled_exchange : Moment → Seconds → Option Neighbor → Option 
 settled_exchange moment dead None = None
 settled_exchange moment dead (Some n) = Some (without_old_description moment dead n)
 
--- an inactive neighbor is Down; a slave discards its last Database Description
+-- an inactive neighbor is Down; the last Database Description is discarded some time after the
+-- exchange
 abbrev pub run_out : Moment → Link → Link
 run_out moment link = record link {
   neighbor =

@@ -1,5 +1,5 @@
--- An invariant of a router at every point of a run, which allows to follow entries of
--- retransmission lists through an event.
+-- An invariant of a router at every point of a run, by which entries of retransmission lists can be
+-- followed through an event.
 use Rattle.std.specs.Prelude.{◌≡◌, List, Some}
 use Rattle.std.specs.FinMap as finite
 use Rattle.words.specs.Numbers.{Moment}

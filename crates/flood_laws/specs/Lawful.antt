@@ -9,8 +9,8 @@ use Rattle.packet.specs.Text.{PacketText, canonical}
 use Rattle.adjacency.specs.Rooms.{Fits}
 use Rattle.events.specs.Packing.{packet_of}
 
--- if there are at most so many bytes, the header fields are in their ranges, and each LSA's length
--- is that of its bytes
+-- if there are at most 8,192 bytes, the header fields are in their ranges, and each LSA's length is
+-- that of its bytes
 pub record TextsAreLawful : Type 0 where
   pub update : (own : ℕ) (lsas : List Lsa) → own < 2 ^ 32
       → AllByRecursion (λ l. IsHeader l.header × Fits l) lsas

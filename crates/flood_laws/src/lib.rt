@@ -59,7 +59,7 @@ pub fn only_router_and_external_lsas_are_wanted()
     ensures { OnlyRouterAndExternalLsasAreWanted }
 {}
 
-/// An invariant that allows to follow entries through events: a router announces only external
+/// An invariant by which entries can be followed through events: a router announces only external
 /// destinations, only under its own Router ID, and its retransmission lists have the database's
 /// instances. It holds at the start, after each event, and so after every run.
 pub fn routers_stay_in_order()

@@ -305,7 +305,7 @@ pub(crate) fn has_max_age(ages: &Ages, times: &KeyedMap<Times>, key: &Key, momen
     }
 }
 
-// `past`, and one more if the key is among the aged keys.
+// `past`, plus 1 if the key is among the aged keys.
 fn one_more_past(ages: &Ages, key: &Key, past: usize) -> usize {
     if ages.aged.contains(key) {
         return past.saturating_add(1);
@@ -469,7 +469,7 @@ impl Lsdb {
     /// The keys of the copies that have MaxAge at the moment, in their order.
     ///
     /// It visits all copies only if one may have reached MaxAge since `settle_at` last scanned
-    /// them. Otherwise it visits only those that had MaxAge then or got it since; at most a third
+    /// them. Otherwise it visits only those that had MaxAge then or got it since; at most half
     /// of these have been removed or replaced.
     ///
     /// # Errors

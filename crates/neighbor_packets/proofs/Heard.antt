@@ -39,7 +39,7 @@ module _ (own moment from : ℕ) (h : Hello) (l : Link) where
   pub ignored_sends : (delay : ℕ) (d : Drafted) → accepts own from h l ≡ false → d ≡ drafting delay (sent_heard own moment from h l) d
   ignored_sends delay d is = drafting-none delay d ∙ ap (λ b. drafting delay (sent_by b) d) (sym is)
 
--- at the interface of this number
+-- at the interface with this number
 module _ (own moment k from : ℕ) (h : Hello) (a : Area) (first : 1 ≤ k) (last : k ≤ length a.links) where
   here : Link
   here = link moment k a first last

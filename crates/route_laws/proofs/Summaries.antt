@@ -275,7 +275,7 @@ module _ (flags distant_flags : ℕ) (has_e : bit_and distant_flags 2 ≡ 2) whe
       let p : net_of id ≡ g.prefix = one_prefix id lsa.mask 24 g.prefix (omega arith) mask g.is_prefix in
       (λ i. external_offer lsa.kind (p i) lsa originator (w i)) ∙ sym g.is
 
-  -- what an external LSA of a kind offers, if P holds of the offers of each
+  -- what an AS-external-LSA of a kind offers, if P holds of the offers of each
   module _ (P : Offer → Type 0)
       (first : (o : Offer) → Given (ipv4 203 0 113 0) beyond (external Type1 20 0 0) o → P o)
       (second : (o : Offer) → Given (ipv4 203 0 114 0) beyond (external Type2 20 0 0) o → P o)

@@ -5,7 +5,7 @@ use Rattle.std.specs.Prelude.{ℕ, ◌^◌, ℤ, pos, negsuc}
 abbrev pub max_age : ℕ
 max_age = 3600
 
--- MaxAgeDiff: instances whose ages differ by more are distinct by their ages, in seconds
+-- MaxAgeDiff: if the ages of two instances differ by more, the younger is newer, in seconds
 abbrev pub max_age_diff : ℕ
 max_age_diff = 900
 

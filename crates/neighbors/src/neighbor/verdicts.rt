@@ -13,7 +13,7 @@ use packet::Description;
 use words::RouterId;
 
 impl Neighbor {
-    // Whether the last Description sent is kept.
+    // Whether the last Database Description sent is kept.
     fn is_kept(&self) -> bool
         ensures { result ≡ is_kept self.now.present.described }
     {
