@@ -127,10 +127,12 @@ impl Area {
 
     /// Processes an LSA of a Link State Update that was received at the interface with this number,
     /// 1 or greater (RFC 2328, section 13), and returns its case. A newer LSA is installed and
-    /// flooded, and its acknowledgment is delayed; a duplicate is acknowledged directly; the same
-    /// instance as on the sender's retransmission list is removed from there; an LSA that is on the
-    /// request list but not newer is BadLSReq; if the copy is newer, it is sent to the sender.
-    /// Processing self-originated LSAs further is up to the caller.
+    /// flooded, and its acknowledgment is delayed, but it is ignored within MinLSArrival. A
+    /// duplicate is acknowledged directly, and so is an LSA at MaxAge if there is nothing to flush.
+    /// The same instance as on the sender's retransmission list is removed from there. An LSA that
+    /// is on the request list but not newer is BadLSReq. If the copy is newer, it is sent to the
+    /// sender, unless it is being flushed or was just sent. Processing self-originated LSAs further
+    /// is up to the caller.
     ///
     /// Errors with `AllocError` if an allocation is refused; the caller then rolls the area back
     /// and drops the drafts.
