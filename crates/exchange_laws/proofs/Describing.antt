@@ -156,22 +156,26 @@ module _ (own moment : ℕ) (db : Database) (d : Description) where
 
 module _ (ranks : RanksFollowTheComparison) (key : Key) (moment : ℕ) (first : Instance) (entry : ListEntry) (low : is_at_least (listed_now moment entry) first ≡ true)
     (with_it : Conversation) (May : Type 0) (may : May) (own : ℕ) (db : Database) (d : Description) where
+  -- a header of the key is taken
+  abbrev IsTold : Type 0
+  IsTold = (knows_types d ≡ true) × HasKey d.headers key
+
   abbrev Goes : Neighbor → Type 0
-  Goes m = Asking ranks key moment first entry low with_it May m ⊎ HasKey d.headers key
+  Goes m = Asking ranks key moment first entry low with_it May m ⊎ IsTold
 
   abbrev IsIt : Neighbor → Type 0
   IsIt m = IsAsked ranks key moment first entry low with_it May m
 
-  of_it : (m : Neighbor) → IsIt m ⊎ HasKey d.headers key → Goes m
+  of_it : (m : Neighbor) → IsIt m ⊎ IsTold → Goes m
   of_it m (inl at) = inl (inr at)
   of_it m (inr told) = inr told
 
-  master : (m : Neighbor) → IsIt m ⊎ HasKey d.headers key → Goes (master_goes_on moment d m).neighbor
+  master : (m : Neighbor) → IsIt m ⊎ IsTold → Goes (master_goes_on moment d m).neighbor
   master m h =
       let more : Step = describe moment (record m { sequence = (m.sequence + 1) % 2 ^ 32 }) in
       chosen (λ (s : Step). Goes s.neighbor) (announced_more m.described || d.more) more (no_sends (exchange_done moment m)) (λ e. of_it more.neighbor h) (λ e. of_it (exchange_done moment m) h)
 
-  slave : (m : Neighbor) → IsIt m ⊎ HasKey d.headers key → Goes (slave_replies moment d m).neighbor
+  slave : (m : Neighbor) → IsIt m ⊎ IsTold → Goes (slave_replies moment d m).neighbor
   slave m h =
       let replied : Step = describe moment (record m { sequence = d.sequence }) in
       chosen (λ (s : Step). Goes s.neighbor) (announced_more replied.neighbor.described || d.more) replied (record replied { neighbor = exchange_done moment replied.neighbor })
@@ -183,30 +187,66 @@ module _ (ranks : RanksFollowTheComparison) (key : Key) (moment : ℕ) (first : 
   any_accepted : (m : Neighbor) → IsIt m → Goes (accept moment db d m).neighbor
   any_accepted m at =
       let w : Neighbor = with_requests moment db d.headers (record m { received = Some (as_received d) }) in
-      let so : IsIt w ⊎ HasKey d.headers key = its at.0 (kept_or_told moment db key entry d.headers m.requests at.1) in
+      let so : knows_types d ≡ true → IsIt w ⊎ IsTold = λ knows. its knows at.0 (kept_or_told moment db key entry d.headers m.requests at.1) in
       chosen (λ (s : Step). Goes s.neighbor) (knows_types d) (cond w.is_master (master_goes_on moment d w) (slave_replies moment d w)) (mismatch_step moment m)
-      (λ e. chosen (λ (s : Step). Goes s.neighbor) w.is_master (master_goes_on moment d w) (slave_replies moment d w) (λ e. master w so) (λ e. slave w so)) (λ e. mismatch m at)
+      (λ knows. chosen (λ (s : Step). Goes s.neighbor) w.is_master (master_goes_on moment d w) (slave_replies moment d w) (λ e. master w (so knows)) (λ e. slave w (so knows))) (λ e. mismatch m at)
     where
-      its : conversation_with m ≡ with_it → (finite.get (fold (with_request moment db) m.requests d.headers) key ≡ Some entry) ⊎ HasKey d.headers key
-          → IsIt (with_requests moment db d.headers (record m { received = Some (as_received d) })) ⊎ HasKey d.headers key
-      its same (inl k) = inl (same, k)
-      its same (inr told) = inr told
+      its : knows_types d ≡ true → conversation_with m ≡ with_it → (finite.get (fold (with_request moment db) m.requests d.headers) key ≡ Some entry) ⊎ HasKey d.headers key
+          → IsIt (with_requests moment db d.headers (record m { received = Some (as_received d) })) ⊎ IsTold
+      its knows same (inl k) = inl (same, k)
+      its knows same (inr told) = inr (knows, told)
 
-  any_verdict : (m : Neighbor) (v : Verdict) → IsIt m → Goes (act v moment db d m).neighbor
+  -- by a verdict that accepts it
+  abbrev Gone : Verdict → Neighbor → Type 0
+  Gone v m = Asking ranks key moment first entry low with_it May m ⊎ ((is_accepting v ≡ true) × IsTold)
+
+  by_verdict_told : (v : Verdict) → is_accepting v ≡ true → (m : Neighbor) → Goes m → Gone v m
+  by_verdict_told v is m (inl k) = inl k
+  by_verdict_told v is m (inr told) = inr (is, told)
+
+  any_verdict : (m : Neighbor) (v : Verdict) → IsIt m → Gone v (act v moment db d m).neighbor
   any_verdict m Verdict.Discarded at = inl (inr at)
-  any_verdict m Verdict.NegotiatedAsSlave at = any_accepted (negotiated_neighbor false d.sequence moment db m) at
-  any_verdict m Verdict.NegotiatedAsMaster at = any_accepted (negotiated_neighbor true m.sequence moment db m) at
+  any_verdict m Verdict.NegotiatedAsSlave at =
+      by_verdict_told Verdict.NegotiatedAsSlave refl (act Verdict.NegotiatedAsSlave moment db d m).neighbor (any_accepted (negotiated_neighbor false d.sequence moment db m) at)
+  any_verdict m Verdict.NegotiatedAsMaster at =
+      by_verdict_told Verdict.NegotiatedAsMaster refl (act Verdict.NegotiatedAsMaster moment db d m).neighbor (any_accepted (negotiated_neighbor true m.sequence moment db m) at)
   any_verdict m Verdict.Repeated at = inl (repeated ranks key moment first entry low with_it May m (inr at))
-  any_verdict m Verdict.Accepted at = any_accepted m at
-  any_verdict m Verdict.Mismatch at = mismatch m at
+  any_verdict m Verdict.Accepted at = by_verdict_told Verdict.Accepted refl (act Verdict.Accepted moment db d m).neighbor (any_accepted m at)
+  any_verdict m Verdict.Mismatch at = inl (mismatched ranks key moment first entry low with_it May may m (inr at))
 
-  any_state : (s : State) (m : Neighbor) → is_exchange_or_later s ≡ true → IsIt m → Goes (in_state s own moment db d m).neighbor
+  any_state : (s : State) (m : Neighbor) → is_exchange_or_later s ≡ true → IsIt m → Gone (verdict own m d) (in_state s own moment db d m).neighbor
   any_state Init m on at = absurd cc
   any_state ExStart m on at = absurd cc
   any_state Exchange m on at = any_verdict m (verdict own m d) at
   any_state Loading m on at = any_verdict m (verdict own m d) at
   any_state Full m on at = any_verdict m (verdict own m d) at
 
-  pub any_described : (m : Neighbor) → is_exchange_or_later m.state ≡ true → IsIt m → Goes (after_description own moment db d m).neighbor
+  stays_put : (s : State) (m : Neighbor) → is_exchange_or_later s ≡ true → (two_way_received_in s moment m).neighbor ≡ m
+  stays_put Init m on = absurd cc
+  stays_put ExStart m on = refl
+  stays_put Exchange m on = refl
+  stays_put Loading m on = refl
+  stays_put Full m on = refl
+
+  all_three : (a b c : Bool) → a ≡ false → b ≡ true → c ≡ true → (not a && b && c) ≡ true
+  all_three false true true e f g = refl
+  all_three true b c e f g = absurd cc
+  all_three false false c e f g = absurd cc
+  all_three false true false e f g = absurd cc
+
+  -- it is asked still, or the Description is accepted, with a header of the key
+  abbrev pub Accepts : Neighbor → Neighbor → Type 0
+  Accepts m x = Asking ranks key moment first entry low with_it May x ⊎ ((accepts_description own moment m d ≡ true) × HasKey d.headers key)
+
+  pub any_described : (m : Neighbor) → is_exchange_or_later m.state ≡ true → IsIt m → Accepts m (after_description own moment db d m).neighbor
   any_described m on at =
-      chosen (λ (s : Step). Goes s.neighbor) (nat_lt 8192 d.mtu) (no_sends m) (in_state m.state own moment db d m) (λ e. inl (inr at)) (λ e. any_state m.state m on at)
+      chosen (λ (s : Step). Accepts m s.neighbor) (nat_lt 8192 d.mtu) (no_sends m) (in_state m.state own moment db d m) (λ e. inl (inr at)) (λ fits. taken fits (any_state m.state m on at))
+    where
+      taken : nat_lt 8192 d.mtu ≡ false → Gone (verdict own m d) (in_state m.state own moment db d m).neighbor → Accepts m (in_state m.state own moment db d m).neighbor
+      taken fits (inl k) = inl k
+      taken fits (inr k) =
+          inr (
+            all_three (nat_lt 8192 d.mtu) (knows_types d) (is_accepting (verdict own (two_way_received moment m).neighbor d)) fits k.1.0
+                (ap (λ (x : Neighbor). is_accepting (verdict own x d)) (stays_put m.state m on) ∙ k.0),
+            k.1.1,
+          )

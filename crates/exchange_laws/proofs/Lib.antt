@@ -1,3 +1,4 @@
+mod Absent
 mod Holding
 mod Asking
 mod Describing

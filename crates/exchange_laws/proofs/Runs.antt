@@ -20,8 +20,8 @@ use Rattle.flood_laws.proofs.Acknowledged.{routers_stay_in_order}
 use Rattle.flood_laws.proofs.Always.{full_request_nothing}
 use Rattle.agreement_laws.specs.Exchanged.{Conversation, Converses, GoesOn, conversation_with}
 use Rattle.agreement_laws.specs.Ranks.{RanksFollowTheComparison}
-use Rattle.exchange_laws.specs.Requests.{BecameOfRequest, DescribesKey, IsRequestedOrHeld}
-use Rattle.exchange_laws.specs.TakenIn.{DescribesNoMore, WasTakenIn, WhatAFullNeighborDescribedWasTakenIn}
+use Rattle.exchange_laws.specs.Requests.{AcceptsKey, BecameOfRequest, IsRequestedOrHeld}
+use Rattle.exchange_laws.specs.TakenIn.{AcceptsNoMore, WasTakenIn, WhatAFullNeighborDescribedWasTakenIn}
 use Rattle.exchange_laws.proofs.Events.{accepted_is_requested, requests_are_met}
 use Rattle.exchange_laws.proofs.Holding.{became_less, entry_as_new, some_same}
 
@@ -46,7 +46,7 @@ module _ (number : ℕ) (with_it : Conversation) where
 
     -- what is asked now is taken in before the neighbor is Full
     followed : (steps : List Step) (r : Router) → IsInOrder r → (m : Neighbor) → neighbor_at number r.area.links ≡ Some m → finite.get m.requests key ≡ Some entry
-        → GoesOn number with_it r steps new → DescribesNoMore number with_it key steps → WasTakenIn key told r steps new
+        → (goes : GoesOn number with_it r steps new) → AcceptsNoMore number with_it key r steps new goes → WasTakenIn key told r steps new
     followed [] r order m at asked goes none =
         let here : neighbor_at number r.area.links ≡ Some full = ap (λ (x : Router). neighbor_at number x.area.links) (sym goes.0) ∙ there in
         let same : m ≡ full = some_same (sym at ∙ here) in
@@ -60,16 +60,16 @@ module _ (number : ℕ) (with_it : Conversation) where
         mine : conversation_with m ≡ with_it
         mine = its_conversation r m at goes.0
 
-        by_state : ((x : Neighbor) → neighbor_at number goes.1.area.links ≡ Some x → finite.get x.requests key ≡ Some entry → GoesOn number with_it goes.1 steps new
-            → DescribesNoMore number with_it key steps → WasTakenIn key told goes.1 steps new)
-            → BecameOfRequest s.moment s.event number m key entry goes.1 → WasTakenIn key told r (s ∷ steps) new
+        by_state : ((x : Neighbor) → neighbor_at number goes.1.area.links ≡ Some x → finite.get x.requests key ≡ Some entry → (more : GoesOn number with_it goes.1 steps new)
+            → AcceptsNoMore number with_it key goes.1 steps new more → WasTakenIn key told goes.1 steps new)
+            → BecameOfRequest r s.moment s.event number m key entry goes.1 → WasTakenIn key told r (s ∷ steps) new
         by_state more (BecameOfRequest.Stays (IsRequestedOrHeld.Requested x is same asks)) =
             WasTakenIn.Later r goes.1 new s steps goes.2 (more x is asks goes.3 none.1)
         by_state more (BecameOfRequest.Stays (IsRequestedOrHeld.Held became)) =
             WasTakenIn.Now r goes.1 new s steps goes.2
             (became_less ranks s.moment (listed_now s.moment entry) told key goes.1 (entry_as_new entry s.moment) became) (as_run steps goes.1 new goes.3)
         by_state more (BecameOfRequest.Again again) =
-            absurd (none.0 (subst (λ (w : Conversation). DescribesKey s.event number w.router key) mine again))
+            absurd (none.0 (subst (λ (w : Conversation). AcceptsKey r s.moment s.event number w.router key) mine again))
         by_state more (BecameOfRequest.Over over) =
             absurd (over (subst (λ (w : Conversation). Converses number w goes.1) (sym mine) (converses steps goes.1 new goes.3)))
 

@@ -1,11 +1,10 @@
--- What a router makes of the headers of a Description that it accepts (RFC 2328, section 10.6):
--- each is requested, unless an instance that is as new is held.
+-- Which Descriptions a router accepts (RFC 2328, section 10.6), and which of their headers is the
+-- last one of its key.
 use Rattle.std.specs.Prelude.{◌≡◌, ℕ, Bool, true, false, not, ◌&&◌, nat_lt, List, ◌∷◌, ◌++◌, Some}
 use Rattle.std.specs.List.{AllByRecursion}
 use Rattle.words.specs.Constants.{largest_packet}
 use Rattle.words.specs.Numbers.{InterfaceNumber, Moment, RouterNumber}
 use Rattle.lsdb.specs.Headers.{Header, key_of}
-use Rattle.lsdb.specs.Instances.{instance_of}
 use Rattle.lsdb.specs.Keys.{same_key}
 use Rattle.packet.specs.declared.model.Body.TheVariants as body
 use Rattle.packet.specs.declared.model.Description.{Description}
@@ -15,14 +14,9 @@ use Rattle.adjacency.specs.Adjacencies.{two_way_received}
 use Rattle.adjacency.specs.Descriptions.{Verdict, knows_types, verdict}
 use Rattle.adjacency.specs.Neighbors.{Neighbor}
 use Rattle.received.specs.Links.{neighbor_at}
-use Rattle.events.specs.declared.model.Out.{Out}
 use Rattle.events.specs.Endings.{start_event}
-use Rattle.events.specs.Events.{Happens}
 use Rattle.events.specs.Hellos.{is_foreign}
 use Rattle.events.specs.Routers.{Occurrence, Router}
-use Rattle.flood_laws.specs.InOrder.{IsInOrder}
-use Rattle.agreement_laws.specs.Exchanged.{conversation_with}
-use Rattle.exchange_laws.specs.Requests.{IsRequestedOrHeld}
 
 -- ---- a Description that is accepted
 
@@ -64,14 +58,3 @@ pub record IsLastOfItsKey (headers : List Header) (h : Header) : Type 0 where
   pub rest : List Header
   pub is : headers ≡ before ++ h ∷ rest
   pub others : AllByRecursion (λ (g : Header). same_key (key_of h) (key_of g) ≡ false) rest
-
--- of routers in order, as they are in every run: so it is of each Description that is accepted
-abbrev pub WhatIsAcceptedIsRequested : Type 0
-WhatIsAcceptedIsRequested =
-    (old : Router) (moment : Moment) (event : Occurrence) (outs : List Out) (new : Router)
-    → Happens old moment event outs new → IsInOrder old
-    → (number : InterfaceNumber) (n : Neighbor) (d : Description)
-    → AcceptsDescription old moment event number n d
-    → (h : Header) → IsLastOfItsKey d.headers h
-    → IsRequestedOrHeld moment number (conversation_with (two_way_received moment n).neighbor)
-    (key_of h) (record { header = h; at = moment }) (instance_of h) new

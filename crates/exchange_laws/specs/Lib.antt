@@ -1,4 +1,5 @@
-pub mod Requests
 pub mod Accepted
+pub mod Requests
 pub mod TakenIn
+pub mod Stays
 pub mod WorkedRequests

@@ -2,17 +2,17 @@
 //! on: what a router makes of the headers that a neighbor describes to it.
 #![tactic(auto)]
 
-ghost use Rattle.exchange_laws.specs.Accepted.{WhatIsAcceptedIsRequested};
-ghost use Rattle.exchange_laws.specs.Requests.{RequestsAreMet};
+ghost use Rattle.exchange_laws.specs.Requests.{RequestsAreMet, WhatIsAcceptedIsRequested};
+ghost use Rattle.exchange_laws.specs.Stays.{RequestsStay};
 ghost use Rattle.exchange_laws.specs.TakenIn.{WhatAFullNeighborDescribedWasTakenIn};
 ghost use Rattle.exchange_laws.specs.WorkedRequests.{WorkedRequests};
 
 use agreement_laws::ranks_follow_the_comparison;
 
 /// In each event a request stays on its list, unless an instance that is as new is held, or was and
-/// left at MaxAge in the event; or the neighbor describes the key again; or the conversation is
-/// over (RFC 2328, sections 10.9, 13 and 13.3). It asks that the router is in order, as it is in
-/// every run.
+/// left at MaxAge in the event; or another Description with a header of its key is accepted; or the
+/// conversation is over (RFC 2328, sections 10.9, 13 and 13.3). It asks that the router is in order,
+/// as it is in every run.
 pub fn requests_are_met()
     ensures { RequestsAreMet }
 {
@@ -24,6 +24,17 @@ pub fn requests_are_met()
 /// section 10.6). It asks that the router is in order, as it is in every run.
 pub fn what_is_accepted_is_requested()
     ensures { WhatIsAcceptedIsRequested }
+{
+    ranks_follow_the_comparison();
+}
+
+/// What is requested stays so until an LSA of its key comes: where no copy is held, and the key isn't
+/// the router's own, the last header of a key in a Description that is accepted is requested after
+/// the event; and a request stays in each event whose packet brings no LSA of the key, unless
+/// another Description with a header of it is accepted, or the conversation is over (RFC 2328,
+/// sections 10.6, 10.9, 13 and 13.3). It asks that the router is in order, as it is in every run.
+pub fn requests_stay()
+    ensures { RequestsStay }
 {
     ranks_follow_the_comparison();
 }
