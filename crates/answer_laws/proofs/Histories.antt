@@ -14,6 +14,7 @@ use Rattle.events.specs.declared.model.Config.{Config}
 use Rattle.events.specs.Endings.{end_event}
 use Rattle.events.specs.EventState.{EventState}
 use Rattle.events.specs.Events.{Step, initial}
+use Rattle.events.specs.Hellos.{is_foreign}
 use Rattle.events.specs.Routers.{Router}
 use Rattle.events.proofs.Walk.{outcome}
 use Rattle.flood_laws.specs.InOrder.{IsInOrder}
@@ -241,11 +242,11 @@ alone number Accepts Sends c r is =
 
 -- ---- turns
 
-abbrev step_taken : {number : ℕ} {heard : List (List ℕ)} {p q : Party} → TakesEvent number heard p q
-    → Step
+abbrev pub step_taken : {number : ℕ} {heard : List (List ℕ)} {p q : Party}
+    → TakesEvent number heard p q → Step
 step_taken t = record { moment = t.moment; event = t.event; outs = t.outs }
 
-abbrev Turns : (ends : Ends) → Side → Pair → Pair → Option Step → List Send → Type 0
+abbrev pub Turns : (ends : Ends) → Side → Pair → Pair → Option Step → List Send → Type 0
 Turns ends side before now event sends =
     ((t : TakesEvent (interface_of side ends) (party (other_side side) before).sent
     (party side before) (party side now)) × (event ≡ Some (step_taken t))
@@ -254,7 +255,7 @@ Turns ends side before now event sends =
     ⊎ (party side now ≡ party side before)))
 
 -- what a turn is to either side
-turn_of : (ends : Ends) (side : Side) (before now : Pair) (t : Turn ends before now)
+pub turn_of : (ends : Ends) (side : Side) (before now : Pair) (t : Turn ends before now)
     → Turns ends side before now (event_of ends side before now t) (sends_of ends side before now t)
 turn_of ends side before now t = by_side t.side side t.does t.other
   where
@@ -427,6 +428,23 @@ kept ends Side.Left now [] h = begun ends Side.Left now h h.0
 kept ends Side.Right now [] h = begun ends Side.Right now h h.1
 kept ends side now (before ∷ earlier) h =
     goes_on ends side now before earlier h (kept ends side before earlier h.1)
+
+-- who is at the interface is another router
+pub foreigners : (ends : Ends) (side : Side) (now : Pair) (earlier : List Pair)
+    (h : IsHistory ends now earlier)
+    → Holds (λ (n : Neighbor). is_foreign (party side now).router.id n.router ≡ true)
+    (neighbor_at (interface_of side ends) (party side now).router.area.links)
+foreigners ends side now earlier h =
+    by_neighbor (neighbor_at (interface_of side ends) (party side now).router.area.links)
+    (kept ends side now earlier h).stored
+  where
+    by_neighbor : (o : Option Neighbor)
+        → Holds (λ (n : Neighbor). Sound (party side now).router.id
+        (Taken ends side now earlier h (conversation_with n)) Nothing
+        (Sent ends side now earlier h (conversation_with n)) n) o
+        → Holds (λ (n : Neighbor). is_foreign (party side now).router.id n.router ≡ true) o
+    by_neighbor None k = tt
+    by_neighbor (Some n) k = k.0
 
 -- ---- the law
 

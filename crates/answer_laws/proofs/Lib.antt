@@ -4,4 +4,7 @@ mod Walk
 mod Start
 mod Histories
 mod Together
+mod Latest
+mod Taking
+mod Described
 mod WorkedAnswers

@@ -2,8 +2,13 @@
 #![tactic(auto)]
 
 ghost use Rattle.answer_laws.specs.Answers.{DescriptionsAreAnswered};
+ghost use Rattle.answer_laws.specs.Described.{WhatWasDescribedIsHeld};
+ghost use Rattle.answer_laws.specs.Held.{WhatWasAcceptedIsHeld};
 ghost use Rattle.answer_laws.specs.Together.{TheExchangeEndsTogether};
 ghost use Rattle.answer_laws.specs.WorkedAnswers.{WorkedAnswers};
+
+use agreement_laws::{copies_climb, ranks_follow_the_comparison};
+use exchange_laws::{requests_are_met, requests_stay, what_is_accepted_is_requested};
 
 /// In every history of two neighbors, from Exchange on: the one with the larger Router ID is the
 /// master; each Description that the slave sent, but its opening one, answers one that it accepted,
@@ -22,6 +27,33 @@ pub fn the_exchange_ends_together()
     ensures { TheExchangeEndsTogether }
 {
     descriptions_are_answered();
+}
+
+/// In every history of two neighbors: where a router is Full with the other one, and in their
+/// conversation has accepted Descriptions with headers of a key, each of which names an instance as
+/// new as the given one, it holds an instance that is as new; unless it lost the key since it
+/// accepted one: after some event it had no copy, and one was there before that event, or came in
+/// it, or the key is its own (RFC 2328, sections 10.3, 10.6, 10.9 and 14).
+pub fn what_was_accepted_is_held()
+    ensures { WhatWasAcceptedIsHeld }
+{
+    ranks_follow_the_comparison();
+    copies_climb();
+    requests_are_met();
+    what_is_accepted_is_requested();
+    requests_stay();
+}
+
+/// So in every history of two neighbors that are done with their exchange, where one is Full with
+/// the other one: of each key that this one described to it in the conversation, by headers as new
+/// as the given instance, it holds one as new, or it lost the key; unless a Description of another
+/// conversation was taken for one of this, or a number served twice (RFC 2328, sections 10.3 and
+/// 10.6).
+pub fn what_was_described_is_held()
+    ensures { WhatWasDescribedIsHeld }
+{
+    the_exchange_ends_together();
+    what_was_accepted_is_held();
 }
 
 /// Worked cases: the larger Router ID leads; an attempt's opening Description is of its
