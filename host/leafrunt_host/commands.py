@@ -10,9 +10,9 @@ from dataclasses import replace
 from ipaddress import IPv4Address, IPv4Network
 from pathlib import Path
 
-from leafrunt_host import console
+from leafrunt_host import console, remains
 from leafrunt_host.box import Box
-from leafrunt_host.client import Client, own_answer
+from leafrunt_host.client import Client, chosen_box, own_answer
 from leafrunt_host.configuration import Configuration, read_configuration
 from leafrunt_host.journal import LEVELS, is_journal, one_line, start_log
 from leafrunt_host.kernel import kernel_interfaces
@@ -47,6 +47,7 @@ EXAMPLES = {
     "check": "leafrunt check /etc/leafrunt/one.toml",
     "reload": "leafrunt reload\n  systemctl reload leafrunt@one",
     "down": "leafrunt down --box one",
+    "clear": "leafrunt clear --box one",
 }
 TITLES = {
     "up": "start a box by its configuration, in the foreground; SIGTERM, SIGINT and `down` end it in order",
@@ -65,6 +66,7 @@ TITLES = {
     "check": "say what is wrong with a configuration, and start nothing",
     "reload": "take a changed configuration over in a box that runs; where it is wrong, nothing changes",
     "down": "end a box in order, and wait until it has ended",
+    "clear": "take the routes away that a box left in the kernel which was killed",
 }
 
 
@@ -107,8 +109,8 @@ def with_folders(one: argparse.ArgumentParser, name: str) -> None:
         about = "the configuration, a TOML file; its name without .toml is the box's"
         one.add_argument("config", type=Path, metavar="CONFIG", help=about)
     else:
-        about = "which box; not needed where one alone runs"
-        one.add_argument("--box", metavar="NAME", help=about)
+        about = "which box" if name == "clear" else "which box; not needed where one alone runs"
+        one.add_argument("--box", metavar="NAME", help=about, required=name == "clear")
 
 
 def with_own_words(one: argparse.ArgumentParser, name: str) -> None:
@@ -244,6 +246,11 @@ def down(words: argparse.Namespace) -> Status:
     return Status.DONE if ended.endswith(" 0") else Status.FAILED
 
 
+def clear(words: argparse.Namespace) -> Status:
+    name, run = chosen_box(words.run_directory, words.box), words.run_directory.absolute()
+    return say(remains.clear(Room(name, run / name, STATE / name)))
+
+
 COMMANDS = {
     "up": up,
     "console": talk,
@@ -254,6 +261,7 @@ COMMANDS = {
     "check": check,
     "reload": reload,
     "down": down,
+    "clear": clear,
 }
 
 

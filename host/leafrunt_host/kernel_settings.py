@@ -1,6 +1,7 @@
 """Which table of the kernel a box keeps, and how: `kernel` in its configuration."""
 from __future__ import annotations
 
+import re
 from collections.abc import Iterable, Mapping
 from dataclasses import dataclass
 
@@ -17,6 +18,8 @@ FIRST_ID, SPAN = 89_000_000, 1_000_000
 """Next hop objects have numbers that all programs of a machine share; zebra begins with 1. Those of
 a table are so many from its first one on."""
 RANGES = 4000
+CLAIM = "kernel's routing table"
+OF_CLAIM = re.compile(rf"{CLAIM}(?: ([1-9]\d{{0,9}}))?", re.ASCII)
 
 
 @dataclass(frozen=True)
@@ -37,7 +40,14 @@ class KernelSettings:
     def claims(self) -> list[str]:
         """What no other box of this network namespace may have."""
         table = "" if self.table == MAIN else f" {self.table}"
-        return [f"kernel's routing table{table}", f"kernel's next hops from {self.first_id}"]
+        return [f"{CLAIM}{table}", f"kernel's next hops from {self.first_id}"]
+
+    @classmethod
+    def of_claim(cls, claim: str) -> KernelSettings | None:
+        """The table that was claimed by this; None where it is another claim."""
+        found = OF_CLAIM.fullmatch(claim)
+        table = int(found[1] or MAIN) if found else 0
+        return cls(table) if 0 < table <= LARGEST_TABLE else None
 
     def __str__(self) -> str:
         table = "main" if self.table == MAIN else str(self.table)

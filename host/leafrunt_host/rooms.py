@@ -79,6 +79,16 @@ def locked(path: Path, holder: str) -> tuple[TextIO | None, str]:
     return lock, holder
 
 
+def holder_of(path: Path) -> str:
+    """Who is written into a file that was locked; nobody where it can't be read."""
+    try:
+        flags = os.O_RDONLY | os.O_NOFOLLOW | os.O_NONBLOCK | os.O_CLOEXEC
+        with open(os.open(path, flags), "rb") as it:
+            return it.read(LONGEST_HOLDER).decode("ascii", "replace")
+    except OSError:
+        return ""
+
+
 @dataclass
 class Room:
     """The folders of a running box. While it's held no other box of the name can be started."""
@@ -197,6 +207,19 @@ class Room:
                 who = f"the box {holder}" if holder else "another box"
                 raise Stopped(f"{who} has the {name} in this network namespace", Status.REFUSED)
             self._claims[name] = claim
+
+    def claimed_before(self) -> list[str]:
+        """What a box of this name claimed here and never gave back: it runs, or it was killed."""
+        folder, found = self.run.parent / CLAIMS, []
+        head = f"{os.stat(NAMESPACE).st_ino} "
+        try:
+            names = [each for each in sorted(os.listdir(folder)) if each.startswith(head)]
+        except OSError:
+            return []
+        for each in names:
+            if holder_of(folder / each).startswith(f"{self.name} (process "):
+                found.append(each.removeprefix(head))
+        return found
 
     def give_back(self, names: Iterable[str]) -> None:
         """Claims these no longer."""

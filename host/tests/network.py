@@ -23,6 +23,8 @@ from pathlib import Path
 HOST = Path(__file__).resolve().parent.parent
 FRR_DAEMONS = Path("/usr/lib/frr")
 PREFIX = "lfnet"
+UNITS_PROGRAM = "/usr/local/lib/leafrunt"
+"""Where the unit of systemd has this folder."""
 HELLO_INTERVAL, DEAD_INTERVAL, RETRANSMIT_INTERVAL = 2, 8, 2
 TOTAL_SECONDS = 60
 COMES_UP = 40
@@ -635,6 +637,15 @@ class Box:
     def send_signal(self, number: int) -> None:
         if self.process:
             self.process.send_signal(number)
+
+    def after_its_end(self) -> None:
+        """What systemd runs once its unit has ended, however that came (`ExecStopPost`)."""
+        folders = ["--run-directory", str(self.network.work / "run")]
+        for line in (HOST / "leafrunt@.service").read_text().splitlines():
+            name, _, said = line.partition("=-")
+            if name == "ExecStopPost":
+                words = said.replace("%i", self.name).replace(UNITS_PROGRAM, str(HOST)).split()
+                output("ip", "netns", "exec", self.namespace, *words, *folders)
 
     def wait(self, seconds: float = 30) -> int | None:
         """Its status, once it ended by itself; None where it doesn't within that time."""

@@ -3,6 +3,7 @@
 boot, before its interfaces are there."""
 from __future__ import annotations
 
+import subprocess
 import sys
 import time
 from pathlib import Path
@@ -11,6 +12,7 @@ sys.path.insert(0, str(Path(__file__).resolve().parent.parent))
 from tests.network import CannotTry, Looks, output, run  # noqa: E402
 
 UNIT, CONFIGURATION = "leafrunt@north", Path("/etc/leafrunt/north.toml")
+OTHER = "leafrunt@none"
 SLOW = 600
 """Seconds that are waited for: the machine is an emulated one, on a busy machine."""
 EXTERNAL = "203.0.113.0/24"
@@ -116,6 +118,23 @@ def reload(looks: Looks) -> None:
     CONFIGURATION.write_text(text)
 
 
+def beside(looks: Looks) -> None:
+    """Another unit fails at each start, again and again."""
+    with subprocess.Popen(["ip", "monitor", "route"], stdout=subprocess.PIPE, text=True) as monitor:
+        run("systemctl", "start", "--no-block", OTHER, seconds=SLOW)
+
+        def has_failed() -> bool:
+            return int(output("systemctl", "show", OTHER, "-p", "NRestarts", "--value") or 0) > 1
+
+        looks.timed("another unit without a configuration is tried again", SLOW, has_failed, 2)
+        run("systemctl", "stop", OTHER, seconds=SLOW)
+        monitor.terminate()
+        said = monitor.communicate()[0]
+    gone = [each for each in said.splitlines() if "Deleted" in each]
+    is_there = "192.168.2.0/24" in own_routes()
+    looks.look("no route of the first box is gone by that", is_there and not gone, "; ".join(gone))
+
+
 def killed(looks: Looks) -> None:
     before = shown("MainPID")
     systemctl("kill", "-s", "KILL", "--kill-whom", "main")
@@ -142,7 +161,7 @@ def stopped(looks: Looks) -> None:
 def main() -> int:
     looks = Looks()
     try:
-        for each in (start, reload, killed, stopped):
+        for each in (start, reload, beside, killed, stopped):
             each(looks)
             if looks.bad:
                 break

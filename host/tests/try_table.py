@@ -81,6 +81,7 @@ def table(given: Try) -> None:
     found(given, box, main, beside)
     taken_from_there(given, box, neighbor)
     killed(given, box, main)
+    by_systemd(given, box, main)
     box.stop()
     left = output("ip", "-n", own, "-4", "route", "show", "table", NUMBER, "proto", 89)
     looks.look("ended: its table has none of its routes", not left, left.strip())
@@ -134,6 +135,48 @@ def killed(given: Try, box: Box, main: Box) -> None:
     looks.timed(up, COMES_UP, lambda: "in table 100" in box.status() and is_full(box, "2.2.2.2"))
     looks.timed("with its route", 20, lambda: routes(own, NUMBER) == ["10.0.1.2"])
     looks.look("the other box's is as it was", routes(own, "main") == ["10.0.3.2"])
+
+
+class Deleted:
+    """What the kernel tells of routes that are deleted in a namespace."""
+
+    def __init__(self, network: Network, namespace: str) -> None:
+        self._network, self._file = network, network.work / "deleted"
+        with open(self._file, "w", encoding="utf-8") as it:
+            words = ["ip", "monitor", "route", "nexthop"]
+            log = network.work / "monitor"
+            self._ran = network.start(namespace, words, log, stdout=it.fileno())
+        time.sleep(1)
+
+    def end(self) -> list[str]:
+        time.sleep(0.5)
+        self._network.stop(self._ran)
+        return [each for each in self._file.read_text().splitlines() if "Deleted" in each]
+
+
+def by_systemd(given: Try, box: Box, main: Box) -> None:
+    """What the unit's `ExecStopPost` does where a box couldn't start, and where it was killed: the
+    other box of the machine loses no route by it."""
+    looks, network, own = given.looks, given.network, box.namespace
+    rival = Box(network, given.routerd, own, "rival", "5.5.5.5", [Side("eth3")])
+    deleted = Deleted(network, own)
+    rival.start()
+    looks.look("a third box, of the main table too, is refused", rival.wait() == 1)
+    rival.after_its_end()
+    gone = deleted.end()
+    looks.look("and its unit takes no route away", not gone, "; ".join(gone[:2]))
+    one = ["10.0.1.2"]
+    looks.timed("(one of two next hops in table 100)", 20, lambda: routes(own, NUMBER) == one)
+    deleted = Deleted(network, own)
+    box.send_signal(signal.SIGKILL)
+    box.wait()
+    box.after_its_end()
+    looks.look("killed by systemd: its routes are gone", not routes(own, NUMBER))
+    gone = [each for each in deleted.end() if "id 890" in each]
+    is_there = routes(own, "main") == ["10.0.3.2"]
+    looks.look("and the other box's are untouched", is_there and not gone, "; ".join(gone[:2]))
+    box.start()
+    looks.timed("started again: with its route", 40, lambda: routes(own, NUMBER) == one)
 
 
 def vrf(given: Try) -> None:
