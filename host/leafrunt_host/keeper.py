@@ -123,7 +123,7 @@ class Keeper:
         self._give_up, self._short_since = give_up, ENDLESS
         self._kernel, self._waker, self._holding = kernel, waker, holding
         self._work = WorkQueue()
-        self._ending = threading.Event()
+        self._ending, self._is_kept = threading.Event(), threading.Event()
         self._thread = threading.Thread(target=self._keep, name="keeper", daemon=True)
         self._pace = Pace(time.monotonic())
         self._table, self._lines = b"", list[bytes]()
@@ -161,12 +161,18 @@ class Keeper:
 
         def change() -> KernelTable | None:
             before, self._kernel = self._kernel, kernel
+            self._is_kept.clear()
             self._tell_holding(kernel)
             self._known.kept, self._said = Kept(), None
             self._pace.woken(time.monotonic())
             return before
 
         return self._work.do(change)
+
+    def has_kept(self, seconds: float) -> bool:
+        """Waits until the kernel's table has what it is to have, at most so long, and says whether
+        it has."""
+        return self._is_kept.wait(seconds)
 
     def serve(self, router: Router, changed: Callable[[], None]) -> None:
         """From now on it is another `routerd` that is asked; between two looks, which that is told."""
@@ -298,6 +304,7 @@ class Keeper:
         if is_changed:
             self._table, self._lines = table, table.splitlines()
         outcome = kernel.keep(self._lines, self._hops(), self._own_destinations())
+        self._is_kept.set()
         for each in outcome.news:
             log.warning("kernel: %s", each)
         self._known.kept = Kept(

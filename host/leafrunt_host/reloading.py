@@ -43,6 +43,8 @@ from leafrunt_host.status import Known
 from leafrunt_host.statuses import Status, Stopped
 
 log = logging.getLogger("leafrunt.reload")
+SECONDS_TO_FILL = 10.0
+"""How long a table may take to get its first routes."""
 TAKEN = re.compile(r": (attached|detached) \w+|, stays$")
 """What is said of a program where it is as it is to be."""
 
@@ -192,7 +194,8 @@ class Reloader:
     def _kernel(
         self, old: Configuration, new: Configuration, table: KernelTable | None
     ) -> list[str]:
-        """Takes the routes away that nobody keeps any more."""
+        """Takes the routes away that nobody keeps any more: from a table once the one in its place
+        has them."""
         if kept(old) == kept(new):
             return []
         if table is None:
@@ -201,6 +204,8 @@ class Reloader:
             table.close()
             return [f"kernel: {new.table} is kept by other settings from now on"]
         said = f"kernel: {old.table} is left alone from now on"
+        if new.kernel and not self.keeper.has_kept(SECONDS_TO_FILL):
+            log.warning("%s doesn't have the routes yet", new.table)
         try:
             return [f"{said} ({table.clear().routes} routes removed)"]
         except CannotKeep as why:

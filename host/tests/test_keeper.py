@@ -181,6 +181,21 @@ class Keeps(unittest.TestCase):
                 self.wait(lambda: len(self.kernel.forwards()) == 2)
                 self.keeper.stop()
 
+    def test_another_table(self) -> None:
+        """Who gives one is told once it has the routes."""
+        other = FakeKernel("eth1", "eth2")
+        with mock.patch.object(FakeNotices, "fileno", lambda _: self.waker.fileno()):
+            self.keeper.start()
+            self.assertTrue(self.keeper.has_kept(60))
+            self.router.silence.clear()
+            self.keeper._neighbors = []
+            self.keeper.keep(KernelTable(other, FakeNotices(other)))
+            self.assertFalse(self.keeper.has_kept(0.05))
+            self.router.silence.set()
+            self.assertTrue(self.keeper.has_kept(60))
+            self.assertEqual(len(other.forwards()), 1)
+            self.keeper.stop()
+
     def test_one_that_waits_for_an_answer(self) -> None:
         """The end doesn't wait for it for long, and says so."""
         self.router.silence.clear()

@@ -33,7 +33,7 @@ from leafrunt_host.differences import (
     for_routerd,
     in_order_of,
 )
-from leafrunt_host.forwarding import KernelTable
+from leafrunt_host.forwarding import Hop, KernelTable
 from leafrunt_host.isolation import Account
 from leafrunt_host.redistribution import Redistribution, Source
 from leafrunt_host.kernel_settings import KernelSettings
@@ -435,7 +435,7 @@ class Fakes:
             room,
             self.parts,
             self.known,
-            SimpleNamespace(keep=self.keep),
+            SimpleNamespace(keep=self.keep, has_kept=self.has_kept),
             SimpleNamespace(want=self.did.append, ask_again=lambda: self.did.append("again")),
             SimpleNamespace(redistribute=lambda it: self.did.append(("redistribute", it))),
             SimpleNamespace(passed_on=self.passed_on),
@@ -458,6 +458,10 @@ class Fakes:
     def keep(self, kernel: KernelTable | None) -> KernelTable | None:
         before, self.kernel = self.kernel, kernel
         return before
+
+    def has_kept(self, _seconds: float) -> bool:
+        self.did.append(("kept", self.kernel))
+        return True
 
     def passed_on(self, line: str, is_by_hand: bool) -> list[str]:
         self.fails()
@@ -568,6 +572,28 @@ class Taking(unittest.TestCase):
         self.assertEqual(it.reloader.reload()[0], said)
         self.assertIsNone(it.kernel)
         self.assertTrue(self.room.claimed.isdisjoint(KernelSettings().claims))
+
+    def test_another_table(self) -> None:
+        """The one before has its routes until the other has them."""
+        old = replace(configuration(), kernel=True)
+        it = self.fakes(old)
+        kernels = [FakeKernel("eth1"), FakeKernel("eth1")]
+        hops = {1: Hop(IPv4Address("10.0.1.2"), "eth1")}
+        before, after = (KernelTable(each, FakeNotices(each)) for each in kernels)
+        before.keep([b"172.16.2.0/24 ext2 20 via 1"], hops)
+        seen: list[int] = []
+
+        def has_kept(_seconds: float) -> bool:
+            seen.append(len(kernels[0].table))
+            return True
+
+        it.kernel = before
+        it.reloader.keeper.has_kept = has_kept
+        it.new = replace(old, table=KernelSettings(100))
+        with mock.patch("leafrunt_host.reloading.KernelTable", return_value=after):
+            said = it.reloader.reload()
+        self.assertEqual(said, ["kernel: table main is left alone from now on (1 routes removed)"])
+        self.assertEqual((seen, kernels[0].table, it.kernel), ([1], {}, after))
 
     def test_bfd(self) -> None:
         """Told what is asked for now."""
