@@ -139,7 +139,8 @@ class Side:
     keys: tuple[Secret, ...] = ()
     hello: int = HELLO_INTERVAL
     dead: int = DEAD_INTERVAL
-    is_passive: bool = False
+    is_passive: bool | None = None
+    """None says nothing of it, where that differs."""
     cost: int = 10
     bfd: Bfd | None = None
 
@@ -399,7 +400,7 @@ class Bird:
         self.sides = list(sides)
         self.externals: list[str] = []
         self.stub_networks: list[str] = []
-        self.area = "area 0"
+        self.area, self.imported = "area 0", "all"
         self.folder = network.work / "bird"
         self.folder.mkdir(exist_ok=True)
         self._ran: subprocess.Popen[str] | None = None
@@ -415,8 +416,8 @@ class Bird:
         said += " bfd yes;" if side.bfd else ""
         return f'interface "{side.name}" {{ type pointopoint; {said} }};'
 
-    def configure(self) -> None:
-        """Writes its configuration anew; BIRD reads it again where it runs."""
+    def configure(self) -> str:
+        """Writes its configuration anew; BIRD reads it again where it runs, and says what of it."""
         stubs = " ".join(f"stubnet {each};" for each in self.stub_networks)
         interfaces = "\n".join(self._interface(side) for side in self.sides)
         routes = "\n".join(f"route {each} blackhole;" for each in self.externals)
@@ -426,11 +427,10 @@ class Bird:
             f'log "{self.folder}/log" all; router id {self.router_id}; protocol device {{ scan time 1; }}\n'
             "protocol kernel { ipv4 { export where source != RTS_STATIC; import none; }; }\n"
             f"protocol static {{ ipv4; {routes} }}\n"
-            "protocol ospf v2 { ipv4 { import all; export where source = RTS_STATIC; };\n"
+            f"protocol ospf v2 {{ ipv4 {{ import {self.imported}; export where source = RTS_STATIC; }};\n"
             f"{self.area} {{ {stubs} {interfaces} }}; }}\n"
         )
-        if self._ran:
-            self.says("configure")
+        return self.says("configure") if self._ran else ""
 
     def start(self) -> None:
         self.configure()
@@ -474,6 +474,8 @@ class Frr:
         self.network, self.namespace, self.router_id = network, namespace, router_id
         self.sides = list(sides)
         self.externals: list[str] = []
+        self.more: list[str] = []
+        """More lines of `router ospf`."""
         self.gateway = ""
         """The next hop of its externals, in a network behind it."""
         self.folder = network.work / "frr"
@@ -499,7 +501,8 @@ class Frr:
         if routes:
             run("ip", "-n", self.namespace, "-batch", "-", lines="\n".join(routes) + "\n")
         lines = [line for side in self.sides for line in self._interface(side)]
-        lines += ["router ospf", f"ospf router-id {self.router_id}", "redistribute kernel", "exit"]
+        lines += ["router ospf", f"ospf router-id {self.router_id}", "redistribute kernel"]
+        lines += [*self.more, "exit"]
         self.folder.mkdir(exist_ok=True)
         (self.folder / "conf").write_text("\n".join(lines) + "\n")
         shutil.chown(self.folder, "frr", "frr")
@@ -572,8 +575,8 @@ class Box:
         self.network, self.routerd, self.namespace = network, routerd, namespace
         self.name, self.router_id, self.sides = name, router_id, list(sides)
         self.announced: list[Announce] = []
-        self.more = ""
-        """More of its configuration: tables."""
+        self.more = self.top = ""
+        """More of its configuration: tables, and what stands above them."""
         self.folder = network.work / f"box-{name}"
         self.folder.mkdir(mode=0o700)
         self.log = self.folder / "log"
@@ -582,14 +585,15 @@ class Box:
     def configure(self) -> None:
         """Writes its TOML file, and its keys'."""
         keys = {key: f"key-{key.id}-{number}" for number, key in enumerate(self._secrets())}
-        lines = [f'router_id = "{self.router_id}"', f'routerd = "{self.routerd}"']
+        lines = [f'router_id = "{self.router_id}"', f'routerd = "{self.routerd}"', self.top]
         if keys:
             lines.append('keys = "keys.toml"')
         for side in self.sides:
             lines += ["", "[[interface]]", f'name = "{side.name}"']
             lines += [f"hello_interval = {side.hello}", f"dead_interval = {side.dead}"]
             lines += [f"retransmit_interval = {RETRANSMIT_INTERVAL}", f"cost = {side.cost}"]
-            lines += ["passive = true"] if side.is_passive else []
+            if side.is_passive is not None:
+                lines.append(f"passive = {str(side.is_passive).lower()}")
             if side.keys:
                 lines.append(f"keys = {[keys[key] for key in side.keys]}".replace("'", '"'))
             if side.bfd:
@@ -660,9 +664,13 @@ class Box:
 
     def command(self, *words: str, lines: str | None = None) -> str:
         """What `leafrunt WORDS` prints."""
+        return self.answers(*words, lines=lines)[1]
+
+    def answers(self, *words: str, lines: str | None = None) -> tuple[int, str, str]:
+        """The status of `leafrunt WORDS`, what it prints, and what it prints as errors."""
         said = [sys.executable, str(HOST / "leafrunt"), *words, "--box", self.name]
         said += ["--run-directory", str(self.network.work / "run")]
-        with contextlib.suppress(subprocess.TimeoutExpired):
+        try:
             ran = subprocess.run(
                 said,
                 input=lines,
@@ -671,8 +679,9 @@ class Box:
                 timeout=TOTAL_SECONDS,
                 check=False,
             )
-            return ran.stdout
-        return ""
+        except subprocess.TimeoutExpired:
+            return -1, "", ""
+        return ran.returncode, ran.stdout, ran.stderr
 
     def ask(self, line: str) -> list[str]:
         """The console's answer to a line."""

@@ -221,6 +221,7 @@ def outages(given: Try) -> None:
     for tried, neighbor, key in (
         ("a box", "BIRD", None),
         ("a box", "BIRD", METICULOUS),
+        ("a box", "BIRD", KEYED),
         ("a box", "FRR", None),
         ("BIRD", "BIRD", None),
         ("FRR", "FRR", None),

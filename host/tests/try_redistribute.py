@@ -49,11 +49,13 @@ SECTION = """
 [redistribute.static]
 metric = 30
 deny = ["10.66.0.0/16 le 32"]
+allow = ["10.0.0.0/8 ge 24 le 32"]
 [redistribute.kernel]
 protocols = ["bgp", "77"]
 [redistribute.default]
 type = 1
 metric = 5
+tag = 77
 """
 
 
@@ -197,15 +199,20 @@ def routes(it: Scene, one: Announcing) -> None:
     ):
         one.ip("route", "add", prefix, *way, *words)
         it.follows(one, what, prefix)
+        if one.is_box and prefix == "default":
+            said = it.of("0.0.0.0/0")
+            is_so = all(each in said for each in ("OSPF-E1", "metric1: 15", "tag: 0x0000004d"))
+            it.looks.look("with the section's type, metric and tag", is_so, said[-120:])
         one.ip("route", "del", prefix, *way, *words)
         it.follows(one, what, prefix, False)
     if one.is_box:
         one.ip("route", "add", "10.11.4.0/24", *way, "proto", "zebra")
         one.ip("route", "add", "10.66.1.0/24", *way)
+        one.ip("route", "add", "10.77.0.0/16", *way)
         time.sleep(2)
         announced = {each.split()[0] for each in it.box.ask("announced")}
-        wrong = {"10.11.4.0/24", "10.66.1.0/24", "10.0.1.0/24"} & announced
-        what = "neither another protocol's route, what a filter denies nor OSPF's own networks"
+        wrong = {"10.11.4.0/24", "10.66.1.0/24", "10.77.0.0/16", "10.0.1.0/24"} & announced
+        what = "neither another protocol's route, what the filters keep out nor OSPF's own networks"
         it.looks.look(what, not wrong, " ".join(wrong))
 
 

@@ -5,12 +5,14 @@ from __future__ import annotations
 import signal
 import time
 
+from tests.deleted import Deleted
 from tests.network import (
     COMES_UP,
     Bird,
     Box,
     CannotTry,
     End,
+    Frr,
     Network,
     Side,
     Try,
@@ -24,7 +26,7 @@ from tests.network import (
 EXTERNAL = "203.0.113.0/24"
 """What the neighbor announces."""
 NUMBER = 100
-SLOW = 120
+SLOW = 300
 """Seconds that are waited for in a VRF: most machines that have one for this are emulated."""
 
 
@@ -137,23 +139,6 @@ def killed(given: Try, box: Box, main: Box) -> None:
     looks.look("the other box's is as it was", routes(own, "main") == ["10.0.3.2"])
 
 
-class Deleted:
-    """What the kernel tells of routes that are deleted in a namespace."""
-
-    def __init__(self, network: Network, namespace: str) -> None:
-        self._network, self._file = network, network.work / "deleted"
-        with open(self._file, "w", encoding="utf-8") as it:
-            words = ["ip", "monitor", "route", "nexthop"]
-            log = network.work / "monitor"
-            self._ran = network.start(namespace, words, log, stdout=it.fileno())
-        time.sleep(1)
-
-    def end(self) -> list[str]:
-        time.sleep(0.5)
-        self._network.stop(self._ran)
-        return [each for each in self._file.read_text().splitlines() if "Deleted" in each]
-
-
 def by_systemd(given: Try, box: Box, main: Box) -> None:
     """What the unit's `ExecStopPost` does where a box couldn't start, and where it was killed: the
     other box of the machine loses no route by it."""
@@ -179,6 +164,53 @@ def by_systemd(given: Try, box: Box, main: Box) -> None:
     looks.timed("started again: with its route", 40, lambda: routes(own, NUMBER) == one)
 
 
+def passive(given: Try) -> None:
+    """`passive` above the sections, at a box and by `passive-interface default` at FRR: only an
+    interface that says otherwise sends packets, and has a neighbor."""
+    network, looks = given.network, given.looks
+    own, beside, near = (network.namespace(each) for each in ("own", "beside", "near"))
+    for first, name in ((1, own), (3, beside)):
+        for at in (1, 2):
+            end = End(name, f"eth{at}", f"10.0.{first + at - 1}.1/24")
+            number = first + at - 1
+            network.link(end, End(near, f"eth{number}", f"10.0.{number}.2/24"))
+    neighbor = Bird(network, near, "2.2.2.2", [Side(f"eth{at}") for at in range(1, 5)])
+    sides = [Side("eth1", is_passive=False), Side("eth2")]
+    box = Box(network, given.routerd, own, "box", "1.1.1.1", sides)
+    box.top = "passive = true"
+    frr = Frr(network, beside, "3.3.3.3", [Side("eth1"), Side("eth2")])
+    frr.more = ["passive-interface default", "no passive-interface eth1"]
+    heard = {at: Heard(network, near, f"eth{at}", f"10.0.{at}.1") for at in range(1, 5)}
+    for each in (neighbor, box, frr):
+        each.start()
+    looks.timed("both are Full", COMES_UP, lambda: is_full(neighbor, "1.1.1.1", "3.3.3.3"))
+    time.sleep(5)
+    counts = {at: each.end() for at, each in heard.items()}
+    said = f"{counts[1]} and {counts[2]}"
+    looks.look("a box: packets at the interface that says so alone", counts[1] and not counts[2], said)
+    print(f"     beside it: FRR: {counts[3]} and {counts[4]}", flush=True)
+    stub = [each.split() for each in box.command("database", "1.1.1.1").splitlines()]
+    is_there = any("10.0.2.0" in each for line in stub for each in line)
+    looks.look("the other's network is in its router-LSA", is_there)
+    for it in (box, frr, neighbor):
+        it.stop()
+
+
+class Heard:
+    """How many OSPF packets come from an address to an interface."""
+
+    def __init__(self, network: Network, namespace: str, interface: str, source: str) -> None:
+        self._network, self._file = network, network.work / f"heard-{interface}"
+        words = ["tcpdump", "-nlU", "-i", interface, f"ip proto 89 and src {source}"]
+        with open(self._file, "w", encoding="utf-8") as it:
+            log = network.work / "tcpdump"
+            self._ran = network.start(namespace, words, log, stdout=it.fileno())
+
+    def end(self) -> int:
+        self._network.stop(self._ran)
+        return self._file.read_text().count("OSPFv2")
+
+
 def vrf(given: Try) -> None:
     """A box in a VRF: its routes go to that one's table, connected networks come from it, and the
     VRF is deleted and made again while the box runs."""
@@ -198,14 +230,18 @@ def vrf(given: Try) -> None:
     box = Box(network, given.routerd, own, "box", "1.1.1.1", [Side("eth1")])
     box.more = '[kernel]\nvrf = "red"\n[redistribute.connected]\n'
     box.start()
-    looks.look("an interface that isn't in the VRF is refused", box.wait(SLOW) == 1)
+    status = box.wait(SLOW)
+    said = "; ".join(box.log_lines()[-2:])
+    is_told = status == 1 and "kernel, vrf" in said
+    looks.look("an interface that isn't in the VRF is refused", is_told, f"{status}: {said}")
     run("ip", "-n", own, "link", "set", "red", "up")
     for each in ("eth1", "eth2"):
         run("ip", "-n", own, "link", "set", each, "master", "red")
     run("ip", "-n", own, "addr", "add", "192.0.2.1/32", "dev", "lo")
     for each in (neighbor, box):
         each.start()
-    looks.timed("Full", SLOW, lambda: is_full(neighbor, "1.1.1.1"))
+    if not looks.timed("Full", SLOW, lambda: is_full(neighbor, "1.1.1.1")):
+        print(*(f"     {each}" for each in box.log_lines()[-12:]), sep="\n", flush=True)
     looks.timed("the route is in its table", SLOW, lambda: routes(own, NUMBER) == ["10.0.1.2"])
     looks.look("and not in the main one", not routes(own, "main"))
 

@@ -12,6 +12,7 @@ from collections.abc import Callable, Iterable
 from dataclasses import replace
 from pathlib import Path
 
+from tests.deleted import Deleted
 from tests.network import (
     COMES_UP,
     HOST,
@@ -39,7 +40,7 @@ NAMES = {"left": "2.2.2.2", "other": "4.4.4.4", "right": "3.3.3.3", "lan": "5.5.
 other way."""
 OWN = "3.1.1.1"
 """One neighbor has a lower Router ID, and one a higher one."""
-FROM, TO = "172.16.2.2", "172.16.3.2"
+FROM, TO, BEHIND = "172.16.2.2", "172.16.3.2", "172.16.3.0/24"
 SETTLED = 4.0
 """Seconds after which no router changes its routes any more."""
 
@@ -210,7 +211,11 @@ def ended_and_started(it: Transit, given: Try, who: str) -> None:
 
 
 NEXT = Secret(6, "hmac sha256", "the next secret")
-EXTERNAL = "203.0.113.0/24"
+EXTERNAL, BY_HAND = "203.0.113.0/24", "192.0.2.0/24"
+LONG = "198.18.0.16/28"
+"""What a program at `veto` keeps out."""
+NUMBER = 100
+"""Of another table of the kernel."""
 
 
 def changed(it: Transit, sides: list[Side], externals: tuple[str, ...] = ()) -> bool:
@@ -235,17 +240,22 @@ def reload(given: Try) -> None:
             it.start()
             given.looks.timed(f"{kind}: the packets go by it", COMES_UP, it.is_by_tried)
             time.sleep(SETTLED)
-            for change in (
-                destination_comes,
-                keys_change,
-                passive_or_not,
-                costs_change,
-                intervals_change,
-                interface_comes,
-                many_changes,
-                hindered,
-            ):
-                change(it, given)
+            of_box = (kernel_changes, kernel_left_alone) if kind == "a box" else ()
+            with ByHand(it, given):
+                for change in (
+                    destination_comes,
+                    keys_change,
+                    programs_change,
+                    *of_box,
+                    passive_or_not,
+                    costs_change,
+                    wrong_file,
+                    intervals_change,
+                    interface_comes,
+                    many_changes,
+                ):
+                    change(it, given)
+            hindered(it, given)
         finally:
             it.network.close()
 
@@ -290,6 +300,130 @@ def keys_change(it: Transit, given: Try) -> None:
             time.sleep(5)
 
     nothing_lost(it, given, "both keys are replaced in three steps", changes)
+
+
+class ByHand:
+    """What is announced and attached at a box's console before other changes is there after them."""
+
+    def __init__(self, it: Transit, given: Try) -> None:
+        self._it, self._looks = it, given.looks
+        self._object = HOST.parent / "examples/first/count_types.o"
+
+    def __enter__(self) -> None:
+        if isinstance(self._it.tried, Box):
+            said = [self._it.tried.ask(f"add {BY_HAND} 20 2 0")[0]]
+            said += self._it.tried.ask(f"attach {self._object}")[:1]
+            what = "a box: a destination and a program come by hand"
+            is_there = within(10, lambda: BY_HAND in at_left(self._it))
+            self._looks.look(what, is_there is not None, "; ".join(said))
+            self._deleted = Deleted(self._it.network, self._it.spaces["left"])
+
+    def __exit__(self, *_: object) -> None:
+        box = self._it.tried
+        if not isinstance(box, Box):
+            return
+        gone = [each for each in self._deleted.end() if BY_HAND in each]
+        is_announced = f"{BY_HAND} 20 2 0 originated console" in box.ask("announced")
+        what = "a box: after all that the destination is announced still, at any time"
+        self._looks.look(what, is_announced and not gone, "; ".join(gone))
+        programs = [each for each in box.ask("programs") if str(self._object) in each]
+        self._looks.look("a box: and the program is attached", programs, "; ".join(programs))
+
+
+def programs_change(it: Transit, given: Try) -> None:
+    """A program at `veto` comes and goes; at BIRD a filter at its import."""
+    veto = it.network.work / "no_long_prefixes.o"
+    run(given.routerd, "asm", HOST.parent / "examples/no_long_prefixes.s", veto)
+    it.birds["right"].externals = [LONG]
+    it.birds["right"].configure()
+    given.looks.timed(f"{it.kind}: a prefix of /28 comes", 20, lambda: LONG in at_tried(it))
+
+    def changes() -> None:
+        for is_kept in (False, True):
+            if isinstance(it.tried, Box):
+                it.tried.more = "" if is_kept else f'[[program]]\nobject = "{veto}"\n'
+            elif isinstance(it.tried, Bird):
+                it.tried.imported = "all" if is_kept else "where net.len <= 24"
+            changed(it, it.sides, (EXTERNAL,))
+            what = f"{it.kind}: it is {'there' if is_kept else 'vetoed'}"
+            given.looks.timed(what, 10, lambda: (LONG in at_tried(it)) is is_kept)
+
+    nothing_lost(it, given, "a program comes that vetoes it, and goes", changes)
+
+
+def at_tried(it: Transit) -> str:
+    return output("ip", "-n", it.spaces["tried"], "-4", "route", "show", "table", "all")
+
+
+def kernel_changes(it: Transit, given: Try) -> None:
+    """Another limit of next hops, another table, to which a rule leads, and back."""
+    space, box = it.spaces["tried"], it.tried
+    assert isinstance(box, Box)
+    run("ip", "-n", space, "rule", "add", "lookup", NUMBER, "pref", 40_000)
+
+    def is_in(table: str) -> bool:
+        routes = output("ip", "-n", space, "-4", "route", "show", BEHIND, "table", table)
+        return bool(routes)
+
+    def changes() -> None:
+        for more, table in (
+            ("[kernel]\necmp = 1\n", "main"),
+            (f"[kernel]\ntable = {NUMBER}\n", str(NUMBER)),
+            ("", "main"),
+        ):
+            box.more = more
+            changed(it, it.sides, (EXTERNAL,))
+            other = {"main": str(NUMBER), str(NUMBER): "main"}[table]
+            what = f"a box: its routes are in table {table} alone"
+            given.looks.timed(what, 10, lambda: is_in(table) and not is_in(other))
+
+    nothing_lost(it, given, "[kernel] has another limit, then another table", changes)
+
+
+def kernel_left_alone(it: Transit, given: Try) -> None:
+    """The kernel loses its routes, as it was asked, and no adjacency falls."""
+    box, looks = it.tried, given.looks
+    assert isinstance(box, Box)
+    before = len(box.log_lines())
+    for said, is_kept in (("kernel = false", False), ("", True)):
+        box.top = said
+        changed(it, it.sides, (EXTERNAL,))
+        what = f"a box: {said or 'kernel = true'}: its routes {'come' if is_kept else 'go'}"
+        looks.timed(what, 10, lambda: bool(box.kernel_routes()) is is_kept)
+    time.sleep(SETTLED)
+    fell = [each for each in box.log_lines()[before:] if "Full -> " in each]
+    looks.look("a box: no adjacency falls by that", not fell, "; ".join(fell))
+
+
+def wrong_file(it: Transit, given: Try) -> None:
+    """Another cost, another destination, and a mistake below them."""
+    box, looks = it.tried, given.looks
+
+    def shown() -> list[str]:
+        assert isinstance(box, Box)
+        costs = [each.partition(" hello ")[0] for each in box.ask("interfaces")]
+        return [*costs, *box.ask("announced"), *box.ask("programs")]
+
+    def comes() -> None:
+        sides = [replace(each, cost=77) for each in it.sides]
+        if isinstance(box, Box):
+            before, box.more = shown(), "[kernel]\ntable = 0\n"
+            box.sides, box.announced = sides, [Announce(EXTERNAL), Announce("198.51.100.0/24")]
+            box.configure()
+            status, _, said = box.answers("reload")
+            box.more, box.sides = "", it.sides
+            is_told = status == 1 and "kernel, table: found 0; allowed: a whole number" in said
+            looks.look("a box: a wrong file is refused, with why", is_told, said.strip())
+            looks.look("a box: and changes nothing", before == shown())
+        elif isinstance(box, Bird):
+            box.area = "area nowhere"
+            box.sides = sides
+            said = " ".join(box.configure().split())
+            box.area, box.sides = "area 0", it.sides
+            print(f"     beside it: BIRD: {said}", flush=True)
+
+    nothing_lost(it, given, "a wrong file", comes)
+    changed(it, it.sides, (EXTERNAL,))
 
 
 def passive_or_not(it: Transit, given: Try) -> None:

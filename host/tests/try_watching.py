@@ -9,15 +9,18 @@ from leafrunt_host.kernel import Json
 from tests import schemas
 from tests.network import (
     COMES_UP,
+    HELLO_INTERVAL,
     HOST,
     LSA_TITLES,
     Box,
+    CannotTry,
     Looks,
     Lsa,
     Try,
     is_said,
     prefixes,
     run,
+    within,
 )
 from tests.pty_terminal import Terminal
 from tests.test_metrics import PROMETHEUS, Prometheus, Server
@@ -41,9 +44,26 @@ def watching(given: Try) -> None:
     looks.timed("all routes in the kernel", 30, lambda: len(box.kernel_routes()) > COUNT)
     looks.timed("at rest: nobody owes anything", 20, lambda: is_said(box, "at rest since "))
     lists(it, box, looks)
+    levels(box, looks)
     metrics(box, looks)
     terminal(it, box, looks)
     it.stop()
+
+
+def levels(box: Box, looks: Looks) -> None:
+    """By a reload, as BIRD's `debug` and FRR's `debug ospf packet` are set while it runs."""
+
+    def has_packets(first: int) -> bool:
+        return any(": sent Hello that names 2.2.2.2" in each for each in box.log_lines()[first:])
+
+    for level, is_told in (("debug", True), ("warning", False)):
+        box.top = f'log_level = "{level}"'
+        box.configure()
+        box.command("reload")
+        first = len(box.log_lines())
+        took = within(3 * HELLO_INTERVAL, lambda: has_packets(first))
+        what = f"log_level {level}: the log has {'each packet' if is_told else 'no packet'}"
+        looks.look(what, (took is not None) is is_told)
 
 
 def document(box: Box, kind: str, looks: Looks) -> Json:
@@ -76,8 +96,7 @@ def metrics(box: Box, looks: Looks) -> None:
     python = "/usr/bin/python3"
     has_library = subprocess.run([python, "-c", LIBRARY], capture_output=True, check=False)
     if has_library.returncode or not PROMETHEUS:
-        print("     (no metrics: python3-prometheus-client or prometheus isn't there)")
-        return
+        raise CannotTry("apt-get install python3-prometheus-client prometheus")
     words = [python, HOST / "leafrunt", "metrics", "--box", box.name]
     text = run(*words, "--run-directory", box.network.work / "run")
     with Server(text) as server, Prometheus(server.port) as it:
