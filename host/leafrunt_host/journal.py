@@ -3,13 +3,21 @@ from __future__ import annotations
 
 import logging
 import os
+import queue
+import select
 import sys
 import threading
 import time
 from collections import deque
+from contextlib import suppress
 from typing import TextIO
 
 MOST_KEPT = 2000
+MOST_WAITING = 1000
+"""Lines that wait until somebody takes them."""
+SECONDS_TO_WRITE = 2.0
+"""How long the end of the program waits for that."""
+NOT_READ = "nobody took them from standard error in time (`log` at the console has the last ones)"
 LEVELS = {
     "error": logging.ERROR,
     "warning": logging.WARNING,
@@ -64,6 +72,52 @@ class Kept(logging.Handler):
         return lines[-count:] if count else []
 
 
+class Shown(logging.Handler):
+    """Writes lines to a file by a thread of its own: where nobody takes them (a terminal that stands
+    still, a pipe that is full), nothing else waits for that. Lines that have no room are left out,
+    and how many were is told."""
+
+    def __init__(self, descriptor: int, formatter: logging.Formatter) -> None:
+        super().__init__()
+        self.setFormatter(formatter)
+        self._descriptor, self._left_out = descriptor, 0
+        self._waiting: queue.Queue[str] = queue.Queue(MOST_WAITING)
+        threading.Thread(target=self._write_all, name="log", daemon=True).start()
+
+    def emit(self, record: logging.LogRecord) -> None:
+        try:
+            self._waiting.put_nowait(self.format(record))
+        except queue.Full:
+            self._left_out += 1
+
+    def _write_all(self) -> None:
+        while True:
+            self._write(self._waiting.get())
+            if self._left_out and self._waiting.empty():
+                said, self._left_out = f"{self._left_out} lines were left out: {NOT_READ}", 0
+                record = logging.LogRecord("leafrunt", logging.WARNING, "", 0, said, None, None)
+                self._write(self.format(record))
+            self._waiting.task_done()
+
+    def _write(self, line: str) -> None:
+        data = f"{line}\n".encode(errors="replace")
+        try:
+            while data:
+                # (another program may have made it one that doesn't wait)
+                select.select([], [self._descriptor], [])
+                with suppress(BlockingIOError):
+                    data = data[os.write(self._descriptor, data) :]
+        except (OSError, ValueError):
+            pass  # nobody is there any more
+
+    def flush(self) -> None:
+        """Waits until what came is written, but not for long."""
+        until = time.monotonic() + SECONDS_TO_WRITE
+        with self._waiting.all_tasks_done:
+            while self._waiting.unfinished_tasks and (left := until - time.monotonic()) > 0:
+                self._waiting.all_tasks_done.wait(left)
+
+
 def where_it_failed(error: Exception) -> str:
     """One line on an error that nobody expected: what it was, and where."""
     at = error.__traceback__
@@ -100,8 +154,7 @@ def start_log(level: str = "info") -> Kept:
     log = logging.getLogger("leafrunt")
     set_level(level)
     log.propagate = False
-    shown = logging.StreamHandler(sys.stderr)
-    shown.setFormatter(Line(is_journal(sys.stderr)))
+    shown = Shown(sys.stderr.fileno(), Line(is_journal(sys.stderr)))
     kept = Kept()
     log.handlers = [shown, kept]
     logging.raiseExceptions = False

@@ -2,6 +2,7 @@
 it."""
 import contextlib
 import errno
+import fcntl
 import io
 import os
 import shutil
@@ -93,7 +94,11 @@ class Boxes(unittest.TestCase):
             errors_of(box).close()
 
     def begin(
-        self, router_id: str = "1.1.1.1", more: str = "", name: str = "one"
+        self,
+        router_id: str = "1.1.1.1",
+        more: str = "",
+        name: str = "one",
+        errors: int = subprocess.PIPE,
     ) -> subprocess.Popen[str]:
         """Starts a box, and doesn't wait for it."""
         path = self.folder / f"{name}.toml"
@@ -108,12 +113,13 @@ class Boxes(unittest.TestCase):
         ]
         box = subprocess.Popen(
             words,
-            stderr=subprocess.PIPE,
+            stderr=errors,
             text=True,
             env={**os.environ, "PYTHONDONTWRITEBYTECODE": "1"},
             start_new_session=True,
         )
-        self.boxes.append(box)
+        if errors == subprocess.PIPE:
+            self.boxes.append(box)
         return box
 
     def up(self, *words: str, **named: str) -> subprocess.Popen[str]:
@@ -532,6 +538,26 @@ class Ends(Boxes):
 
 
 class Starts(Boxes):
+    def test_nobody_reads_its_log(self) -> None:
+        """A full pipe, or a terminal that stands still, keeps a box from nothing."""
+        reader, writer = os.pipe()
+        fcntl.fcntl(writer, fcntl.F_SETFL, os.O_NONBLOCK)
+        with contextlib.suppress(BlockingIOError):
+            while True:
+                os.write(writer, bytes(4096))
+        fcntl.fcntl(writer, fcntl.F_SETFL, 0)
+        box = self.begin(errors=writer)
+        try:
+            self.assertTrue(within(30, lambda: "one" in running(self.run_folder)))
+            self.assertEqual(self.leafrunt("status")[0], 0)
+            self.assertEqual(self.leafrunt("down")[0], 0)
+            self.assertEqual(box.wait(20), 0)
+        finally:
+            os.close(reader)
+            os.close(writer)
+            box.kill()
+            box.wait()
+
     def test_systemd_is_told(self) -> None:
         """sd_notify(3): ready once the console takes connections, stopping at the end."""
         with socket.socket(socket.AF_UNIX, socket.SOCK_DGRAM) as told:

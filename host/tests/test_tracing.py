@@ -4,12 +4,13 @@ import os
 import signal
 import subprocess
 import sys
+import time
 import unittest
 from dataclasses import replace
 from ipaddress import IPv4Address
 from unittest import mock
 
-from leafrunt_host import tracing
+from leafrunt_host import journal, tracing
 from leafrunt_host.journal import LEVELS, is_journal
 from leafrunt_host.packets import PacketType
 from tests import captured
@@ -105,6 +106,40 @@ class Journals(unittest.TestCase):
                 head = "<3>" if is_told else ""
                 self.assertEqual(said.read().partition(" cannot")[0], f"{head}leafrunt:")
             self.assertEqual(ran.returncode, 3)
+
+
+class Streams(unittest.TestCase):
+    def test_closed_ones(self) -> None:
+        """Whichever of the standard streams are closed, a command does what it does."""
+        words = f"{sys.executable} {LEAFRUNT} check /none.toml"
+        for closed in ("0<&-", "1>&-", "2>&-", "0<&- 1>&- 2>&-"):
+            ran = subprocess.run(["sh", "-c", f"{words} {closed}"], capture_output=True, check=False)
+            with self.subTest(closed):
+                self.assertEqual(ran.returncode, 3)
+
+    def test_one_that_stands_still(self) -> None:
+        """What has room waits until somebody reads; how many more lines there were is told."""
+        reader, writer = os.pipe()
+        log = logging.getLogger("leafrunt.streams")
+        log.propagate, log.handlers = False, [journal.Shown(writer, journal.Line(False))]
+        log.setLevel(logging.INFO)
+        count, began = 5000, time.monotonic()
+        for number in range(count):
+            log.info("%0200d", number)
+        self.assertLess(time.monotonic() - began, 5)
+        with mock.patch.object(journal, "SECONDS_TO_WRITE", 0.1):
+            log.handlers[0].flush()
+        found, last = 0, ""
+        with open(reader, encoding="utf-8") as it:
+            while "lines were left out" not in last:
+                found, last = found + 1, it.readline()
+        said = int(last.split("warning: ")[1].split()[0])
+        self.assertEqual(found - 1 + said, count)
+        self.assertGreaterEqual(found, journal.MOST_WAITING)
+        os.close(writer)
+        log.info("nobody is there any more")
+        log.handlers[0].flush()
+        log.handlers = []
 
 
 class OfBoxes(Boxes):
