@@ -224,7 +224,10 @@ class _Lines:
                 is_long, self._data = True, b""
             self._client.settimeout(None)
             data, descriptors, _, _ = socket.recv_fds(self._client, LONGEST_LINE, 4)
-            self._descriptors += descriptors
+            if descriptors:
+                # (the last one counts)
+                self._close_descriptors()
+                self._descriptors += descriptors
             if not data:
                 return None
             self._data += data

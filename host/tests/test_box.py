@@ -176,6 +176,7 @@ class Consoles(Boxes):
             self.for_its_owner_alone,
             self.commands,
             self.many_clients,
+            self.many_files,
         ):
             with self.subTest(each.__name__):
                 each()
@@ -429,6 +430,17 @@ class Consoles(Boxes):
         self.assertIn("refused: this console was let go, since", said)
         with self.assertRaises(Stopped):
             idle[0].ask("counters")
+
+    def many_files(self) -> None:
+        """Files that come with a line that never ends are closed again."""
+        client, folder = self.client(), f"/proc/{self.boxes[-1].pid}/fd"
+        before = len(os.listdir(folder))
+        for _ in range(200):
+            socket.send_fds(client._socket, [b"x"], [0, 0, 0, 0])
+        self.assertEqual(self.leafrunt("status")[0], 0)
+        self.assertTrue(within(10, lambda: len(os.listdir(folder)) < before + 10))
+        self.assertEqual(client.ask(""), ["unknown"])
+
 
 class Ends(Boxes):
     def test_down_beside_idle_clients(self) -> None:
