@@ -13,7 +13,7 @@ from tests.network import CannotTry, Looks, output, run  # noqa: E402
 
 UNIT, CONFIGURATION = "leafrunt@north", Path("/etc/leafrunt/north.toml")
 OTHER = "leafrunt@none"
-SLOW = 600
+SLOW = 1200
 """Seconds that are waited for: the machine is an emulated one, on a busy machine."""
 EXTERNAL = "203.0.113.0/24"
 CAPABILITIES = sum(1 << each for each in (5, 6, 7, 12, 13, 21, 23))

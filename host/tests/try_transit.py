@@ -89,10 +89,10 @@ class Transit:
         kind: str,
         is_only: bool = False,
         keys: tuple[Secret, ...] = (),
-        around: type[Bird] | type[Frr] = Bird,
+        around: type[Bird] | type[Frr] | type[Box] = Bird,
     ) -> None:
         self.network = network = Network()
-        self.kind, self._around = kind, around
+        self.kind, self._around, self._routerd = kind, around, given.routerd
         names = ["tried", "left", "right", "lan", *([] if is_only else ["other"]), "h1", "h2"]
         self.spaces = {each: network.namespace(each, each[0] != "h") for each in names}
         self._link("left", "right", "tried", "left", "10.0.1")
@@ -116,7 +116,7 @@ class Transit:
             sides[name].append(Side("hosts", is_passive=True))
         self.others = {name: self._other(name, sides[name]) for name in sides}
         self.sides = [Side("left", keys), Side("right", keys), Side("lan", is_passive=True)]
-        self.tried = self._tried(given)
+        self.tried = self._tried()
 
     def _link(self, one: str, its: str, other: str, others: str, network: str) -> None:
         ends = End(self.spaces[one], its, f"{network}.1/24"), End(
@@ -124,7 +124,9 @@ class Transit:
         )
         self.network.link(*ends)
 
-    def _other(self, name: str, sides: Iterable[Side]) -> Bird | Frr:
+    def _other(self, name: str, sides: Iterable[Side]) -> Bird | Frr | Box:
+        if self._around is Box:
+            return Box(self.network, self._routerd, self.spaces[name], name, NAMES[name], sides)
         other = self._around(self.network, self.spaces[name], NAMES[name], sides)
         other.folder = self.network.work / name
         other.folder.mkdir()
@@ -135,10 +137,10 @@ class Transit:
         """The others, where they are BIRDs."""
         return {name: each for name, each in self.others.items() if isinstance(each, Bird)}
 
-    def _tried(self, given: Try) -> Box | Bird | Frr:
+    def _tried(self) -> Box | Bird | Frr:
         sides, space = self.sides, self.spaces["tried"]
         if self.kind == "a box":
-            return Box(self.network, given.routerd, space, "tried", OWN, sides)
+            return Box(self.network, self._routerd, space, "tried", OWN, sides)
         if self.kind == "FRR":
             return Frr(self.network, space, OWN, sides)
         return Bird(self.network, space, OWN, sides)
@@ -178,15 +180,16 @@ class Transit:
 def transit(given: Try) -> None:
     """A router that others send by is ended and started again while there is another way, between
     BIRDs and between FRRs, which calculate their routes at once: how many packets are lost, counted
-    every 5 ms, with a box, BIRD and FRR in its place."""
-    for around in (Bird, Frr):
-        for kind in ("a box", "BIRD", "FRR"):
-            it = Transit(given, kind, around=around)
-            given.network = it.network
-            try:
-                ended_and_started(it, given, f"{kind} between two {around.__name__.upper()}s")
-            finally:
-                it.network.close()
+    every 5 ms, with a box, BIRD and FRR in its place; and a box between boxes."""
+    names, all_kinds = {Bird: "BIRDs", Frr: "FRRs", Box: "boxes"}, ("a box", "BIRD", "FRR")
+    kinds = {Bird: all_kinds, Frr: all_kinds, Box: all_kinds[:1]}
+    for around, kind in [(each, kind) for each in kinds for kind in kinds[each]]:
+        it = Transit(given, kind, around=around)
+        given.network = it.network
+        try:
+            ended_and_started(it, given, f"{kind} between two {names[around]}")
+        finally:
+            it.network.close()
 
 
 def ended_and_started(it: Transit, given: Try, who: str) -> None:
