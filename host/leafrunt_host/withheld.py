@@ -34,6 +34,10 @@ LONG_ASKED = 10.0
 """Seconds after which it is told what `routerd` asks for, and within which it asks again."""
 GIVEN_IN_VAIN = 5
 """`routerd` was given an LSA so often, and asks for it again: it doesn't take it."""
+MOST_ABOVE = 65_536
+"""Of those above the limit so many are known, whatever a neighbor sends."""
+LIMIT_TOLD_EACH = 60.0
+"""Seconds after which the log says again that there are some."""
 MOST_KEPT = 1024
 """LSAs that aren't read of which a link keeps notes."""
 MOST_TOLD = 4
@@ -188,6 +192,7 @@ class Withheld:
         self._database = database
         self._unread: dict[Key, _Unread] = {}
         self._above: set[Key] = set()
+        self._limit_told = float("-inf")
         """Those above the limit."""
         self._promised: set[Key] = set()
         """Those that were described in this exchange, and haven't come."""
@@ -246,18 +251,22 @@ class Withheld:
         known = self._unread.get(key)
         if known and known.instance == header[INSTANCE]:
             return False
-        if not self._database.has(key):
+        is_new = not self._database.has(key)
+        is_taken = self._has_room(header, now)
+        if is_new and is_taken:
             self._promised.add(key)
-        return self._has_room(header, now)
+        return is_taken
 
     def _has_room(self, lsa: bytes, now: float) -> bool:
         key = lsa[KEY]
         if self._database.takes(lsa, now):
             self._above.discard(key)
             return True
-        if not self._above:
+        if not self._above and now - self._limit_told >= LIMIT_TOLD_EACH:
+            self._limit_told = now
             self.news.append(self._limit_said())
-        self._above.add(key)
+        if len(self._above) < MOST_ABOVE:
+            self._above.add(key)
         return False
 
     def _note(self, key: Key, instance: bytes, why: str, is_gone: bool = False) -> None:
@@ -271,8 +280,10 @@ class Withheld:
     # -- from `routerd`
 
     def begun(self, now: float) -> None:
-        """An exchange begins: what the last one promised, and didn't bring, isn't there."""
+        """An exchange begins: what the last one promised, and didn't bring, isn't there; what is
+        withheld is described again, unless it is gone."""
         self._described = now
+        self._above.clear()
         self._database.forget(self._promised)
         self._promised.clear()
         self._asked.clear()
@@ -321,7 +332,8 @@ class Withheld:
         if len(told) > MOST_TOLD:
             yield f"{len(told) - MOST_TOLD} more LSAs are withheld, since routerd doesn't read them"
         if self._above:
-            yield f"{self._limit_said()} ({len(self._above)} LSAs are withheld)"
+            more = " or more" * (len(self._above) >= MOST_ABOVE)
+            yield f"{self._limit_said()} ({len(self._above)} LSAs{more} are withheld)"
         asked = [each for each, since in self._asked.items() if now - since >= LONG_ASKED]
         if asked and now - self._last_asked < LONG_ASKED:
             said = f"{len(asked)} LSA{'s' * (len(asked) > 1)} for more than {LONG_ASKED:.0f} s"

@@ -273,12 +273,47 @@ class Limits(unittest.TestCase):
         """However long it takes: what is withheld may be described by its last packet."""
         most = ROOM_AGAIN + 10
         self.withheld.updated([external(number) for number in range(most + 5)], 0)
+        self.withheld.begun(20)
+        self.withheld.described([external(most)[:20]], 20)
         self.withheld.updated([external(number, MAX_AGE) for number in range(most - 10)], 20)
-        self.withheld.begun(30)
-        for now in range(30, 60):
+        for now in range(22, 52):
             self.assertFalse(self.withheld.has_room_again(now))
             self.withheld.described([external(most - 1 - now % 10)[:20]], now)
-        self.assertTrue(self.withheld.has_room_again(59 + SECONDS_BETWEEN))
+        self.assertTrue(self.withheld.has_room_again(51 + SECONDS_BETWEEN))
+
+    def test_those_withheld_are_gone(self) -> None:
+        """A neighbor that was started anew describes them no more, and flushes none of them."""
+        most = ROOM_AGAIN + 10
+        self.withheld.updated([external(number) for number in range(most + 5)], 0)
+        self.withheld.begun(20)
+        self.withheld.described([external(number)[:20] for number in range(10)], 20)
+        self.withheld.updated([external(number, MAX_AGE) for number in range(10, most)], 21)
+        self.assertEqual(list(self.withheld.remarks(99)), [])
+        self.assertFalse(self.withheld.has_room_again(99))
+
+    def test_those_withheld_are_described_again(self) -> None:
+        """They are told of still, and the log says it no more than once a minute."""
+        most = ROOM_AGAIN + 10
+        lsas = [external(number) for number in range(most + 5)]
+        self.withheld.updated(lsas, 0)
+        for now in range(5, 50, 5):
+            self.withheld.begun(now)
+            self.withheld.described([each[:20] for each in lsas], now)
+            (said,) = self.withheld.remarks(now)
+            self.assertIn("(5 LSAs are withheld)", said)
+        self.assertEqual(len(self.withheld.news), 1)
+
+    def test_a_flood(self) -> None:
+        """What is known of what is withheld has a bound, and so has what was promised."""
+        with mock.patch("leafrunt_host.withheld.MOST_ABOVE", 1000):
+            for at in range(10):
+                lsas = [external(1000 * at + number) for number in range(1000)]
+                self.withheld.updated(lsas, 0)
+                self.withheld.described([each[:20] for each in lsas], 0)
+            (said,) = self.withheld.remarks(1)
+        sizes = [len(self.withheld._above), len(self.withheld._promised), len(self.database)]
+        self.assertEqual(sizes, [1000, 0, ROOM_AGAIN + 10])
+        self.assertIn("(1000 LSAs or more are withheld)", said)
 
     def test_those_withheld_are_flushed(self) -> None:
         most = ROOM_AGAIN + 10

@@ -1,11 +1,13 @@
 """LSAs that a box can't have, and that its neighbors hold: see `try-network`."""
 from __future__ import annotations
 
+import signal
 import sys
 import time
 
 from tests.network import (
     COMES_UP,
+    DEAD_INTERVAL,
     HOST,
     Bird,
     Box,
@@ -138,5 +140,28 @@ def full(given: Try) -> None:
             print(f"     {counted(row)}")
         looks.look("nothing is wrong any more", not is_said(row.box, "the network has more"))
         looks.look("Full", is_full(row.box, "2.2.2.2"))
+        started_with_fewer(row, looks, most)
     finally:
         row.close()
+
+
+def started_with_fewer(row: Row, looks: Looks, most: int) -> None:
+    """BIRD is killed, and flushes nothing of what the box has withheld."""
+    assert isinstance(row.middle, Bird)
+    row.middle.externals = prefixes(50, 10_000) + prefixes(51, 10_000)
+    row.middle.configure()
+    looks.timed("20,000 again", 90, lambda: len(row.box.kernel_routes()) > most, 1)
+    row.middle.stop(signal.SIGKILL)
+    within(2 * DEAD_INTERVAL, lambda: not is_full(row.box, "2.2.2.2"))
+    row.middle.externals = prefixes(51, 100)
+    row.middle.start()
+    looks.timed("BIRD is killed and has 100 now: Full", 60, lambda: is_full(row.box, "2.2.2.2"))
+    is_fewer = within(90, lambda: 100 < len(row.box.kernel_routes()) < 200, 1)
+    looks.look("only those are in the kernel", is_fewer is not None)
+    what = "nothing is wrong any more, and nothing owed"
+    looks.timed(what, 180, lambda: is_said(row.box, "at rest since"), 1)
+    looks.look("and no limit is told of", not is_said(row.box, "the network has more"))
+    before = len(row.box.log_lines())
+    time.sleep(15)
+    fell = [each for each in row.box.log_lines()[before:] if "Full ->" in each]
+    looks.look("it stays Full", is_full(row.box, "2.2.2.2") and not fell, "; ".join(fell))
