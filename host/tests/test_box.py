@@ -2,7 +2,6 @@
 it."""
 import contextlib
 import errno
-import fcntl
 import io
 import os
 import shutil
@@ -16,9 +15,7 @@ import threading
 import time
 import unittest
 from collections.abc import Callable
-from ipaddress import IPv4Address
 from pathlib import Path
-from types import SimpleNamespace
 from typing import IO
 from unittest import mock
 
@@ -26,18 +23,15 @@ from leafrunt_host.box import SIGNALS, Box
 from leafrunt_host.client import Client
 from leafrunt_host.commands import main
 from leafrunt_host.configuration import Configuration, read_configuration
-from leafrunt_host.console import completions
 from leafrunt_host import rtnetlink
-from leafrunt_host.forwarding import Hop, KernelTable
+from leafrunt_host.forwarding import KernelTable
 from leafrunt_host.isolation import Account
 from leafrunt_host.journal import Kept as KeptLog
-from leafrunt_host.keeper import SECONDS_TO_STOP, Keeper, Waker
+from leafrunt_host.keeper import SECONDS_TO_STOP
 from leafrunt_host.rooms import Room, running, socket_path
 from leafrunt_host.rtnetlink import Kernel, Notices
 from leafrunt_host.server import MOST_CLIENTS
-from leafrunt_host.status import neighbors_of
 from leafrunt_host.statuses import Status, Stopped
-from leafrunt_host.words import help_lines
 from tests.run_box import KERNEL
 from tests.test_rtnetlink import Answering
 
@@ -550,26 +544,6 @@ class Ends(Boxes):
 
 
 class Starts(Boxes):
-    def test_nobody_reads_its_log(self) -> None:
-        """A full pipe, or a terminal that stands still, keeps a box from nothing."""
-        reader, writer = os.pipe()
-        fcntl.fcntl(writer, fcntl.F_SETFL, os.O_NONBLOCK)
-        with contextlib.suppress(BlockingIOError):
-            while True:
-                os.write(writer, bytes(4096))
-        fcntl.fcntl(writer, fcntl.F_SETFL, 0)
-        box = self.begin(errors=writer)
-        try:
-            self.assertTrue(within(30, lambda: "one" in running(self.run_folder)))
-            self.assertEqual(self.leafrunt("status")[0], 0)
-            self.assertEqual(self.leafrunt("down")[0], 0)
-            self.assertEqual(box.wait(20), 0)
-        finally:
-            os.close(reader)
-            os.close(writer)
-            box.kill()
-            box.wait()
-
     def test_systemd_is_told(self) -> None:
         """sd_notify(3): ready once the console takes connections, stopping at the end."""
         with socket.socket(socket.AF_UNIX, socket.SOCK_DGRAM) as told:
@@ -793,50 +767,6 @@ class Starts(Boxes):
             check=False,
         )
         return ran.returncode, ran.stderr
-
-
-class Hops(unittest.TestCase):
-    def test_links_that_are_down(self) -> None:
-        """The kernel takes no next hop at one, and would refuse the route with all of its hops."""
-        links = {
-            number: SimpleNamespace(
-                is_usable=number != 2,
-                interface=SimpleNamespace(name=f"eth{number}"),
-                next_hop=lambda router_id: router_id,
-            )
-            for number in (1, 2, 3)
-        }
-        lines = ["neighbor 1 2.2.2.2 Full", "neighbor 2 3.3.3.3 Full", "neighbor 3 4.4.4.4 Init"]
-        known = SimpleNamespace(
-            neighbors=neighbors_of(lines),
-            links=links,
-            configuration=SimpleNamespace(announcements=()),
-            sessions=None,
-        )
-        keeper = Keeper(known, None, None, Waker())
-        self.assertEqual(keeper._hops(), {1: Hop(IPv4Address("2.2.2.2"), "eth1")})
-
-
-class Typing(unittest.TestCase):
-    def test_completion(self) -> None:
-        self.assertEqual(completions([], "de"), ["detach "])
-        self.assertEqual(completions([], "ne"), ["neighbors"])
-        self.assertEqual(completions(["detach"], "p"), ["price"])
-        self.assertEqual(completions(["table"], ""), [])
-        self.assertEqual(completions(["attach", "x"], ""), [])
-        folder = str(HERE)
-        self.assertEqual(completions(["attach"], f"{folder}/stand"), [f"{folder}/stand_in.py"])
-        self.assertEqual(
-            completions(["attach"], str(HERE.parent / "leafrunt_h")),
-            [f"{HERE.parent}/leafrunt_host/"],
-        )
-        self.assertEqual(completions(["capture"], "of"), ["off"])
-
-    def test_help(self) -> None:
-        """Each word that the console knows has its line."""
-        lines = help_lines()
-        for each in ("attach PATH", "table", "status", "capture FILE", "quit"):
-            self.assertTrue(any(line.startswith(f"{each} ") for line in lines), each)
 
 
 if __name__ == "__main__":

@@ -6,12 +6,13 @@ import time
 import unittest
 from dataclasses import dataclass
 from ipaddress import IPv4Address
+from types import SimpleNamespace
 from typing import Any
 from unittest import mock
 
 from leafrunt_host import keeper
 from leafrunt_host.exchange import Side
-from leafrunt_host.forwarding import KernelTable
+from leafrunt_host.forwarding import Hop, KernelTable
 from leafrunt_host.keeper import (
     AFTER,
     AGAIN,
@@ -24,6 +25,7 @@ from leafrunt_host.keeper import (
     Waker,
 )
 from leafrunt_host.packets import Packet, PacketType
+from leafrunt_host.status import neighbors_of
 from tests.fake_kernel import FakeKernel, FakeNotices
 from tests.test_desk import TWO, interface, known
 
@@ -237,6 +239,28 @@ class Keeps(unittest.TestCase):
         while not is_so():
             self.assertLess(time.monotonic(), until)
             time.sleep(0.01)
+
+
+class Hops(unittest.TestCase):
+    def test_links_that_are_down(self) -> None:
+        """The kernel takes no next hop at one, and would refuse the route with all of its hops."""
+        links = {
+            number: SimpleNamespace(
+                is_usable=number != 2,
+                interface=SimpleNamespace(name=f"eth{number}"),
+                next_hop=lambda router_id: router_id,
+            )
+            for number in (1, 2, 3)
+        }
+        lines = ["neighbor 1 2.2.2.2 Full", "neighbor 2 3.3.3.3 Full", "neighbor 3 4.4.4.4 Init"]
+        known = SimpleNamespace(
+            neighbors=neighbors_of(lines),
+            links=links,
+            configuration=SimpleNamespace(announcements=()),
+            sessions=None,
+        )
+        keeper = Keeper(known, None, None, Waker())
+        self.assertEqual(keeper._hops(), {1: Hop(IPv4Address("2.2.2.2"), "eth1")})
 
 
 if __name__ == "__main__":

@@ -1,4 +1,6 @@
 """Levels of the log: what debug says of packets, and what systemd's journal is told."""
+import contextlib
+import fcntl
 import logging
 import os
 import signal
@@ -14,7 +16,7 @@ from leafrunt_host import journal, tracing
 from leafrunt_host.journal import LEVELS, is_journal
 from leafrunt_host.packets import PacketType
 from tests import captured
-from tests.test_box import LEAFRUNT, Boxes
+from tests.test_box import LEAFRUNT, Boxes, running, within
 from tests.test_bridge import KEY, THERE, link, own, own_hello, plain
 
 
@@ -143,6 +145,26 @@ class Streams(unittest.TestCase):
 
 
 class OfBoxes(Boxes):
+    def test_nobody_reads_its_log(self) -> None:
+        """A full pipe, or a terminal that stands still, keeps a box from nothing."""
+        reader, writer = os.pipe()
+        fcntl.fcntl(writer, fcntl.F_SETFL, os.O_NONBLOCK)
+        with contextlib.suppress(BlockingIOError):
+            while True:
+                os.write(writer, bytes(4096))
+        fcntl.fcntl(writer, fcntl.F_SETFL, 0)
+        box = self.begin(errors=writer)
+        try:
+            self.assertTrue(within(30, lambda: "one" in running(self.run_folder)))
+            self.assertEqual(self.leafrunt("status")[0], 0)
+            self.assertEqual(self.leafrunt("down")[0], 0)
+            self.assertEqual(box.wait(20), 0)
+        finally:
+            os.close(reader)
+            os.close(writer)
+            box.kill()
+            box.wait()
+
     def test_levels(self) -> None:
         """A box's log has what its level lets pass, at standard error and at the console."""
         first = {"info": "info: box one", "warning": "warning: isolated = false"}

@@ -1,5 +1,5 @@
 #!/usr/bin/env python3
-"""A box as a unit of systemd, in a machine of its own that `try-systemd` boots: the unit was started at
+"""A box as a unit of systemd, in a machine or container that `try-systemd` boots: it was started at
 boot, before its interfaces are there."""
 from __future__ import annotations
 
@@ -13,8 +13,8 @@ from tests.network import CannotTry, Looks, output, run  # noqa: E402
 
 UNIT, CONFIGURATION = "leafrunt@north", Path("/etc/leafrunt/north.toml")
 OTHER = "leafrunt@none"
-SLOW = 1200
-"""Seconds that are waited for: the machine is an emulated one, on a busy machine."""
+SLOW = 600
+"""Seconds that are waited for: the machine may be an emulated one, on a busy machine."""
 EXTERNAL = "203.0.113.0/24"
 CAPABILITIES = sum(1 << each for each in (5, 6, 7, 12, 13, 21, 23))
 """CAP_KILL, CAP_SETGID, CAP_SETUID, CAP_NET_ADMIN, CAP_NET_RAW, CAP_SYS_ADMIN, CAP_SYS_NICE."""

@@ -229,14 +229,8 @@ def vrf(given: Try) -> None:
     neighbor.externals = [EXTERNAL]
     box = Box(network, given.routerd, own, "box", "1.1.1.1", [Side("eth1")])
     box.more = '[kernel]\nvrf = "red"\n[redistribute.connected]\n'
-    box.start()
-    status = box.wait(SLOW)
-    said = "; ".join(box.log_lines()[-2:])
-    is_told = status == 1 and "kernel, vrf" in said
-    looks.look("an interface that isn't in the VRF is refused", is_told, f"{status}: {said}")
-    run("ip", "-n", own, "link", "set", "red", "up")
-    for each in ("eth1", "eth2"):
-        run("ip", "-n", own, "link", "set", each, "master", "red")
+    outside(given, box)
+    enslaved(own)
     run("ip", "-n", own, "addr", "add", "192.0.2.1/32", "dev", "lo")
     for each in (neighbor, box):
         each.start()
@@ -255,15 +249,29 @@ def vrf(given: Try) -> None:
     looks.look("ended: its table has no route", not routes(own, NUMBER))
 
 
+def outside(given: Try, box: Box) -> None:
+    box.start()
+    status = box.wait(SLOW)
+    said = "; ".join(box.log_lines()[-2:])
+    is_told = status == 1 and "kernel, vrf" in said
+    what = "an interface that isn't in the VRF is refused"
+    given.looks.look(what, is_told, f"{status}: {said}")
+
+
+def enslaved(namespace: str) -> None:
+    """The VRF is up and has both interfaces."""
+    run("ip", "-n", namespace, "link", "set", "red", "up")
+    for each in ("eth1", "eth2"):
+        run("ip", "-n", namespace, "link", "set", each, "master", "red")
+
+
 def deleted(given: Try, box: Box, neighbor: Bird, device: tuple[object, ...]) -> None:
     looks, own = given.looks, box.namespace
     run("ip", "-n", own, "link", "del", "red")
     looks.timed("the VRF is deleted: told", SLOW, lambda: "is gone" in line_of(box, "kernel:"))
     print(f"     {line_of(box, 'kernel:')}")
     run(*device)
-    run("ip", "-n", own, "link", "set", "red", "up")
-    for each in ("eth1", "eth2"):
-        run("ip", "-n", own, "link", "set", each, "master", "red")
+    enslaved(own)
     looks.timed("made again: Full", SLOW, lambda: is_full(neighbor, "1.1.1.1"))
     looks.timed("and the route is in its table", SLOW, lambda: routes(own, NUMBER) == ["10.0.1.2"])
     looks.timed("nothing is told", SLOW, lambda: line_of(box, "kernel:").endswith("in the VRF red"))
