@@ -73,9 +73,9 @@ class Kept(logging.Handler):
 
 
 class Shown(logging.Handler):
-    """Writes lines to a file by a thread of its own: where nobody takes them (a terminal that stands
-    still, a pipe that is full), nothing else waits for that. Lines that have no room are left out,
-    and how many were is told."""
+    """Writes lines to a file by a thread of its own: where nobody takes them (a terminal that
+    stands still, a pipe that is full), nothing else waits for that. Lines that have no room are
+    left out, and how many were is told."""
 
     def __init__(self, descriptor: int, formatter: logging.Formatter) -> None:
         super().__init__()

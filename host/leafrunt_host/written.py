@@ -1,5 +1,5 @@
-"""Small files that are written while packets wait: a disk may stand still for seconds, or for good, and
-the router goes on meanwhile."""
+"""Small files that are written while packets wait: a disk may stand still for seconds, or for good,
+and the router goes on meanwhile."""
 from __future__ import annotations
 
 import os
