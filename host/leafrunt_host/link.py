@@ -17,6 +17,7 @@ from leafrunt_host.authentication import (
     Authentication,
     Key,
     NeighborNumbers,
+    Refusal,
     Refused,
     SequenceNumbers,
 )
@@ -54,6 +55,8 @@ MOST_NEIGHBORS = 16
 WITHHELD = "withheld LSAs"
 EARLY = "LSAs that came too early"
 FAILED = "dropped by a mistake in this program"
+WRONG_DIGEST = Refused(Refusal.WRONG_DIGEST)
+FORGED = f"refused {WRONG_DIGEST}"
 Watch = Callable[[Side, Packet, float], None]
 """Is called with each packet of the neighbor that was taken, and each of `routerd`'s: the side that
 it came from, and the moment."""
@@ -132,6 +135,8 @@ class Link:
         self._tracer = Tracer(interface.name)
         self._lock = Lock()
         self._kernel: KernelState | None = None
+        self.is_usable = True
+        """Whether the kernel's interface is up and still has the address."""
         self._mtu = mtu_field(interface.mtu)
         self._exchange = Exchange(headers_that_fit(self._limit))
         self._next_hops: dict[IPv4Address, IPv4Address] = {}
@@ -162,6 +167,7 @@ class Link:
             self.interface, self.filter = interface, interface.filter()
             self.authentication.dead_interval = interface.dead_interval
             self._exchange.wire_room = headers_that_fit(self._limit)
+            self.is_usable = self._is_usable()
 
     @property
     def hello(self) -> Packet | None:
@@ -231,6 +237,21 @@ class Link:
         with self._lock:
             self._refused(came.payload, source, refused, now)
         return Sent()
+
+    def is_forged_again(self, packet: bytes, now: float) -> bool:
+        """Whether an IP packet that counts has a wrong digest, as another one of its Router ID had:
+        then it's counted and refused. There may be floods of them, which would keep the neighbor's
+        own packets waiting, and are to take little more than their digests do."""
+        data = packet[(packet[0] & 15) * 4 :] if packet else b""
+        forger = self.observer.forger(data[4:8], now)
+        if forger is None or not self.authentication.is_forged(data):
+            return False
+        source = address_of(packet[12:16])
+        with self._lock:
+            self.counters[FORGED] += 1
+            forger.count, forger.moment, forger.source = forger.count + 1, now, source
+            self._tracer.refused(source, WRONG_DIGEST, now)
+        return True
 
     def _refused(self, data: bytes, source: IPv4Address, why: Refused, now: float) -> None:
         self.counters[f"refused {why.refusal.value}"] += 1
@@ -432,9 +453,7 @@ class Link:
         self._own_like = packet
         return self._exchanged(self._exchange.came(Side.ROUTER, description))
 
-    @property
-    def is_usable(self) -> bool:
-        """Whether the kernel's interface is up and still has the address."""
+    def _is_usable(self) -> bool:
         state = self._kernel
         return state is None or (state.is_up and self.interface.address.ip in state.addresses)
 
@@ -446,6 +465,7 @@ class Link:
             if self._kernel == state:
                 return Sent()
             was_usable, self._kernel = self.is_usable, state
+            self.is_usable = self._is_usable()
             said = self._of_kernel() or ([] if was_usable else ["up"])
             self._tell([f"{self.interface.name}: {each}" for each in said], now)
             if state.index and mtu_field(state.mtu) != self._mtu:
