@@ -1,8 +1,10 @@
-"""`try-network` tells what it can't try with, before it makes a network."""
+"""`try-network` tells what it can't try with, before it makes a network; a part's mistake is told."""
 from __future__ import annotations
 
+import contextlib
 import importlib.machinery
 import importlib.util
+import io
 import tempfile
 import unittest
 from collections.abc import Callable
@@ -43,6 +45,19 @@ class Routerd(unittest.TestCase):
         why = try_network.why_not_routerd(self.program) or ""
         self.assertIn(str(self.program), why)
         self.assertIn("let others pass each folder on the way", why)
+
+
+class Parts(unittest.TestCase):
+    def test_a_part_that_ends_by_a_mistake(self) -> None:
+        """It's a NO, its network is removed, and nothing else ends by it."""
+        looks, own, said = network.Looks(), mock.Mock(), io.StringIO()
+        own.close.return_value = []
+        with mock.patch.object(try_network, "Network", return_value=own):
+            with contextlib.redirect_stdout(said):
+                try_network.tried(lambda _: [][0], looks, Path("routerd"))
+        self.assertEqual(looks.bad, ["the part ends by IndexError: list index out of range"])
+        self.assertIn("Traceback", said.getvalue())
+        own.close.assert_called_once()
 
 
 class Within(unittest.TestCase):
