@@ -13,6 +13,7 @@ import sys
 import time
 from collections.abc import Callable
 from dataclasses import dataclass, field, replace
+from datetime import datetime
 
 from tests.network import (
     COMES_UP,
@@ -42,6 +43,13 @@ MOST = 1.2
 """Seconds from a silent loss to the kernel's table."""
 BETWEEN_ROUTER_LSAS = 6
 """Seconds: two of one router are five apart (RFC 2328, MinLSInterval)."""
+MOST_DISTURBED = 4
+"""How often an outage is tried once more, since another session fell by the other end's silence."""
+DETECTION = 0.9
+"""Seconds: the detection time of `Bfd()`."""
+HEARD = "udp dst port 3784 and not src port 50000"
+"""For tcpdump: the packets of sessions, without those that are forged here."""
+FALL = re.compile(r"(\S+ \S+) info: (eth\d): BFD with (\S+): Up -> Down: (.*)")
 KEYED = Secret(7, "keyed sha1", "a secret")
 METICULOUS = Secret(7, "meticulous keyed sha1", "a secret")
 FORGED = """
@@ -96,6 +104,37 @@ def router_of(
     return made
 
 
+class Heard:
+    """BFD's packets at an interface of the box, with the kernel's moments: they show whether a session
+    fell by the box's fault, or since the other end got no processor for so long."""
+
+    def __init__(self, network: Network, namespace: str, interface: str) -> None:
+        self._file = network.work / f"heard-{interface}"
+        words = ["tcpdump", "-tt", "-nlU", "-i", interface, HEARD]
+        with open(self._file, "w", encoding="utf-8") as it:
+            network.start(namespace, words, network.work / "heard", stdout=it.fileno())
+
+    def _of(self, source: str) -> list[tuple[float, str]]:
+        lines = (each.split(maxsplit=3) for each in self._file.read_text().splitlines())
+        return [
+            (float(words[0]), words[3])
+            for words in lines
+            if len(words) == 4 and words[2].startswith(f"{source}.")
+        ]
+
+    def fell(self, source: str, second: float) -> float:
+        """When that address says first, from about a second of the log on, that its session isn't
+        Up; infinite where it doesn't."""
+        found = (at for at, said in self._of(source) if at > second - 0.5 and "State Up" not in said)
+        return next(found, math.inf)
+
+    def silence(self, source: str, until: float, seconds: float) -> float:
+        """The longest time without a packet of that address in the seconds before a moment."""
+        moments = [at for at, _ in self._of(source) if until - seconds < at < until]
+        pairs = zip([until - seconds, *moments], [*moments, until])
+        return max(to - at for at, to in pairs)
+
+
 class Watched:
     """The router that is tried, 1.1.1.1, has two links with BFD to 2.2.2.2, by bridges that may
     fall silent; the first is the better one."""
@@ -125,6 +164,8 @@ class Watched:
         sides = [replace(each, bfd=theirs) for each in sides]
         sides.append(Side("d0", is_passive=True))
         self.neighbor = router_of(neighbor, given, network, self.far, 2, sides)
+        names = ("eth1", "eth2") if tried == "a box" else ()
+        self.heard = {each: Heard(network, self.own, each) for each in names}
 
     def start(self) -> None:
         self.neighbor.start()
@@ -171,9 +212,34 @@ class Watched:
         assert isinstance(self.tried, Box)
         return self.tried.log_lines()
 
-    def changes(self) -> list[str]:
-        """What the box's log has of adjacencies that weren't Full any more."""
-        return [each for each in self.box_log() if "2.2.2.2 Full ->" in each]
+    def changes(self, since: int = 0) -> list[str]:
+        """What the box's log has of adjacencies that weren't Full any more, from that line on."""
+        return [each for each in self.box_log()[since:] if "2.2.2.2 Full ->" in each]
+
+    def falls(self, since: int) -> tuple[list[str], list[str]]:
+        """The sessions that fell, by the log from that line on: those where the other end was heard in
+        time, or this one wasn't; and those by the other end's silence alone."""
+        of_box, of_other = list[str](), list[str]()
+        found = list(filter(None, (FALL.match(each) for each in self.box_log()[since:])))
+        time.sleep(1 if found else 0)  # (tcpdump writes what it has)
+        for each in found:
+            second, heard = datetime.fromisoformat(each[1]).timestamp(), self.heard[each[2]]
+            own = "10.0.1.1" if each[2] == "eth1" else "10.0.2.1"
+            is_expired = "expired" in each[4]
+            until = min(heard.fell(own if is_expired else each[3], second), time.time())
+            theirs, ours = (heard.silence(who, until, 2 * DETECTION) for who in (each[3], own))
+            is_others = theirs >= DETECTION if is_expired else ours < DETECTION
+            said = f"{theirs:.2f} s without the neighbor's packets, {ours:.2f} s without its own"
+            (of_other if is_others else of_box).append(f"{each[0]} ({said})")
+        return of_box, of_other
+
+    def holds(self, since: int) -> tuple[bool, str]:
+        """Whether nothing has changed at either end since that line of the log, but by the other end's
+        silence, after which all is well again; what has."""
+        of_box, of_other = self.falls(since)
+        is_well = self.is_up() or (of_other and within(COMES_UP, self.is_up) is not None)
+        changes = [] if of_other else self.changes(since)
+        return bool(is_well and not of_box and not changes), "; ".join([*of_box, *of_other, *changes])
 
     def process(self) -> int:
         """The last process of BFD's."""
@@ -242,14 +308,11 @@ def told_outages(given: Try, it: Watched, who: str) -> None:
     looks = given.looks
     if not looks.timed(f"{who}: Full, and both sessions Up", COMES_UP, it.is_up):
         return
-    seconds = []
-    for _ in range(TIMES):
-        time.sleep(BETWEEN_ROUTER_LSAS)
-        seconds.append(it.outage())
-        it.network.silence(it.bridges[0], False)
-        if within(COMES_UP, it.is_up) is None:
-            looks.look(f"{who}: all is well again after a silent loss", False)
-            return
+    bridge = it.bridges[0]
+    seconds = [
+        undisturbed(it, lambda: it.network.silence(bridge), lambda: it.network.silence(bridge, False))
+        for _ in range(TIMES)
+    ]
     said = f"{statistics.median(seconds):.2f} s, {min(seconds):.2f} to {max(seconds):.2f} s"
     what = f"{who}: a silent loss is in the kernel's table"
     if isinstance(it.tried, Box):
@@ -258,17 +321,38 @@ def told_outages(given: Try, it: Watched, who: str) -> None:
         print(f"     beside it: {what}: {said}", flush=True)
 
 
+def undisturbed(it: Watched, fail: Callable[[], None], mend: Callable[[], None]) -> float:
+    """Seconds from the failure of the first link until packets go by the second; infinite where all
+    isn't well again after it. It's tried once more where another session fell by the neighbor's own
+    silence: then two router-LSAs of the neighbor's come within MinLSInterval."""
+    for _ in range(MOST_DISTURBED):
+        since = len(it.box_log()) if it.heard else 0
+        time.sleep(BETWEEN_ROUTER_LSAS)
+        seconds = it.outage(fail)
+        mend()
+        if within(COMES_UP, it.is_up) is None:
+            return math.inf
+        of_box, of_other = it.falls(since) if it.heard else ([], [])
+        if len(of_other) <= 1 and not of_box:
+            return seconds
+        print(f"     disturbed, {seconds:.2f} s: {'; '.join(of_box + of_other)}", flush=True)
+        if of_box:
+            return math.inf
+    return math.inf
+
+
 def one_way(given: Try, it: Watched) -> None:
     """The first link fails in one direction alone: one end is told by the other."""
     looks, bridge = given.looks, it.bridges[0]
     looks.timed("Full, and both sessions Up", COMES_UP, it.is_up)
     for end, what in enumerate(("from the neighbor", "to the neighbor")):
-        time.sleep(BETWEEN_ROUTER_LSAS)
-        seconds = it.outage(lambda: it.network.deafen(bridge, end))
-        it.network.deafen(bridge, end, False)
+        seconds = undisturbed(
+            it,
+            lambda: it.network.deafen(bridge, end),
+            lambda: it.network.deafen(bridge, end, False),
+        )
         what = f"packets {what} alone are lost: in the kernel's table within {MOST} s"
         looks.look(what, seconds <= MOST, f"{seconds:.2f} s")
-        within(COMES_UP, it.is_up)
 
 
 def wrong_key(given: Try, it: Watched) -> None:
@@ -300,12 +384,14 @@ def forged(given: Try, it: Watched) -> None:
         ("10.0.1.2", 254, "TTL 254"),
         ("10.0.1.2", 1, "TTL 1"),
     ):
+        since = len(it.box_log())
         run("ip", "netns", "exec", it.far, sys.executable, "-c", FORGED, HOST, source, ttl)
         time.sleep(1.5)
-        is_left = it.sessions() == ["Up", "Up"] and not it.changes()
-        looks.look(f"forged packets, {what}: they change nothing", is_left)
+        looks.look(f"forged packets, {what}: they change nothing", *it.holds(since))
+    since = len(it.box_log())
     run("ip", "netns", "exec", it.far, sys.executable, "-c", FORGED, HOST, "10.0.1.2", 255)
-    looks.timed("the same with the neighbor's own address and TTL: heard", 3, it.changes, 0.05)
+    what = "the same with the neighbor's own address and TTL: heard"
+    looks.timed(what, 3, lambda: it.changes(since), 0.05)
 
 
 def flooded(given: Try, it: Watched) -> None:
@@ -313,23 +399,23 @@ def flooded(given: Try, it: Watched) -> None:
     looks = given.looks
     looks.timed("Full, and both sessions Up", COMES_UP, it.is_up)
     words = ["ip", "netns", "exec", it.far, sys.executable, "-c", FLOOD]
+    since = len(it.box_log())
     sent = run(*words, HOST, SECONDS_OF_FLOOD, RATE).strip()
-    fallen = [each for each in it.box_log() if "Up -> Down" in each]
     what = f"a flood of {sent} packets with wrong digests in {SECONDS_OF_FLOOD} s: no session falls"
-    looks.look(what, not fallen and it.is_up(), "; ".join(fallen))
+    looks.look(what, *it.holds(since))
 
 
 def killed(given: Try, it: Watched) -> None:
     """Twice: neither end notices it, before nor after the second."""
     looks, who = given.looks, type(it.neighbor).__name__
     looks.timed(f"{who}: Full, and both sessions Up", COMES_UP, it.is_up)
+    since = len(it.box_log())
     for pause in (3, 1):
         first = it.process()
         os.kill(first, signal.SIGKILL)
         looks.timed("the process is killed: another runs", 10, lambda: it.process() != first)
         time.sleep(pause)
-    is_left = it.is_up() and not it.changes() and is_full(it.neighbor, "1.1.1.1")
-    looks.look("killed twice: nothing has changed at either end", is_left)
+    looks.look("killed twice: nothing has changed at either end", *it.holds(since))
 
 
 def admin_down(given: Try, it: Watched) -> None:
