@@ -180,7 +180,8 @@ def assembled(given: Try) -> list[Path]:
 
 def connected(it: Scene, one: Announcing) -> None:
     prefix = f"10.{one.number}.0.0/24"
-    it.follows(one, "the network of an address", prefix)
+    # (all have become Full a moment ago, and the router-LSAs that lead there may wait five seconds)
+    it.follows(one, "the network of an address", prefix, seconds=AGAIN)
     run("ip", "-n", it.far, "link", "set", "eth1" if one.is_box else "eth2", "down")
     it.follows(one, "the link is down", prefix, False)
     run("ip", "-n", it.far, "link", "set", "eth1" if one.is_box else "eth2", "up")
