@@ -56,6 +56,14 @@ class TestKey(unittest.TestCase):
         self.assertEqual(self.changed("crates/low/src/lib.rt", "    1", "    1 // the first"), set())
         self.assertEqual(self.changed("crates/low/specs/Lib.antt", "-- What is said.\n", ""), set())
 
+    def test_comments_on_what_is_derived_say_nothing(self) -> None:
+        file = self.room / "crates/low/src/lib.rt"
+        kinds = "/// A fault.\n#[derive(thiserror::Error)]\npub enum Fault {\n    /// One.\n    One,\n}\n"
+        file.write_text(file.read_text() + kinds)
+        (self.room / "crates.txt").write_text("low: thiserror\nhigh: low\n")
+        self.assertEqual(self.changed("crates/low/src/lib.rt", "/// One.", "/// The first."), set())
+        self.assertEqual(self.changed("crates/low/src/lib.rt", "Error", "Debug"), {"low", "high"})
+
     def test_code_says_something(self) -> None:
         both = {"low", "high"}
         self.assertEqual(self.changed("crates/low/src/lib.rt", "    1", "    2"), both)
