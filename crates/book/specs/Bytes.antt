@@ -4,13 +4,14 @@ use Rattle.flood.specs.declared.event.Event.{Event}
 use Rattle.flood.specs.declared.event.Event.TheVariants as event
 use Rattle.book.specs.declared.entry.Entry.{Entry}
 
--- what an event holds outside of itself: the bytes of a packet, 64 for each answer of an Install
+-- what an event holds outside of itself and keeps in the journal: the bytes of a packet. An Install
+-- loses its answers to the next one
 abbrev pub held_by : Event → ℕ
 held_by (event.Packet number bytes) = length bytes
 held_by event.Tick = 0
 held_by (event.Redistribute tag price) = 0
 held_by (event.Withdraw prefix) = 0
-held_by (event.Install answers) = length answers * 64
+held_by (event.Install answers) = 0
 held_by (event.LinkDown number) = 0
 
 -- so many bytes, and those that an event takes: what it holds, and 256 beside. Where they are 2^64
@@ -21,3 +22,7 @@ with_event bytes e = min (bytes + held_by e + 256) 18446744073709551615
 -- the bytes that a journal's events take
 abbrev pub bytes_of : List Entry → ℕ
 bytes_of journal = fold (λ bytes (e : Entry). with_event bytes e.event) 0 journal
+
+-- the bytes that the journal of a router with so many LSAs may take: 256 KiB, and 256 for each
+abbrev pub allowed_for : (lsas : ℕ) → ℕ
+allowed_for lsas = min (min (lsas * 256) 18446744073709551615 + 262144) 18446744073709551615

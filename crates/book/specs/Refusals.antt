@@ -6,6 +6,7 @@ use Rattle.flood.specs.declared.event.Event.{Event}
 use Rattle.flood.specs.Occurrences.{occurrence_of}
 use Rattle.book.specs.declared.error.BookError.{BookError}
 use Rattle.book.specs.declared.error.BookError.TheVariants as refusing
+use Rattle.book.specs.declared.error.Refused.{Refused}
 use Rattle.book.specs.Replay.{BookView}
 
 -- no more events may be taken
@@ -32,3 +33,8 @@ Answers b moment e r = AnswersWhere IsFull b moment e r
 -- a book that starts anew where its journal is full
 abbrev pub AnswersAnew : {X : Type 0} → BookView → Moment → Event → Result X BookError → Type 0
 AnswersAnew b moment e r = AnswersWhere IsSpent b moment e r
+
+-- the answer, of which a refusal gives the event back, without the event
+abbrev pub without_event : {X : Type 0} → Result X Refused → Result X BookError
+without_event (Ok x) = Ok x
+without_event (Err refused) = Err refused.error

@@ -1,12 +1,15 @@
 -- A journal, and what it says of a router.
-use Rattle.std.specs.Prelude.{◌≡◌, ◌⊎◌, ℕ, ◌<◌, ◌≤◌, List, [], ◌∷◌, ◌++◌, length, map}
+use Rattle.std.specs.Prelude.{◌≡◌, ◌⊎◌, ℕ, zero, suc, ◌<◌, ◌≤◌, true, List, [], ◌∷◌, ◌++◌, length}
+use Rattle.std.specs.Prelude.{map, Option, None, Some, slice_index_or}
+use Rattle.std.specs.FinMap as finite
 use Rattle.words.specs.Numbers.{Moment}
 use Rattle.events.specs.Events.{Run, Step}
 use Rattle.events.specs.Routers.{Occurrence, Router}
 use Rattle.flood.specs.declared.event.Event.{Event}
-use Rattle.flood.specs.Occurrences.{occurrence_of}
+use Rattle.flood.specs.declared.event.Event.TheVariants as event
+use Rattle.flood.specs.Occurrences.{brings_answers, occurrence_of}
 use Rattle.book.specs.declared.entry.Entry.{Entry}
-use Rattle.book.specs.Bytes.{bytes_of}
+use Rattle.book.specs.Bytes.{allowed_for, bytes_of}
 
 abbrev pub entry : Moment → Event → Entry
 entry moment event = record { moment = moment; event = event }
@@ -46,20 +49,79 @@ started_book core = record { start = core; journal = []; current = core; taken =
 abbrev pub marked_book : BookView → BookView
 marked_book b = record b { start = b.current; journal = [] }
 
--- the journal is full: it holds 65,536 events, or events of more than 64 MiB
-abbrev pub IsDue : BookView → Type 0
-IsDue b = (length b.journal ≡ 65536) ⊎ (67108864 < bytes_of b.journal)
+-- the router at the start, where there is none the router as it is now
+abbrev pub start_of : Option Router → (now : Router) → Router
+start_of None now = now
+start_of (Some start) now = start
 
--- it is the same book; or the one that was marked, which only a book is whose journal is full
+-- ---- Installs
+
+-- the event, of which an Install has lost its answers
+abbrev pub without_answers : Event → Event
+without_answers (event.Packet number bytes) = event.Packet number bytes
+without_answers event.Tick = event.Tick
+without_answers (event.Redistribute tag price) = event.Redistribute tag price
+without_answers (event.Withdraw prefix) = event.Withdraw prefix
+without_answers (event.Install answers) = event.Install []
+without_answers (event.LinkDown number) = event.LinkDown number
+
+-- the journal ends with an Install, which stands at this place
+abbrev pub IsInstalledLast : List Entry → (last : ℕ) → Type 0
+IsInstalledLast journal last =
+    (length journal ≡ suc last)
+    × ((e : Entry) × (e ≡ slice_index_or journal last e)
+    × (brings_answers (occurrence_of e.event) ≡ true))
+
+-- the journal, in which an Install at this place has lost its answers
+abbrev pub forgotten_at : List Entry → (place : ℕ) → List Entry
+forgotten_at [] place = []
+forgotten_at (e ∷ rest) zero = record e { event = without_answers e.event } ∷ rest
+forgotten_at (e ∷ rest) (suc place) = e ∷ forgotten_at rest place
+
+-- the journal, which ends with this entry; where that is an Install, one before it may have lost
+-- its answers
+abbrev pub EndsWith : List Entry → Entry → List Entry → Type 0
+EndsWith before e journal =
+    (journal ≡ before ++ e ∷ [])
+    ⊎ ((place : ℕ) × (brings_answers (occurrence_of e.event) ≡ true)
+    × (journal ≡ forgotten_at before place ++ e ∷ []))
+
+-- the same journal, or one that ends with an Install, to which another one has lost its answers
+abbrev pub IsLightened : (old new : List Entry) → Type 0
+IsLightened old new =
+    (new ≡ old)
+    ⊎ ((before : List Entry) × (e : Entry) × (place : ℕ) × (old ≡ before ++ e ∷ [])
+    × (brings_answers (occurrence_of e.event) ≡ true)
+    × (new ≡ forgotten_at before place ++ e ∷ []))
+
+-- ---- marks
+
+-- the journal is full, or takes more than it may beside the LSAs that the router holds
+abbrev pub IsDue : BookView → Type 0
+IsDue b =
+    (length b.journal ≡ 65536)
+    ⊎ (allowed_for (finite.len b.current.area.database) < bytes_of b.journal)
+
+-- it is the same book; or the one that was marked
+abbrev pub IsSameOrAnew : (old new : BookView) → Type 0
+IsSameOrAnew old new = (new ≡ old) ⊎ (new ≡ marked_book old)
+
+-- it is the same book; or the one that was marked, which only a book is whose journal is too much
 abbrev pub IsSameOrMarked : (old new : BookView) → Type 0
 IsSameOrMarked old new = (new ≡ old) ⊎ (IsDue old × (new ≡ marked_book old))
 
--- the entry stands last in the journal, which goes on; or, where the journal was full, alone in one
+-- the entry stands last in the journal
+abbrev pub IsNotedIn : (before : BookView) → Entry → (new : BookView) → Type 0
+IsNotedIn before e new = (new.start ≡ before.start) × EndsWith before.journal e new.journal
+
+-- the entry stands last in the journal, which goes on; or, where that was too much, alone in one
 -- that was emptied by a mark before
 abbrev pub IsNoted : (old : BookView) → Entry → (new : BookView) → Type 0
-IsNoted old e new =
-    ((new.start ≡ old.start) × (new.journal ≡ old.journal ++ e ∷ []))
-    ⊎ (IsDue old × (new.start ≡ old.current) × (new.journal ≡ e ∷ []))
+IsNoted old e new = (before : BookView) × IsSameOrMarked old before × IsNotedIn before e new
+
+-- the same in a book that is marked for want of memory, too
+abbrev pub IsNotedAtLast : (old : BookView) → Entry → (new : BookView) → Type 0
+IsNotedAtLast old e new = (before : BookView) × IsSameOrAnew old before × IsNotedIn before e new
 
 -- what holds of the fields of every book that began with this router, beside the total of its ledger
 pub record IsKept (origin : Router) (start : Router) (journal : List Entry) (now : Router)

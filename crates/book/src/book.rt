@@ -1,19 +1,22 @@
 //! The book itself: an event is taken, and the book starts anew.
 ghost use Rattle.std.specs.Prelude.{◌≡◌, ℕ, ◌+◌, ◌^◌, ◌<◌, ◌≤◌, [], ◌∷◌, ◌++◌, ◌↔◌, length, IfOk};
-ghost use Rattle.std.specs.Prelude.{IsTrue, None, OnOk, OnErr};
+ghost use Rattle.std.specs.Prelude.{IfErr, IsOk, IsTrue, None, OnErr, OnOk, Some, false, true};
+ghost use Rattle.std.specs.FinMap as finite;
 ghost use Rattle.events.specs.Events.{Happens};
 ghost use Rattle.flood.specs.Occurrences.{occurrence_of};
 ghost use Rattle.flood.specs.Early.{early_refusal};
 ghost use Rattle.flood.specs.Offers.{IsStaleNow};
-ghost use Rattle.book.specs.Refusals.{Answers, AnswersAnew};
-ghost use Rattle.book.specs.Replay.{IsNoted, IsSameOrMarked, Leads, Replays, entry};
-ghost use Rattle.book.specs.Replay.{marked_book, started_book};
+ghost use Rattle.book.specs.Refusals.{Answers, AnswersAnew, without_event};
+ghost use Rattle.book.specs.Replay.{IsDue, IsLightened, IsNoted, IsNotedAtLast, IsSameOrAnew};
+ghost use Rattle.book.specs.Replay.{IsSameOrMarked, Leads, Replays, entry, marked_book, start_of};
+ghost use Rattle.book.specs.Replay.{started_book};
 
+use crate::answers::{forget_answers, last_install};
 use crate::entry::Entry;
-use crate::error::BookError;
+use crate::error::{BookError, Refused};
 use crate::origin::Origin;
-use crate::weight::with_event;
-use flood::{Core, Event, Out};
+use crate::weight::{allowance, with_event};
+use flood::{Core, CoreError, Event, Out};
 use std::alloc::{AllocError, Global};
 use std::marker::Model;
 use std::mem::replace;
@@ -27,9 +30,6 @@ pub const JOURNAL: usize = 65_536;
 /// The most events that a book takes in all, 2^63.
 pub const TAKEN: u64 = 1 << 63;
 
-/// How many bytes the journal's events may hold before [`Book::apply_anew`] starts it anew, 64 MiB.
-pub const NOTED: u64 = 64 << 20;
-
 /// A router with its past: the router at the start, the events since, and the router as it is now.
 ///
 /// Clauses see these and how many events were taken in all, before the start too. `L` is the ledger
@@ -38,11 +38,15 @@ pub const NOTED: u64 = 64 << 20;
 #[derive(Drop)]
 pub struct Book<L: Origin> {
     alloc: Global,
-    start: Core,
+    // The router at the start. None where that is the router as it is now: a copy of this one is
+    // made when an event comes.
+    start: Option<Core>,
     current: Core,
     journal: Vec<Entry>,
-    // The bytes that the journal's events take.
+    // The bytes that the journal's events take, without the answers of Installs.
     noted: u64,
+    // The place of the last Install that was taken by `apply_anew` since the start.
+    installed: Option<usize>,
     taken: u64,
     total: ledger::Book<L>,
 }
@@ -55,7 +59,7 @@ impl<L: Origin> Model for Book<L> {
     ghost use Rattle.lsdb.specs.Copies.{DatabaseCopy};
     ghost use Rattle.lsdb.specs.Keys.{coded_key, key_cmp};
     ghost use Rattle.adjacency.specs.Codes.{coded_headers, coded_keys, coded_lists};
-    ghost use Rattle.book.specs.Replay.{BookView, IsKept};
+    ghost use Rattle.book.specs.Replay.{BookView, IsKept, start_of};
 
     ghost Value = { BookView };
 
@@ -70,14 +74,29 @@ impl<L: Origin> Model for Book<L> {
     ) };
 
     ghost view = { λ b. record {
-      start = b.start;
+      start = start_of b.start b.current;
       journal = b.journal.items;
       current = b.current;
       taken = b.taken;
     } };
 
-    ghost invariant = { λ b.
-        IsKept L.origin b.start b.journal.items b.current b.noted b.taken b.total.total };
+    ghost invariant = { λ b. IsKept L.origin (start_of b.start b.current) b.journal.items b.current
+        b.noted b.taken b.total.total };
+}
+
+// The router at the start is kept for itself, whatever becomes of the router as it is now.
+fn hold(start: &mut Option<Core>, now: &Core) -> Result<(), AllocError>
+    ensures ok { OnOk result (start.new ≡ Some (start_of start.old now.now)) }
+    ensures err { OnErr result (start.new ≡ start.old) }
+{
+    if start.is_some() {
+        return Ok(());
+    }
+    let copy = now.copy()?;
+    if let Some(other) = replace(start, Some(copy)) {
+        other.close();
+    }
+    Ok(())
 }
 
 impl<L: Origin> Book<L> {
@@ -97,10 +116,11 @@ impl<L: Origin> Book<L> {
                 let (total, share) = blank.open::<L>();
                 let book = Book {
                     alloc,
-                    start,
+                    start: Some(start),
                     current: core,
                     journal: Vec::new(alloc),
                     noted: 0,
+                    installed: None,
                     taken: 0,
                     total,
                 };
@@ -120,7 +140,6 @@ impl<L: Origin> Book<L> {
     /// in all; what the router refuses, in its own order; `Core(Memory)` only where neither the
     /// journal nor the clock nor the interface is refused, and an allocation was. A refusal leaves
     /// the book and the share as they were.
-    #[tactic(auto, using(flood::proofs::Early::may_run_out, flood::proofs::Early::early_answers))]
     pub fn apply(
         &mut self,
         mine: &mut Share<L>,
@@ -141,61 +160,160 @@ impl<L: Origin> Book<L> {
         ensures err { OnErr result
             ((self.new ≡ self.old) × (mine.new.amount ≡ mine.old.amount)) }
     {
+        match self.attempt(mine, moment, event) {
+            Ok(outs) => Ok(outs),
+            Err(refused) => Err(refused.error),
+        }
+    }
+
+    // As `apply`; a refusal gives the event back.
+    #[tactic(auto, using(flood::proofs::Early::may_run_out, flood::proofs::Early::early_answers))]
+    fn attempt(
+        &mut self,
+        mine: &mut Share<L>,
+        moment: Second,
+        event: Event,
+    ) -> Result<Vec<Out>, Refused>
+        requires { 0 < mine.old.parts }
+        ensures ok { IfOk result (λ outs. Happens
+            self.old.current moment (occurrence_of event) outs.items self.new.current) }
+        ensures book { OnOk result (self.new ≡ record self.old {
+          journal = self.old.journal ++ entry moment event ∷ [];
+          current = self.new.current;
+          taken = self.old.taken + 1;
+        }) }
+        ensures share { OnOk result (mine.new.amount ≡ mine.old.amount + 1) }
+        ensures parts { mine.new.parts ≡ mine.old.parts }
+        ensures refused { Answers self.old moment event (without_event result) }
+        ensures back { IfErr result (λ refused. refused.event ≡ event) }
+        ensures err { OnErr result
+            ((self.new ≡ self.old) × (mine.new.amount ≡ mine.old.amount)) }
+    {
         if self.journal.len() == JOURNAL || self.taken == TAKEN {
-            return Err(BookError::Journal);
+            return Err(Refused::new(BookError::Journal, event));
         }
         if let Some(error) = self.current.refuses(moment, &event) {
-            return Err(BookError::Core(error));
+            return Err(Refused::new(BookError::Core(error), event));
         }
         // What needs memory comes before the step, after which nothing may fail.
-        self.journal.reserve(1)?;
-        let outs = self.current.step(moment, &event)?;
-        self.noted = with_event(self.noted, &event);
-        self.journal.push_reserved(Entry { moment, event });
-        self.total.add(mine, 1);
-        self.taken += 1;
-        Ok(outs)
+        if hold(&mut self.start, &self.current).is_err() {
+            return Err(Refused::new(BookError::Core(CoreError::Memory), event));
+        }
+        if self.journal.reserve(1).is_err() {
+            return Err(Refused::new(BookError::Core(CoreError::Memory), event));
+        }
+        match self.current.step(moment, &event) {
+            Ok(outs) => {
+                self.noted = with_event(self.noted, &event);
+                self.journal.push_reserved(Entry { moment, event });
+                self.total.add(mine, 1);
+                self.taken += 1;
+                Ok(outs)
+            }
+            Err(error) => Err(Refused::new(BookError::Core(error), event)),
+        }
     }
 
     /// The book starts from the router as it is now, with an empty journal. It has taken no more
     /// and no less than before.
     ///
-    /// `AllocError` comes where an allocation was refused; the book is as it was then.
+    /// It wants no memory, and gives back what the router at the start and the journal hold: the
+    /// router as it is now is copied when the next event comes. So no `AllocError` comes.
     pub fn mark(&mut self) -> Result<(), AllocError>
-        ensures ok { OnOk result (self.new ≡ marked_book self.old) }
-        ensures err { OnErr result (self.new ≡ self.old) }
+        ensures ok { IsOk result }
+        ensures book { self.new ≡ marked_book self.old }
     {
-        let now = self.current.copy()?;
-        replace(&mut self.start, now).close();
-        self.journal.clear();
-        self.noted = 0;
+        self.start_anew();
         Ok(())
     }
 
-    // Marks a book whose journal holds 65,536 events, or events of more than 64 MiB. Only the first
-    // is refused where it gets no memory.
-    fn make_room(&mut self) -> Result<(), AllocError>
-        ensures book { IsSameOrMarked self.old self.new }
-        ensures room { OnOk result (length self.new.journal < 65536) }
-        ensures err { OnErr result
-            ((self.new ≡ self.old) × (length self.old.journal ≡ 65536)) }
+    // Marks the book.
+    fn start_anew(&mut self)
+        ensures { self.new ≡ marked_book self.old }
     {
-        if self.journal.len() == JOURNAL {
-            return self.mark();
+        if let Some(start) = replace(&mut self.start, None) {
+            start.close();
         }
-        if self.noted > NOTED {
-            let _marked = self.mark();
+        self.journal.clear();
+        self.installed = None;
+        self.noted = 0;
+    }
+
+    // Whether the journal holds 65,536 events, or more bytes than it may beside the router's LSAs.
+    fn is_due(&self) -> bool
+        ensures due { result ≡ true → IsDue self.now }
+        ensures room { result ≡ false → length self.now.journal < 65536 }
+    {
+        self.journal.len() == JOURNAL || self.noted > allowance(self.current.database().len())
+    }
+
+    // Marks the book where that is due.
+    fn make_room(&mut self)
+        ensures book { IsSameOrMarked self.old self.new }
+        ensures room { length self.new.journal < 65536 }
+        ensures current { self.new.current ≡ self.old.current }
+        ensures taken { self.new.taken ≡ self.old.taken }
+    {
+        if self.is_due() {
+            self.start_anew();
         }
-        Ok(())
+    }
+
+    // Where the event that was taken last is an Install, the one before it gives its answers back.
+    fn lighten(&mut self)
+        ensures book { self.new ≡ record self.old { journal = self.new.journal } }
+        ensures journal { IsLightened self.old.journal self.new.journal }
+    {
+        let Some(last) = last_install(&self.journal) else {
+            return;
+        };
+        if let Some(place) = replace(&mut self.installed, Some(last)) {
+            if place < last {
+                forget_answers(&mut self.journal, place);
+            }
+        }
+    }
+
+    // As `apply`, in a book that is marked first where that is due, and in whose journal an Install
+    // that another follows has no answers any more. A refusal gives the event back.
+    fn apply_where_due(
+        &mut self,
+        mine: &mut Share<L>,
+        moment: Second,
+        event: Event,
+    ) -> Result<Vec<Out>, Refused>
+        requires { 0 < mine.old.parts }
+        ensures ok { IfOk result (λ outs. Happens
+            self.old.current moment (occurrence_of event) outs.items self.new.current) }
+        ensures noted { OnOk result (IsNoted self.old (entry moment event) self.new) }
+        ensures taken { OnOk result (self.new.taken ≡ self.old.taken + 1) }
+        ensures share { OnOk result (mine.new.amount ≡ mine.old.amount + 1) }
+        ensures parts { mine.new.parts ≡ mine.old.parts }
+        ensures refused { AnswersAnew self.old moment event (without_event result) }
+        ensures back { IfErr result (λ refused. refused.event ≡ event) }
+        ensures err { OnErr result
+            (IsSameOrMarked self.old self.new × (mine.new.amount ≡ mine.old.amount)) }
+    {
+        self.make_room();
+        match self.attempt(mine, moment, event) {
+            Ok(outs) => {
+                self.lighten();
+                Ok(outs)
+            }
+            Err(refused) => Err(refused),
+        }
     }
 
     /// Takes an event as [`apply`](Book::apply) does, in a book that is marked first where its
-    /// journal is full, or where its events hold more than 64 MiB. So `Journal` is answered only
-    /// where 2^63 events were taken.
+    /// journal is full, or where its events hold more bytes than 256 KiB and 256 for each LSA of
+    /// the router. So `Journal` is answered only where 2^63 events were taken. Where memory is
+    /// refused, the book is marked, which gives memory back, and the event is tried once more.
+    ///
+    /// An Install that another one follows stands in the journal without its answers, since no
+    /// router after the later one tells them: so the journal holds the answers of one alone.
     ///
     /// A mark stands, whether the event is taken or not. None is made where the event is refused
-    /// for its moment or its interface, which needs no memory. A mark that is due for the journal's
-    /// bytes alone refuses nothing where it gets no memory: the journal grows on.
+    /// for its moment or its interface, which needs no memory.
     pub fn apply_anew(
         &mut self,
         mine: &mut Share<L>,
@@ -205,7 +323,7 @@ impl<L: Origin> Book<L> {
         requires { 0 < mine.old.parts }
         ensures ok { IfOk result (λ outs. Happens
             self.old.current moment (occurrence_of event) outs.items self.new.current) }
-        ensures noted { OnOk result (IsNoted self.old (entry moment event) self.new) }
+        ensures noted { OnOk result (IsNotedAtLast self.old (entry moment event) self.new) }
         ensures taken { OnOk result (self.new.taken ≡ self.old.taken + 1) }
         ensures share { OnOk result (mine.new.amount ≡ mine.old.amount + 1) }
         ensures parts { mine.new.parts ≡ mine.old.parts }
@@ -213,17 +331,27 @@ impl<L: Origin> Book<L> {
         ensures early { (early_refusal self.old.current moment (occurrence_of event) ≡ None → ⊥)
             → self.new ≡ self.old }
         ensures err { OnErr result
-            (IsSameOrMarked self.old self.new × (mine.new.amount ≡ mine.old.amount)) }
+            (IsSameOrAnew self.old self.new × (mine.new.amount ≡ mine.old.amount)) }
     {
         if self.taken == TAKEN {
             return Err(BookError::Journal);
         }
-        // These two come before any want of memory, of the mark's too.
+        // These two come before any mark.
         if let Some(error) = self.now().refuses(moment, &event) {
             return Err(BookError::Core(error));
         }
-        self.make_room()?;
-        self.apply(mine, moment, event)
+        let refused = match self.apply_where_due(mine, moment, event) {
+            Ok(outs) => return Ok(outs),
+            Err(refused) => refused,
+        };
+        if refused.error.number() != CoreError::Memory.number() {
+            return Err(refused.error);
+        }
+        self.start_anew();
+        match self.apply_where_due(mine, moment, refused.event) {
+            Ok(outs) => Ok(outs),
+            Err(refused) => Err(refused.error),
+        }
     }
 
     /// Whoever brings every part of the ledger, as one share, learns that the book has taken just
@@ -252,7 +380,10 @@ impl<L: Origin> Book<L> {
     pub fn start(&self) -> &Core
         ensures { result.now ≡ self.now.start }
     {
-        &self.start
+        match &self.start {
+            Some(start) => start,
+            None => &self.current,
+        }
     }
 
     /// The router as it is now. The events that were taken lead there from the one that the book
@@ -293,10 +424,13 @@ impl<L: Origin> Book<L> {
             current,
             journal: _,
             noted: _,
+            installed: _,
             taken,
             total: _,
         } = self;
-        start.close();
+        if let Some(start) = start {
+            start.close();
+        }
         current.close();
         taken
     }

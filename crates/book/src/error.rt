@@ -2,7 +2,7 @@
 ghost use Rattle.std.specs.Prelude.{◌≡◌};
 ghost use Rattle.book.specs.Numbers.{book_error_number};
 
-use flood::CoreError;
+use flood::{CoreError, Event};
 use std::alloc::AllocError;
 use thiserror::Error;
 
@@ -16,6 +16,21 @@ pub enum BookError {
     /// [`TAKEN`](crate::TAKEN). It is tried first.
     #[error("the journal is full")]
     Journal,
+}
+
+/// An event that a book refused, and why: it can be tried again.
+#[derive(Drop)]
+pub(crate) struct Refused {
+    pub(crate) error: BookError,
+    pub(crate) event: Event,
+}
+
+impl Refused {
+    pub(crate) fn new(error: BookError, event: Event) -> Self
+        ensures { result ≡ record { error = error; event = event } }
+    {
+        Refused { error, event }
+    }
 }
 
 impl BookError {

@@ -6,13 +6,14 @@
 //! shares of a ledger as well, so whoever brings every share knows the number.
 #![tactic(auto)]
 
+mod answers;
 mod book;
 mod entry;
 mod error;
 mod origin;
 mod weight;
 
-pub use book::{Book, JOURNAL, NOTED, TAKEN};
+pub use book::{Book, JOURNAL, TAKEN};
 pub use entry::Entry;
 pub use error::BookError;
 pub use origin::Origin;

@@ -103,10 +103,7 @@ fn answered<L: Origin>(book: &mut Book<L>, share: &mut Share<L>, call: Call, eve
 {
     let before = shown(book);
     let answer = called(book, share, call, event);
-    let after = shown(book);
-    // a mark that was due stands, though the event behind it was refused
-    let is_marked = call == Call::ApplyAnew && after == (0, before.1, before.2, before.3, before.4);
-    if answer == MEMORY && (after == before || is_marked) {
+    if answer == MEMORY && shown(book) == before {
         return called(book, share, call, event);
     }
     answer
@@ -124,8 +121,7 @@ fn called_often<L: Origin>(book: &mut Book<L>, share: &mut Share<L>, row: &Row, 
     answer
 }
 
-// Whether the journal grew on where it was to start anew, which no memory was left for: a mark for
-// the journal's bytes alone refuses nothing.
+// Whether the book was marked before its journal was too much, as it is where memory is refused.
 fn play_rows<L: Origin, R: Abort>(
     rt: &R,
     book: &mut Book<L>,
@@ -135,18 +131,17 @@ fn play_rows<L: Origin, R: Abort>(
 ) -> bool
     requires { 0 < share.old.parts }
 {
-    let mut is_late = false;
+    let mut is_early = false;
     for row in rows {
-        let grown = book.journal().len().saturating_add(row.times as usize);
         let answer = called_often(book, share, row, event);
         let after = (answer, book.journal().len(), book.taken());
-        if row.call == Call::ApplyAnew && grown != row.journal && after.1 == grown {
-            is_late = true;
+        if row.call == Call::ApplyAnew && after.1 < row.journal {
+            is_early = true;
             break;
         }
         assert_eq!(rt; after, (row.answer, row.journal, row.taken));
     }
-    is_late
+    is_early
 }
 
 fn play<L: Origin, R: Abort>(
@@ -162,19 +157,19 @@ fn play<L: Origin, R: Abort>(
     requires origin { core ≡ L.origin }
 {
     let (mut book, mut share) = Book::<L>::new(alloc, blank, core)?;
-    let is_late = play_rows(rt, &mut book, &mut share, event, rows);
+    let is_early = play_rows(rt, &mut book, &mut share, event, rows);
     let _taken = book.close();
-    Ok(is_late)
+    Ok(is_early)
 }
 
-// Where there was no memory for a book, or for a mark, all is played once more.
+// Where there was no memory for a book, or for an event, all is played once more.
 fn play_all<R: Abort>(rt: &R, alloc: Global, event: &Event, rows: &[Row]) -> Result<(), Fail> {
     let core = first(alloc)?;
-    let is_late = play::<Brand, R>(rt, alloc, Blank::new(1), core, event, rows);
-    if is_late != Ok(false) {
+    let is_early = play::<Brand, R>(rt, alloc, Blank::new(1), core, event, rows);
+    if is_early != Ok(false) {
         let core = first(alloc)?;
-        let is_late = play::<Brand, R>(rt, alloc, Blank::new(1), core, event, rows)?;
-        assert!(rt; !is_late);
+        let is_early = play::<Brand, R>(rt, alloc, Blank::new(1), core, event, rows)?;
+        assert!(rt; !is_early);
     }
     Ok(())
 }
@@ -226,23 +221,82 @@ fn installation(alloc: Global, answer: VetoAnswer, count: usize) -> Result<Event
     Ok(Event::Install(Sequence::from_vec(answers)))
 }
 
-// An Install of 262,144 answers counts as 16 MiB, so that four of them, with what each entry takes,
-// are more than 64 MiB.
+// Each Tick counts as 256 bytes, and so does the one LSA, beside 256 KiB.
 #[test]
-fn a_journal_of_64_mebibytes_starts_anew(rt: HostRuntime) -> Result<(), Fail> {
+fn a_heavy_journal_starts_anew(rt: HostRuntime) -> Result<(), Fail> {
+    let rows = [
+        calls(1_026, Call::ApplyAnew, 0, 1_026, 1_026),
+        calls(1, Call::ApplyAnew, 0, 1, 1_027),
+    ];
+    play_all(&rt, rt.alloc(), &Event::Tick, &rows)
+}
+
+// How many answers each event of the journal has.
+fn answers_in<L: Origin>(book: &Book<L>) -> [usize; 3] {
+    let mut counts = [0; 3];
+    for (count, entry) in counts.iter_mut().zip(book.journal()) {
+        if let Event::Install(answers) = &entry.event {
+            *count = answers.as_slice().len();
+        }
+    }
+    counts
+}
+
+// Whether an Install of 5 answers, a Tick and an Install of 7 are taken.
+fn takes_two<L: Origin>(
+    book: &mut Book<L>,
+    share: &mut Share<L>,
+    alloc: Global,
+    answer: VetoAnswer,
+) -> Result<bool, AllocError>
+    requires { 0 < share.old.parts }
+{
+    let first = installation(alloc, answer, 5)?;
+    let second = installation(alloc, answer, 7)?;
+    let now = Second::new(0);
+    Ok(
+        book.apply_anew(share, now, first).is_ok()
+            && book.apply_anew(share, now, Event::Tick).is_ok()
+            && book.apply_anew(share, now, second).is_ok(),
+    )
+}
+
+// How many answers each event of the journal has after these, or none where memory was refused.
+fn installed_twice<L: Origin>(
+    alloc: Global,
+    blank: Blank,
+    core: Core,
+    answer: VetoAnswer,
+) -> Result<[usize; 3], AllocError>
+    requires name { blank.name ≡ L.name }
+    requires parts { (blank.parts ≡ L.parts) × (blank.parts ≡ 1) }
+    requires origin { core ≡ L.origin }
+{
+    let (mut book, mut share) = Book::<L>::new(alloc, blank, core)?;
+    let mut counts = [0; 3];
+    if takes_two(&mut book, &mut share, alloc, answer) == Ok(true) {
+        counts = answers_in(&book);
+    }
+    let _taken = book.close();
+    Ok(counts)
+}
+
+// The first Install gives its answers back: the second one's tell.
+#[test]
+fn a_journal_holds_the_answers_of_one_install(rt: HostRuntime) -> Result<(), Fail> {
     let alloc = rt.alloc();
     let route = route().ok_or("a prefix")?;
     let answer = match vetoed(&rt, alloc, &route) {
         Some(answer) => answer,
         None => vetoed(&rt, alloc, &route).ok_or("no reading")?,
     };
-    let event = match installation(alloc, answer, 262_144) {
-        Ok(event) => event,
-        Err(_) => installation(alloc, answer, 262_144)?,
-    };
-    let rows = [
-        calls(4, Call::ApplyAnew, 0, 4, 4),
-        calls(1, Call::ApplyAnew, 0, 1, 5),
-    ];
-    play_all(&rt, alloc, &event, &rows)
+    let core = first(alloc)?;
+    let counts = installed_twice::<Brand>(alloc, Blank::new(1), core, answer);
+    if counts != Ok([0, 0, 7]) {
+        // memory was refused, for which the book is marked
+        let core = first(alloc)?;
+        let counts = installed_twice::<Brand>(alloc, Blank::new(1), core, answer)?;
+        assert_eq!(&rt; counts, [0, 0, 7]);
+    }
+    Ok(())
 }

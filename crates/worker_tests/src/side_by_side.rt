@@ -166,14 +166,14 @@ fn a_refresh_whose_moment_has_passed_is_taken(rt: HostRuntime) -> Result<(), Fai
     ends(&rt, rt.alloc(), Scene::Held(Holds::Refresh, 1_001), wanted)
 }
 
-// The first Tick is followed by a refresh; the journal is full after 65,536 events, and starts
-// anew.
+// The first Tick is followed by a refresh. The journal of a router with one LSA starts anew after
+// each 1,026 events.
 #[test]
 fn no_turn_is_refused_for_its_journal(rt: HostRuntime) -> Result<(), Fail> {
     let wanted = End {
         status: 0,
         sent: 0,
-        journal: 2,
+        journal: 900,
         taken: 65_538,
     };
     ends(&rt, rt.alloc(), Scene::Ticks(65_537), wanted)

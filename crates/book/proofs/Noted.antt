@@ -1,0 +1,123 @@
+-- What is noted in a book, and what it refuses, after it was marked or not.
+use Rattle.std.proofs.Common.{◌≡◌, true, List, [], ◌∷◌, ◌++◌, sym, subst, refl, ap, ◌∙◌, inl, inr}
+use Rattle.std.proofs.Common.{◌+◌, Result, Ok, Err}
+use Rattle.std.specs.Prelude.{false, is_err, OnOk}
+use Rattle.words.specs.Numbers.{Moment}
+use Rattle.events.specs.declared.model.Out.{Out}
+use Rattle.events.specs.Events.{Happens}
+use Rattle.events.specs.Refusals as router
+use Rattle.events.specs.Routers.{Router}
+use Rattle.flood.specs.declared.event.Event.{Event}
+use Rattle.flood.specs.Occurrences.{brings_answers, occurrence_of}
+use Rattle.book.specs.declared.entry.Entry.{Entry}
+use Rattle.book.specs.declared.error.BookError.{BookError}
+use Rattle.book.specs.declared.error.BookError.TheVariants as refusing
+use Rattle.book.specs.Refusals.{AnswersAnew}
+use Rattle.book.specs.Replay.{BookView, EndsWith, IsLightened, IsNoted, IsNotedAtLast, IsNotedIn}
+use Rattle.book.specs.Replay.{IsSameOrAnew, IsSameOrMarked, entry, forgotten_at, marked_book}
+
+-- two lists with one entry behind them
+same_ends : (xs ys : List Entry) (x y : Entry) → xs ++ x ∷ [] ≡ ys ++ y ∷ [] → (xs ≡ ys) × (x ≡ y)
+same_ends [] [] x y same = (refl, cc)
+same_ends [] (b ∷ []) x y same = absurd cc
+same_ends [] (b ∷ c ∷ ys) x y same = absurd cc
+same_ends (a ∷ []) [] x y same = absurd cc
+same_ends (a ∷ c ∷ xs) [] x y same = absurd cc
+same_ends (a ∷ xs) (b ∷ ys) x y same =
+    let first : a ≡ b = cc in
+    let others = same_ends xs ys x y cc in
+    (ap (λ e. e ∷ xs) first ∙ ap (λ l. b ∷ l) others.0, others.1)
+
+-- a journal with one more entry, then lightened
+pub noted_in : (before grown new : BookView) (e : Entry)
+    → grown ≡ record before { journal = before.journal ++ e ∷ []; current = grown.current; taken = before.taken + 1 }
+    → new ≡ record grown { journal = new.journal } → IsLightened grown.journal new.journal
+    → IsNotedIn before e new
+noted_in before grown new e is same light =
+    (ap (λ (v : BookView). v.start) same ∙ ap (λ (v : BookView). v.start) is, by light)
+  where
+    long : grown.journal ≡ before.journal ++ e ∷ []
+    long = ap (λ (v : BookView). v.journal) is
+
+    by : IsLightened grown.journal new.journal → EndsWith before.journal e new.journal
+    by (inl stays) = inl (stays ∙ long)
+    by (inr (front, last, place, whole, brings, gone)) =
+        let ends = same_ends front before.journal last e (sym whole ∙ long) in
+        inr (
+          place,
+          subst (λ (x : Entry). brings_answers (occurrence_of x.event) ≡ true) ends.1 brings,
+          gone ∙ ap (λ (l : List Entry). forgotten_at l place ++ last ∷ []) ends.0
+              ∙ ap (λ (x : Entry). forgotten_at before.journal place ++ x ∷ []) ends.1,
+        )
+
+pub same_or_anew : (old new : BookView) → IsSameOrMarked old new → IsSameOrAnew old new
+same_or_anew old new (inl same) = inl same
+same_or_anew old new (inr marked) = inr marked.1
+
+-- a book that is marked, or was
+pub anew : (old between new : BookView) → IsSameOrMarked old between
+    → IsSameOrMarked (marked_book between) new → IsSameOrAnew old new
+anew old between new first second = inr (marked second ∙ was first)
+  where
+    marked : IsSameOrMarked (marked_book between) new → new ≡ marked_book between
+    marked (inl same) = same
+    marked (inr again) = again.1
+
+    was : IsSameOrMarked old between → marked_book between ≡ marked_book old
+    was (inl same) = ap marked_book same
+    was (inr before) = ap marked_book before.1
+
+pub at_last : (old new : BookView) (e : Entry) → IsNoted old e new → IsNotedAtLast old e new
+at_last old new e (before, is, ends) = (before, same_or_anew old before is, ends)
+
+-- what is noted after a mark for want of memory
+pub noted_anew : (old between new : BookView) (moment : Moment) (e back : Event)
+    → back ≡ e → IsSameOrMarked old between
+    → IsNoted (marked_book between) (entry moment back) new
+    → IsNotedAtLast old (entry moment e) new
+noted_anew old between new moment e back same first (before, is, ends) = (
+  before,
+  anew old between before first is,
+  subst (λ (one : Event). IsNotedIn before (entry moment one) new) same ends,
+)
+
+pub same_router : (old new : BookView) → IsSameOrMarked old new → new.current ≡ old.current
+same_router old new (inl same) = ap (λ (b : BookView). b.current) same
+same_router old new (inr marked) = ap (λ (b : BookView). b.current) marked.1
+
+pub same_count : (old new : BookView) → IsSameOrMarked old new → new.taken ≡ old.taken
+same_count old new (inl same) = ap (λ (b : BookView). b.taken) same
+same_count old new (inr marked) = ap (λ (b : BookView). b.taken) marked.1
+
+-- the same event at the same router
+pub happens_at : (a b : Router) (moment : Moment) (e back : Event) (outs : List Out) (new : Router)
+    → back ≡ e → b ≡ a → Happens b moment (occurrence_of back) outs new
+    → Happens a moment (occurrence_of e) outs new
+happens_at a b moment e back outs new same router happens =
+    subst (λ (r : Router). Happens r moment (occurrence_of e) outs new) router
+    (subst (λ (x : Event). Happens b moment (occurrence_of x) outs new) same happens)
+
+-- a refusal looks at the router as it is now, and at how many events were taken
+pub answered_at : {X : Type 0} (a b : BookView) (moment : Moment) (e : Event) (r : Result X BookError)
+    → b.current ≡ a.current → b.taken ≡ a.taken → AnswersAnew b moment e r → AnswersAnew a moment e r
+answered_at {X = X} a b moment e (Ok x) current taken (fresh, answers) = (
+  (λ spent. fresh (taken ∙ spent)),
+  subst (λ (r : Router). router.Answers {X = X} r moment (occurrence_of e) (Ok x)) current answers,
+)
+answered_at a b moment e (Err refusing.Journal) current taken spent = sym taken ∙ spent
+answered_at a b moment e (Err (refusing.Core x)) current taken (fresh, answers) = (
+  (λ spent. fresh (taken ∙ spent)),
+  subst (λ (r : Router). router.Answers {X = Unit {0}} r moment (occurrence_of e) (Err x)) current answers,
+)
+
+pub answered_back : {X : Type 0} (a b : BookView) (moment : Moment) (e back : Event) (r : Result X BookError)
+    → back ≡ e → b.current ≡ a.current → b.taken ≡ a.taken → AnswersAnew b moment back r
+    → AnswersAnew a moment e r
+answered_back {X = X} a b moment e back r same current taken answers =
+    answered_at {X = X} a b moment e r current taken
+    (subst (λ (x : Event). AnswersAnew {X = X} b moment x r) same answers)
+
+-- the answer is no refusal
+pub where_ok : {X E : Type 0} (r : Result X E) (P : Type 0) → is_err r ≡ false → OnOk r P → P
+where_ok (Ok x) P is holds = holds
+where_ok (Err x) P is holds = absurd cc

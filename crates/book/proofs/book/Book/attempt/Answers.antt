@@ -1,0 +1,33 @@
+use Rattle.std.proofs.Common.{◌≡◌, ◌+◌, List, [], ◌∷◌, ◌++◌, Some, sym, subst, ap, ◌∙◌, rules}
+use Rattle.events.specs.Routers.{Router}
+use Rattle.book.specs.declared.entry.Entry.{Entry}
+use Rattle.book.specs.Bytes.{bytes_of, with_event}
+use Rattle.book.specs.Replay.{Replays, entry, start_of}
+use Rattle.book.proofs.Noted.{where_ok}
+use Rattle.book.proofs.Replayed.{bytes_with, leads_on, replays_on}
+use Rattle.book.proofs.book.Book.attempt.Goals as goal
+
+pub invariant_of-self-in-Ok : goal.invariant_of-self-in-Ok
+invariant_of-self-in-Ok g c =
+    let kept = c.self.invariant in
+    let journal = c.self.inside.journal.items in
+    let after = c.step.new.self in
+    let from : Router = start_of c.self.inside.start c.self.inside.current in
+    let held : c.hold.new.start ≡ Some from =
+    where_ok c.hold.result (c.hold.new.start ≡ Some from) (search rules) c.hold.ensures.ok in
+    let last = entry c.args.moment c.args.event in
+    let grown : c.push_reserved.new.self.items ≡ journal ++ last ∷ [] =
+    c.push_reserved.ensures.items ∙ ap (λ l. l ++ last ∷ []) c.reserve.ensures.items in record {
+      replays =
+          (let P : List Entry → Type 0 = λ l. Replays (start_of c.hold.new.start after) l after in
+          subst P (sym grown)
+          (subst (λ (r : Router). Replays r (journal ++ last ∷ []) after) (sym (ap (λ o. start_of o after) held))
+          (replays_on from journal _ _ last _ kept.replays c.in-Ok.ensures.ok)));
+      leads = leads_on _ c.self.inside.taken c.self.inside.current after last _ kept.leads c.in-Ok.ensures.ok;
+      weighed =
+          c.with_event-self-inside.ensures ∙ (ap (λ n. with_event n c.args.event) kept.weighed
+          ∙ (sym (bytes_with journal last) ∙ ap bytes_of (sym grown)));
+      room = search rules;
+      few = search rules;
+      counted = ap (λ n. n + 1) kept.counted ∙ sym c.add.ensures.total;
+    }

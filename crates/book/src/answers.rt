@@ -1,0 +1,53 @@
+//! Installs that another one follows.
+ghost use Rattle.std.specs.Prelude.{◌≡◌, IfSome};
+ghost use Rattle.flood.specs.Occurrences.{brings_answers, occurrence_of};
+ghost use Rattle.book.specs.Replay.{IsInstalledLast, forgotten_at, without_answers};
+
+use crate::entry::Entry;
+use flood::Event;
+use std::mem::replace;
+use words::Sequence;
+
+fn is_install(event: &Event) -> bool
+    ensures { result ≡ brings_answers (occurrence_of event.now) }
+{
+    match event {
+        Event::Install(_) => true,
+        Event::Packet(_, _) => false,
+        Event::Tick => false,
+        Event::Redistribute(_, _) => false,
+        Event::Withdraw(_) => false,
+        Event::LinkDown(_) => false,
+    }
+}
+
+/// The last place of a journal that ends with an Install.
+pub fn last_install(journal: &[Entry]) -> Option<usize>
+    ensures { IfSome result (λ last. IsInstalledLast journal.now last) }
+{
+    let last = journal.len().checked_sub(1)?;
+    if is_install(&journal[last].event) {
+        Some(last)
+    } else {
+        None
+    }
+}
+
+// An Install gives its answers back; every other event stays.
+fn forget(event: &mut Event)
+    ensures { event.new ≡ without_answers event.old }
+{
+    if let Event::Install(answers) = event {
+        let none = Sequence::from_vec(Vec::new(answers.allocator()));
+        let _answers = replace(answers, none);
+    }
+}
+
+/// The event at this place, where that is an Install, gives its answers back. It takes no memory.
+pub fn forget_answers(journal: &mut [Entry], place: usize)
+    ensures { journal.new ≡ forgotten_at journal.old place }
+{
+    if place < journal.len() {
+        forget(&mut journal[place].event);
+    }
+}
