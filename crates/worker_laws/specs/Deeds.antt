@@ -1,0 +1,138 @@
+-- What a worker does, one thing after the other, and in which order: said without its rounds.
+use Rattle.std.specs.Prelude.{◌≡◌, ◌≢◌, ◌⊎◌, ℕ, List, [], ◌∷◌, ◌++◌, map, Option, Some, None}
+use Rattle.worker.specs.Work.{Work}
+use Rattle.worker.specs.Work.TheVariants.{Add, Datagram, Down, Refresh, Tick, Withdraw}
+use Rattle.worker.specs.Lives.{HasLived, Senses, Serves, Standing}
+
+-- ---- one after the other
+
+pub data Deed : Type 0 where
+  -- its clock showed this moment
+  Looks : (moment : ℕ) → Deed
+  -- its link gave a datagram or none
+  Listens : (heard : Option (List ℕ)) → Deed
+  -- it gave a work to a turn at the moment, whose last try was at the other one
+  Gives : (moment : ℕ) → (work : Work) → (ended : ℕ) → Deed
+
+-- what it is to do so
+abbrev pub Does : {Link Clock : Type 0} → Senses Link Clock → (before : Standing Link Clock) → Deed
+    → (after : Standing Link Clock) → Type 0
+Does {Clock = Clock} senses before (Deed.Looks moment) after =
+    (shown : Clock) × senses.shows before.clock moment shown
+    × (after ≡ record before { clock = shown })
+Does {Link = Link} senses before (Deed.Listens heard) after =
+    (between : Link) × senses.hears before.link heard between
+    × (after ≡ record before { link = between })
+Does senses before (Deed.Gives moment work ended) after =
+    Serves senses moment work before ended after
+
+abbrev pub DoesEach : {Link Clock : Type 0} → Senses Link Clock → (before : Standing Link Clock)
+    → List Deed → (after : Standing Link Clock) → Type 0
+DoesEach senses before [] after = after ≡ before
+DoesEach {Link = Link} {Clock = Clock} senses before (deed ∷ deeds) after =
+    (between : Standing Link Clock) × Does senses before deed between
+    × DoesEach senses between deeds after
+
+-- ---- what was heard, and what was given
+
+abbrev pub heard_by : Deed → List (List ℕ)
+heard_by (Deed.Listens (Some bytes)) = bytes ∷ []
+heard_by (Deed.Listens None) = []
+heard_by (Deed.Looks moment) = []
+heard_by (Deed.Gives moment work ended) = []
+
+-- the datagrams that were heard, in order
+abbrev pub heard : List Deed → List (List ℕ)
+heard [] = []
+heard (deed ∷ deeds) = heard_by deed ++ heard deeds
+
+abbrev pub but_ticks : Work → List Work
+but_ticks Tick = []
+but_ticks (Datagram number bytes) = Datagram number bytes ∷ []
+but_ticks (Add external) = Add external ∷ []
+but_ticks (Withdraw prefix) = Withdraw prefix ∷ []
+but_ticks (Down number) = Down number ∷ []
+but_ticks Refresh = Refresh ∷ []
+
+abbrev pub given_by : Deed → List Work
+given_by (Deed.Gives moment work ended) = but_ticks work
+given_by (Deed.Looks moment) = []
+given_by (Deed.Listens heard) = []
+
+-- the works that were given, in order, without the Ticks
+abbrev pub given : List Deed → List Work
+given [] = []
+given (deed ∷ deeds) = given_by deed ++ given deeds
+
+-- ---- Ticks
+
+abbrev pub tick_of : (before : Option ℕ) → (work : Work) → (ended : ℕ) → Option ℕ
+tick_of before Tick ended = Some ended
+tick_of before (Datagram number bytes) ended = before
+tick_of before (Add external) ended = before
+tick_of before (Withdraw prefix) ended = before
+tick_of before (Down number) ended = before
+tick_of before Refresh ended = before
+
+abbrev pub tick_after : (before : Option ℕ) → Deed → Option ℕ
+tick_after before (Deed.Gives moment work ended) = tick_of before work ended
+tick_after before (Deed.Looks moment) = before
+tick_after before (Deed.Listens heard) = before
+
+-- the moment at which the last Tick was tried last; this one where there was none
+abbrev pub last_tick : (before : Option ℕ) → List Deed → Option ℕ
+last_tick before [] = before
+last_tick before (deed ∷ deeds) = last_tick (tick_after before deed) deeds
+
+-- ---- the order
+
+-- these end with those
+abbrev pub EndsWith : (deeds last : List Deed) → Type 0
+EndsWith deeds last = (front : List Deed) × (deeds ≡ front ++ last)
+
+-- A Tick comes at the moment that the clock has just shown, which isn't that of the last Tick. Any
+-- other work is the datagram that was just heard, at a moment that the clock showed after that.
+abbrev pub IsWorkAfter : (earlier : List Deed) → (moment : ℕ) → Work → Type 0
+IsWorkAfter earlier moment Tick =
+    EndsWith earlier (Deed.Looks moment ∷ []) × (last_tick None earlier ≢ Some moment)
+IsWorkAfter earlier moment (Datagram number bytes) =
+    EndsWith earlier (Deed.Listens (Some bytes) ∷ Deed.Looks moment ∷ [])
+IsWorkAfter earlier moment (Add external) = ⊥
+IsWorkAfter earlier moment (Withdraw prefix) = ⊥
+IsWorkAfter earlier moment (Down number) = ⊥
+IsWorkAfter earlier moment Refresh = ⊥
+
+-- It listens after a Tick, or after its clock showed the moment of the last Tick: each second that
+-- it sees has had its Tick by then.
+abbrev pub IsListeningAfter : (earlier : List Deed) → Type 0
+IsListeningAfter earlier =
+    ((moment : ℕ) × (ended : ℕ) × EndsWith earlier (Deed.Gives moment Tick ended ∷ []))
+    ⊎ ((moment : ℕ) × EndsWith earlier (Deed.Looks moment ∷ [])
+    × (last_tick None earlier ≡ Some moment))
+
+-- a deed may come after those earlier ones
+abbrev pub MayFollow : (earlier : List Deed) → Deed → Type 0
+MayFollow earlier (Deed.Looks moment) = Unit {0}
+MayFollow earlier (Deed.Listens heard) = IsListeningAfter earlier
+MayFollow earlier (Deed.Gives moment work ended) = IsWorkAfter earlier moment work
+
+-- so may each of these, after those before it
+abbrev pub EachMayFollow : (earlier : List Deed) → List Deed → Type 0
+EachMayFollow earlier [] = Unit {0}
+EachMayFollow earlier (deed ∷ deeds) =
+    MayFollow earlier deed × EachMayFollow (earlier ++ deed ∷ []) deeds
+
+-- ---- the law
+
+-- What was done between two standings: these deeds and no others, each in its place, and of the
+-- works but Ticks that were given none lacks, none came twice, and none came before an earlier one.
+pub record HasDone {Link Clock : Type 0} (senses : Senses Link Clock)
+    (start now : Standing Link Clock) : Type 0 where
+  pub deeds : List Deed
+  pub does : DoesEach senses start deeds now
+  pub follows : EachMayFollow [] deeds
+  pub works : given deeds ≡ map (λ bytes. Datagram senses.number bytes) (heard deeds)
+
+abbrev pub LivesAreDeedsInOrder : {Link Clock : Type 0} → Senses Link Clock → Type 0
+LivesAreDeedsInOrder {Link = Link} {Clock = Clock} senses =
+    (start now : Standing Link Clock) → HasLived senses start now → HasDone senses start now
