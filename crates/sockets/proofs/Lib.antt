@@ -1,1 +1,3 @@
 mod Refused
+mod Silent
+mod Binding

@@ -1,3 +1,5 @@
 pub mod Refusals
 pub mod Wires
 pub mod Addresses
+pub mod Clocks
+pub mod Ends

@@ -1,22 +1,47 @@
 -- Which socket belongs to which interface.
-use Rattle.std.specs.Prelude.{◌≡◌, ℕ, zero, suc, List, Option, Some, None, map, slice_get}
-use Rattle.std.specs.Prelude.{slice_index_or, MatchOption, SomeIndex}
+use Rattle.std.specs.Prelude.{◌≡◌, ◌⊎◌, ℕ, zero, suc, List, [], ◌∷◌, Option, Some, None, map}
+use Rattle.std.specs.Prelude.{slice_get, slice_index_or, IsTrue, MatchOption, SomeIndex}
+use Rattle.std.specs.declared.io.Error.{Error}
 use Rattle.console.specs.declared.configuration.ConfiguredInterface.{ConfiguredInterface}
 use Rattle.sockets.specs.declared.error.SocketError.{SocketError}
 use Rattle.sockets.specs.declared.error.SocketError.TheVariants as errors
 use Rattle.sockets.specs.declared.wire.Wire.{Wire}
+use Rattle.sockets.specs.Refusals.{is_passing}
 
 -- the one of the interface of this number: interface 1 has the first
 abbrev pub wire_at : {Wire : Type 0} → List Wire → (interface : ℕ) → Option Wire
 wire_at wires zero = None
 wire_at wires (suc before) = slice_get wires before
 
--- it names an interface whose port can't be had
-abbrev pub IsRefusalOf : List ConfiguredInterface → SocketError → Type 0
-IsRefusalOf interfaces (errors.Bind port) =
-    SomeIndex interfaces (λ k. slice_index_or (map (λ configured. configured.port) interfaces) k
+-- what is said of a socket that was bound at a port, and of a port that couldn't be had
+abbrev pub Bound : (Socket : Type 0) → Type 1
+Bound Socket = Socket → (port : ℕ) → Type 0
+
+abbrev pub Refused : Type 1
+Refused = (port : ℕ) → Type 0
+
+-- the wire is that of the interface: its socket was bound at the interface's port, and its packets
+-- go to the interface's peer
+abbrev pub IsBound : {Socket : Type 0} → Bound Socket → ConfiguredInterface → Wire Socket → Type 0
+IsBound bound configured wire =
+    bound wire.socket configured.port × (wire.peer ≡ configured.peer)
+
+-- so is each of these, in order
+abbrev pub AreBound : {Socket : Type 0} → Bound Socket → List ConfiguredInterface
+    → List (Wire Socket) → Type 0
+AreBound bound [] [] = Unit {0}
+AreBound bound (configured ∷ interfaces) (wire ∷ wires) =
+    IsBound bound configured wire × AreBound bound interfaces wires
+AreBound bound [] (wire ∷ wires) = ⊥
+AreBound bound (configured ∷ interfaces) [] = ⊥
+
+-- it names an interface whose port couldn't be had
+abbrev pub IsRefusalOf : Refused → List ConfiguredInterface → SocketError → Type 0
+IsRefusalOf refused interfaces (errors.Bind port) =
+    refused port
+    × SomeIndex interfaces (λ k. slice_index_or (map (λ configured. configured.port) interfaces) k
     port ≡ port)
-IsRefusalOf interfaces other = other ≡ errors.Memory
+IsRefusalOf refused interfaces other = other ≡ errors.Memory
 
 -- the socket of this interface was handed the bytes, for its peer; where there is no such
 -- interface, none was
@@ -26,9 +51,20 @@ abbrev pub IsHandedOver : {Socket : Type 0} → (takes : Socket → ℕ → List
 IsHandedOver takes wires interface bytes =
     MatchOption (wire_at wires interface) (Unit {0}) (λ wire. takes wire.socket wire.peer bytes)
 
--- what came, if anything did, the socket of this interface gave
-abbrev pub IsHeardAt : {Socket : Type 0} → (hands : Socket → List ℕ → Type 0) → List (Wire Socket)
-    → (interface : ℕ) → (heard : Option (List ℕ)) → Type 0
-IsHeardAt hands wires interface None = Unit {0}
-IsHeardAt hands wires interface (Some bytes) =
+-- Why a link hears nothing of a socket: its receive was refused for a reason after which it is of
+-- use, as there being none; or there was no memory for the datagram that it gave.
+abbrev pub IsSilent : {Socket : Type 0} → (hands : Socket → List ℕ → Type 0)
+    → (refuses : Socket → Error → Type 0) → Socket → Type 0
+IsSilent hands refuses socket =
+    ((error : Error) × refuses socket error × IsTrue (is_passing error))
+    ⊎ ((bytes : List ℕ) × hands socket bytes)
+
+-- what came, if anything did, the socket of this interface gave; where nothing did, that socket was
+-- silent, or there is none
+abbrev pub IsHeardAt : {Socket : Type 0} → (hands : Socket → List ℕ → Type 0)
+    → (refuses : Socket → Error → Type 0) → List (Wire Socket) → (interface : ℕ)
+    → (heard : Option (List ℕ)) → Type 0
+IsHeardAt hands refuses wires interface None =
+    MatchOption (wire_at wires interface) (Unit {0}) (λ wire. IsSilent hands refuses wire.socket)
+IsHeardAt hands refuses wires interface (Some bytes) =
     MatchOption (wire_at wires interface) ⊥ (λ wire. hands wire.socket bytes)

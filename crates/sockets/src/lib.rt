@@ -11,9 +11,9 @@ mod socket;
 mod socket_links;
 mod wire;
 
-pub use clock::SystemSeconds;
+pub use clock::{ReadsSeconds, SystemSeconds};
 pub use error::SocketError;
 pub use refusals::{came, sent};
 pub use socket::DatagramSocket;
-pub use socket_links::{Sockets, listening};
-pub use wire::{Wire, bind_each};
+pub use socket_links::{LinkEnd, Sockets, listening};
+pub use wire::{BindsSockets, SystemSockets, Wire, bind_each, bind_each_with};

@@ -1,6 +1,7 @@
 //! A socket of datagrams.
-ghost use Rattle.std.specs.Prelude.{◌≡◌, ℕ, ◌≤◌, List, [], ◌∷◌, IfOk, take, ⊤};
+ghost use Rattle.std.specs.Prelude.{◌≡◌, ℕ, ◌≤◌, List, [], ◌∷◌, IfErr, IfOk, take, ⊤};
 ghost use Rattle.std.specs.Net.Socket.{socket_ip, socket_port};
+ghost use Rattle.std.specs.declared.io.Error.{Error};
 ghost use Rattle.sockets.specs.Addresses.{octets};
 
 use mio::net::UdpSocket;
@@ -9,12 +10,15 @@ use std::net::{IpAddr, Ipv4Addr, SocketAddr};
 
 /// A socket of datagrams whose calls don't wait.
 ///
-/// What it says of bytes that it was handed for a port of 127.0.0.1, and of a datagram that it
-/// gave, is left open here: a link, proved for any socket, can say it only by the call itself.
+/// What it says of bytes that it was handed for a port of 127.0.0.1, of a datagram that it gave,
+/// and of a receive that it refused, is left open here: a link, proved for any socket, can say it
+/// only by the call itself.
 pub trait DatagramSocket {
     ghost takes: { Self → (port : ℕ) → List ℕ → Type 0 };
 
     ghost hands: { Self → List ℕ → Type 0 };
+
+    ghost refuses: { Self → Error → Type 0 };
 
     /// Sends the bytes to this port of 127.0.0.1.
     fn send(&self, bytes: &[u8], port: u16) -> io::Result<usize>
@@ -24,7 +28,8 @@ pub trait DatagramSocket {
     /// longer than the buffer is cut.
     fn receive(&self, buffer: &mut [u8; 8193]) -> io::Result<usize>
         ensures length { IfOk result (λ n. n ≤ 8193) }
-        ensures handed { IfOk result (λ n. hands self.now (take n buffer.new)) };
+        ensures handed { IfOk result (λ n. hands self.now (take n buffer.new)) }
+        ensures refused { IfErr result (λ error. refuses self.now error) };
 }
 
 // No contract says what the system's socket takes or gives.
@@ -32,6 +37,8 @@ impl DatagramSocket for UdpSocket {
     ghost takes = { λ _ _ _. ⊤ };
 
     ghost hands = { λ _ _. ⊤ };
+
+    ghost refuses = { λ _ _. ⊤ };
 
     fn send(&self, bytes: &[u8], port: u16) -> io::Result<usize> {
         self.send_to(bytes, address_of(port))

@@ -1,7 +1,10 @@
 //! A worker's link over the sockets of all interfaces: any worker sends at each of them, its own
 //! worker alone receives.
-ghost use Rattle.std.specs.Prelude.{◌≡◌, ◌≤◌, IfOk, IfSome, OnOk, length, map, take, vec_len};
+ghost use Rattle.std.specs.Prelude.{◌≡◌, ◌<◌, ◌≤◌, IfNone, IfOk, IfSome, OnOk, length, map, take};
+ghost use Rattle.std.specs.Prelude.{nat_lt, vec_len};
 ghost use Rattle.links.specs.Descending.{CountDownTo};
+ghost use Rattle.sockets.specs.Ends.{has_failed};
+ghost use Rattle.sockets.specs.Wires.{IsHeardAt, IsSilent};
 
 use crate::error::SocketError;
 use crate::refusals::{came, sent};
@@ -35,6 +38,21 @@ pub struct Sockets<'a, S = UdpSocket> {
     ear: Option<Ear>,
     /// How many calls failed: 0, or 1, after which none is made.
     faults: u8,
+}
+
+/// How a link ended. Only a link that is let go makes one.
+#[derive(Drop)]
+pub struct LinkEnd {
+    faults: u8,
+}
+
+impl LinkEnd {
+    /// Whether a call of the link failed.
+    pub fn has_failed(&self) -> bool
+        ensures { result ≡ has_failed self.now }
+    {
+        self.faults > 0
+    }
 }
 
 fn listen<R: Net>(rt: &R, alloc: Global, wire: &Wire) -> io::Result<Ear> {
@@ -71,6 +89,15 @@ impl<'a> Sockets<'a> {
                 ErrorKind::OutOfMemory => Err(SocketError::Memory),
                 _ => Err(SocketError::Wait),
             },
+        }
+    }
+
+    /// Lets the link go.
+    pub fn end(self) -> LinkEnd
+        ensures { has_failed result ≡ nat_lt 0 self.entry.faults }
+    {
+        LinkEnd {
+            faults: self.faults,
         }
     }
 }
@@ -122,6 +149,7 @@ pub fn listening<'x, R: Net>(
 }
 
 /// One datagram that is there already. A datagram longer than the buffer is cut.
+#[tactic(auto, using(crate::proofs::Silent::silent_then))]
 fn take<S: DatagramSocket>(
     wire: &Wire<S>,
     buffer: &mut [u8; 8193],
@@ -129,12 +157,17 @@ fn take<S: DatagramSocket>(
     ensures length { IfOk result (λ n. IfSome n (λ n. n ≤ 8193)) }
     ensures handed { IfOk result (λ n.
         IfSome n (λ n. S.hands wire.now.socket (take n buffer.new))) }
+    ensures silent { IfOk result (λ n.
+        IfNone n (IsSilent S.hands S.refuses wire.now.socket)) }
 {
     came(wire.socket.receive(buffer))
 }
 
-/// Waits until a datagram may be there, at most a second.
-fn wait(ear: &mut Ear) -> Result<(), LinkFault> {
+/// Waits until a datagram may be there, at most a second. Who has no ear doesn't wait.
+fn wait(ear: &mut Option<Ear>) -> Result<(), LinkFault> {
+    let Some(ear) = ear else {
+        return Ok(());
+    };
     match ear.poll.poll(&mut ear.events, Some(Duration::from_secs(1))) {
         Ok(()) => Ok(()),
         Err(error) => match error.kind() {
@@ -147,18 +180,42 @@ fn wait(ear: &mut Ear) -> Result<(), LinkFault> {
 /// A datagram that is there, or that comes within a second.
 fn hear<S: DatagramSocket>(
     wire: &Wire<S>,
-    ear: &mut Ear,
+    ear: &mut Option<Ear>,
     buffer: &mut [u8; 8193],
 ) -> Result<Option<usize>, LinkFault>
     ensures length { IfOk result (λ n. IfSome n (λ n. n ≤ 8193)) }
     ensures handed { IfOk result (λ n.
         IfSome n (λ n. S.hands wire.now.socket (take n buffer.new))) }
+    ensures silent { IfOk result (λ n.
+        IfNone n (IsSilent S.hands S.refuses wire.now.socket)) }
 {
     if let Some(length) = take(wire, buffer)? {
         return Ok(Some(length));
     }
     wait(ear)?;
     take(wire, buffer)
+}
+
+// What the socket of this interface gives, as a datagram of its own.
+#[tactic(auto, using(crate::proofs::Silent::hearing))]
+fn heard<S: DatagramSocket>(
+    wires: &[Wire<S>],
+    interface: u16,
+    ear: &mut Option<Ear>,
+    alloc: Global,
+    buffer: &mut [u8; 8193],
+) -> Result<Option<Sequence<u8>>, LinkFault>
+    ensures heard { IfOk result (IsHeardAt S.hands S.refuses wires.now interface) }
+    ensures cut { IfOk result (λ heard. IfSome heard (λ datagram. length datagram ≤ 8193)) }
+{
+    let Some(wire) = wire_at(wires, interface) else {
+        return Ok(None);
+    };
+    match hear(wire, ear, buffer) {
+        Ok(Some(length)) => Ok(datagram(alloc, &buffer[..length])),
+        Ok(None) => Ok(None),
+        Err(fault) => Err(fault),
+    }
 }
 
 // To port 0 no packet can go: a socket whose peer has it is of no use.
@@ -172,14 +229,16 @@ fn say<S: DatagramSocket>(wire: &Wire<S>, bytes: &[u8]) -> Result<bool, LinkFaul
 }
 
 impl<'a, S: DatagramSocket> Link for Sockets<'a, S> {
-    ghost use Rattle.sockets.specs.Wires.{IsHandedOver, IsHeardAt};
+    ghost use Rattle.std.specs.Prelude.{◌⊎◌, None};
+    ghost use Rattle.sockets.specs.Wires.{IsHandedOver};
 
     ghost faults = { λ s. s.faults };
 
     ghost gives = { λ s interface bytes _. s.faults ≡ 0
         → IsHandedOver S.takes s.wires.now interface bytes };
 
-    ghost hears = { λ s heard _. IsHeardAt S.hands s.wires.now s.own heard };
+    ghost hears = { λ s heard _.
+        IsHeardAt S.hands S.refuses s.wires.now s.own heard ⊎ ((0 < s.faults) × (heard ≡ None)) };
 
     fn receive(
         &mut self,
@@ -189,15 +248,8 @@ impl<'a, S: DatagramSocket> Link for Sockets<'a, S> {
         if self.faults > 0 {
             return Ok(None);
         }
-        let Some(wire) = wire_at(self.wires, self.own) else {
-            return Ok(None);
-        };
-        let Some(ear) = &mut self.ear else {
-            return Ok(None);
-        };
-        match hear(wire, ear, buffer) {
-            Ok(Some(length)) => Ok(datagram(alloc, &buffer[..length])),
-            Ok(None) => Ok(None),
+        match heard(self.wires, self.own, &mut self.ear, alloc, buffer) {
+            Ok(heard) => Ok(heard),
             Err(fault) => {
                 self.faults = 1;
                 Err(fault)

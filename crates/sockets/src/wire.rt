@@ -1,7 +1,7 @@
 //! The sockets of the interfaces.
-ghost use Rattle.std.specs.Prelude.{◌≡◌, IfErr, IfOk, map};
+ghost use Rattle.std.specs.Prelude.{◌≡◌, ℕ, IfErr, IfNone, IfOk, IfSome, map, ⊤};
 ghost use Rattle.std.specs.Option.{option_copied};
-ghost use Rattle.sockets.specs.Wires.{IsRefusalOf, wire_at};
+ghost use Rattle.sockets.specs.Wires.{AreBound, IsBound, IsRefusalOf, wire_at};
 ghost use Rattle.sockets.specs.declared.error.SocketError.TheVariants.{Bind};
 
 use crate::error::SocketError;
@@ -34,39 +34,90 @@ impl<S> Wire<S> {
     }
 }
 
-// Binds the socket of an interface.
-fn bound<R: Net>(rt: &R, configured: &ConfiguredInterface) -> Result<Wire, SocketError>
-    ensures peer { IfOk result (λ wire. wire.peer ≡ configured.now.peer) }
-    ensures port { IfErr result (λ error. error ≡ Bind configured.now.port) }
-{
-    match UdpSocket::bind(rt, address_of(configured.port)) {
-        Ok(socket) => Ok(Wire::new(socket, configured.peer)),
-        Err(_) => Err(SocketError::Bind(configured.port)),
+/// Binds sockets to ports of 127.0.0.1.
+///
+/// What it says of a socket that it bound, and of a port that couldn't be had, is left open here:
+/// who binds by this trait alone can say it only by the call itself.
+pub trait BindsSockets<S> {
+    ghost bound: { S → (port : ℕ) → Type 0 };
+
+    ghost refused: { (port : ℕ) → Type 0 };
+
+    /// A socket at this port; None where that can't be had.
+    fn bind(&self, port: u16) -> Option<S>
+        ensures bound { IfSome result (λ socket. bound socket port) }
+        ensures refused { IfNone result (refused port) };
+}
+
+/// Binds sockets of the system, of which nothing is known.
+#[derive(Drop)]
+pub struct SystemSockets<'a, R> {
+    pub rt: &'a R,
+}
+
+impl<'a, R: Net> BindsSockets<UdpSocket> for SystemSockets<'a, R> {
+    ghost bound = { λ _ _. ⊤ };
+
+    ghost refused = { λ _. ⊤ };
+
+    fn bind(&self, port: u16) -> Option<UdpSocket> {
+        UdpSocket::bind(self.rt, address_of(port)).ok()
     }
 }
 
-/// Binds the socket of each interface, in order. What interface n sends goes to the peer of the
-/// nth.
+// Binds the socket of an interface.
+fn bound<S: Drop, B: BindsSockets<S>>(
+    binder: &B,
+    configured: &ConfiguredInterface,
+) -> Result<Wire<S>, SocketError>
+    ensures wire { IfOk result (IsBound B.bound configured.now) }
+    ensures port { IfErr result (λ error. error ≡ Bind configured.now.port) }
+    ensures refused { IfErr result (λ _. B.refused configured.now.port) }
+{
+    match binder.bind(configured.port) {
+        Some(socket) => Ok(Wire::new(socket, configured.peer)),
+        None => Err(SocketError::Bind(configured.port)),
+    }
+}
+
+/// Binds the socket of each interface, in order, with what this binds: at the interface's own port.
+/// What interface n sends goes to the peer of the nth.
 ///
 /// # Errors
 ///
 /// `Bind` with the first port that can't be had; `Memory` where an allocation was refused.
-#[tactic(auto, using(crate::proofs::Refused::refused_at))]
+#[tactic(auto, using(crate::proofs::Refused::refused_at, crate::proofs::Binding::all_bound))]
+pub fn bind_each_with<S: Drop, B: BindsSockets<S>>(
+    binder: &B,
+    alloc: Global,
+    interfaces: &[ConfiguredInterface],
+) -> Result<Vec<Wire<S>>, SocketError>
+    ensures bound { IfOk result (λ wires. AreBound B.bound interfaces.now wires.items) }
+    ensures port { IfErr result (IsRefusalOf B.refused interfaces.now) }
+{
+    let mut wires = Vec::with_capacity(alloc, interfaces.len())?;
+    for configured in interfaces {
+        let wire = bound(binder, configured)?;
+        wires.push(wire)?;
+    }
+    Ok(wires)
+}
+
+/// Binds the system's sockets so.
+///
+/// # Errors
+///
+/// As [`bind_each_with`].
 pub fn bind_each<R: Net>(
     rt: &R,
     alloc: Global,
     interfaces: &[ConfiguredInterface],
 ) -> Result<Vec<Wire>, SocketError>
-    ensures peers { IfOk result (λ wires.
-        map (λ wire. wire.peer) wires.items ≡ map (λ configured. configured.peer) interfaces.now) }
-    ensures port { IfErr result (IsRefusalOf interfaces.now) }
+    ensures bound { IfOk result (λ wires.
+        AreBound (λ _ _. ⊤) interfaces.now wires.items) }
+    ensures port { IfErr result (IsRefusalOf (λ _. ⊤) interfaces.now) }
 {
-    let mut wires = Vec::with_capacity(alloc, interfaces.len())?;
-    for configured in interfaces {
-        let wire = bound(rt, configured)?;
-        wires.push(wire)?;
-    }
-    Ok(wires)
+    bind_each_with(&SystemSockets { rt }, alloc, interfaces)
 }
 
 /// The socket of the interface of this number, counted from 1.

@@ -42,6 +42,8 @@ impl<'a> DatagramSocket for Refusing<'a> {
 
     ghost hands = { λ _ _. ⊤ };
 
+    ghost refuses = { λ _ _. ⊤ };
+
     fn send(&self, bytes: &[u8], port: u16) -> io::Result<usize> {
         let call = self.calls.fetch_add(1, Ordering::SeqCst);
         if let Some(number) = self.numbers.get(call) {
