@@ -1,2 +1,4 @@
 pub mod Fresh
 pub mod Alike
+pub mod AsMany
+mod Talked

@@ -1,8 +1,17 @@
--- The status that the program ends with where no router runs.
-use Rattle.std.specs.Prelude.{ℕ}
+-- The status that the program ends with: where no router runs, and after one ran.
+use Rattle.std.specs.Prelude.{◌≡◌, ℕ, Bool, List, ◌||◌, if◌then◌else◌, length, map}
+use Rattle.std.specs.List.{list_any}
+use Rattle.worker.specs.events.Events.{initial}
+use Rattle.worker.specs.events.Routers.{Router}
+use Rattle.worker.specs.events.declared.model.Config.{Config}
+use Rattle.console.specs.Configurations.{Says}
+use Rattle.console.specs.declared.configuration.Configured.{Configured}
+use Rattle.sockets.specs.Ends.{has_failed}
+use Rattle.sockets.specs.declared.socket_links.LinkEnd.{LinkEnd}
 use Rattle.daemon.specs.declared.error.RouteError.{RouteError}
 use Rattle.daemon.specs.declared.error.RouteError.TheVariants.{Configuration, Bind, Socket, Hooks}
 use Rattle.daemon.specs.declared.error.RouteError.TheVariants.{Output, Memory}
+use Rattle.daemon.specs.declared.ran.Ran.{Ran}
 
 -- 1 refused, 3 a socket or a stream, 4 memory
 abbrev pub status_of : RouteError → ℕ
@@ -12,3 +21,38 @@ status_of (Bind port) = 3
 status_of Socket = 3
 status_of Output = 3
 status_of Memory = 4
+
+-- ---- of a router that ran
+
+abbrev pub any_failed : List LinkEnd → Bool
+any_failed ends = list_any (λ end. has_failed end) ends
+
+-- 3 where the link of a worker or of the console failed, or the input couldn't be read, else 0
+abbrev pub status_of_ran : Ran → ℕ
+status_of_ran ran =
+    if any_failed ran.workers.items || has_failed ran.console || ran.is_deaf then 3 else 0
+
+-- ---- which router ran
+
+-- A router that began as this one ran, with so many interfaces: each had a worker, whose link has
+-- ended.
+pub record HasRan (origin : Router) (interfaces : ℕ) (ran : Ran) : Type 0 where
+  pub began : ran.origin.value ≡ origin
+  pub workers : length ran.workers.items ≡ interfaces
+
+-- the router's configuration is what was configured, without ports
+abbrev pub IsConfigOf : Configured → Config → Type 0
+IsConfigOf configured config =
+    (config.router ≡ configured.router)
+    × (config.interfaces ≡ map (λ configured. configured.interface) configured.interfaces)
+
+-- one of such a configuration ran, over so many sockets
+abbrev pub HasRanOver : (sockets : ℕ) → Configured → Ran → Type 0
+HasRanOver sockets configured ran =
+    (config : Config) × IsConfigOf configured config × HasRan (initial config) sockets ran
+
+-- one ran whose configuration is said by this text, with a socket for each of its interfaces
+abbrev pub HasRanFor : (text : List ℕ) → Ran → Type 0
+HasRanFor text ran =
+    (configured : Configured) × Says text configured
+    × HasRanOver (length configured.interfaces) configured ran

@@ -9,7 +9,7 @@ use crate::pairs::next_pair;
 use crate::talk::{Console, talk};
 use log::Log;
 use operator::Desk;
-use sockets::{Sockets, SystemSeconds};
+use sockets::{LinkEnd, Sockets, SystemSeconds};
 use std::alloc::{AllocError, Global};
 use std::io::{BufRead, Write};
 use std::rt::Files;
@@ -24,7 +24,7 @@ use worker::{Book, Closed, Core, Hub, Port, Setup, Site, close_hub, open_hub};
 /// 0, until the operator is done. Every thread is joined before it answers, whatever it answers.
 /// There is a link for each port but the operator's: port n's receives at interface n. The book
 /// took just as many events as all shares count; the shared words come back with all their seats,
-/// as [`Shared::close`](maps::Shared::close) asks for them.
+/// as [`Shared::close`](maps::Shared::close) asks for them. Beside that stands how each link ended.
 ///
 /// `AllocError` comes where an allocation was refused, or where a thread couldn't be started.
 pub fn side_by_side<
@@ -43,19 +43,28 @@ pub fn side_by_side<
     links: Vec<Sockets<'_>>,
     desk: &mut Desk<L, Q, Sockets<'_>, SystemSeconds<'_, S>>,
     console: &mut Console<'_, S, I, O>,
-) -> Result<Closed<L>, AllocError>
+) -> Result<(Closed<L>, Vec<LinkEnd>), AllocError>
     requires setup { IsSetUpFor L.name L.parts L.words L.history setup }
     requires origin { core ≡ L.origin }
     requires links { vec_len setup.seats ≡ vec_len links + 1 }
     requires interfaces { CountDownTo 1 (map (λ l. l.own) links.items) }
     ensures taken { IfOk result (λ r.
-        (r.taken ≡ r.share.amount) × (r.share.parts ≡ L.parts)) }
+        (r.0.taken ≡ r.0.share.amount) × (r.0.share.parts ≡ L.parts)) }
     ensures seats { IfOk result (λ r.
-        (length r.seats.items ≡ r.shared.seats) × All (IsOf r.shared) r.seats.items) }
+        (length r.0.seats.items ≡ r.0.shared.seats) × All (IsOf r.0.shared) r.0.seats.items) }
+    ensures ends { IfOk result (λ r. vec_len r.1 + 1 ≡ vec_len setup.seats) }
 {
     let (hub, ports, rest) = open_hub::<L>(alloc, setup, core)?;
-    let back = in_scope(rt, &hub, ports, workers, links, desk, console);
-    close_hub(alloc, hub, rest, back)
+    match in_scope(rt, &hub, ports, workers, links, desk, console) {
+        Ok((back, ends)) => {
+            let closed = close_hub(alloc, hub, rest, Ok(back))?;
+            Ok((closed, ends))
+        }
+        Err(error) => {
+            let _none = close_hub(alloc, hub, rest, Err(error));
+            Err(AllocError)
+        }
+    }
 }
 
 // Starts the threads in a scope, so that they borrow the hub.
@@ -74,20 +83,22 @@ fn in_scope<
     links: Vec<Sockets<'_>>,
     desk: &mut Desk<L, Q, Sockets<'_>, SystemSeconds<'_, S>>,
     console: &mut Console<'_, S, I, O>,
-) -> Result<Vec<Port<L>>, AllocError>
+) -> Result<(Vec<Port<L>>, Vec<LinkEnd>), AllocError>
     requires links { vec_len ports ≡ vec_len links + 1 }
     requires numbers { CountDownTo 0 (map (λ p. p.number) ports.items) }
     requires interfaces { CountDownTo 1 (map (λ l. l.own) links.items) }
-    ensures { IfOk result (λ back. vec_len back ≡ vec_len ports) }
+    ensures ports { IfOk result (λ back. vec_len back.0 ≡ vec_len ports) }
+    ensures ends { IfOk result (λ back. vec_len back.1 + 1 ≡ vec_len ports) }
 {
     thread::scope(
         thread::scope_env(),
         rt,
-        |scope| -> Result<Vec<Port<L>>, AllocError>
+        |scope| -> Result<(Vec<Port<L>>, Vec<LinkEnd>), AllocError>
             requires links { vec_len ports ≡ vec_len links + 1 }
             requires numbers { CountDownTo 0 (map (λ p. p.number) ports.items) }
             requires interfaces { CountDownTo 1 (map (λ l. l.own) links.items) }
-            ensures { IfOk result (λ back. vec_len back ≡ vec_len ports) }
+            ensures ports { IfOk result (λ back. vec_len back.0 ≡ vec_len ports) }
+            ensures ends { IfOk result (λ back. vec_len back.1 + 1 ≡ vec_len ports) }
         { crew(scope, rt, hub, workers, links, desk, console, ports) },
     )
 }
@@ -111,21 +122,23 @@ fn crew<
     desk: &mut Desk<L, Q, Sockets<'_>, SystemSeconds<'_, S>>,
     console: &mut Console<'_, S, I, O>,
     ports: Vec<Port<L>>,
-) -> Result<Vec<Port<L>>, AllocError>
+) -> Result<(Vec<Port<L>>, Vec<LinkEnd>), AllocError>
     requires links { vec_len ports ≡ vec_len links + 1 }
     requires numbers { CountDownTo 0 (map (λ p. p.number) ports.items) }
     requires interfaces { CountDownTo 1 (map (λ l. l.own) links.items) }
-    ensures { IfOk result (λ back. vec_len back ≡ vec_len ports) }
+    ensures ports { IfOk result (λ back. vec_len back.0 ≡ vec_len ports) }
+    ensures ends { IfOk result (λ back. vec_len back.1 + 1 ≡ vec_len ports) }
 {
     let mut ports = ports;
     let back = Vec::with_capacity(workers.alloc, ports.len())?;
+    let ends = Vec::with_capacity(workers.alloc, links.len())?;
     let Some(first) = ports.pop() else {
         unreachable!()
     };
     let running = started(scope, hub, workers, links, ports)?;
     let first = talk(hub, first, desk, console);
     workers.quit.store(true, Ordering::SeqCst);
-    joined(rt, running, first, back)
+    joined(rt, running, first, back, ends)
 }
 
 // A thread for each port, each with the link that receives at the interface of its number. Where
@@ -136,18 +149,18 @@ fn started<'s, E, L: Site + Send + Sync, R: Threads + Wait + Clock + Log + Sync>
     workers: &'s Workers<'_, R>,
     links: Vec<Sockets<'s>>,
     ports: Vec<Port<L>>,
-) -> Result<Vec<JoinHandle<Port<L>>>, AllocError>
+) -> Result<Vec<JoinHandle<(Port<L>, LinkEnd)>>, AllocError>
     requires { map (λ p. p.number) ports.items ≡ map (λ l. l.own) links.items }
     ensures { IfOk result (λ running. vec_len running ≡ vec_len ports) }
 {
     let (mut ports, mut links) = (ports, links);
     let mut running = Vec::with_capacity(workers.alloc, ports.len())?;
     let (clock, memory) = (workers.rt, workers.alloc);
-    let (quit, failed) = (&workers.quit, &workers.failed);
+    let quit = &workers.quit;
     while let Some((port, link)) = next_pair(&mut ports, &mut links) {
-        let life = move || -> Port<L>
+        let life = move || -> (Port<L>, LinkEnd)
             requires { port.number ≡ link.own }
-        { work(clock, memory, link, quit, failed, hub, port) };
+        { work(clock, memory, link, quit, hub, port) };
         let Ok(thread) = scope.spawn(life) else {
             workers.quit.store(true, Ordering::SeqCst);
             return Err(AllocError);
@@ -160,20 +173,25 @@ fn started<'s, E, L: Site + Send + Sync, R: Threads + Wait + Clock + Log + Sync>
     Ok(running)
 }
 
-// All ports, once the threads that have them are done.
+// All ports, once the threads that have them are done, and how the threads' links ended.
 fn joined<L: Site, R: Threads>(
     rt: &R,
-    running: Vec<JoinHandle<Port<L>>>,
+    running: Vec<JoinHandle<(Port<L>, LinkEnd)>>,
     first: Port<L>,
     back: Vec<Port<L>>,
-) -> Result<Vec<Port<L>>, AllocError>
-    requires { vec_len back ≡ 0 }
-    ensures { IfOk result (λ back. vec_len back ≡ vec_len running + 1) }
+    ends: Vec<LinkEnd>,
+) -> Result<(Vec<Port<L>>, Vec<LinkEnd>), AllocError>
+    requires none { vec_len back ≡ 0 }
+    requires unended { vec_len ends ≡ 0 }
+    ensures ports { IfOk result (λ back. vec_len back.0 ≡ vec_len running + 1) }
+    ensures ends { IfOk result (λ back. vec_len back.1 ≡ vec_len running) }
 {
-    let (mut running, mut back) = (running, back);
+    let (mut running, mut back, mut ends) = (running, back, ends);
     back.push(first)?;
     while let Some(thread) = running.pop() {
-        back.push(thread.join(rt))?;
+        let (port, end) = thread.join(rt);
+        back.push(port)?;
+        ends.push(end)?;
     }
-    Ok(back)
+    Ok((back, ends))
 }

@@ -2,12 +2,12 @@
 ghost use Rattle.std.specs.Prelude.{◌≡◌};
 
 use log::{Level, Log, Logged, warn};
-use sockets::{Sockets, SystemSeconds};
+use sockets::{LinkEnd, Sockets, SystemSeconds};
 use std::alloc::Global;
 use std::sync::Wait;
-use std::sync::atomic::{AtomicBool, Ordering};
+use std::sync::atomic::AtomicBool;
 use std::time::Clock;
-use worker::{Book, Ended, Hub, Open, Port, Site, run};
+use worker::{Book, Hub, Open, Port, Site, run};
 
 /// What the workers of all interfaces have.
 #[derive(Drop)]
@@ -16,27 +16,24 @@ pub struct Workers<'a, R> {
     pub alloc: Global,
     /// Set once they are to end.
     pub quit: AtomicBool,
-    /// Set where one ended for its socket.
-    pub failed: AtomicBool,
 }
 
 /// What a worker does with its port and the link that receives at the port's interface, on a thread
-/// of its own, before it brings the port back. `failed` is set where its socket failed, which a
-/// warning tells.
+/// of its own. It brings the port back, and how its link ended; a warning tells that it failed.
 pub fn work<L: Site, R: Wait + Clock + Log>(
     rt: &R,
     alloc: Global,
     link: Sockets<'_>,
     quit: &AtomicBool,
-    failed: &AtomicBool,
     hub: &Hub<L, Book<L>>,
     port: Port<L>,
-) -> Port<L>
+) -> (Port<L>, LinkEnd)
     requires { port.number ≡ link.own }
+    ensures { result.0.number ≡ port.number }
 {
     let (mut port, mut link) = (port, link);
     let mut clock = SystemSeconds::new(rt);
-    let ended = run(
+    let _ended = run(
         rt,
         alloc,
         hub,
@@ -46,10 +43,10 @@ pub fn work<L: Site, R: Wait + Clock + Log>(
         &mut clock,
         quit,
     );
-    if ended == Ended::Fault {
-        failed.store(true, Ordering::SeqCst);
+    let end = link.end();
+    if end.has_failed() {
         let number = port.number();
         warn!(rt; "worker {number} stopped");
     }
-    port
+    (port, end)
 }

@@ -11,8 +11,10 @@ mod error;
 mod labor;
 mod lines;
 mod pairs;
+mod ran;
 mod running;
 mod talk;
 
 pub use error::RouteError;
+pub use ran::Ran;
 pub use running::{operate, route, run_router};

@@ -1,13 +1,19 @@
 //! A router from its configuration to its end.
-ghost use Rattle.std.specs.Prelude.{◌≡◌, ◌⊎◌, ◌≤◌, ◌+◌, IfOk, IsTrue, if◌then◌else◌, map, vec_len};
+ghost use Rattle.std.specs.Prelude.{◌≡◌, ◌≤◌, ◌+◌, IfOk, OnOk, length, map, nat_lt};
+ghost use Rattle.std.specs.Prelude.{vec_len};
+ghost use Rattle.std.specs.Io.KnownBytes.{Appends};
+ghost use Rattle.console.specs.Answers.{counter_lines};
 ghost use Rattle.links.specs.Descending.{CountDownTo};
 ghost use Rattle.hooks.specs.Known.{history_of};
+ghost use Rattle.sockets.specs.Ends.{has_failed};
 ghost use Rattle.worker.specs.events.Events.{initial};
 ghost use Rattle.worker.specs.Opening.{IsSetUpFor};
+ghost use Rattle.daemon.specs.Statuses.{HasRan, HasRanFor, HasRanOver, IsConfigOf};
 
 use crate::crew::side_by_side;
 use crate::error::RouteError;
 use crate::labor::Workers;
+use crate::ran::Ran;
 use crate::talk::Console;
 use console::{
     Config, Configured, ConfiguredInterface, Interface, read_configuration, totals_text,
@@ -16,14 +22,15 @@ use hooks::Loader;
 use links::Seconds;
 use log::Log;
 use operator::{Desk, Outlet};
-use sockets::{Sockets, SystemSeconds, Wire, bind_each, listening};
+use sockets::{LinkEnd, Sockets, SystemSeconds, Wire, bind_each, listening};
 use std::alloc::{AllocError, Global};
 use std::io::{BufRead, Write};
 use std::marker::{Brand, PhantomData};
 use std::net::Net;
 use std::rt::Files;
+use std::snapshot::Snapshot;
 use std::sync::Wait;
-use std::sync::atomic::{AtomicBool, Ordering};
+use std::sync::atomic::AtomicBool;
 use std::thread::Threads;
 use std::time::Clock;
 use words::Sequence;
@@ -50,9 +57,7 @@ fn config_of<C: Seconds>(
     configured: &Configured,
 ) -> Result<Config, RouteError>
     ensures start { IfOk result (λ config. C.shows clock.old config.start clock.new) }
-    ensures router { IfOk result (λ config. config.router ≡ configured.now.router) }
-    ensures interfaces { IfOk result (λ config.
-        config.interfaces ≡ map (λ c. c.interface) configured.now.interfaces) }
+    ensures said { IfOk result (IsConfigOf configured.now) }
 {
     let interfaces = interfaces_of(alloc, configured.interfaces.as_slice())?;
     Ok(Config {
@@ -79,22 +84,22 @@ fn print_totals<S, I, O: Write>(
     alloc: Global,
     sums: &[u64],
     console: &mut Console<'_, S, I, O>,
-) -> Result<(), RouteError> {
+) -> Result<(), RouteError>
+    ensures { OnOk result (Appends (O.contents console.old.output.now)
+        (O.contents console.new.output.now) (counter_lines 0 sums.now)) }
+{
     let text = totals_text(alloc, sums)?;
-    if console.mute || console.output.write_all(text.as_bytes()).is_err() {
+    if console.mute {
         return Err(RouteError::Output);
     }
-    Ok(())
+    match console.output.write_all(text.as_bytes()) {
+        Ok(()) => Ok(()),
+        Err(_) => Err(RouteError::Output),
+    }
 }
 
-// The status of a router that ran: 3 where a socket or the input failed.
-fn status_of(failed: bool) -> u8
-    ensures { result ≡ (if failed then 3 else 0) }
-{
-    if failed { 3 } else { 0 }
-}
-
-// Runs the workers and the console over a setup, and prints the exact counters.
+// Runs the workers and the console over a setup, and prints the exact counters. Tells how the
+// workers' links ended.
 fn run_crew<
     L: Site + Send + Sync,
     R: Threads + Wait + Clock + Log + Files + AllocGlobal + Sync,
@@ -109,16 +114,16 @@ fn run_crew<
     links: Vec<Sockets<'_>>,
     desk: &mut Desk<L, Q, Sockets<'_>, SystemSeconds<'_, R>>,
     console: &mut Console<'_, R, I, O>,
-) -> Result<u8, RouteError>
+) -> Result<Vec<LinkEnd>, RouteError>
     requires setup { IsSetUpFor L.name L.parts L.words L.history setup }
     requires origin { core ≡ L.origin }
     requires links { vec_len setup.seats ≡ vec_len links + 1 }
     requires interfaces { CountDownTo 1 (map (λ l. l.own) links.items) }
-    ensures ended { IfOk result (λ status. (status ≡ 0) ⊎ (status ≡ 3)) }
-    ensures own { IsTrue desk.new.outlet.failed → IfOk result (λ status. status ≡ 3) }
+    requires told { desk.old.interfaces ≡ vec_len links }
+    ensures { IfOk result (λ ends. vec_len ends + 1 ≡ vec_len setup.seats) }
 {
     let alloc = workers.alloc;
-    let closed = side_by_side(rt, alloc, setup, core, workers, links, desk, console)?;
+    let (closed, ends) = side_by_side(rt, alloc, setup, core, workers, links, desk, console)?;
     let Closed {
         taken: _,
         share: _,
@@ -127,11 +132,45 @@ fn run_crew<
     } = closed;
     let totals = shared.close(seats);
     print_totals(alloc, &totals.sums, console)?;
-    let failed = desk.outlet.failed || workers.failed.load(Ordering::SeqCst);
-    Ok(status_of(failed || console.deaf))
+    Ok(ends)
+}
+
+// How a router ran, once the operator's things are let go.
+fn ran<L: Site, Q: Wait + Drop, C: Seconds + Drop>(
+    origin: Snapshot<Core>,
+    workers: Vec<LinkEnd>,
+    desk: Desk<L, Q, Sockets<'_>, C>,
+    is_deaf: bool,
+) -> Ran
+    ensures origin { result.origin.value ≡ origin.value }
+    ensures workers { result.workers ≡ workers }
+    ensures many { vec_len result.workers ≡ vec_len workers }
+    ensures deaf { result.is_deaf ≡ is_deaf }
+    ensures console { has_failed result.console ≡ nat_lt 0 desk.entry.outlet.link.faults }
+{
+    let Desk {
+        alloc: _,
+        loader: _,
+        interfaces: _,
+        outlet,
+        unrefreshed: _,
+        of: _,
+    } = desk;
+    let Outlet {
+        link,
+        clock: _,
+        failed: _,
+    } = outlet;
+    Ran {
+        origin,
+        workers,
+        console: link.end(),
+        is_deaf,
+    }
 }
 
 // The workers' and the operator's things, and what runs with them.
+#[tactic(auto, using(crate::proofs::AsMany::ran_as))]
 fn run_all<
     'x,
     L: Site + Send + Sync,
@@ -148,13 +187,13 @@ fn run_all<
     own: Sockets<'x>,
     input: &'x mut I,
     output: &'x mut O,
-) -> Result<u8, RouteError>
+) -> Result<Ran, RouteError>
     requires setup { IsSetUpFor L.name L.parts L.words L.history setup }
     requires history { history_of loader ≡ L.history }
     requires origin { core ≡ L.origin }
     requires links { vec_len setup.seats ≡ vec_len links + 1 }
     requires interfaces { CountDownTo 1 (map (λ l. l.own) links.items) }
-    ensures ended { IfOk result (λ status. (status ≡ 0) ⊎ (status ≡ 3)) }
+    ensures { IfOk result (HasRan L.origin (vec_len links.entry)) }
 {
     let alloc = rt.alloc();
     let interfaces = if links.len() <= 63 {
@@ -166,7 +205,6 @@ fn run_all<
         rt,
         alloc,
         quit: AtomicBool::new(false),
-        failed: AtomicBool::new(false),
     };
     let mut desk = Desk {
         alloc,
@@ -187,7 +225,9 @@ fn run_all<
         mute: false,
         deaf: false,
     };
-    run_crew(rt, setup, core, &workers, links, &mut desk, &mut console)
+    let origin = Snapshot::of(&core);
+    let ends = run_crew(rt, setup, core, &workers, links, &mut desk, &mut console)?;
+    Ok(ran(origin, ends, desk, console.deaf))
 }
 
 /// Runs this router over these links, one for each interface and that of the first one last, and
@@ -198,7 +238,7 @@ fn run_all<
 /// `Hooks` where the programs have no places, also for more than 63 sockets; `Configuration` with
 /// line 1 where the router isn't within the profile; `Output` where the output can't be written,
 /// `Memory` where memory was refused or a thread couldn't be started.
-#[tactic(auto, using(crate::proofs::Fresh::all_ask))]
+#[tactic(auto, using(crate::proofs::Fresh::all_ask, crate::proofs::AsMany::ran_from))]
 pub fn operate<
     'x,
     R: Threads + Wait + Clock + Log + Files + AllocGlobal + Sync + Drop,
@@ -211,17 +251,19 @@ pub fn operate<
     own: Sockets<'x>,
     input: &'x mut I,
     output: &'x mut O,
-) -> Result<u8, RouteError>
+) -> Result<Ran, RouteError>
     requires { CountDownTo 1 (map (λ l. l.own) links.items) }
-    ensures ended { IfOk result (λ status. (status ≡ 0) ⊎ (status ≡ 3)) }
+    ensures { IfOk result (HasRan (initial config.now) (vec_len links.entry)) }
 {
     let ports = links.len().saturating_add(1);
     let (loader, setup) = Setup::new(rt.alloc(), rt, ports)?;
     let core = core_of(rt.alloc(), config)?;
-    run_all::<Brand, R, &R, I, O>(rt, setup, loader, core, links, own, input, output)
+    let ran = run_all::<Brand, R, &R, I, O>(rt, setup, loader, core, links, own, input, output)?;
+    Ok(ran)
 }
 
 // Runs the router of a configuration over the sockets of its interfaces.
+#[tactic(auto, using(crate::proofs::AsMany::ran_over))]
 fn run_over<
     R: Net + Threads + Wait + Clock + Log + Files + AllocGlobal + Sync + Drop,
     I: BufRead,
@@ -232,26 +274,21 @@ fn run_over<
     wires: &[Wire],
     input: &mut I,
     output: &mut O,
-) -> Result<u8, RouteError>
-    ensures ended { IfOk result (λ status. (status ≡ 0) ⊎ (status ≡ 3)) }
+) -> Result<Ran, RouteError>
+    ensures { IfOk result (HasRanOver (length wires.now) configured.now) }
 {
     let mut clock = SystemSeconds::new(rt);
     let config = config_of(rt.alloc(), &mut clock, configured)?;
     let links = listening(rt, rt.alloc(), wires)?;
-    operate(
-        rt,
-        &config,
-        links,
-        Sockets::of_console(wires),
-        input,
-        output,
-    )
+    let own = Sockets::of_console(wires);
+    let ran = operate(rt, &config, links, own, input, output)?;
+    Ok(ran)
 }
 
 /// Runs the router that a configuration's text says, with a console that reads commands from
 /// `input` and answers on `output`, until `quit` or the end of input. Every thread is joined before
-/// it answers. The answer is the status: 0, or 3 where a worker or the console's own link failed,
-/// or the input could not be read; each worker that failed is told by a warning `worker N stopped`.
+/// it answers, and tells how its link ended; each worker whose link failed is told by a warning
+/// `worker N stopped`.
 ///
 /// # Errors
 ///
@@ -263,13 +300,14 @@ pub fn run_router<
     R: Net + Threads + Wait + Clock + Log + Files + AllocGlobal + Sync + Drop,
     I: BufRead,
     O: Write,
->(rt: &R, text: &str, input: &mut I, output: &mut O) -> Result<u8, RouteError>
-    ensures ended { IfOk result (λ status. (status ≡ 0) ⊎ (status ≡ 3)) }
+>(rt: &R, text: &str, input: &mut I, output: &mut O) -> Result<Ran, RouteError>
+    ensures { IfOk result (HasRanFor text.now) }
 {
     let alloc = rt.alloc();
     let configured = read_configuration(alloc, text)?;
     let wires = bind_each(rt, alloc, configured.interfaces.as_slice())?;
-    run_over(rt, &configured, &wires, input, output)
+    let ran = run_over(rt, &configured, &wires, input, output)?;
+    Ok(ran)
 }
 
 /// Runs a router as [`run_router`] does. Where it doesn't run, a line on `output` says why. The
@@ -283,7 +321,7 @@ pub fn route<
     ensures { result ≤ 4 }
 {
     match run_router(rt, text, input, output) {
-        Ok(status) => status,
+        Ok(ran) => ran.status(),
         Err(error) => match writeln!(output, "{error}") {
             Ok(()) => error.status(),
             Err(_) => RouteError::Output.status(),

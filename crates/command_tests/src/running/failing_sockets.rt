@@ -126,8 +126,8 @@ fn run<R: Net + Threads + Wait + Clock + Log + Files + AllocGlobal + Sync + Drop
     let config = config(rt.alloc())?;
     let links = listening(rt, rt.alloc(), wires)?;
     let own = Sockets::of_console(own);
-    let status = operate(rt, &config, links, own, &mut input, &mut output)?;
-    Ok(if output.written == 4 { status } else { 9 })
+    let ran = operate(rt, &config, links, own, &mut input, &mut output)?;
+    Ok(if output.written == 4 { ran.status() } else { 9 })
 }
 
 // The status of the row's router.

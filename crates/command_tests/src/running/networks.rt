@@ -207,7 +207,7 @@ fn routed_once<R: Net + Threads + Wait + Clock + Log + Files + AllocGlobal + Syn
     };
     let mut output = Printer { rt, screen };
     match run_router(rt, screen.row.configuration, &mut input, &mut output) {
-        Ok(status) => status,
+        Ok(ran) => ran.status(),
         Err(_) => 9,
     }
 }

@@ -1,0 +1,38 @@
+//! How a router ran.
+ghost use Rattle.std.specs.Prelude.{◌≡◌};
+ghost use Rattle.daemon.specs.Statuses.{any_failed, status_of_ran};
+
+use sockets::LinkEnd;
+use std::snapshot::Snapshot;
+use worker::Core;
+
+/// How a router ran: as which it began (of which nothing is kept when it runs), how the link of
+/// each worker ended, and that of the console, and whether the input couldn't be read.
+#[derive(Drop)]
+pub struct Ran {
+    pub(crate) origin: Snapshot<Core>,
+    pub(crate) workers: Vec<LinkEnd>,
+    pub(crate) console: LinkEnd,
+    pub(crate) is_deaf: bool,
+}
+
+// Whether one of these links failed.
+fn is_any_failed(ends: &[LinkEnd]) -> bool
+    ensures { result ≡ any_failed ends.now }
+{
+    ends.iter().any(|end| end.has_failed())
+}
+
+impl Ran {
+    /// The status of the program: 3 where the link of a worker or of the console failed, or the
+    /// input couldn't be read, else 0.
+    pub fn status(&self) -> u8
+        ensures { result ≡ status_of_ran self.now }
+    {
+        if is_any_failed(&self.workers) || self.console.has_failed() || self.is_deaf {
+            3
+        } else {
+            0
+        }
+    }
+}
