@@ -39,6 +39,8 @@ pub enum Shown {
     /// `walks`: how many walks events made since this was last looked at, and how many are made
     /// where the router is now asked whether it is stale.
     Walks,
+    /// `database`: each LSA's bytes, with its age at the last event, and `end`.
+    Database,
     /// `lsas`: how many LSAs the database has.
     Lsas,
     /// `lsa TYPE ID ROUTER`: the LSA's bytes, with its age at the last event.
@@ -116,6 +118,7 @@ fn shown_by(name: &str) -> Option<Shown> {
         "offered" => Some(Shown::Offered),
         "stale" => Some(Shown::Stale),
         "walks" => Some(Shown::Walks),
+        "database" => Some(Shown::Database),
         "lsas" => Some(Shown::Lsas),
         _ => None,
     }
@@ -148,11 +151,4 @@ pub fn line_of(words: &[&str]) -> Option<Line> {
         [a, b, c, d] => of_four(a, b, c, d),
         _ => None,
     }
-}
-
-/// How many interfaces the first line says that there are, up to 63.
-pub fn interfaces_of(line: &str) -> Option<u32> {
-    let word = line.strip_prefix("interfaces ")?;
-    let count = read_within(word, 1, 63)?;
-    Some(count as u32)
 }

@@ -1,17 +1,20 @@
 //! The router of a script, played.
 use crate::area::{Area, bytes_of, root_of};
+use crate::beginning::{first_of, router_of};
 use crate::fault::ScriptError;
-use crate::line::{Happening, Line, Shown, interfaces_of, line_of};
+use crate::line::{Happening, Line, Shown, line_of};
 use crate::operator::Operator;
 use crate::telling::{
-    push_announced, push_answer, push_candidates, push_lsa, push_neighbors, push_offered,
-    push_owed, push_table,
+    push_announced, push_answer, push_candidates, push_database, push_lsa, push_neighbors,
+    push_offered, push_owed, push_table,
 };
-use flood::{Config, Core, Event, Interface};
+use flood::{Config, ConfigError, Core, Event};
 use std::alloc::{AllocError, Global};
 use std::fmt::Write;
+use std::io::{self, BufRead};
+use std::mem::replace;
 use std::sync::Wait;
-use words::{Address, External, RouterId, Second, Sequence};
+use words::{External, Second, Sequence};
 
 // The router, who answers its questions, how many walks it had made when that was last looked at,
 // and what was printed so far.
@@ -21,32 +24,6 @@ struct Stage<R: Wait + Drop> {
     operator: Operator<R>,
     walks: u64,
     text: String,
-}
-
-// The interface of this number: 10.0.<number>.1/24.
-fn interface(number: u32) -> Interface {
-    Interface {
-        address: Address::new(0x0a00_0001_u32.wrapping_add(number.wrapping_mul(256))),
-        length: 24,
-        cost: 10,
-        hello_interval: 10,
-        dead_interval: 40,
-        retransmit_interval: 5,
-        delay: 1,
-    }
-}
-
-// 1.1.1.1 with so many interfaces, started at 0.
-fn configured(alloc: Global, interfaces: u32) -> Result<Config, AllocError> {
-    let mut taken = Vec::new(alloc);
-    for number in 0..interfaces {
-        taken.push(interface(number.wrapping_add(1)))?;
-    }
-    Ok(Config {
-        router: RouterId::new(0x0101_0101),
-        start: Second::new(0),
-        interfaces: Sequence::from_vec(taken),
-    })
 }
 
 fn packet(alloc: Global, interface: u16, digits: &str) -> Result<Option<Event>, AllocError> {
@@ -62,9 +39,9 @@ fn nothing_installed(alloc: Global) -> Event {
 }
 
 impl<R: Wait + Drop + Copy> Stage<R> {
-    fn new(alloc: Global, rt: R, interfaces: u32) -> Result<Stage<R>, ScriptError> {
+    fn new(alloc: Global, rt: R, config: &Config) -> Result<Stage<R>, ScriptError> {
         let operator = Operator::new(alloc, rt)?;
-        let core = Core::new(alloc, &configured(alloc, interfaces)?)?;
+        let core = Core::new(alloc, config)?;
         Ok(Stage {
             alloc,
             core,
@@ -152,6 +129,7 @@ impl<R: Wait + Drop> Stage<R> {
             Shown::Offered => push_offered(&mut self.text, &self.core),
             Shown::Stale => self.show_stale(),
             Shown::Walks => self.show_walks(),
+            Shown::Database => push_database(&mut self.text, self.alloc, &self.core),
             Shown::Lsas => writeln!(self.text, "lsas {}", self.core.database().len()),
             Shown::Lsa(key) => push_lsa(&mut self.text, self.alloc, &self.core, &key),
             Shown::Announced(prefix) => push_announced(&mut self.text, &self.core, prefix),
@@ -169,9 +147,34 @@ impl<R: Wait + Drop> Stage<R> {
         }
     }
 
+    fn put(&mut self, core: Core) {
+        replace(&mut self.core, core).close();
+        self.walks = 0;
+    }
+
+    // Lets a router begin in place of the one that is there; whether these words say one.
+    fn begins_anew(&mut self, words: &[&str]) -> Result<bool, AllocError> {
+        let Some(config) = router_of(self.alloc, words)? else {
+            return Ok(false);
+        };
+        match Core::new(self.alloc, &config) {
+            Ok(core) => {
+                self.put(core);
+                Ok(true)
+            }
+            Err(ConfigError::Interface) => Ok(false),
+            Err(ConfigError::Memory) => Err(AllocError),
+        }
+    }
+
     // Whether the line says anything.
     fn takes(&mut self, line: &str) -> Result<bool, AllocError> {
         let words: Vec<&str> = line.split(' ').collect(self.alloc)?;
+        if let Some((name, of)) = words.split_first() {
+            if *name == "router" {
+                return self.begins_anew(of);
+            }
+        }
         let last = words.last().copied().unwrap_or("");
         match line_of(&words) {
             Some(said) => self.does(said, last),
@@ -179,13 +182,43 @@ impl<R: Wait + Drop> Stage<R> {
         }
     }
 
-    // Plays the lines behind the first; an empty one and a comment say nothing.
+    // Takes the line of this number; an empty one and a comment say nothing.
+    fn plays(&mut self, number: usize, line: &str) -> Result<(), ScriptError> {
+        let is_left_out = line.is_empty() || line.starts_with('#');
+        if is_left_out || self.takes(line)? {
+            Ok(())
+        } else {
+            Err(ScriptError::Line(number))
+        }
+    }
+
+    // Plays the lines behind the first.
     fn play_lines(&mut self, lines: &[&str]) -> Result<(), ScriptError> {
         for (index, line) in lines.iter().enumerate() {
-            let is_left_out = line.is_empty() || line.starts_with('#');
-            if !is_left_out && !self.takes(line)? {
-                return Err(ScriptError::Line(index.saturating_add(2)));
-            }
+            self.plays(index.saturating_add(2), line)?;
+        }
+        Ok(())
+    }
+
+    // Prints what was told so far.
+    fn print<O: io::Write>(&mut self, output: &mut O) -> Result<(), ScriptError> {
+        let printed = output.write_all(self.text.as_bytes());
+        self.text.clear();
+        match printed {
+            Ok(()) => Ok(()),
+            Err(_) => Err(ScriptError::Output),
+        }
+    }
+
+    // Plays the lines behind the first as they come, and prints at once what each tells.
+    fn answer_lines<I: BufRead + Drop, O: io::Write>(
+        &mut self,
+        input: I,
+        output: &mut O,
+    ) -> Result<(), ScriptError> {
+        for (index, line) in input.lines(self.alloc).enumerate() {
+            self.plays(index.saturating_add(2), line?.as_str())?;
+            self.print(output)?;
         }
         Ok(())
     }
@@ -229,10 +262,10 @@ fn play_area(alloc: Global, words: &[&str], lines: &[&str]) -> Result<String, Sc
 fn play_router<R: Wait + Drop + Copy>(
     alloc: Global,
     rt: R,
-    interfaces: u32,
+    config: &Config,
     lines: &[&str],
 ) -> Result<String, ScriptError> {
-    let mut stage = Stage::new(alloc, rt, interfaces)?;
+    let mut stage = Stage::new(alloc, rt, config)?;
     let played = stage.play_lines(lines);
     let text = stage.close();
     played?;
@@ -252,19 +285,34 @@ fn play_behind<R: Wait + Drop + Copy>(
             return play_area(alloc, of, lines);
         }
     }
-    match interfaces_of(first) {
-        Some(interfaces) => play_router(alloc, rt, interfaces, lines),
+    match first_of(alloc, &words)? {
+        Some(config) => play_router(alloc, rt, &config, lines),
+        None => Err(ScriptError::Line(1)),
+    }
+}
+
+// The router that the first line begins.
+fn first_stage<R: Wait + Drop + Copy>(
+    alloc: Global,
+    rt: R,
+    line: &str,
+) -> Result<Stage<R>, ScriptError> {
+    let words: Vec<&str> = line.split(' ').collect(alloc)?;
+    match first_of(alloc, &words)? {
+        Some(config) => Stage::new(alloc, rt, &config),
         None => Err(ScriptError::Line(1)),
     }
 }
 
 /// Plays the script, and answers what is printed.
 ///
-/// The first line is `interfaces N`, and each other one lets something happen at a router (`MOMENT
-/// tick`, `MOMENT packet I HEX`, `MOMENT announce P METRIC`, `MOMENT withdraw P`, `MOMENT down I`,
-/// `MOMENT install all`, `MOMENT install nothing`), or shows something (`neighbors`, `owed`,
-/// `table`, `candidates`, `offered`, `stale`, `walks`, `lsas`, `lsa TYPE ID ROUTER`, `announced P`).
-/// What goes out is printed as `MOMENT sends I HEX`, a refusal as `MOMENT refused: ` and why.
+/// The first line is `interfaces N` or `router ID MOMENT HELLO DEAD RETRANSMIT PLACE..`, and each
+/// other one lets something happen at a router (`MOMENT tick`, `MOMENT packet I HEX`, `MOMENT
+/// announce P METRIC`, `MOMENT withdraw P`, `MOMENT down I`, `MOMENT install all`, `MOMENT install
+/// nothing`, a line `router ..` again, which begins another one in its place), or shows something
+/// (`neighbors`, `owed`, `table`, `candidates`, `offered`, `stale`, `walks`, `database`, `lsas`,
+/// `lsa TYPE ID ROUTER`, `announced P`). What goes out is printed as `MOMENT sends I HEX`, a
+/// refusal as `MOMENT refused: ` and why.
 ///
 /// Or the first line is `area ROUTER ADDRESS..`: a router and the addresses of its interfaces. Then
 /// `MOMENT lsa HEX` lets an LSA come in, `MOMENT candidates` shows the routes that all LSAs offer
@@ -283,4 +331,24 @@ pub fn play<R: Wait + Drop + Copy>(
         Some((first, behind)) => play_behind(alloc, rt, first, behind),
         None => Err(ScriptError::Line(1)),
     }
+}
+
+/// Plays the script of a router whose lines come one by one, and prints at once what each tells.
+///
+/// # Errors
+/// `Line` where a line says nothing, `Input` where lines can't be read, `Output` where nothing can
+/// be printed, `Memory` where an allocation was refused. What was printed before stays.
+pub fn answer<R: Wait + Drop + Copy, I: BufRead + Drop, O: io::Write>(
+    alloc: Global,
+    rt: R,
+    mut input: I,
+    output: &mut O,
+) -> Result<(), ScriptError> {
+    let mut first = String::new(alloc);
+    input.read_line(&mut first)?;
+    let line = first.strip_suffix('\n').unwrap_or(first.as_str());
+    let mut stage = first_stage(alloc, rt, line)?;
+    let answered = stage.answer_lines(input, output);
+    let _told = stage.close();
+    answered
 }

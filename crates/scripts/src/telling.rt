@@ -98,6 +98,14 @@ pub fn push_lsa(
     push_hex(text, bytes.as_slice())
 }
 
+/// Adds a line for each LSA of the database, as `push_lsa` does, and `end`.
+pub fn push_database(text: &mut String, alloc: Global, core: &Core) -> Result<(), AllocError> {
+    for key in core.database().keys() {
+        push_lsa(text, alloc, core, &key)?;
+    }
+    text.push_str("end\n")
+}
+
 /// Adds whether the destination is announced.
 pub fn push_announced(text: &mut String, core: &Core, prefix: Prefix) -> Result<(), AllocError> {
     let told = if core.wants(prefix) { "yes" } else { "no" };

@@ -61,7 +61,9 @@ const PLAY_ABOUT: &str =
 const PLAY_MORE: &str = "\
 The first line of the script is `interfaces N`: the router 1.1.1.1 begins at 0 with the interfaces
 10.0.1.1/24 to 10.0.N.1/24, of cost 10, HelloInterval 10, RouterDeadInterval 40, RxmtInterval 5 and
-InfTransDelay 1. Each other line is one of these (empty lines and those with # say nothing):
+InfTransDelay 1. Or it is `router ID MOMENT HELLO DEAD RETRANSMIT PLACE..`: the router with this ID
+begins at MOMENT with these intervals, and with interfaces of cost 10 at these places (10.0.1.1/24).
+Each other line is one of these (empty lines and those with # say nothing):
   MOMENT tick                     time has passed
   MOMENT packet I HEX             a packet comes in at interface I; - for one without bytes
   MOMENT announce A.B.C.D/L N     an external destination is announced with metric N of type 2
@@ -71,6 +73,8 @@ InfTransDelay 1. Each other line is one of these (empty lines and those with # s
   MOMENT install nothing          no candidate has an answer
   neighbors, table                prints them as a router's console does
   owed                            prints how many LSAs each neighbor has still to acknowledge
+  router ID MOMENT ..             another router begins in the place of this one
+  database                        prints each LSA of the database, as `lsa` does, and `end`
   lsas                            prints how many LSAs the database has
   lsa TYPE ID ROUTER              prints the LSA's bytes, with its age at the last event
   announced A.B.C.D/L             prints whether the destination is announced
@@ -87,7 +91,8 @@ interface 1 on. Then each other line is one of these:
                                   `refused` and the number of their refusal
 
 Prints `MOMENT sends I HEX` for each packet that goes out, and `MOMENT refused: ` and why for an
-event that is refused.
+event that is refused. `simulation play -` plays the lines of the standard input as they come, and
+prints at once what each tells (no area): so another program plays whole networks, packet by packet.
 
 Statuses:
   0  each line was played
@@ -272,7 +277,7 @@ fn without_commands<'a>(alloc: Global) -> Command<'a> {
 // The command that plays a script.
 fn playing<'a>(alloc: Global) -> Result<Command<'a>, AllocError> {
     let script = Arg::new(alloc, "SCRIPT")
-        .help("The file of the script")
+        .help("The file of the script; - for the standard input, line by line")
         .required(true);
     Command::new(alloc, "play")
         .about(PLAY_ABOUT)

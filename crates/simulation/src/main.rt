@@ -1,6 +1,7 @@
 //! `simulation`: networks of many routers in memory. It plays scenarios and tells how long they
 //! take to settle and how often packets go round meanwhile, and searches for histories that end
-//! with Full neighbors whose databases differ. It plays what happens at one router from a file, too.
+//! with Full neighbors whose databases differ. It plays what happens at one router from a file, too,
+//! or line by line.
 #![tactic(auto)]
 
 mod arguments;
@@ -24,6 +25,7 @@ fn main(rt: HostRuntime) -> ExitCode {
     let mut errors = rt.stderr();
     let status = match arguments_of(&rt) {
         Ok(words) => match play::script_in(&words) {
+            Some("-") => play::play_input(&rt, &mut output),
             Some(script) => play::play_file(&rt, script, &mut output),
             None => program::program(rt.alloc(), &rt, &words, &mut output, &mut errors),
         },

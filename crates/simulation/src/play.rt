@@ -1,7 +1,7 @@
-//! `simulation play SCRIPT`: what happens at one router, played from a file.
+//! `simulation play SCRIPT`: what happens at one router, played from a file, or line by line.
 use crate::fault::{DONE, FOUND, MEMORY, OUTSIDE};
-use scripts::{ScriptError, play};
-use std::io::Write;
+use scripts::{ScriptError, answer, play};
+use std::io::{BufReader, Write};
 use std::rt::Files;
 use std::sync::Wait;
 use whole_files::{ReadFault, read};
@@ -10,7 +10,7 @@ use whole_files::{ReadFault, read};
 pub fn script_in(words: &[String]) -> Option<&str> {
     let (command, script) = (words.get(1)?, words.get(2)?);
     let is_asked = words.len() == 3 && command.as_str() == "play";
-    if is_asked && !script.as_str().starts_with('-') {
+    if is_asked && (script.as_str() == "-" || !script.as_str().starts_with('-')) {
         Some(script.as_str())
     } else {
         None
@@ -25,15 +25,36 @@ fn end<O: Write>(output: &mut O, text: &str, status: u8) -> u8 {
     }
 }
 
+// Tells why a script ended, and answers the status.
+fn end_early<O: Write>(output: &mut O, error: ScriptError) -> u8 {
+    let status = match error {
+        ScriptError::Line(_) => FOUND,
+        ScriptError::Input | ScriptError::Output => OUTSIDE,
+        ScriptError::Memory => MEMORY,
+    };
+    match writeln!(output, "{error}") {
+        Ok(()) => status,
+        Err(_) => OUTSIDE,
+    }
+}
+
 // Plays the text of a script.
 fn play_text<R: AllocGlobal + Wait, O: Write>(rt: &R, text: &str, output: &mut O) -> u8 {
     match play(rt.alloc(), rt, text) {
         Ok(told) => end(output, told.as_str(), DONE),
-        Err(ScriptError::Memory) => end(output, "out of memory\n", MEMORY),
-        Err(error) => match writeln!(output, "{error}") {
-            Ok(()) => FOUND,
-            Err(_) => OUTSIDE,
-        },
+        Err(error) => end_early(output, error),
+    }
+}
+
+/// Plays the lines of the standard input as they come, prints at once what each tells, and answers
+/// the status, as `play_file` does.
+pub fn play_input<R: Input + AllocGlobal + Wait, O: Write>(rt: &R, output: &mut O) -> u8 {
+    let Ok(input) = BufReader::new(rt.alloc(), rt.reader()) else {
+        return end(output, "out of memory\n", MEMORY);
+    };
+    match answer(rt.alloc(), rt, input, output) {
+        Ok(()) => DONE,
+        Err(error) => end_early(output, error),
     }
 }
 
