@@ -226,8 +226,8 @@ SEC("veto") u64 data_string(const struct route *r) { const char *name = "leafrun
 u64 seen;
 SEC("veto") u64 data_global(const struct route *r) { seen++; return seen > 10; }
 //// data
-static u64 kept;
-SEC("veto") u64 data_static(const struct route *r) { kept += r->cost; return kept > 10; }
+static u64 summed;
+SEC("veto") u64 data_static(const struct route *r) { summed += r->cost; return summed > 10; }
 //// data
 static const struct { u32 block, bits; } bogons[] = { { ADDRESS(10, 0, 0, 0), 8 }, { ADDRESS(172, 16, 0, 0), 12 }, { ADDRESS(192, 168, 0, 0), 16 } };
 SEC("veto") u64 data_bogons(const struct route *r) { for (u64 i = 0; i < 3; i++) if (r->length >= bogons[i].bits && r->prefix >> (32 - bogons[i].bits) == bogons[i].block >> (32 - bogons[i].bits)) return 1; return 0; }
