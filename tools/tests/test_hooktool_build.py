@@ -1,8 +1,6 @@
 """tools/hooktool-build: what it hands to clang and to hooktool, and its statuses."""
-import contextlib
 import importlib.machinery
 import importlib.util
-import io
 import os
 import pathlib
 import shutil
@@ -69,6 +67,10 @@ class Builds(unittest.TestCase):
         clang = self.words_of("clang")
         self.assertEqual((clang[:4], pathlib.Path(clang[4]).suffix), (["-target", "bpf", "-mcpu=v3", "-c"], ".s"))
 
+    def test_an_explanation_builds_nothing(self):
+        self.assertEqual(self.run_with("int x;\n", "--explain").returncode, 0)
+        self.assertEqual(self.words_of("hooktool")[:1], ["explain"])
+
     def test_what_the_first_lines_name_unless_options_do(self):
         source = "/* hook: price\n * fuel: 64 */\n"
         self.run_with(source)
@@ -108,6 +110,23 @@ class Lines(unittest.TestCase):
         self.assertEqual(told[-1], f"  second, {name}:3: three")
         self.assertEqual([it for it in told if not it.startswith(("  first,", "  second,", "  in C:"))], REFUSED.splitlines())
 
+    def test_slots_of_counted_code_are_one_later(self):
+        with tempfile.NamedTemporaryFile("w", suffix=".c") as source:
+            source.write("one\n  two;\n")
+            source.flush()
+            said = "section veto, function first: not accepted\nits turns are counted, so each slot is one later\nrefused slot 5 rule 7 Bounds\n"
+            told = tool.with_lines(said, {("veto", "first", 4): (source.name, 2)}).splitlines()
+            self.assertEqual(told[3], f"  first, {os.path.relpath(source.name)}:2: two;")
+
+    def test_of_an_explanation_each_line_stands_above_its_slots(self):
+        with tempfile.NamedTemporaryFile("w", suffix=".c") as source:
+            source.write("one\n  two;\n")
+            source.flush()
+            lines = {("veto", "f", 0): (source.name, 1), ("veto", "f", 1): (source.name, 2), ("veto", "f", 2): (source.name, 2)}
+            told = tool.with_lines("section veto, function f:\nslot 0: r0 = 1\nslot 1: r0 = 2\nslot 2: exit\n", lines, True).splitlines()
+            name = os.path.relpath(source.name)
+        self.assertEqual(told, ["section veto, function f:", f"{name}:1: one", "slot 0: r0 = 1", f"{name}:2: two;", "slot 1: r0 = 2", "slot 2: exit"])
+
     def test_without_lines_what_is_said_stays(self):
         self.assertEqual(tool.with_lines("a.o: veto, accepted bound 5\n", {}), "a.o: veto, accepted bound 5\n")
 
@@ -123,25 +142,6 @@ class Lines(unittest.TestCase):
         self.assertTrue(numbers["f"] >= {3, 4} and numbers["f"] <= {2, 3, 4}, numbers)
         self.assertEqual(numbers["g"], {8})
         self.assertIn(("tag", "g", 0), lines)
-
-
-class Cells(unittest.TestCase):
-    def told(self, explained, said):
-        with tempfile.TemporaryDirectory() as room:
-            stand_in = pathlib.Path(room) / "hooktool"
-            stand_in.write_text(f"#!/bin/sh\necho '{explained}'\n")
-            stand_in.chmod(0o755)
-            with contextlib.redirect_stderr(io.StringIO()) as errors:
-                tool.warn_of_cells(str(stand_in), said)
-        return errors.getvalue()
-
-    def test_cells_are_told_where_each_worker_has_its_own(self):
-        self.assertEqual(self.told("slot 0: r1 = map 1 0", "out/a.o: veto, accepted bound 5\n"),
-                         "hooktool-build: out/a.o uses cells at veto: each worker has its own, and they outlive the program\n")
-
-    def test_others_are_not_told(self):
-        self.assertEqual(self.told("slot 0: r1 = map 1 0", "out/a.o: count, accepted bound 5\n"), "")
-        self.assertEqual(self.told("slot 0: r1 = map 0 0", "out/a.o: veto, accepted bound 5\n"), "")
 
 
 class Passes(unittest.TestCase):

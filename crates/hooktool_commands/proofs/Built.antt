@@ -1,17 +1,21 @@
 -- Lines of functions and sections that were built, one behind the other.
-use Rattle.std.proofs.Common.{◌≡◌, ◌∙◌, ◌+◌, ◌||◌, ◌++◌, ap, subst, refl, ℕ, List, [], Bool, true, false, Option, Some, None, codes, inl, inr, length, add-one}
-use Rattle.std.specs.Prelude.{◌⊎◌, IfSome, slice_get, string_bytes}
+use Rattle.std.proofs.Common.{◌≡◌, ◌∙◌, ◌+◌, ◌||◌, ◌++◌, ap, subst, sym, refl, ℕ, List, [], Bool, true, false, Option, Some, None, Ok, Err, codes, inl, inr, length, add-one}
+use Rattle.std.specs.Prelude.{◌⊎◌, IfOk, IfSome, Result, is_err, slice_get, string_bytes}
 use Rattle.annotations.specs.Annotated.{IsAnnotation, with_found}
 use Rattle.annotations.specs.declared.fuel.Fuel.{Fuel}
 use Rattle.elf.specs.Files.{IsObjectFile, section_count, section_name}
 use Rattle.elf.specs.Lists.{HasBytes, HasSymbol, functions_of, relocations_of, symbol_bytes, symbol_name}
 use Rattle.elf.specs.declared.lists.LinkedSymbol.{LinkedSymbol}
+use Rattle.explanations.specs.Told.{TellsVerdict}
 use Rattle.isa.specs.Hooks.{hook_name}
 use Rattle.object.specs.Objects.{ObjectParts}
+use Rattle.object_verdicts.specs.Verdicts.{Accepts}
+use Rattle.object_verdicts.specs.declared.error.VerifyError.{VerifyError}
 use Rattle.verifier.specs.Programs.{Program}
 use Rattle.isa.specs.declared.hook.Hook.{Hook}
 use Rattle.hooktool_commands.specs.Annotations.{fuel_for}
-use Rattle.hooktool_commands.specs.Builds.{AreBuiltFunctions, AreBuiltSections, IsBuilt, IsBuiltAt, IsBuiltFunction, IsBuiltSection, IsHookOf, Wanted, built_line}
+use Rattle.hooktool_commands.specs.Builds.{AreBuiltFunctions, AreBuiltSections, IsBuilt, IsBuiltAt, IsBuiltFunction, IsBuiltSection, IsHookOf, TellsFunction, Wanted, built_text}
+use Rattle.hooktool_commands.specs.Explanations.{IsExplained}
 use Rattle.hooktool_commands.specs.Orders.{IsBuiltCode}
 use Rattle.hooktool_commands.specs.declared.report.Report.{Report}
 
@@ -30,7 +34,7 @@ function_built file wanted hook function name code report named name_is has code
     accepted = found.accepted;
     found = found.found;
     annotation = subst (λ (c : List ℕ). IsAnnotation hook (with_found (fuel_for hook wanted.fuel) found.found) c found.object found.bytes found.accepted) code_is found.annotation;
-    told = found.told ∙ ap (λ (n : List ℕ). built_line wanted.folder n (hook_name hook) found.accepted.bound found.found) name_is;
+    told = subst (λ (n : List ℕ). TellsFunction wanted.folder n (hook_name hook) found.accepted found.found (string_bytes report.text)) name_is found.told;
   })
 ]
 
@@ -41,6 +45,10 @@ first_true false b h = absurd cc
 second_true : (a b : Bool) → b ≡ true → (a || b) ≡ true
 second_true true b h = refl
 second_true false b h = h
+
+-- what was refused stays so with more
+pub still_refused : (before more after : Report) → before.is_refused ≡ true → after.is_refused ≡ (before.is_refused || more.is_refused) → after.is_refused ≡ true
+still_refused before more after was refused = refused ∙ first_true before.is_refused more.is_refused was
 
 -- a line more
 pub functions_more : (file : List ℕ) (wanted : Wanted) (hook : Hook) (functions : List LinkedSymbol) (function : LinkedSymbol) (n : ℕ) (before more after : Report)
@@ -122,14 +130,52 @@ sections_all file wanted n report all so_far =
     subst (λ (m : ℕ). (report.is_refused ≡ true) ⊎ AreBuiltSections file wanted m (string_bytes report.text)) all so_far
 
 -- the code of a function whose object was written
-pub code_built : (wanted : Wanted) (hook : Hook) (shown name code : List ℕ) (object : ObjectParts) (bytes : List ℕ) (accepted : Program) (fuel : Fuel) (turns : Option ℕ) (report : Report)
-    → fuel ≡ fuel_for hook wanted.fuel → IsAnnotation hook (with_found fuel turns) code object bytes accepted → shown ≡ name
-    → string_bytes report.text ≡ built_line wanted.folder shown (hook_name hook) accepted.bound turns → IsBuiltCode wanted hook name code report
-code_built wanted hook shown name code object bytes accepted fuel turns report fuel_is annotation is told = inr (record {
+pub code_built : (wanted : Wanted) (hook : Hook) (folder shown name code : List ℕ) (object : ObjectParts) (bytes : List ℕ) (accepted : Program) (fuel : Fuel) (turns : Option ℕ) (report : Report)
+    → wanted.folder ≡ Some folder → fuel ≡ fuel_for hook wanted.fuel → IsAnnotation hook (with_found fuel turns) code object bytes accepted → shown ≡ name
+    → string_bytes report.text ≡ built_text folder shown (hook_name hook) accepted turns → IsBuiltCode wanted hook name code report
+code_built wanted hook folder shown name code object bytes accepted fuel turns report folder_is fuel_is annotation is told = inr (record {
   object = object;
   bytes = bytes;
   accepted = accepted;
   found = turns;
   annotation = subst (λ (f : Fuel). IsAnnotation hook (with_found f turns) code object bytes accepted) fuel_is annotation;
-  told = told ∙ ap (λ (n : List ℕ). built_line wanted.folder n (hook_name hook) accepted.bound turns) is;
+  told = subst (λ (f : Option (List ℕ)). TellsFunction f name (hook_name hook) accepted turns (string_bytes report.text)) (sym folder_is)
+      (told ∙ ap (λ (n : List ℕ). built_text folder n (hook_name hook) accepted turns) is);
 })
+
+-- another program that the verifier accepts in the same bytes
+accepted_too : (hook : Hook) (fuel : Fuel) (code : List ℕ) (object : ObjectParts) (bytes : List ℕ) (one other : Program)
+    → IsAnnotation hook fuel code object bytes one → Accepts bytes other → IsAnnotation hook fuel code object bytes other
+accepted_too hook fuel code object bytes one other is accepts = record {
+  text = is.text;
+  has_code = is.has_code;
+  annotation = record {
+    written = is.annotation.written;
+    code_is = is.annotation.code_is;
+    annotated = record { is_for = is.annotation.annotated.is_for; accepts = accepts };
+  };
+  accepts = accepts;
+}
+
+-- the code of a function that is explained, whose verdict is told at the end
+verdict_told : (wanted : Wanted) (hook : Hook) (name code : List ℕ) (object : ObjectParts) (bytes : List ℕ) (accepted : Program) (turns : Option ℕ) (report : Report)
+    (verdict : Result Program VerifyError) (before told : List ℕ) → wanted.folder ≡ None
+    → IsAnnotation hook (with_found (fuel_for hook wanted.fuel) turns) code object bytes accepted → IfOk verdict (Accepts bytes) → TellsVerdict verdict told
+    → string_bytes report.text ≡ before ++ told → report.is_refused ≡ is_err verdict → IsBuiltCode wanted hook name code report
+verdict_told wanted hook name code object bytes accepted turns report (Ok program) before told none annotation accepts tells text refused = inr (record {
+  object = object;
+  bytes = bytes;
+  accepted = program;
+  found = turns;
+  annotation = accepted_too hook (with_found (fuel_for hook wanted.fuel) turns) code object bytes accepted program annotation accepts;
+  told = subst (λ (f : Option (List ℕ)). TellsFunction f name (hook_name hook) program turns (string_bytes report.text)) (sym none)
+      (before, text ∙ ap (λ (t : List ℕ). before ++ t) tells);
+})
+verdict_told wanted hook name code object bytes accepted turns report (Err error) before told none annotation accepts tells text refused = inl refused
+
+pub code_explained : (wanted : Wanted) (hook : Hook) (name code : List ℕ) (object : ObjectParts) (bytes : List ℕ) (accepted : Program) (fuel : Fuel) (turns : Option ℕ) (report : Report)
+    → wanted.folder ≡ None → fuel ≡ fuel_for hook wanted.fuel → IsAnnotation hook (with_found fuel turns) code object bytes accepted → IsExplained bytes report
+    → IsBuiltCode wanted hook name code report
+code_explained wanted hook name code object bytes accepted fuel turns report none fuel_is annotation is =
+    verdict_told wanted hook name code object bytes accepted turns report is.verdict is.before is.told none
+    (subst (λ (f : Fuel). IsAnnotation hook (with_found f turns) code object bytes accepted) fuel_is annotation) is.accepts is.tells is.text_is is.refused

@@ -1,5 +1,5 @@
 -- What is told of an object file that was explained.
-use Rattle.std.proofs.Common.{◌≡◌, ◌∙◌, ◌++◌, ℕ, List, Ok, Err, append_assoc, sym}
+use Rattle.std.proofs.Common.{◌≡◌, ◌∙◌, ◌++◌, ℕ, List, Ok, Err, ap, append_assoc, sym}
 use Rattle.std.specs.Prelude.{IfErr, IfOk, Result, is_err, string_bytes}
 use Rattle.explanations.specs.Told.{TellsVerdict}
 use Rattle.object_verdicts.specs.Verdicts.{Accepts, Refuses}
@@ -22,3 +22,17 @@ explained {E} bytes verdict before last told (Ok report) accepts refuses tells t
   refused = refused;
 }
 explained {E} bytes verdict before last told (Err e) accepts refuses tells text refused = tt
+
+-- with more in front of it
+pub explained_behind : (bytes head : List ℕ) (one other : Report) → IsExplained bytes one → string_bytes other.text ≡ head ++ string_bytes one.text
+    → other.is_refused ≡ one.is_refused → IsExplained bytes other
+explained_behind bytes head one other is text same = record {
+  verdict = is.verdict;
+  accepts = is.accepts;
+  refuses = is.refuses;
+  before = head ++ is.before;
+  told = is.told;
+  text_is = text ∙ (ap (λ (t : List ℕ). head ++ t) is.text_is ∙ sym (append_assoc head is.before is.told));
+  tells = is.tells;
+  refused = same ∙ is.refused;
+}

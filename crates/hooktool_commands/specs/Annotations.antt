@@ -8,6 +8,7 @@ use Rattle.annotations.specs.Annotated.{IsAnnotation, with_found}
 use Rattle.annotations.specs.CountedCode.{answer_without_turns}
 use Rattle.annotations.specs.declared.fuel.Fuel.{Fuel}
 use Rattle.hooktool_line.specs.declared.requests.FuelAsked.{FuelAsked}
+use Rattle.hooktool_commands.specs.Cells.{cells_note}
 use Rattle.hooktool_commands.specs.declared.report.Report.{Report}
 
 -- How many turns may be counted at the hook, and what is answered once they are used up.
@@ -22,9 +23,10 @@ abbrev pub counted_words : (found : Option ℕ) → List ℕ
 counted_words None = 10 ∷ []
 counted_words (Some turns) = codes ", turns counted, at most " ++ (decimal turns ++ 10 ∷ [])
 
--- the line that is printed
-abbrev pub accepted_line : (bound : ℕ) → (found : Option ℕ) → List ℕ
-accepted_line bound found = codes "accepted bound " ++ (decimal bound ++ counted_words found)
+-- the line that is printed, and what the program's author has to know
+abbrev pub accepted_text : Program → (found : Option ℕ) → List ℕ
+accepted_text program found = codes "accepted bound "
+    ++ (decimal program.bound ++ (counted_words found ++ cells_note program))
 
 -- An object was found of the file's code (with --fuel, or where that is told, of that code with its
 -- turns counted) that the verifier accepts, and its bound is told.
@@ -35,7 +37,7 @@ pub record IsFound (hook : Hook) (fuel : FuelAsked) (file : List ℕ) (report : 
   pub found : Option ℕ
   pub annotation : IsAnnotation hook (with_found (fuel_for hook fuel) found) file object bytes
       accepted
-  pub told : string_bytes report.text ≡ accepted_line accepted.bound found
+  pub told : string_bytes report.text ≡ accepted_text accepted found
   pub done : report.is_refused ≡ false
 
 -- Or none was, and that is told.

@@ -1,6 +1,8 @@
--- What is told of an ELF file whose functions were built: a line for each, in the order of the file.
-use Rattle.std.specs.Prelude.{◌≡◌, ◌⊎◌, ◌==◌, ◌&&◌, ℕ, zero, suc, List, [], ◌++◌, Option, Some, Bool, true, false, not, codes}
+-- What is told of an ELF file whose functions were built: some lines for each, in the order of the
+-- file.
+use Rattle.std.specs.Prelude.{◌≡◌, ◌⊎◌, ◌==◌, ◌&&◌, ℕ, zero, suc, List, [], ◌++◌, Option, Some, None, Bool, true, false, not, codes}
 use Rattle.std.specs.Prelude.{length, slice_get, string_bytes}
+use Rattle.explanations.specs.Told as explained
 use Rattle.isa.specs.declared.hook.Hook.{Hook}
 use Rattle.isa.specs.Hooks.{hook_name}
 use Rattle.object.specs.Objects.{ObjectParts}
@@ -10,20 +12,30 @@ use Rattle.elf.specs.declared.lists.LinkedSymbol.{LinkedSymbol}
 use Rattle.elf.specs.Entries.{is_code}
 use Rattle.elf.specs.Files.{IsObjectFile, contents_of, section_at, section_count, section_name}
 use Rattle.elf.specs.Lists.{HasBytes, HasSymbol, functions_of, relocations_of, symbol_bytes, symbol_name}
-use Rattle.hooktool_commands.specs.Annotations.{accepted_line, fuel_for}
+use Rattle.hooktool_commands.specs.Annotations.{accepted_text, fuel_for}
+use Rattle.hooktool_commands.specs.Explanations.{IsExplained}
 use Rattle.hooktool_line.specs.declared.requests.FuelAsked.{FuelAsked}
 use Rattle.hooktool_commands.specs.declared.report.Report.{Report}
 
--- what was asked for: the folder, the hook of functions in .text, the turns of loops
+-- what was asked for: the folder for objects (without one each is explained), the hook of functions
+-- in .text, the turns of loops
 pub record Wanted : Type 0 where
-  pub folder : List ℕ
+  pub folder : Option (List ℕ)
   pub hook : Option Hook
   pub fuel : FuelAsked
 
--- FOLDER/FUNCTION.o: HOOK, accepted bound N
-abbrev pub built_line : (folder function hook : List ℕ) → (bound : ℕ) → (found : Option ℕ) → List ℕ
-built_line folder function hook bound found = folder ++ (codes "/" ++ (function ++ (codes ".o: "
-    ++ (hook ++ (codes ", " ++ accepted_line bound found)))))
+-- FOLDER/FUNCTION.o: HOOK, accepted bound N, and what the program's author has to know
+abbrev pub built_text : (folder function hook : List ℕ) → Program → (found : Option ℕ) → List ℕ
+built_text folder function hook program found = folder ++ (codes "/" ++ (function ++ (codes ".o: "
+    ++ (hook ++ (codes ", " ++ accepted_text program found)))))
+
+-- The object was written, and its bound is told; or it is explained, with its verdict at the end.
+abbrev pub TellsFunction : Option (List ℕ) → (function hook : List ℕ) → Program
+    → (found : Option ℕ) → List ℕ → Type 0
+TellsFunction (Some folder) function hook program found text =
+    text ≡ built_text folder function hook program found
+TellsFunction None function hook program found text = (before : List ℕ)
+    × (text ≡ before ++ explained.accepted_line program.bound)
 
 -- A section is for the hook that it is named by, and .text for the one that was asked for.
 abbrev pub IsHookOf : Option Hook → List ℕ → Hook → Type 0
@@ -31,7 +43,7 @@ IsHookOf asked section hook = (section ≡ hook_name hook)
     ⊎ ((section ≡ codes ".text") × (asked ≡ Some hook))
 
 -- An object was found of the function's code (with --fuel, or where that is told, of that code with
--- its turns counted) that the verifier accepts, and the line tells its bound.
+-- its turns counted) that the verifier accepts, and the text tells its bound.
 pub record IsBuiltFunction (file : List ℕ) (wanted : Wanted) (hook : Hook) (function : LinkedSymbol)
     (line : List ℕ) : Type 0 where
   pub named : HasSymbol file function.table function.index
@@ -42,8 +54,8 @@ pub record IsBuiltFunction (file : List ℕ) (wanted : Wanted) (hook : Hook) (fu
   pub found : Option ℕ
   pub annotation : IsAnnotation hook (with_found (fuel_for hook wanted.fuel) found)
       (symbol_bytes file function.symbol) object bytes accepted
-  pub told : line ≡ built_line wanted.folder (symbol_name file function.table function.index)
-      (hook_name hook) accepted.bound found
+  pub told : TellsFunction wanted.folder (symbol_name file function.table function.index)
+      (hook_name hook) accepted found line
 
 -- The lines are those of the first n functions.
 abbrev pub AreBuiltFunctions : List ℕ → Wanted → Hook → List LinkedSymbol → ℕ → List ℕ → Type 0
@@ -83,3 +95,15 @@ AreBuiltSections file wanted (suc i) lines = (before more : List ℕ)
 abbrev pub IsBuilt : List ℕ → Wanted → Report → Type 0
 IsBuilt file wanted report = (report.is_refused ≡ true)
     ⊎ (IsObjectFile file × AreBuiltSections file wanted (section_count file) (string_bytes report.text))
+
+-- Each function is explained, none of .text.
+abbrev pub explanations_wanted : Wanted
+explanations_wanted = record {
+  folder = None;
+  hook = None;
+  fuel = record { turns = None; answer = None };
+}
+
+-- An object file is explained, or each function of an ELF file.
+abbrev pub IsExplainedFile : List ℕ → Report → Type 0
+IsExplainedFile bytes report = IsExplained bytes report ⊎ IsBuilt bytes explanations_wanted report

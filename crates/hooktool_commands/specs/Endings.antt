@@ -1,5 +1,5 @@
 -- How the program ends: what was asked for, what is printed, and with which status.
-use Rattle.std.specs.Prelude.{◌≡◌, ◌⊎◌, ℕ, List, Bool, true, false, Option, Result, Ok, Err, IfOk}
+use Rattle.std.specs.Prelude.{◌≡◌, ◌⊎◌, ℕ, List, Bool, true, false, Option, Some, Result, Ok, Err, IfOk}
 use Rattle.std.specs.Prelude.{string_bytes}
 use Rattle.std.specs.Io.KnownBytes.{Appends}
 use Rattle.clap.specs.Values.{kind_of}
@@ -10,8 +10,7 @@ use Rattle.hooktool_line.specs.Requests.{Asks, IsRefusal}
 use Rattle.hooktool_line.specs.declared.requests.Request.{Request}
 use Rattle.hooktool_line.specs.declared.requests.Request.TheVariants as requests
 use Rattle.hooktool_commands.specs.Annotations.{IsAnnotated}
-use Rattle.hooktool_commands.specs.Builds.{IsBuilt}
-use Rattle.hooktool_commands.specs.Explanations.{IsExplained}
+use Rattle.hooktool_commands.specs.Builds.{IsBuilt, IsExplainedFile}
 use Rattle.hooktool_commands.specs.Statuses.{status_of, status_of_words}
 use Rattle.hooktool_commands.specs.Tests.{IsTested}
 use Rattle.hooktool_commands.specs.Trials.{IsTried}
@@ -26,8 +25,8 @@ abbrev pub IsMadeOf : Request → Report → Type 0
 IsMadeOf (requests.Annotate hook code object fuel) report =
     (file : List ℕ) × IsAnnotated hook fuel file report
 IsMadeOf (requests.Build file folder hook fuel) report = (bytes : List ℕ)
-    × IsBuilt bytes (record { folder = folder.now; hook = hook; fuel = fuel }) report
-IsMadeOf (requests.Explain object) report = (bytes : List ℕ) × IsExplained bytes report
+    × IsBuilt bytes (record { folder = Some folder.now; hook = hook; fuel = fuel }) report
+IsMadeOf (requests.Explain object) report = (bytes : List ℕ) × IsExplainedFile bytes report
 IsMadeOf (requests.Try object question) report =
     (bytes packet : List ℕ) × PacketIs question.packet packet × IsTried bytes packet question report
 IsMadeOf (requests.Test file) report = IsTested (Played report)

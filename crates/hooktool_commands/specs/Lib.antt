@@ -1,5 +1,6 @@
 pub mod Annotations
 pub mod Builds
+pub mod Cells
 pub mod Orders
 pub mod Endings
 pub mod Explanations

@@ -1,17 +1,23 @@
 -- What an order wants, and what is told of the code of one function.
-use Rattle.std.specs.Prelude.{◌≡◌, ◌⊎◌, ℕ, List, Option, true, string_bytes}
+use Rattle.std.specs.Prelude.{◌≡◌, ◌⊎◌, ℕ, List, Option, Some, None, true, string_bytes}
 use Rattle.isa.specs.declared.hook.Hook.{Hook}
 use Rattle.isa.specs.Hooks.{hook_name}
 use Rattle.object.specs.Objects.{ObjectParts}
 use Rattle.verifier.specs.Programs.{Program}
 use Rattle.annotations.specs.Annotated.{IsAnnotation, with_found}
 use Rattle.hooktool_commands.specs.declared.building.Order.{Order}
+use Rattle.hooktool_commands.specs.declared.building.Purpose.{Purpose}
+use Rattle.hooktool_commands.specs.declared.building.Purpose.TheVariants as purposes
 use Rattle.hooktool_commands.specs.declared.report.Report.{Report}
 use Rattle.hooktool_commands.specs.Annotations.{fuel_for}
-use Rattle.hooktool_commands.specs.Builds.{Wanted, built_line}
+use Rattle.hooktool_commands.specs.Builds.{TellsFunction, Wanted}
+
+abbrev pub folder_of : Purpose → Option (List ℕ)
+folder_of (purposes.Object folder) = Some folder.now
+folder_of purposes.Explanation = None
 
 abbrev pub wanted_of : Order → Wanted
-wanted_of order = record { folder = order.folder.now; hook = order.hook; fuel = order.fuel }
+wanted_of order = record { folder = folder_of order.purpose; hook = order.hook; fuel = order.fuel }
 
 -- An object was found of this code that the verifier accepts, and its bound is told.
 pub record IsFoundCode (wanted : Wanted) (hook : Hook) (function code : List ℕ) (report : Report)
@@ -22,8 +28,8 @@ pub record IsFoundCode (wanted : Wanted) (hook : Hook) (function code : List ℕ
   pub found : Option ℕ
   pub annotation : IsAnnotation hook (with_found (fuel_for hook wanted.fuel) found) code object
       bytes accepted
-  pub told : string_bytes report.text ≡ built_line wanted.folder function (hook_name hook)
-      accepted.bound found
+  pub told : TellsFunction wanted.folder function (hook_name hook) accepted found
+      (string_bytes report.text)
 
 -- Or none was, and that is told.
 abbrev pub IsBuiltCode : Wanted → Hook → (function code : List ℕ) → Report → Type 0

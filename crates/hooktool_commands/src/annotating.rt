@@ -2,9 +2,10 @@
 
 ghost use Rattle.std.specs.Prelude.{◌≡◌, List, ℕ, false, true, IfOk, string_bytes};
 ghost use Rattle.object_verdicts.specs.Verdicts.{Accepts};
-ghost use Rattle.hooktool_commands.specs.Annotations.{IsAnnotated, accepted_line, counted_words};
+ghost use Rattle.hooktool_commands.specs.Annotations.{IsAnnotated, accepted_text, counted_words};
 ghost use Rattle.hooktool_commands.specs.Annotations.{fuel_for};
 
+use crate::cells::cells_note;
 use crate::explaining::lacks_memory;
 use crate::fault::Fault;
 use crate::files;
@@ -20,21 +21,80 @@ use std::alloc::{AllocError, Global};
 use std::rt::Files;
 use verifier::BUDGET;
 
+/// How a refusal is told.
+#[derive(Clone, Copy)]
+pub(crate) struct Telling {
+    /// What is known at each slot, and not at the last one alone.
+    pub is_whole: bool,
+    /// What `--fuel` says.
+    pub turns: Option<u32>,
+    /// How many slots the given code has, where that is known.
+    pub slots: Option<usize>,
+}
+
+/// The slots that count the turns of a loop: one at the entry, and four behind the code.
+const COUNTING: usize = 5;
+
 /// How great a rank may be at the entry of a program with so many slots.
-fn push_budget(out: &mut Text, slots: usize) {
-    let most = match slots {
+fn most_rank(slots: usize) -> u64 {
+    match slots {
         0 => 0,
         slots => (BUDGET / slots as u64).saturating_sub(1),
-    };
+    }
+}
+
+/// The greatest N of `--fuel` that code of so many slots may have: with one loop that is counted.
+fn most_fuel(slots: usize) -> u64 {
+    most_rank(slots.saturating_add(COUNTING)).saturating_sub(1)
+}
+
+/// How great a rank may be at the entry of a program with so many slots.
+fn push_budget(out: &mut Text, slots: usize) {
+    let most = most_rank(slots);
     out.fill(
         "  a run may take (B + 1) * L instructions, {} at most, for a rank B at the entry and L \
-            slots:\n  L is {} here, so B is at most {}; --fuel N makes B N + 1\n",
+            slots:\n  L is {} here, so B is at most {}\n",
         &[u128::from(BUDGET), slots as u128, u128::from(most)],
     )
 }
 
+/// Which `--fuel` is too much for code of so many slots.
+fn push_fuel(out: &mut Text, slots: usize) {
+    let counted = slots.saturating_add(COUNTING);
+    let most = most_fuel(slots);
+    out.fill(
+        "  --fuel N makes B N + 1, and L {} with one loop that is counted, so N is at most {}\n",
+        &[counted as u128, u128::from(most)],
+    )
+}
+
+/// What an author can do about a loop without a rank, in a program with so many slots.
+fn push_remedies(out: &mut Text, endless: &Endless, slots: usize) {
+    out.push(
+        "  either let a register fall with each turn (DOWN and EACH of examples/c/leafrunt.h \
+            do)\n",
+    );
+    let most = most_fuel(slots);
+    out.numbered(
+        "  or count the turns: --fuel N, with N at most ",
+        most,
+        "\n",
+    );
+    if endless.lacks_register {
+        out.push("  its turns end, but nothing can count them: the program uses each of r6 to r9\n")
+    }
+}
+
+/// Whether it is the count of turns that falls from too great a number.
+fn is_fuel(endless: &Endless, turns: Option<u32>) -> bool {
+    match (endless.trouble, turns) {
+        (Trouble::TooHigh { from, .. }, Some(turns)) => from == u64::from(turns) + 1,
+        _ => false,
+    }
+}
+
 /// Which loop has no rank and why, and what an author can do. The program has so many slots.
-fn push_endless(out: &mut Text, endless: &Endless, slots: usize) {
+fn push_endless(out: &mut Text, endless: &Endless, slots: usize, telling: Telling) {
     let (sentence, register, from) = match endless.trouble {
         Trouble::Rises { register } => (
             "the loop at slot {} has no rank: r{} rises with each turn, and none falls\n",
@@ -60,31 +120,36 @@ fn push_endless(out: &mut Text, endless: &Endless, slots: usize) {
     if let Trouble::TooHigh { .. } = endless.trouble {
         push_budget(out, slots)
     }
-    out.push(
-        "  either let a register fall with each turn (DOWN and EACH of examples/c/leafrunt.h \
-            do)\n  or count the turns: --fuel N\n",
-    );
-    if endless.lacks_register {
-        out.push("  its turns end, but nothing can count them: the program uses each of r6 to r9\n")
+    match telling.slots {
+        Some(given) if is_fuel(endless, telling.turns) => push_fuel(out, given),
+        Some(given) => push_remedies(out, endless, given),
+        None => push_remedies(out, endless, slots),
     }
 }
 
-/// The last two texts of an explanation, and which loop has no rank. An error where the verifier
-/// was refused memory.
-fn last_told(
+/// What an explanation tells, and which loop has no rank. The program has so many slots. An error
+/// where the verifier was refused memory.
+fn told_of(
     alloc: Global,
     explanation: &Explanation,
     endless: &Option<Endless>,
     slots: usize,
+    telling: Telling,
 ) -> Result<String, AllocError> {
     if lacks_memory(&explanation.verdict) {
         return Err(AllocError);
     }
     let mut text = Text::new(alloc);
+    if matches!(telling.slots, Some(given) if slots > given) {
+        text.push("its turns are counted, so each slot is one later\n")
+    }
+    if telling.is_whole {
+        text.push(explanation.before.as_str())
+    }
     text.push(explanation.last.as_str());
     text.push(explanation.told.as_str());
     if let Some(endless) = endless {
-        push_endless(&mut text, endless, slots);
+        push_endless(&mut text, endless, slots, telling);
     }
     text.finish()
 }
@@ -94,11 +159,12 @@ fn rejection_text(
     alloc: Global,
     rejected: &Rejected,
     endless: &Option<Endless>,
+    telling: Telling,
 ) -> Result<String, AllocError> {
     match explain(alloc, &rejected.bytes) {
         Ok(explanation) => {
             let slots = rejected.object.code().len() / 8;
-            last_told(alloc, &explanation, endless, slots)
+            told_of(alloc, &explanation, endless, slots, telling)
         }
         Err(_) => Err(AllocError),
     }
@@ -109,10 +175,11 @@ fn rejection<'a>(
     alloc: Global,
     rejected: &Rejected,
     endless: &Option<Endless>,
+    telling: Telling,
 ) -> Result<Report, Fault<'a>>
     ensures { IfOk result (λ report. report.is_refused ≡ true) }
 {
-    match rejection_text(alloc, rejected, endless) {
+    match rejection_text(alloc, rejected, endless, telling) {
         Ok(text) => Ok(Report {
             text,
             is_refused: true,
@@ -136,11 +203,15 @@ fn uncounted<'a>(error: CountError) -> Fault<'a> {
 }
 
 /// What is told where nothing was accepted.
-pub(crate) fn shortfall<'a>(alloc: Global, shortfall: Shortfall) -> Result<Report, Fault<'a>>
+pub(crate) fn shortfall<'a>(
+    alloc: Global,
+    shortfall: Shortfall,
+    telling: Telling,
+) -> Result<Report, Fault<'a>>
     ensures { IfOk result (λ report. report.is_refused ≡ true) }
 {
     match shortfall {
-        Shortfall::Refused(rejected, endless) => rejection(alloc, &rejected, &endless),
+        Shortfall::Refused(rejected, endless) => rejection(alloc, &rejected, &endless, telling),
         Shortfall::Code(error) => Err(Fault::from(error)),
         Shortfall::Object(error) => Err(Fault::from(error)),
         Shortfall::OtherHook(hook) => Err(Fault::OtherHook { hook: hook.name() }),
@@ -159,23 +230,25 @@ fn counted_words(alloc: Global, turns: Option<u32>) -> Result<String, AllocError
     }
 }
 
-/// The line of an object that is written: its bound, and how many turns it counts.
-pub(crate) fn accepted_line(alloc: Global, found: &Found) -> Result<String, AllocError>
-    ensures { IfOk result (λ line. string_bytes line
-        ≡ accepted_line found.now.annotated.accepted.bound found.now.turns) }
+/// What is told of an object that is written: its bound, how many turns it counts, and a note on
+/// its cells.
+pub(crate) fn accepted_text(alloc: Global, found: &Found) -> Result<String, AllocError>
+    ensures { IfOk result (λ text. string_bytes text
+        ≡ accepted_text found.now.annotated.accepted found.now.turns) }
 {
     let bound = found.annotated.accepted.bound();
     let counted = counted_words(alloc, found.turns)?;
-    format!(in alloc; "accepted bound {bound}{counted}")
+    let note = cells_note(&found.annotated.accepted);
+    format!(in alloc; "accepted bound {bound}{counted}{note}")
 }
 
 /// What is told of a program that is accepted.
 fn accepted<'a>(alloc: Global, found: &Found) -> Result<Report, Fault<'a>>
     ensures told { IfOk result (λ report. string_bytes report.text
-        ≡ accepted_line found.now.annotated.accepted.bound found.now.turns) }
+        ≡ accepted_text found.now.annotated.accepted found.now.turns) }
     ensures done { IfOk result (λ report. report.is_refused ≡ false) }
 {
-    match accepted_line(alloc, found) {
+    match accepted_text(alloc, found) {
         Ok(text) => Ok(Report {
             text,
             is_refused: false,
@@ -192,7 +265,7 @@ fn written<'a, R: Files + AllocGlobal>(
 ) -> Result<Report, Fault<'a>>
     requires { Accepts found.now.annotated.bytes.items found.now.annotated.accepted }
     ensures told { IfOk result (λ report. string_bytes report.text
-        ≡ accepted_line found.now.annotated.accepted.bound found.now.turns) }
+        ≡ accepted_text found.now.annotated.accepted found.now.turns) }
     ensures done { IfOk result (λ report. report.is_refused ≡ false) }
 {
     match accepted(rt.alloc(), found) {
@@ -214,9 +287,34 @@ pub(crate) fn fuel_for(hook: Hook, asked: FuelAsked) -> Fuel
     }
 }
 
+/// Whether the bytes begin as an ELF file, and so are no code.
+pub(crate) fn is_elf(file: &[u8]) -> bool {
+    matches!(file, [0x7f, b'E', b'L', b'F', ..])
+}
+
+/// How many slots bare code in a file has. Of an object nothing.
+fn given_slots(file: &[u8]) -> Option<usize> {
+    match file {
+        [b'B', b'P', b'F', b'H', ..] => None,
+        code => Some(code.len() / 8),
+    }
+}
+
+/// What is told of an ELF file in the place of code.
+fn elf_refusal<'a>(alloc: Global) -> Result<Report, Fault<'a>>
+    ensures { IfOk result (λ report. report.is_refused ≡ true) }
+{
+    Ok(Report {
+        text: format!(in alloc;
+            "CODE is an ELF file: hooktool build FILE FOLDER makes an object of each of its functions, and hooktool explain FILE explains each\n"
+        )?,
+        is_refused: true,
+    })
+}
+
 /// Finds statements for the code in these bytes of a file, and writes the object file `object`, if
 /// the verifier accepts it.
-fn annotate_bytes<'a, R: Files + AllocGlobal>(
+fn annotate_code<'a, R: Files + AllocGlobal>(
     rt: &R,
     hook: Hook,
     file: &[u8],
@@ -227,7 +325,31 @@ fn annotate_bytes<'a, R: Files + AllocGlobal>(
 {
     match annotate_file(rt.alloc(), hook, file, fuel_for(hook, fuel)) {
         Ok(found) => written(rt, object, &found),
-        Err(error) => shortfall(rt.alloc(), error),
+        Err(error) => {
+            let telling = Telling {
+                is_whole: false,
+                turns: fuel.turns,
+                slots: given_slots(file),
+            };
+            shortfall(rt.alloc(), error, telling)
+        }
+    }
+}
+
+/// The same of bytes that may be an ELF file, which has no code of its own.
+fn annotate_bytes<'a, R: Files + AllocGlobal>(
+    rt: &R,
+    hook: Hook,
+    file: &[u8],
+    object: &'a str,
+    fuel: FuelAsked,
+) -> Result<Report, Fault<'a>>
+    ensures { IfOk result (λ report. (file : List ℕ) × IsAnnotated hook fuel file report) }
+{
+    if is_elf(file) {
+        elf_refusal(rt.alloc())
+    } else {
+        annotate_code(rt, hook, file, object, fuel)
     }
 }
 

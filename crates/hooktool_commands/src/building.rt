@@ -1,4 +1,5 @@
-//! `build`: an object for each function that clang compiled for a hook.
+//! `build`: an object for each function that clang compiled for a hook. `explain`: what the verifier
+//! knows of each.
 
 ghost use Rattle.std.specs.Prelude.{◌≡◌, ◌⊎◌, ◌++◌, ◌||◌, ◌<◌, ℕ, List, true, Some, IfOk, IfSome};
 ghost use Rattle.std.specs.Prelude.{OnOk, length, string_bytes};
@@ -8,14 +9,16 @@ ghost use Rattle.elf.specs.Files.{section_count, section_name};
 ghost use Rattle.elf.specs.Lists.{symbol_bytes, symbol_name};
 ghost use Rattle.hooktool_commands.specs.Builds.{AreBuiltFunctions, AreBuiltSections, IsBuilt};
 ghost use Rattle.hooktool_commands.specs.Builds.{IsBuiltAt, IsBuiltFunction, IsBuiltSection};
-ghost use Rattle.hooktool_commands.specs.Builds.{IsHookOf, built_line, is_program_section};
+ghost use Rattle.hooktool_commands.specs.Builds.{IsHookOf, built_text, is_program_section};
+ghost use Rattle.hooktool_commands.specs.Explanations.{IsExplained};
 ghost use Rattle.hooktool_commands.specs.Orders.{IsBuiltCode, wanted_of};
 
-use crate::annotating::{accepted_line, fuel_for, shortfall};
+use crate::annotating::{Telling, accepted_text, fuel_for, shortfall};
+use crate::explaining::explanation_of;
 use crate::fault::Fault;
 use crate::files;
 use crate::names::{as_file_name, shown};
-use crate::relocated::{Section, relocation_report};
+use crate::relocated::{Section, relocation_report, unchanged};
 use crate::report::Report;
 use annotations::{Found, annotate_file};
 use elf::{LinkedSymbol, ObjectFile};
@@ -25,10 +28,19 @@ use isa::Hook;
 use std::alloc::{AllocError, Global};
 use std::rt::Files;
 
-/// Where objects go, the hook of functions in `.text`, and the turns of loops.
+/// What is made of each function.
+#[derive(Clone, Copy)]
+pub(crate) enum Purpose<'a> {
+    /// An object in this folder.
+    Object { folder: &'a str },
+    /// An explanation.
+    Explanation,
+}
+
+/// What is made of each function, the hook of functions in `.text`, and the turns of loops.
 #[derive(Clone, Copy)]
 pub(crate) struct Order<'a> {
-    pub folder: &'a str,
+    pub purpose: Purpose<'a>,
     pub hook: Option<Hook>,
     pub fuel: FuelAsked,
 }
@@ -131,7 +143,7 @@ fn function_refusal<'a>(
     Ok(refusal(text)?)
 }
 
-/// The line of an object that is written.
+/// What is told of an object that is written.
 fn line_of(
     alloc: Global,
     folder: &str,
@@ -139,10 +151,10 @@ fn line_of(
     hook: &str,
     found: &Found,
 ) -> Result<String, AllocError>
-    ensures { IfOk result (λ line. string_bytes line ≡ built_line folder.now function.now hook.now
-        found.now.annotated.accepted.bound found.now.turns) }
+    ensures { IfOk result (λ line. string_bytes line ≡ built_text folder.now function.now hook.now
+        found.now.annotated.accepted found.now.turns) }
 {
-    let accepted = accepted_line(alloc, found)?;
+    let accepted = accepted_text(alloc, found)?;
     let line = format!(in alloc; "{folder}/{function}.o: {hook}, {accepted}")?;
     Ok(line)
 }
@@ -150,17 +162,16 @@ fn line_of(
 /// Writes the object of a function, which the verifier accepted, and tells its bound.
 fn write_function<'a, R: Files + AllocGlobal>(
     rt: &R,
-    order: &Order<'a>,
+    folder: &'a str,
     hook: Hook,
     function: &str,
     found: &Found,
 ) -> Result<Report, Fault<'a>>
     requires { Accepts found.now.annotated.bytes.items found.now.annotated.accepted }
     ensures { IfOk result (λ report. string_bytes report.text
-        ≡ built_line order.now.folder.now function.now (hook_name hook)
-        found.now.annotated.accepted.bound found.now.turns) }
+        ≡ built_text folder.now function.now (hook_name hook)
+        found.now.annotated.accepted found.now.turns) }
 {
-    let folder = order.folder;
     let path = format!(in rt.alloc(); "{folder}/{function}.o")?;
     let text = line_of(rt.alloc(), folder, function, hook.name(), found)?;
     match files::write_accepted(rt, path.as_str(), &found.annotated.bytes) {
@@ -171,6 +182,24 @@ fn write_function<'a, R: Files + AllocGlobal>(
         Err(Fault::Memory) => Err(Fault::Memory),
         Err(_) => Err(Fault::Write { path: folder }),
     }
+}
+
+/// What the verifier knows at each slot of the object that was found for a function.
+fn explain_function<'a>(alloc: Global, names: Names<'_>, found: &Found) -> Result<Report, Fault<'a>>
+    ensures { IfOk result (IsExplained found.now.annotated.bytes.items) }
+{
+    let explained = explanation_of(alloc, &found.annotated.bytes)?;
+    let mut head = about(alloc, names.section, names.function);
+    head.push(match found.turns {
+        Some(_) => ": its turns are counted, so each slot is one later\n",
+        None => ":\n",
+    });
+    let mut report = Report {
+        text: head.finish()?,
+        is_refused: false,
+    };
+    join(&mut report, &explained)?;
+    Ok(report)
 }
 
 /// Makes the object of a function with this code, or tells why there is none.
@@ -190,9 +219,17 @@ fn build_code<'a, R: Files + AllocGlobal>(
         return Ok(refusal(text)?);
     };
     match annotate_file(rt.alloc(), hook, code, fuel_for(hook, order.fuel)) {
-        Ok(found) => Ok(write_function(rt, order, hook, name, &found)?),
+        Ok(found) => match order.purpose {
+            Purpose::Object { folder } => Ok(write_function(rt, folder, hook, name, &found)?),
+            Purpose::Explanation => Ok(explain_function(rt.alloc(), names, &found)?),
+        },
         Err(error) => {
-            let why = shortfall(rt.alloc(), error);
+            let telling = Telling {
+                is_whole: matches!(order.purpose, Purpose::Explanation),
+                turns: order.fuel.turns,
+                slots: Some(code.len() / 8),
+            };
+            let why = shortfall(rt.alloc(), error, telling);
             Ok(function_refusal(rt.alloc(), names, why)?)
         }
     }
@@ -228,7 +265,11 @@ fn build_function<'a, R: Files + AllocGlobal>(
 }
 
 /// What is told of a section with instructions that is for no hook.
-fn section_refusal(alloc: Global, section: &[u8]) -> Result<Report, AllocError>
+fn section_refusal(
+    alloc: Global,
+    purpose: Purpose<'_>,
+    section: &[u8],
+) -> Result<Report, AllocError>
     ensures { IfOk result (λ report. report.is_refused ≡ true) }
 {
     let mut text = Text::new(alloc);
@@ -238,8 +279,8 @@ fn section_refusal(alloc: Global, section: &[u8]) -> Result<Report, AllocError>
         ": it has functions, and names no hook: write SEC(\"veto\"), or of count, tag and price, \
             before a program, static inline before another function",
     );
-    match section {
-        b".text" => text.push("; or --hook\n"),
+    match (section, purpose) {
+        (b".text", Purpose::Object { .. }) => text.push("; or --hook\n"),
         _ => text.push("\n"),
     }
     refusal(text)
@@ -293,7 +334,7 @@ fn build_section<'a, R: Files + AllocGlobal>(
 {
     let name = file.section_name(index);
     let Some(hook) = hook_in(order.hook, name) else {
-        return Ok(section_refusal(rt.alloc(), name)?);
+        return Ok(section_refusal(rt.alloc(), order.purpose, name)?);
     };
     let functions = file.functions(rt.alloc(), index)?;
     if functions.is_empty() {
@@ -303,7 +344,10 @@ fn build_section<'a, R: Files + AllocGlobal>(
     if !relocations.is_empty() {
         let contents = file.contents(index);
         let section = Section { name, contents };
-        let told = relocation_report(rt.alloc(), file, section, &functions, &relocations)?;
+        let mut told = relocation_report(rt.alloc(), file, section, &functions, &relocations)?;
+        let others = unchanged(rt.alloc(), &functions, &relocations)?;
+        let built = build_functions(rt, order, hook, file, name, &others)?;
+        join(&mut told, &built)?;
         return Ok(told);
     }
     let report = build_functions(rt, order, hook, file, name, &functions)?;
@@ -387,7 +431,7 @@ fn no_program<'a>(alloc: Global, path: &str) -> Result<Report, Fault<'a>>
 }
 
 /// Makes an object of each function in these bytes of a file that is in the section of a hook.
-fn build_bytes<'a, R: Files + AllocGlobal>(
+pub(crate) fn build_bytes<'a, R: Files + AllocGlobal>(
     rt: &R,
     order: &Order<'a>,
     path: &str,

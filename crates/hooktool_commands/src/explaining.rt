@@ -2,11 +2,16 @@
 
 ghost use Rattle.std.specs.Prelude.{◌≡◌, ◌++◌, List, ℕ, IfOk, is_err, string_bytes};
 ghost use Rattle.hooktool_commands.specs.Explanations.{IsExplained};
+ghost use Rattle.hooktool_commands.specs.Builds.{IsExplainedFile, explanations_wanted};
+ghost use Rattle.hooktool_commands.specs.Orders.{wanted_of};
 
+use crate::annotating::is_elf;
+use crate::building::{Order, Purpose, build_bytes};
 use crate::fault::Fault;
 use crate::files;
 use crate::report::Report;
 use explanations::{ExplainError, Explanation, explain as explained};
+use hooktool_line::FuelAsked;
 use object_verdicts::VerifyError;
 use std::alloc::Global;
 use std::rt::Files;
@@ -68,7 +73,7 @@ fn told_of<'a>(alloc: Global, explanation: &Explanation) -> Result<Report, Fault
 }
 
 /// What is told of the object file that these bytes are.
-fn explanation_of<'a>(alloc: Global, bytes: &[u8]) -> Result<Report, Fault<'a>>
+pub(crate) fn explanation_of<'a>(alloc: Global, bytes: &[u8]) -> Result<Report, Fault<'a>>
     ensures { IfOk result (IsExplained bytes.now) }
 {
     match explained(alloc, bytes) {
@@ -77,18 +82,49 @@ fn explanation_of<'a>(alloc: Global, bytes: &[u8]) -> Result<Report, Fault<'a>>
     }
 }
 
+/// What is asked for of an ELF file.
+fn explaining<'a>() -> Order<'a>
+    ensures { wanted_of result ≡ explanations_wanted }
+{
+    Order {
+        purpose: Purpose::Explanation,
+        hook: None,
+        fuel: FuelAsked {
+            turns: None,
+            answer: None,
+        },
+    }
+}
+
+/// What is told of these bytes of the file at `path`: of an object file, or of each function of an
+/// ELF file.
+fn explain_bytes<'a, R: Files + AllocGlobal>(
+    rt: &R,
+    path: &str,
+    bytes: &[u8],
+) -> Result<Report, Fault<'a>>
+    ensures { IfOk result (IsExplainedFile bytes.now) }
+{
+    if is_elf(bytes) {
+        build_bytes(rt, &explaining(), path, bytes)
+    } else {
+        explanation_of(rt.alloc(), bytes)
+    }
+}
+
 /// Tells what the verifier knows at each slot of the program of the object file at `path`, up to
-/// the one that it refuses, and its verdict.
+/// the one that it refuses, and its verdict. The same of each function of an ELF file that is in the
+/// section of a hook, with the statements that are found for it.
 ///
-/// A fault where the file can't be read, is no object file, holds no code, or memory is refused.
+/// A fault where the file can't be read, is neither, holds no code, or memory is refused.
 pub(crate) fn explain<'a, R: Files + AllocGlobal>(
     rt: &R,
     path: &'a str,
 ) -> Result<Report, Fault<'a>>
-    ensures { IfOk result (λ report. (bytes : List ℕ) × IsExplained bytes report) }
+    ensures { IfOk result (λ report. (bytes : List ℕ) × IsExplainedFile bytes report) }
 {
     match files::read(rt, path) {
-        Ok(bytes) => explanation_of(rt.alloc(), bytes.as_slice()),
+        Ok(bytes) => explain_bytes(rt, path, bytes.as_slice()),
         Err(fault) => Err(fault),
     }
 }

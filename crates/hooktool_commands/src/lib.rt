@@ -4,6 +4,7 @@
 mod annotating;
 mod answers;
 mod building;
+mod cells;
 mod explaining;
 mod fault;
 mod files;

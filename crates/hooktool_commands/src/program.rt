@@ -10,7 +10,7 @@ ghost use Rattle.hooktool_commands.specs.Tests.{IsTested};
 ghost use Rattle.hooktool_commands.specs.declared.testing.Tested.TheVariants.{Played};
 
 use crate::annotating::annotate;
-use crate::building::{Order, build};
+use crate::building::{Order, Purpose, build};
 use crate::explaining::explain;
 use crate::fault::{DONE, Fault, REFUSED, USAGE};
 use crate::report::Report;
@@ -131,7 +131,18 @@ fn made_of<'a, R: Files + AllocGlobal, O: Write>(
             folder,
             hook,
             fuel,
-        } => build(rt, file, Order { folder, hook, fuel }),
+        } => {
+            let purpose = Purpose::Object { folder };
+            build(
+                rt,
+                file,
+                Order {
+                    purpose,
+                    hook,
+                    fuel,
+                },
+            )
+        }
         Request::Explain { object } => explain(rt, object),
         Request::Try { object, question } => try_question(rt, object, &question),
         Request::Test { file } => test_report(rt, file, output),

@@ -22,15 +22,42 @@ pub(crate) struct Section<'f> {
     pub contents: &'f [u8],
 }
 
+/// Whether the function has the place of its section.
+fn has_place(function: &LinkedSymbol, offset: u64) -> bool {
+    let symbol = function.symbol;
+    symbol.value <= offset && offset - symbol.value < symbol.size
+}
+
 /// The function that has the place of a section, if one has.
 fn function_at(functions: &[LinkedSymbol], offset: u64) -> Option<LinkedSymbol> {
     for function in functions {
-        let symbol = function.symbol;
-        if symbol.value <= offset && offset - symbol.value < symbol.size {
+        if has_place(function, offset) {
             return Some(*function);
         }
     }
     None
+}
+
+/// Whether a linker would change the function.
+fn is_changed(function: &LinkedSymbol, relocations: &[LinkedRelocation]) -> bool {
+    relocations
+        .iter()
+        .any(|it| has_place(function, it.relocation.offset))
+}
+
+/// The functions of the section that no linker would change.
+pub(crate) fn unchanged(
+    alloc: Global,
+    functions: &[LinkedSymbol],
+    relocations: &[LinkedRelocation],
+) -> Result<Vec<LinkedSymbol>, AllocError> {
+    let mut others = Vec::new(alloc);
+    for function in functions {
+        if !is_changed(function, relocations) {
+            others.push(*function)?;
+        }
+    }
+    Ok(others)
 }
 
 /// The symbol's name, or none.
@@ -154,8 +181,9 @@ fn data_advice(section: &[u8]) -> &'static str {
             ..
         ] => ", a text: a program has no data of its own, and nobody to tell it to\n",
         [b'.', b'r', b'o', b'd', b'a', b't', b'a', ..] =>
-            ", a table: a program has no data of its own, write it as a switch or as tests (a \
-                macro, as in examples/c/tag_table.c), or keep it in cells\n",
+            ", a table: a program has no data of its own, write it as a switch or as tests \
+                (tools/hooktool-build does so where no other address meets it), or keep it in \
+                cells\n",
         [b'.', b'd', b'a', b't', b'a', ..] | [b'.', b'b', b's', b's', ..] =>
             ", a variable: a program has no data of its own, keep it in a counter or, at count, in \
                 a cell\n",

@@ -2,7 +2,7 @@ use Rattle.std.proofs.Common.{subst}
 use Rattle.annotations.specs.Annotated.{IsAnnotation, with_found}
 use Rattle.annotations.specs.declared.fuel.Fuel.{Fuel}
 use Rattle.hooktool_commands.proofs.Found.{found, refused}
-use Rattle.hooktool_commands.proofs.annotating.annotate_bytes.Goals as goal
+use Rattle.hooktool_commands.proofs.annotating.annotate_code.Goals as goal
 
 pub written-requires : goal.written-requires
 written-requires g c = c.in-Ok.ensures.accepted.accepts
