@@ -269,12 +269,14 @@ class Judge:
             seen.name(key, "before MaxAge")
 
     def _acknowledged(self, event: Event, number: int) -> Iterator[Key]:
-        """The keys of which the packet names the very instance that the router holds."""
+        """The keys of which the packet names the very instance that the router held. Where it is at MaxAge, and this acknowledgment is the
+        last one owed, it leaves in the same event."""
         if event.packet is None or event.interface != number or event.packet.said.kind not in (UPDATE, ACKNOWLEDGMENT):
             return
         for told in event.packet.said.instances:
             held = event.before.get(told.key)
-            if held is not None and told.key not in event.changed and compare(told, held) == 0:
+            stayed_or_left = told.key not in event.changed or told.key not in event.shown.database
+            if held is not None and stayed_or_left and compare(told, held) == 0:
                 yield told.key
 
     def _owes(self, event: Event, number: int, is_entered: bool) -> None:

@@ -134,6 +134,19 @@ class Judged(unittest.TestCase):
         two.happens(0, came=late)
         self.assertEqual(two.differences(), [(1, {"acknowledgment"})])
 
+    def test_an_acknowledgment_with_which_the_copy_at_max_age_leaves(self) -> None:
+        two = Two([lsa(1)], [lsa(1)])
+        two.held[0] = [lsa(1, 3600)]
+        flush = two.happens(0, outs=[update(lsa(1, 3600))], owed=1)[0]
+        two.held[1] = []
+        two.happens(1, came=flush)
+        two.held[1] = [lsa(1, 5)]
+        two.happens(1)
+        late = two.happens(1, outs=[packet(ACKNOWLEDGMENT, lsa(1, 3600))], is_tick=True)[0]
+        two.held[0] = []
+        two.happens(0, came=late)
+        self.assertEqual(two.differences(), [(1, {"acknowledgment"})])
+
     def test_a_description_of_another_conversation(self) -> None:
         two = Two([lsa(1)], [])
         two.happens(0, came=two.happens(1, EX_START, outs=[description(7, 1000)])[0])
