@@ -229,13 +229,13 @@ class Judge:
                 seen.requested[told.key] = told, event.moment
 
     def _is_installed(self, event: Event, brought: Instance) -> bool:
-        """An instance that an Update brought was put into the database, though it may have left it in the same event."""
+        """An instance that an Update brought was put into the database, though it may have left it in the same event. One at MaxAge is only
+        acknowledged where none is held, unless a neighbor is in Exchange or Loading (section 13, step 4)."""
         held, key = event.before.get(brought.key), brought.key
         if held is not None and compare(brought, held) <= 0:
             return False
-        answers = (said for at, _, said in event.outs if at == event.interface and said.kind == ACKNOWLEDGMENT)
-        acknowledged = any(it.key == key for said in answers for it in said.instances)
-        return key in event.changed or held is None and key not in event.shown.database and not acknowledged
+        has_exchanged = any(it.was in (EXCHANGE, LOADING) for it in self.routers[event.place].ends.values())
+        return key in event.changed or held is None and key not in event.shown.database and has_exchanged
 
     def _takes_update(self, event: Event, seen: Seen) -> None:
         packet = event.packet

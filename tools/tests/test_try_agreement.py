@@ -14,7 +14,7 @@ sys.path.insert(0, str(TOP / "tools/agreement-parts"))
 from histories import Act, FIELDS, SHAPES, Setting, act_of, head_of, links_of, setting_in, setting_of  # noqa: E402
 from judging import Judge, Miscounted, Packet, agree  # noqa: E402
 from packets import ACKNOWLEDGMENT, DESCRIPTION, UPDATE, Said, compare, instance_of, said_by  # noqa: E402
-from routers import EX_START, FULL, Shown  # noqa: E402
+from routers import EX_START, FULL, LOADING, Shown  # noqa: E402
 
 LINK = ((0, 1), (1, 1))
 ONE, OTHER = "0.0.0.1", "0.0.0.2"
@@ -146,6 +146,20 @@ class Judged(unittest.TestCase):
         two.held[0] = []
         two.happens(0, came=late)
         self.assertEqual(two.differences(), [(1, {"acknowledgment"})])
+
+    def test_13_4_installs_at_max_age_what_none_is_held_of_only_where_a_neighbor_is_in_exchange_or_loading(self) -> None:
+        for state in (LOADING, FULL):
+            with self.subTest(state=state):
+                two = Two()
+                two.held[1] = [lsa(1, 3600)]
+                twice = two.happens(1, outs=[update(lsa(1, 3600), lsa(1, 3600))], owed=1)[0]
+                two.happens(0, state)
+                two.happens(0, came=twice, outs=[packet(ACKNOWLEDGMENT, lsa(1, 3600))])
+                if state == LOADING:
+                    two.happens(0, outs=[packet(ACKNOWLEDGMENT, lsa(1, 3600))], is_tick=True)
+                    continue
+                with self.assertRaises(Miscounted):
+                    two.happens(0, outs=[packet(ACKNOWLEDGMENT, lsa(1, 3600))], is_tick=True)
 
     def test_a_description_of_another_conversation(self) -> None:
         two = Two([lsa(1)], [])
