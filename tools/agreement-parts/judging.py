@@ -31,6 +31,7 @@ from routers import DOWN, EXCHANGE, EX_START, FULL, INIT, LOADING, Shown
 
 EXCEPTIONS = ("description", "update", "past update", "acknowledgment", "past acknowledgment", "before MaxAge", "clocks", "two bodies")
 ALL_FLAGS = 7
+INF_TRANS_DELAY = 1
 
 End = tuple[int, int]
 """A router's place and the number of its interface, from 1 on."""
@@ -298,13 +299,15 @@ class Judge:
             raise Miscounted(f"{where}: {len(seen.owed)} owed, and it says {seen.count}")
 
     def _floods(self, event: Event, number: int, seen: Seen) -> None:
-        """A copy that is new is owed where it goes out in an Update, and nowhere else."""
+        """A copy that is new is owed where it goes out in an Update, and nowhere else. The one before it, which answers an older instance,
+        may have gone out there, too, under the same name but for the age."""
         if not event.changed:
             return
-        sent = {(it.key, it.name) for at, _, said in event.outs if at == number and said.kind == UPDATE for it in said.instances}
+        updates = (said for at, _, said in event.outs if at == number and said.kind == UPDATE)
+        sent = {(it.key, it.name, it.age) for said in updates for it in said.instances}
         for key in event.changed:
             held = event.shown.database.get(key)
-            if held is not None and (key, held.name) in sent:
+            if held is not None and (key, held.name, held.after(INF_TRANS_DELAY).age) in sent:
                 seen.owed.add(key)
             else:
                 seen.owed.discard(key)

@@ -100,7 +100,7 @@ class Judged(unittest.TestCase):
         two = Two()
         self.assertTrue(two.judge.is_at_rest(LINK))
         two.held[0] = [lsa(1)]
-        two.happens(0, outs=[update(lsa(1))], owed=1)
+        two.happens(0, outs=[update(lsa(1, 2))], owed=1)
         self.assertFalse(two.judge.is_at_rest(LINK))
         two = Two()
         two.happens(1, EX_START, outs=[description(7, 1001)])
@@ -161,6 +161,14 @@ class Judged(unittest.TestCase):
                 with self.assertRaises(Miscounted):
                     two.happens(0, outs=[packet(ACKNOWLEDGMENT, lsa(1, 3600))], is_tick=True)
 
+    def test_13_8_a_copy_that_answers_an_older_instance_is_not_owed_where_one_at_max_age_takes_its_place(self) -> None:
+        two = Two([lsa(1, 2)], [lsa(1, 2)])
+        two.held[0] = [lsa(1, 3600)]
+        both = two.happens(0, outs=[update(lsa(1, 1805), lsa(1, 3600))], owed=1)[0]
+        two.held[1] = [lsa(1, 3600)]
+        two.happens(1, came=both, outs=[update(lsa(1, 3))], owed=0)
+        self.assertEqual(two.differences(), [])
+
     def test_a_description_of_another_conversation(self) -> None:
         two = Two([lsa(1)], [])
         two.happens(0, came=two.happens(1, EX_START, outs=[description(7, 1000)])[0])
@@ -171,7 +179,7 @@ class Judged(unittest.TestCase):
         two = Two()
         two.held[0] = [lsa(1)]
         with self.assertRaises(Miscounted):
-            two.happens(0, outs=[update(lsa(1))], owed=0)
+            two.happens(0, outs=[update(lsa(1, 2))], owed=0)
         with self.assertRaises(Miscounted):
             Two().happens(1, outs=[packet(ACKNOWLEDGMENT, lsa(1))], is_tick=True)
 
@@ -183,7 +191,7 @@ class Judged(unittest.TestCase):
         again.held[0] = []
         again.happens(0)
         again.held[0] = [lsa(1, rest=b"b")]
-        again.happens(0, outs=[update(lsa(1, rest=b"b"))], owed=1)
+        again.happens(0, outs=[update(lsa(1, 2, rest=b"b"))], owed=1)
         again.happens(0, came=again.happens(1, outs=[packet(ACKNOWLEDGMENT, lsa(1))])[0])
         self.assertEqual(again.differences(), [(1, {"two bodies"})])
 
