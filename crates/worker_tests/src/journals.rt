@@ -2,15 +2,12 @@
 ghost use Rattle.std.specs.Prelude.{◌≡◌, ◌<◌};
 
 use crate::samples::first;
-use hooks::{VetoAnswer, programs};
-use maps::Shared;
 use std::alloc::{AllocError, Global};
 use std::marker::Brand;
 use std::process::Abort;
-use std::sync::Wait;
 use std::sync::ledger::{Blank, Share};
 use std::test::Fail;
-use words::{Address, Hops, Prefix, Route, RouteKind, Second, Sequence};
+use words::Second;
 use worker::{Book, BookError, Core, Event, Origin, Out, Taker};
 
 // What a book is called for.
@@ -187,40 +184,6 @@ fn a_full_journal_takes_nothing_until_it_is_marked(rt: HostRuntime) -> Result<()
     play_all(&rt, rt.alloc(), &Event::Tick, &rows)
 }
 
-// 192.0.2.0/24
-fn route() -> Option<Route> {
-    Some(Route {
-        prefix: Prefix::new(Address::new(0xc000_0200), 24)?,
-        kind: RouteKind::Intra,
-        cost: 20,
-        distance: 0,
-        hops: Hops::only(1),
-        tag: 0,
-    })
-}
-
-fn vetoed<R: Wait>(rt: &R, alloc: Global, route: &Route) -> Option<VetoAnswer> {
-    let (Ok((shared, mut seats)), Ok((loader, mut askers))) = (
-        Shared::new(alloc, 1),
-        programs(alloc, rt, 1),
-    ) else {
-        return None;
-    };
-    let (Some(mut seat), Some(mut asker)) = (seats.pop(), askers.pop()) else {
-        return None;
-    };
-    let answered = asker.veto(route, Second::new(0), &[], &shared, &mut seat);
-    drop(loader);
-    answered
-}
-
-// That the route comes into the table, so many times.
-fn installation(alloc: Global, answer: VetoAnswer, count: usize) -> Result<Event, AllocError> {
-    let mut answers = Vec::new(alloc);
-    answers.resize(count, answer)?;
-    Ok(Event::Install(Sequence::from_vec(answers)))
-}
-
 // Each Tick counts as 256 bytes, and so does the one LSA, beside 256 KiB.
 #[test]
 fn a_heavy_journal_starts_anew(rt: HostRuntime) -> Result<(), Fail> {
@@ -229,74 +192,4 @@ fn a_heavy_journal_starts_anew(rt: HostRuntime) -> Result<(), Fail> {
         calls(1, Call::ApplyAnew, 0, 1, 1_027),
     ];
     play_all(&rt, rt.alloc(), &Event::Tick, &rows)
-}
-
-// How many answers each event of the journal has.
-fn answers_in<L: Origin>(book: &Book<L>) -> [usize; 3] {
-    let mut counts = [0; 3];
-    for (count, entry) in counts.iter_mut().zip(book.journal()) {
-        if let Event::Install(answers) = &entry.event {
-            *count = answers.as_slice().len();
-        }
-    }
-    counts
-}
-
-// Whether an Install of 5 answers, a Tick and an Install of 7 are taken.
-fn takes_two<L: Origin>(
-    book: &mut Book<L>,
-    share: &mut Share<L>,
-    alloc: Global,
-    answer: VetoAnswer,
-) -> Result<bool, AllocError>
-    requires { 0 < share.old.parts }
-{
-    let first = installation(alloc, answer, 5)?;
-    let second = installation(alloc, answer, 7)?;
-    let now = Second::new(0);
-    Ok(
-        book.apply_anew(share, now, first).is_ok()
-            && book.apply_anew(share, now, Event::Tick).is_ok()
-            && book.apply_anew(share, now, second).is_ok(),
-    )
-}
-
-// How many answers each event of the journal has after these, or none where memory was refused.
-fn installed_twice<L: Origin>(
-    alloc: Global,
-    blank: Blank,
-    core: Core,
-    answer: VetoAnswer,
-) -> Result<[usize; 3], AllocError>
-    requires name { blank.name ≡ L.name }
-    requires parts { (blank.parts ≡ L.parts) × (blank.parts ≡ 1) }
-    requires origin { core ≡ L.origin }
-{
-    let (mut book, mut share) = Book::<L>::new(alloc, blank, core)?;
-    let mut counts = [0; 3];
-    if takes_two(&mut book, &mut share, alloc, answer) == Ok(true) {
-        counts = answers_in(&book);
-    }
-    let _taken = book.close();
-    Ok(counts)
-}
-
-// The first Install gives its answers back: the second one's tell.
-#[test]
-fn a_journal_holds_the_answers_of_one_install(rt: HostRuntime) -> Result<(), Fail> {
-    let alloc = rt.alloc();
-    let route = route().ok_or("a prefix")?;
-    let answer = match vetoed(&rt, alloc, &route) {
-        Some(answer) => answer,
-        None => vetoed(&rt, alloc, &route).ok_or("no reading")?,
-    };
-    let core = first(alloc)?;
-    let counts = installed_twice::<Brand>(alloc, Blank::new(1), core, answer);
-    if counts != Ok([0, 0, 7]) {
-        // memory was refused, for which the book is marked
-        let core = first(alloc)?;
-        let counts = installed_twice::<Brand>(alloc, Blank::new(1), core, answer)?;
-        assert_eq!(&rt; counts, [0, 0, 7]);
-    }
-    Ok(())
 }
