@@ -4,6 +4,7 @@ import importlib.util
 import os
 import pathlib
 import shutil
+import subprocess
 import tempfile
 import unittest
 
@@ -78,6 +79,47 @@ class TestKey(unittest.TestCase):
         file = self.room / "crates/high/src/lib.rt"
         file.write_text(file.read_text() + 'const TEXT: &str = "// one";\n')
         self.assertEqual(self.changed("crates/high/src/lib.rt", '"// one"', '"// two"'), {"high"})
+
+
+KEEPS_ITSELF = """#!/usr/bin/env python3
+class Kept:
+    pass
+
+
+def main(words):
+    print(f"ran {words}")
+    return 7
+"""
+
+
+class TestKitThatKeeps(unittest.TestCase):
+    """A kit whose `rt ci` keeps what it proved is left to do so."""
+
+    def setUp(self) -> None:
+        room = tempfile.TemporaryDirectory()
+        self.addCleanup(room.cleanup)
+        self.room = pathlib.Path(room.name)
+        (self.room / "kit/bin").mkdir(parents=True)
+        (self.room / "kit/bin/rt").write_text(KEEPS_ITSELF)
+        (self.room / "kit/bin/rt").chmod(0o755)
+        (self.room / "crates.txt").write_text("low:\n")
+
+    def gate(self, *words: str) -> subprocess.CompletedProcess:
+        path = f"{self.room}/kit/bin:{os.environ['PATH']}"
+        told = {"cwd": self.room, "env": {**os.environ, "PATH": path}, "capture_output": True, "text": True}
+        return subprocess.run([TOP / "tools/quick-gate", *words], timeout=60, **told)
+
+    def test_its_own_gate_is_run(self) -> None:
+        ran = self.gate()
+        self.assertEqual((ran.returncode, ran.stderr), (7, ""))
+        self.assertIn("ran ['ci']", ran.stdout)
+
+    def test_there_is_no_store_to_audit_or_carry(self) -> None:
+        for words in (["--audit", "1"], ["--export", "kept.tar.xz"], ["--import", "kept.tar.xz"]):
+            with self.subTest(words):
+                ran = self.gate(*words)
+                self.assertEqual((ran.returncode, ran.stdout), (2, ""))
+                self.assertIn("keeps what it proved by itself", ran.stderr)
 
 
 if __name__ == "__main__":
