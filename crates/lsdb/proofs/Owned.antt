@@ -3,19 +3,16 @@ use Rattle.std.proofs.Common.{◌≡◌, ℕ, ◌+◌, ◌-◌, ◌≤◌, Bool,
 use Rattle.std.specs.Prelude.{Option, is_some}
 use Rattle.std.specs.declared.cmp.Ordering.TheVariants.{Equal}
 use Rattle.keyed_map.specs.Slots.{count_after_change}
-use Rattle.std.specs.List.{filter, list_any}
+use Rattle.std.specs.List.{filter}
 use Rattle.std.specs.FinMap as finite
 use Rattle.std.specs.FinMap.Entries.{find-where_key, is_sorted-where_key, where_key}
 use Rattle.std.specs.Ordering.{eq_by_cmp}
 use Rattle.words.specs.declared.key.Key.{Key}
-use Rattle.lsdb.specs.Headers.{Lsa}
-use Rattle.lsdb.specs.Joined.{HaveTimes, copies_of, count_own_externals}
+use Rattle.lsdb.specs.Copies.{Database}
 use Rattle.lsdb.specs.Keys.{ByKey, key_cmp}
-use Rattle.lsdb.specs.Limits.{exceeds, has_room, is_own_external, own_externals}
-use Rattle.lsdb.specs.declared.times.Times.{Times}
+use Rattle.lsdb.specs.Limits.{count_own_externals, exceeds, has_room, is_own_external, own_externals}
 use Rattle.lsdb.proofs.Empty.{retained_none}
-use Rattle.lsdb.proofs.Joins.{keys_joined, len_joined, same, tied}
-use Rattle.lsdb.proofs.Keys.{keys_exact, keys_total}
+use Rattle.lsdb.proofs.Keys.{keys_exact, keys_total, same, tied}
 
 and_true : (c : Bool) → (c && true) ≡ c
 and_true true = refl
@@ -26,6 +23,10 @@ apart true true m n = refl
 apart true false m n = refl
 apart false true m n = refl
 apart false false m n = refl
+
+still : (b : Bool) (n : ℕ) → cond b n n ≡ n
+still true n = refl
+still false n = refl
 
 alike : (p : Key → Bool) (q x : Key) → key_cmp q x ≡ Equal → p x ≡ p q
 alike p q x e = ap p (sym (keys_exact q x e))
@@ -108,6 +109,13 @@ module _ {X : Type 0} (p : Key → Bool) where
       ≡ cond (p k) (count_after_change (finite.contains_key m k) true (finite.len (finite.retain_keys m p))) (finite.len (finite.retain_keys m p))
   count_put m k x = ap finite.len (put_kept m k x (p k) refl) ∙ len_put_kept m k x (p k) refl
 
+  -- another value of a key that the map has changes no number
+  pub count_change : (m : ByKey X) (k : Key) (x : X) → finite.contains_key m k ≡ true
+      → finite.len (finite.retain_keys (finite.insert m k x) p) ≡ finite.len (finite.retain_keys m p)
+  count_change m k x there =
+      let n = finite.len (finite.retain_keys m p) in
+      count_put m k x ∙ ap (λ c. cond (p k) (count_after_change c true n) n) there ∙ still (p k) n
+
   pub count_remove : (m : ByKey X) (k : Key)
       → finite.len (finite.retain_keys (finite.remove m k) p)
       ≡ cond (p k) (count_after_change (finite.contains_key m k) false (finite.len (finite.retain_keys m p))) (finite.len (finite.retain_keys m p))
@@ -143,16 +151,9 @@ module _ {X : Type 0} (p : Key → Bool) where
 pub count_empty : (X : Type 0) (p : Key → Bool) → finite.len (finite.retain_keys (finite.empty {X = X} {R = key_cmp}) p) ≡ 0
 count_empty X p = ap finite.len (retained_none p) ∙ finite.len-empty key_cmp X
 
--- the self-originated AS-external-LSAs of the database are those of its LSAs
-pub own_joined : (router : ℕ) (lsas : ByKey Lsa) (times : ByKey Times) → HaveTimes lsas times
-    → count_own_externals router lsas ≡ own_externals router (copies_of lsas times)
-own_joined router lsas times has =
-    sym (ap (λ ks. length (filter (is_own_external router) ks)) (keys_joined lsas times has) ∙ count_keys (is_own_external router) lsas)
-
-pub contains_joined : (lsas : ByKey Lsa) (times : ByKey Times) → HaveTimes lsas times → (k : Key)
-    → finite.contains_key lsas k ≡ finite.contains_key (copies_of lsas times) k
-contains_joined lsas times has k =
-    finite.contains_key-keys lsas k ∙ sym (finite.contains_key-keys (copies_of lsas times) k ∙ ap (list_any (eq_by_cmp key_cmp k)) (keys_joined lsas times has))
+-- they are the self-originated AS-external-LSAs of the database
+pub own_counted : (router : ℕ) (d : Database) → count_own_externals router d ≡ own_externals router d
+own_counted router d = sym (count_keys (is_own_external router) d)
 
 -- the number changes only with the keys of self-originated AS-external-LSAs
 pub counts_if_own : (own there holds : Bool) (n : ℕ)
@@ -178,18 +179,15 @@ module _ (c l o x : Bool) (new : c ≡ false) where
   pub room_own : l ≡ true → o ≡ false → x ≡ (c || (l && (o || x)))
   room_own free own = either_false o x own ∙ sym (λ i. new i || (free i && (o || x)))
 
-module _ (router : ℕ) (lsas : ByKey Lsa) (times : ByKey Times) (has : HaveTimes lsas times) (n e : ℕ)
-    (number : n ≡ finite.len lsas) (externals : e ≡ count_own_externals router lsas) where
-  pub exceeds_joined : (nat_lt 16384 n || nat_lt 4096 e) ≡ exceeds router (copies_of lsas times)
-  exceeds_joined =
-      let all = number ∙ sym (len_joined lsas times has) in
-      let own = externals ∙ own_joined router lsas times has in
-      λ i. nat_lt 16384 (all i) || nat_lt 4096 (own i)
+module _ (router : ℕ) (d : Database) (n e : ℕ)
+    (number : n ≡ finite.len d) (externals : e ≡ count_own_externals router d) where
+  pub exceeds_counted : (nat_lt 16384 n || nat_lt 4096 e) ≡ exceeds router d
+  exceeds_counted =
+      let own = externals ∙ own_counted router d in
+      λ i. nat_lt 16384 (number i) || nat_lt 4096 (own i)
 
-  pub room_joined : (k : Key) (c o : Bool) → c ≡ finite.contains_key lsas k → o ≡ is_own_external router k
-      → (c || (nat_lt n 16384 && (not o || nat_lt e 4096))) ≡ has_room router k (copies_of lsas times)
-  room_joined k c o there is =
-      let all = number ∙ sym (len_joined lsas times has) in
-      let own = externals ∙ own_joined router lsas times has in
-      let known = there ∙ contains_joined lsas times has k in
-      λ i. known i || (nat_lt (all i) 16384 && (not (is i) || nat_lt (own i) 4096))
+  pub room_counted : (k : Key) (c o : Bool) → c ≡ finite.contains_key d k → o ≡ is_own_external router k
+      → (c || (nat_lt n 16384 && (not o || nat_lt e 4096))) ≡ has_room router k d
+  room_counted k c o there is =
+      let own = externals ∙ own_counted router d in
+      λ i. there i || (nat_lt (number i) 16384 && (not (is i) || nat_lt (own i) 4096))

@@ -1,13 +1,17 @@
 -- Maps with the same keys, whatever their values.
-use Rattle.std.proofs.Common.{◌≡◌, Bool, true, false, cond, T, List, [], ◌∷◌, map, ◌&&◌, refl, sym, ap, subst, ◌∙◌}
+use Rattle.std.proofs.Common.{◌≡◌, ℕ, Bool, true, false, cond, T, List, [], ◌∷◌, map, ◌&&◌, refl, sym, ap, subst, ◌∙◌}
+use mathlib.Core.Bool.{false≢true}
 use Rattle.std.specs.Prelude.{Option, Some, None, is_some}
 use Rattle.std.specs.FinMap as finite
 use Rattle.std.specs.FinMap.Entries.{below_all}
 use Rattle.std.specs.Ordering.{eq_by_cmp, is_lt}
 use Rattle.words.specs.declared.key.Key.{Key}
 use Rattle.keyed_map.specs.Slots.{keys_where}
+use Rattle.lsdb.specs.Copies.{Database, DatabaseCopy, aged_keys, is_aged_out}
+use Rattle.lsdb.specs.Foresight.{aged_at}
 use Rattle.lsdb.specs.Keys.{ByKey, key_cmp}
-use Rattle.lsdb.proofs.Joins.{same}
+use Rattle.lsdb.proofs.Entries.{entry_found, filter_alike}
+use Rattle.lsdb.proofs.Keys.{same}
 use Rattle.lsdb.proofs.Owned.{contains_kept, entries_kept}
 
 module _ {X : Type 0} where
@@ -65,14 +69,12 @@ units None (Some u) is = absurd (subst T (sym is) tt)
 units (Some u) None is = absurd (subst T is tt)
 units (Some u) (Some v) is = refl
 
-and_swap : (a b c : Bool) → (a ≡ true → b ≡ true → c ≡ true) → (c && (b && a)) ≡ (a && b)
-and_swap true true c is = ap (λ d. d && true) (is refl refl)
-and_swap true false true is = refl
-and_swap true false false is = refl
-and_swap false true true is = refl
-and_swap false true false is = refl
-and_swap false false true is = refl
-and_swap false false false is = refl
+both_or_neither : (a b c : Bool) → (c ≡ true → a ≡ true) → (c ≡ true → b ≡ true) → (a && c) ≡ (b && c)
+both_or_neither a b true is as_is = ap (λ x. x && true) (is refl ∙ sym (as_is refl))
+both_or_neither true true false is as_is = refl
+both_or_neither true false false is as_is = refl
+both_or_neither false true false is as_is = refl
+both_or_neither false false false is as_is = refl
 
 module _ {X Y : Type 0} where
   pub same_keys : (m : ByKey X) (n : ByKey Y) → ((q : Key) → finite.contains_key m q ≡ finite.contains_key n q) → finite.keys m ≡ finite.keys n
@@ -80,15 +82,28 @@ module _ {X Y : Type 0} where
       let sets : key_set m ≡ key_set n = same _ _ (λ q. units _ _ (has_key m q ∙ is q ∙ sym (has_key n q))) in
       sym (set_keys m) ∙ ap finite.keys sets ∙ set_keys n
 
-  -- if m has each key of n that passes, the keys of m that pass and are in n are those of n that
-  -- pass
-  pub keys_among : (p : Key → Bool) (m : ByKey X) (n : ByKey Y)
-      → ((q : Key) → finite.contains_key n q ≡ true → p q ≡ true → finite.contains_key m q ≡ true)
-      → keys_where (λ k x. p k && finite.contains_key n k) (finite.entries m) ≡ keys_where (λ k y. p k) (finite.entries n)
-  keys_among p m n has =
-      keys_kept (λ k. p k && finite.contains_key n k) m
-      ∙ same_keys (finite.retain_keys m (λ k. p k && finite.contains_key n k)) (finite.retain_keys n p) (λ q.
-      contains_kept (λ k. p k && finite.contains_key n k) m q
-      ∙ and_swap (finite.contains_key n q) (p q) (finite.contains_key m q) (has q)
+  -- if both maps have each key that passes, the same keys of both pass
+  keys_passing : (p : Key → Bool) (m : ByKey X) (n : ByKey Y) → ((q : Key) → p q ≡ true → finite.contains_key m q ≡ true)
+      → ((q : Key) → p q ≡ true → finite.contains_key n q ≡ true)
+      → keys_where (λ k x. p k) (finite.entries m) ≡ keys_where (λ k y. p k) (finite.entries n)
+  keys_passing p m n has there =
+      keys_kept p m
+      ∙ same_keys (finite.retain_keys m p) (finite.retain_keys n p) (λ q.
+      contains_kept p m q
+      ∙ both_or_neither (finite.contains_key m q) (finite.contains_key n q) (p q) (has q) (there q)
       ∙ sym (contains_kept p n q))
       ∙ sym (keys_kept p n)
+
+aged_there : (moment : ℕ) (o : Option DatabaseCopy) → aged_at moment o ≡ true → is_some o ≡ true
+aged_there moment None is = absurd (false≢true is)
+aged_there moment (Some c) is = refl
+
+-- the keys of a map that has each key whose copy is at MaxAge, of which those pass, are those of
+-- the copies at MaxAge
+pub keys_aged : {X : Type 0} (moment : ℕ) (m : ByKey X) (d : Database)
+    → ((q : Key) → aged_at moment (finite.get d q) ≡ true → finite.contains_key m q ≡ true)
+    → keys_where (λ k x. aged_at moment (finite.get d k)) (finite.entries m) ≡ aged_keys moment d
+keys_aged moment m d has =
+    keys_passing (λ k. aged_at moment (finite.get d k)) m d has (λ q. aged_there moment (finite.get d q))
+    ∙ ap (map (λ (e : Key × DatabaseCopy). e.0)) (filter_alike (λ (e : Key × DatabaseCopy). aged_at moment (finite.get d e.0)) (λ e. is_aged_out moment e.1) (finite.entries d)
+    (λ e among. ap (aged_at moment) (entry_found d e among)))

@@ -1,9 +1,6 @@
 -- Which copies say the same as earlier copies of their keys (RFC 2328, section 13.2).
 use Rattle.std.specs.Prelude.{◌≡◌, ◌⊎◌, ℕ, ◌≤◌, false, Option, None, Some}
 use Rattle.lsdb.specs.Copies.{DatabaseCopy, is_aged_out}
-use Rattle.lsdb.specs.Headers.{Lsa}
-use Rattle.lsdb.specs.Joined.{aged_at}
-use Rattle.lsdb.specs.declared.times.Times.{Times}
 use Rattle.words.specs.Numbers.{Moment}
 use Rattle.words.specs.declared.key.Key.{Key}
 
@@ -11,8 +8,6 @@ use Rattle.words.specs.declared.key.Key.{Key}
 abbrev pub IsUpTo : Option ℕ → Key → Type 0
 IsUpTo None key = Unit {0}
 IsUpTo (Some last) key = key.ls_type ≤ last
-
--- ---- copies
 
 -- both had one age at one moment
 abbrev pub HaveOneAge : DatabaseCopy → DatabaseCopy → Type 0
@@ -33,31 +28,6 @@ SaysTheSame moment (Some a) None = ⊥
 SaysTheSame moment (Some a) (Some b) =
     (a.lsa.body ≡ b.lsa.body) × (HaveOneAge a b ⊎ HaveNoMaxAge moment a b)
 
--- ---- the LSAs and the times of copies, separately
-
 -- the length of an LSA's header in bytes (RFC 2328, section A.4.1)
 abbrev pub header_length : ℕ
 header_length = 20
-
--- one body, or neither LSA exists
-abbrev pub IsSameBody : (before : Option Lsa) → (now : Option Lsa) → Type 0
-IsSameBody None None = Unit {0}
-IsSameBody None (Some b) = ⊥
-IsSameBody (Some a) None = ⊥
-IsSameBody (Some a) (Some b) = a.body ≡ b.body
-
--- both give one age at one moment
-abbrev pub TellOneAge : Times → Times → Type 0
-TellOneAge t u = (t.age ≡ u.age) × (t.stored ≡ u.stored)
-
--- neither gives MaxAge at the moment
-abbrev pub TellNoMaxAge : Moment → Times → Times → Type 0
-TellNoMaxAge moment t u =
-    (aged_at moment (Some t) ≡ false) × (aged_at moment (Some u) ≡ false)
-
--- the same age, or no MaxAge at the moment, or neither exists
-abbrev pub CountsAlike : Moment → (before : Option Times) → (now : Option Times) → Type 0
-CountsAlike moment None None = Unit {0}
-CountsAlike moment None (Some u) = ⊥
-CountsAlike moment (Some t) None = ⊥
-CountsAlike moment (Some t) (Some u) = TellOneAge t u ⊎ TellNoMaxAge moment t u

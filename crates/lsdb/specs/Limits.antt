@@ -6,6 +6,7 @@ use Rattle.words.specs.Constants.{most_lsas, most_own_externals}
 use Rattle.words.specs.Numbers.{RouterNumber}
 use Rattle.words.specs.declared.key.Key.{Key}
 use Rattle.lsdb.specs.Copies.{Database}
+use Rattle.lsdb.specs.Keys.{ByKey}
 
 -- the key of an AS-external-LSA that this router originates
 abbrev pub is_own_external : RouterNumber → Key → Bool
@@ -27,3 +28,7 @@ has_room router key d =
 abbrev pub exceeds : RouterNumber → Database → Bool
 exceeds router d =
     nat_lt most_lsas (finite.len d) || nat_lt most_own_externals (own_externals router d)
+
+-- the number of the keys that are those of self-originated AS-external-LSAs
+abbrev pub count_own_externals : {X : Type 0} → RouterNumber → ByKey X → ℕ
+count_own_externals router m = finite.len (finite.retain_keys m (is_own_external router))

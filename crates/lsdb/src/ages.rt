@@ -2,13 +2,12 @@
 ghost use Rattle.std.specs.Prelude.{◌≡◌, Option, Some, IfOk, OnOk};
 ghost use Rattle.words.specs.declared.key.Key.{Key};
 ghost use Rattle.lsdb.specs.Foresight.{Foresees, ForeseesAll};
-ghost use Rattle.lsdb.specs.declared.times.Times.{Times};
+ghost use Rattle.lsdb.specs.Copies.{DatabaseCopy};
 
-use crate::order::age_at;
-use crate::times::Times;
+use crate::stored::StoredLsa;
 use keyed_map::KeyedMap;
 use std::alloc::{AllocError, Global};
-use words::{Key, MAX_AGE, Second};
+use words::{Key, Second};
 
 /// The keys whose copies may have MaxAge before a moment. No other copies have.
 #[derive(Drop)]
@@ -29,49 +28,51 @@ impl Ages {
         }
     }
 
-    /// Notes that the copy of this key may have these times from this moment on. What was foreseen
+    /// Notes that the database may have this copy of the key from this moment on. What was foreseen
     /// stays valid.
     ///
     /// # Errors
     /// `AllocError` if an allocation is refused.
-    pub fn note(&mut self, moment: Second, key: &Key, times: &Times) -> Result<(), AllocError>
-        ensures more { (q : Key) (o : Option Times) → Foresees self.old q o
+    pub fn note(&mut self, moment: Second, key: &Key, copy: &StoredLsa) -> Result<(), AllocError>
+        ensures more { (q : Key) (o : Option DatabaseCopy) → Foresees self.old q o
             → Foresees self.new q o }
-        ensures there { OnOk result (Foresees self.new key.now (Some times.now)) }
+        ensures there { OnOk result (Foresees self.new key.now (Some copy.now)) }
     {
-        let times: Times = *times;
-        if age_at(times.age, times.stored, moment) == MAX_AGE {
+        if copy.is_aged_out(moment) {
             self.aged.insert(*key, ())?;
             self.aged.settle();
             return Ok(());
         }
-        let left = MAX_AGE.saturating_sub(times.age);
-        let at = times.stored.count().saturating_add(u64::from(left));
-        if at < self.due.count() {
-            self.due = Second::new(at);
+        let until = copy.young_until();
+        if until < self.due {
+            self.due = until;
         }
         Ok(())
     }
 }
 
-/// What is foreseen of these times, from a scan of all of them. Copies that have MaxAge at the
+/// What is foreseen of these copies, from a scan of all of them. Copies that have MaxAge at the
 /// moment are among the aged keys, and no other reaches it before `due`, which is after the moment.
 ///
 /// # Errors
 /// `AllocError` if an allocation is refused.
-pub fn foresee(alloc: Global, times: &KeyedMap<Times>, moment: Second) -> Result<Ages, AllocError>
-    ensures { IfOk result (λ ages. ForeseesAll ages times.now.present) }
+pub fn foresee(
+    alloc: Global,
+    copies: &KeyedMap<StoredLsa>,
+    moment: Second,
+) -> Result<Ages, AllocError>
+    ensures { IfOk result (λ ages. ForeseesAll ages copies.now.present) }
 {
     let mut ages = Ages::new(alloc, Second::new(u64::MAX));
-    for key in times.keys() {
-        if let Some(found) = times.get(&key) {
-            ages.note(moment, &key, found)?;
+    for key in copies.keys() {
+        if let Some(copy) = copies.get(&key) {
+            ages.note(moment, &key, copy)?;
         }
     }
     Ok(ages)
 }
 
-/// What is foreseen of these times, from what `ages` foresees of them: only the copies of its aged
+/// What is foreseen of these copies, from what `ages` foresees of them: only the copies of its aged
 /// keys are visited. Those that have MaxAge at the moment stay among the aged keys.
 ///
 /// # Errors
@@ -79,16 +80,16 @@ pub fn foresee(alloc: Global, times: &KeyedMap<Times>, moment: Second) -> Result
 pub fn foresee_again(
     alloc: Global,
     ages: &Ages,
-    times: &KeyedMap<Times>,
+    copies: &KeyedMap<StoredLsa>,
     moment: Second,
 ) -> Result<Ages, AllocError>
-    requires { ForeseesAll ages.now times.now.present }
-    ensures { IfOk result (λ made. ForeseesAll made times.now.present) }
+    requires { ForeseesAll ages.now copies.now.present }
+    ensures { IfOk result (λ made. ForeseesAll made copies.now.present) }
 {
     let mut made = Ages::new(alloc, ages.due);
     for key in ages.aged.keys() {
-        if let Some(found) = times.get(&key) {
-            made.note(moment, &key, found)?;
+        if let Some(copy) = copies.get(&key) {
+            made.note(moment, &key, copy)?;
         }
     }
     Ok(made)

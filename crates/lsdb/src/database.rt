@@ -1,6 +1,5 @@
 //! The database itself.
-ghost use Rattle.std.specs.Prelude.{◌≡◌, ◌≤◌, ◌↔◌, ◌⊎◌, drop, length, take, IfOk, IsTrue, OnOk};
-ghost use Rattle.std.specs.Prelude.{option_copied};
+ghost use Rattle.std.specs.Prelude.{◌≡◌, ◌≤◌, ◌↔◌, length, take, IfOk, IsTrue, OnOk, option_copied};
 ghost use Rattle.std.specs.FinMap as finite;
 ghost use Rattle.lsdb.specs.Copies.{
   age_out,
@@ -12,48 +11,36 @@ ghost use Rattle.lsdb.specs.Copies.{
   said_by,
 };
 ghost use Rattle.lsdb.specs.Bodies.{AreBodies};
-ghost use Rattle.lsdb.specs.Changes.{
-  CountsAlike,
-  IsSameBody,
-  IsUpTo,
-  SaysTheSame,
-  TellNoMaxAge,
-  TellOneAge,
-  header_length,
-};
-ghost use Rattle.lsdb.specs.Foresight.{ForeseesAll};
-ghost use Rattle.lsdb.specs.Joined.{aged_at};
+ghost use Rattle.lsdb.specs.Changes.{IsUpTo, SaysTheSame};
 ghost use Rattle.words.specs.declared.key.Key.{Key as KeyValue};
 ghost use Rattle.lsdb.specs.Limits.{exceeds, has_room, own_externals};
 
 mod changed;
 mod others;
-mod silence;
 
 use crate::ages::{Ages, foresee, foresee_again};
 use crate::database_copy::DatabaseCopy;
 use crate::keyed_bodies::{KeyedBody, bodies_of};
 use crate::limits::{MOST_LSAS, MOST_OWN_EXTERNALS, holds_own, is_own_external, recount};
-use crate::order::age_at;
+use crate::sameness::says_the_same;
 use crate::stored::StoredLsa;
 use crate::times::Times;
 use keyed_map::{ChangeTest, KeyTest, KeyedMap, KeysInOrder};
-use lsa::laws::texts_are_determined;
-use lsa::{Body, HEADER_LENGTH, Lsa, write_at_age};
+use lsa::{Body, Lsa};
 pub use others::KeyRule;
 use std::alloc::{AllocError, Global};
 use std::marker::Model;
-use words::{Key, MAX_AGE, RouterId, Second};
+use words::{Key, RouterId, Second};
 
 /// The link state database of a router: at most one copy for each key, and the copies when it was
 /// last settled.
 ///
-/// The LSAs and their times are in separate maps, so that an edit of a copy's times copies no LSA.
+/// Copies of the database share its LSAs, and an edit of a copy's times copies no LSA.
 #[derive(Drop)]
 pub struct Lsdb {
+    alloc: Global,
     router: RouterId,
-    lsas: KeyedMap<StoredLsa>,
-    times: KeyedMap<Times>,
+    copies: KeyedMap<StoredLsa>,
     // the number of self-originated AS-external-LSAs, now and when the database was last settled
     externals: usize,
     settled_externals: usize,
@@ -71,75 +58,64 @@ impl Model for Lsdb {
 
     ghost coded = { coded_database (Prim.hlevel codes) };
 
-    ghost use Rattle.lsdb.specs.Joined.{copies_of};
     ghost use Rattle.lsdb.specs.Soundness.{AreKept};
 
     ghost view = { λ a. record {
       router = a.router;
-      present = copies_of a.lsas.present a.times.present;
-      settled = copies_of a.lsas.settled a.times.settled;
+      present = a.copies.present;
+      settled = a.copies.settled;
     } };
 
-    ghost invariant = { λ a.
-        AreKept a.router a.lsas a.times a.externals a.settled_externals a.ages };
+    ghost invariant = { λ a. AreKept a.router a.copies a.externals a.settled_externals a.ages };
 }
 
-// Selects the LSAs that have reached MaxAge.
+// Selects the copies that have reached MaxAge.
 #[derive(Drop)]
-struct AgedOut<'a> {
-    times: &'a KeyedMap<Times>,
+struct AgedOut {
     moment: Second,
 }
 
-impl<'a> KeyTest<StoredLsa> for AgedOut<'a> {
-    ghost use Rattle.lsdb.specs.Joined.{aged_at};
+impl KeyTest<StoredLsa> for AgedOut {
+    ghost use Rattle.lsdb.specs.Copies.{is_aged_out};
 
-    ghost accepts = { λ a key lsa. aged_at a.moment (finite.get a.times.now.present key) };
+    ghost accepts = { λ a key copy. is_aged_out a.moment copy };
 
-    fn accepts(&self, key: &Key, _lsa: &StoredLsa) -> bool {
-        match self.times.get(key) {
-            None => false,
-            Some(times) => age_at(times.age, times.stored, self.moment) == MAX_AGE,
-        }
+    fn accepts(&self, _key: &Key, copy: &StoredLsa) -> bool {
+        copy.is_aged_out(self.moment)
     }
 }
 
-// Selects the keys that have an LSA which has reached MaxAge.
+// Selects the keys whose copies have reached MaxAge.
 #[derive(Drop)]
 struct AgedAndThere<'a> {
-    lsas: &'a KeyedMap<StoredLsa>,
-    times: &'a KeyedMap<Times>,
+    copies: &'a KeyedMap<StoredLsa>,
     moment: Second,
 }
 
 impl<'a> KeyTest<()> for AgedAndThere<'a> {
-    ghost use Rattle.std.specs.Prelude.{◌&&◌};
-    ghost use Rattle.lsdb.specs.Joined.{aged_at};
+    ghost use Rattle.lsdb.specs.Foresight.{aged_at};
 
-    ghost accepts = { λ a key u.
-        aged_at a.moment (finite.get a.times.now.present key)
-        && finite.contains_key a.lsas.now.present key };
+    ghost accepts = { λ a key u. aged_at a.moment (finite.get a.copies.now.present key) };
 
     fn accepts(&self, key: &Key, _nothing: &()) -> bool {
-        match self.times.get(key) {
+        match self.copies.get(key) {
             None => false,
-            Some(times) => {
-                age_at(times.age, times.stored, self.moment) == MAX_AGE && self.lsas.contains(key)
-            }
+            Some(copy) => copy.is_aged_out(self.moment),
         }
     }
 }
 
-// Whether LSAs of the LS types up to this one, or of all types, have the same bodies as before.
+// Whether copies of the LS types up to this one, or of all types, say the same as before.
 #[derive(Drop)]
-struct SameBodies {
+struct SameUpTo {
     last_type: Option<u32>,
+    moment: Second,
 }
 
-impl ChangeTest<StoredLsa> for SameBodies {
-    ghost use Rattle.lsdb.specs.Changes.{IsSameBody, IsUpTo};
+impl ChangeTest<StoredLsa> for SameUpTo {
+    ghost use Rattle.lsdb.specs.Changes.{IsUpTo, SaysTheSame};
 
-    ghost same = { λ a key before now. IsUpTo a.last_type key → IsSameBody before now };
+    ghost same = { λ a key before now. IsUpTo a.last_type key → SaysTheSame a.moment before now };
 
     ghost counted = { λ a key. IsUpTo a.last_type key };
 
@@ -154,89 +130,8 @@ impl ChangeTest<StoredLsa> for SameBodies {
         before: Option<&StoredLsa>,
         now: Option<&StoredLsa>,
     ) -> Result<bool, AllocError> {
-        is_same_body(alloc, before, now)
+        says_the_same(alloc, self.moment, before, now)
     }
-}
-
-// Whether the times of LSAs of the LS types up to this one, or of all types, give the same age as
-// before, or no MaxAge at the moment.
-#[derive(Drop)]
-struct AlikeAges<'a> {
-    lsas: &'a KeyedMap<StoredLsa>,
-    last_type: Option<u32>,
-    moment: Second,
-}
-
-impl<'a> ChangeTest<Times> for AlikeAges<'a> {
-    ghost use Rattle.std.specs.Prelude.{◌≡◌, true};
-    ghost use Rattle.lsdb.specs.Changes.{CountsAlike, IsUpTo};
-
-    ghost same = { λ a key before now. IsUpTo a.last_type key
-        → finite.contains_key a.lsas.now.present key ≡ true → CountsAlike a.moment before now };
-
-    ghost counted = { λ a key. IsUpTo a.last_type key };
-
-    fn counts(&self, _alloc: Global, key: &Key) -> Result<bool, AllocError> {
-        Ok(is_up_to(self.last_type, key))
-    }
-
-    fn is_same(
-        &self,
-        _alloc: Global,
-        key: &Key,
-        before: Option<&Times>,
-        now: Option<&Times>,
-    ) -> Result<bool, AllocError> {
-        Ok(!self.lsas.contains(key) || counts_alike(self.moment, before, now))
-    }
-}
-
-// Whether both LSAs have one body, or neither exists.
-fn is_same_body(
-    alloc: Global,
-    before: Option<&StoredLsa>,
-    now: Option<&StoredLsa>,
-) -> Result<bool, AllocError>
-    ensures { IfOk result (λ same. IsTrue same
-        ↔ IsSameBody (option_copied before.entry) (option_copied now.entry)) }
-{
-    match before {
-        None => Ok(now.is_none()),
-        Some(old) => match now {
-            None => Ok(false),
-            Some(new) => have_one_body(alloc, old.lsa(), new.lsa()),
-        },
-    }
-}
-
-// Whether both LSAs have one body: one LS type, and the same bytes after their headers.
-fn have_one_body(alloc: Global, old: &Lsa, new: &Lsa) -> Result<bool, AllocError>
-    ensures { IfOk result (λ same. IsTrue same ↔ (old.now.body ≡ new.now.body)) }
-{
-    let old_text = write_at_age(alloc, old, 0)?;
-    let new_text = write_at_age(alloc, new, 0)?;
-    texts_are_determined();
-    if old.header().ls_type != new.header().ls_type {
-        return Ok(false);
-    }
-    Ok(have_one_rest(old_text.as_slice(), new_text.as_slice()))
-}
-
-// Whether the bytes after both headers are the same.
-fn have_one_rest(old: &[u8], new: &[u8]) -> bool
-    requires first { header_length ≤ length old.now }
-    requires second { header_length ≤ length new.now }
-    ensures { IsTrue result ↔ (drop header_length old.now ≡ drop header_length new.now) }
-{
-    behind_header(old) == behind_header(new)
-}
-
-// The bytes of an LSA after its header (RFC 2328, section A.4.1).
-fn behind_header(text: &[u8]) -> &[u8]
-    requires { header_length ≤ length text.now }
-    ensures { result.now ≡ drop header_length text.now }
-{
-    &text[HEADER_LENGTH..]
 }
 
 pub(crate) fn is_up_to(last_type: Option<u32>, key: &Key) -> bool
@@ -245,63 +140,6 @@ pub(crate) fn is_up_to(last_type: Option<u32>, key: &Key) -> bool
     match last_type {
         None => true,
         Some(last) => key.ls_type <= last,
-    }
-}
-
-// Whether both times give the same age, or no MaxAge at the moment, or neither exists.
-fn counts_alike(moment: Second, before: Option<&Times>, now: Option<&Times>) -> bool
-    ensures { IsTrue result
-        ↔ CountsAlike moment (option_copied before.entry) (option_copied now.entry) }
-{
-    match before {
-        None => now.is_none(),
-        Some(old) => match now {
-            None => false,
-            Some(new) => count_alike(moment, old, new),
-        },
-    }
-}
-
-// Whether both times give one age at one moment, or neither gives MaxAge at this one.
-fn count_alike(moment: Second, old: &Times, new: &Times) -> bool
-    ensures { IsTrue result ↔ (TellOneAge old.now new.now ⊎ TellNoMaxAge moment old.now new.now) }
-{
-    if tell_one_age(old, new) {
-        return true;
-    }
-    tell_no_max_age(moment, old, new)
-}
-
-fn tell_one_age(old: &Times, new: &Times) -> bool
-    ensures { IsTrue result ↔ TellOneAge old.now new.now }
-{
-    old.age == new.age && old.stored.count() == new.stored.count()
-}
-
-fn tell_no_max_age(moment: Second, old: &Times, new: &Times) -> bool
-    ensures { IsTrue result ↔ TellNoMaxAge moment old.now new.now }
-{
-    !tells_max_age(moment, old) && !tells_max_age(moment, new)
-}
-
-fn tells_max_age(moment: Second, times: &Times) -> bool
-    ensures { result ≡ aged_at moment (Some times.now) }
-{
-    age_at(times.age, times.stored, moment) == MAX_AGE
-}
-
-// Whether the times of this key give MaxAge at the moment. If no key's times can by then, they
-// aren't looked up.
-pub(crate) fn has_max_age(ages: &Ages, times: &KeyedMap<Times>, key: &Key, moment: Second) -> bool
-    requires { ForeseesAll ages.now times.now.present }
-    ensures { result ≡ aged_at moment (finite.get times.now.present key.now) }
-{
-    if moment < ages.due && !ages.aged.contains(key) {
-        return false;
-    }
-    match times.get(key) {
-        None => false,
-        Some(found) => tells_max_age(moment, found),
     }
 }
 
@@ -324,9 +162,9 @@ impl Lsdb {
         } }
     {
         Lsdb {
+            alloc,
             router,
-            lsas: KeyedMap::new(alloc),
-            times: KeyedMap::new(alloc),
+            copies: KeyedMap::new(alloc),
             externals: 0,
             settled_externals: 0,
             ages: Ages::new(alloc, Second::new(u64::MAX)),
@@ -341,12 +179,11 @@ impl Lsdb {
     pub fn copy(&self, alloc: Global) -> Result<Self, AllocError>
         ensures { IfOk result (λ made. made ≡ record self.now { settled = self.now.present }) }
     {
-        let lsas = self.lsas.copy(alloc)?;
-        let times = self.times.copy(alloc)?;
+        let copies = self.copies.copy(alloc)?;
         Ok(Lsdb {
+            alloc,
             router: self.router,
-            lsas,
-            times,
+            copies,
             externals: self.externals,
             settled_externals: self.externals,
             ages: Ages::new(alloc, Second::new(0)),
@@ -358,7 +195,7 @@ impl Lsdb {
     pub fn len(&self) -> usize
         ensures { result ≡ finite.len self.now.present }
     {
-        self.lsas.len()
+        self.copies.len()
     }
 
     /// The copy of this key, if there is one.
@@ -366,19 +203,12 @@ impl Lsdb {
         ensures { result ≡ finite.get self.now.present key.now }
     {
         // LSAs that arrive in the order of their keys aren't searched for.
-        if self.lsas.is_beyond(key) {
+        if self.copies.is_beyond(key) {
             return None;
         }
-        match self.lsas.get(key) {
+        match self.copies.get(key) {
             None => None,
-            Some(stored) => match self.times.get(key) {
-                None => None,
-                Some(times) => {
-                    let times: Times = *times;
-                    let lsa = stored.lsa();
-                    Some(DatabaseCopy { lsa, times })
-                }
-            },
+            Some(copy) => Some(copy.borrowed()),
         }
     }
 
@@ -386,14 +216,9 @@ impl Lsdb {
     pub fn body_at(&self, moment: Second, key: &Key) -> Option<&Body>
         ensures { option_copied result ≡ said_by moment (finite.get self.now.present key.now) }
     {
-        match self.lsas.get(key) {
+        match self.copies.get(key) {
             None => None,
-            Some(stored) => {
-                if has_max_age(&self.ages, &self.times, key, moment) {
-                    return None;
-                }
-                Some(stored.lsa().body())
-            }
+            Some(copy) => copy.body_at(moment),
         }
     }
 
@@ -413,21 +238,14 @@ impl Lsdb {
             (λ key. said_by moment (finite.get self.now.present key)) bodies.items) }
         ensures few { IfOk result (λ bodies. length bodies.items ≤ finite.len self.now.present) }
     {
-        bodies_of(
-            alloc,
-            &self.lsas,
-            &self.times,
-            &self.ages,
-            last_type,
-            moment,
-        )
+        bodies_of(alloc, &self.copies, last_type, moment)
     }
 
     /// The keys, in their order.
     pub fn keys(&self) -> KeysInOrder<'_, StoredLsa>
         ensures { result ≡ finite.keys self.now.present }
     {
-        self.lsas.keys()
+        self.copies.keys()
     }
 
     /// The number of AS-external-LSAs that the router itself originates.
@@ -443,8 +261,8 @@ impl Lsdb {
     pub fn has_room(&self, key: &Key) -> bool
         ensures { result ≡ has_room self.now.router key.now self.now.present }
     {
-        self.lsas.contains(key)
-            || self.lsas.len() < MOST_LSAS
+        self.copies.contains(key)
+            || self.copies.len() < MOST_LSAS
                 && (!is_own_external(self.router, key) || self.externals < MOST_OWN_EXTERNALS)
     }
 
@@ -453,7 +271,7 @@ impl Lsdb {
     pub fn exceeds(&self) -> bool
         ensures { result ≡ exceeds self.now.router self.now.present }
     {
-        self.lsas.len() > MOST_LSAS || self.externals > MOST_OWN_EXTERNALS
+        self.copies.len() > MOST_LSAS || self.externals > MOST_OWN_EXTERNALS
     }
 
     /// The first `count` keys, in their order, or all if there are fewer.
@@ -463,7 +281,7 @@ impl Lsdb {
     pub fn first(&self, alloc: Global, count: usize) -> Result<Vec<Key>, AllocError>
         ensures { IfOk result (λ keys. keys.items ≡ take count (finite.keys self.now.present)) }
     {
-        self.lsas.first(alloc, count)
+        self.copies.first(alloc, count)
     }
 
     /// The keys of the copies that have MaxAge at the moment, in their order.
@@ -479,17 +297,12 @@ impl Lsdb {
     {
         if moment < self.ages.due {
             let there = AgedAndThere {
-                lsas: &self.lsas,
-                times: &self.times,
+                copies: &self.copies,
                 moment,
             };
             return self.ages.aged.keys_where(alloc, &there);
         }
-        let aged_out = AgedOut {
-            times: &self.times,
-            moment,
-        };
-        self.lsas.keys_where(alloc, &aged_out)
+        self.copies.keys_where(alloc, &AgedOut { moment })
     }
 
     /// Whether each copy of an LS type up to this one, or of any type if none is given, says at the
@@ -511,15 +324,7 @@ impl Lsdb {
             → SaysTheSame moment
             (finite.get self.now.settled key) (finite.get self.now.present key))) }
     {
-        if !self.lsas.keeps(alloc, &SameBodies { last_type })? {
-            return Ok(false);
-        }
-        let ages = AlikeAges {
-            lsas: &self.lsas,
-            last_type,
-            moment,
-        };
-        self.times.keeps(alloc, &ages)
+        self.copies.keeps(alloc, &SameUpTo { last_type, moment })
     }
 
     // The LSA replaces the copy of its key; `installed` is the moment if it was received by
@@ -539,12 +344,12 @@ impl Lsdb {
         };
         let name = header.key();
         let key = &name;
-        let held = holds_own(self.router, &self.lsas, key);
+        let copy = StoredLsa::new(self.alloc, lsa, times)?;
+        let held = holds_own(self.router, &self.copies, key);
         self.past = one_more_past(&self.ages, key, self.past);
-        self.ages.note(moment, key, &times)?;
-        self.times.insert(*key, times)?;
-        self.lsas.insert(*key, StoredLsa::new(lsa))?;
-        self.externals = recount(self.router, &self.lsas, key, held, true, self.externals);
+        self.ages.note(moment, key, &copy)?;
+        self.copies.insert(*key, copy)?;
+        self.externals = recount(self.router, &self.copies, key, held, true, self.externals);
         Ok(())
     }
 
@@ -583,14 +388,11 @@ impl Lsdb {
         ensures settled { self.new.settled ≡ self.old.settled }
         ensures router { self.new.router ≡ self.old.router }
     {
-        let Some(times) = self.times.get(key) else {
+        let Some(copy) = self.copies.get(key) else {
             return Ok(());
         };
-        let marked = Times {
-            sent: Some(moment),
-            ..*times
-        };
-        self.times.insert(*key, marked)
+        let marked = copy.marked(moment)?;
+        self.copies.insert(*key, marked)
     }
 
     /// Premature aging (RFC 2328, section 14.1): the copy of this key has MaxAge from this moment
@@ -603,16 +405,12 @@ impl Lsdb {
         ensures settled { self.new.settled ≡ self.old.settled }
         ensures router { self.new.router ≡ self.old.router }
     {
-        let Some(times) = self.times.get(key) else {
+        let Some(copy) = self.copies.get(key) else {
             return Ok(());
         };
-        let aged = Times {
-            age: MAX_AGE,
-            stored: moment,
-            ..*times
-        };
+        let aged = copy.aged_out(moment)?;
         self.ages.note(moment, key, &aged)?;
-        self.times.insert(*key, aged)
+        self.copies.insert(*key, aged)
     }
 
     /// Removes the copy of this key, if there is one.
@@ -624,19 +422,18 @@ impl Lsdb {
         ensures settled { self.new.settled ≡ self.old.settled }
         ensures router { self.new.router ≡ self.old.router }
     {
-        let held = holds_own(self.router, &self.lsas, key);
+        let held = holds_own(self.router, &self.copies, key);
         self.past = one_more_past(&self.ages, key, self.past);
-        self.lsas.remove(key)?;
-        self.externals = recount(self.router, &self.lsas, key, held, false, self.externals);
-        self.times.remove(key)
+        self.copies.remove(key)?;
+        self.externals = recount(self.router, &self.copies, key, held, false, self.externals);
+        Ok(())
     }
 
     /// Makes the edits so far final.
     pub fn settle(&mut self)
         ensures { self.new ≡ record self.old { settled = self.old.present } }
     {
-        self.lsas.settle();
-        self.times.settle();
+        self.copies.settle();
         self.settled_externals = self.externals;
     }
 
@@ -647,19 +444,18 @@ impl Lsdb {
     pub fn settle_at(&mut self, alloc: Global, moment: Second)
         ensures { self.new ≡ record self.old { settled = self.old.present } }
     {
-        self.lsas.settle();
-        self.times.settle();
+        self.copies.settle();
         self.settled_externals = self.externals;
         if moment < self.ages.due {
             if self.past > self.ages.aged.len() / 2 {
-                if let Ok(ages) = foresee_again(alloc, &self.ages, &self.times, moment) {
+                if let Ok(ages) = foresee_again(alloc, &self.ages, &self.copies, moment) {
                     self.ages = ages;
                     self.past = 0;
                 }
             }
             return;
         }
-        if let Ok(ages) = foresee(alloc, &self.times, moment) {
+        if let Ok(ages) = foresee(alloc, &self.copies, moment) {
             self.ages = ages;
             self.past = 0;
         }
@@ -669,8 +465,7 @@ impl Lsdb {
     pub fn roll_back(&mut self)
         ensures { self.new ≡ record self.old { present = self.old.settled } }
     {
-        self.lsas.roll_back();
-        self.times.roll_back();
+        self.copies.roll_back();
         self.externals = self.settled_externals;
     }
 }

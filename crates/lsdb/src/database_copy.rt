@@ -20,11 +20,9 @@ pub struct DatabaseCopy<'a> {
 }
 
 impl<'a> Model for DatabaseCopy<'a> {
-    ghost use Rattle.lsdb.specs.Copies.{DatabaseCopy as Kept};
+    ghost use Rattle.lsdb.specs.Copies.{DatabaseCopy as Kept, copy_of};
 
     ghost Value = { Kept };
-
-    ghost use Rattle.lsdb.specs.Joined.{copy_of};
 
     ghost view = { λ a. copy_of a.lsa.now a.times };
 }

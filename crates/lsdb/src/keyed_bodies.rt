@@ -3,13 +3,9 @@ ghost use Rattle.std.specs.Prelude.{◌≡◌, ◌≤◌, IfOk, length};
 ghost use Rattle.std.specs.FinMap as finite;
 ghost use Rattle.lsdb.specs.Bodies.{AreBodies};
 ghost use Rattle.lsdb.specs.Copies.{said_by};
-ghost use Rattle.lsdb.specs.Foresight.{ForeseesAll};
-ghost use Rattle.lsdb.specs.Joined.{HaveTimes, copies_of};
 
-use crate::ages::Ages;
-use crate::database::{has_max_age, is_up_to};
+use crate::database::is_up_to;
 use crate::stored::StoredLsa;
-use crate::times::Times;
 use keyed_map::KeyedMap;
 use lsa::Body;
 use std::alloc::{AllocError, Global};
@@ -54,34 +50,28 @@ impl<'a> KeyedBody<'a> {
     }
 }
 
-/// The bodies of the LSAs of LS types up to this one, or of all types, whose times are below MaxAge
-/// at the moment.
+/// The bodies of the copies of LS types up to this one, or of all types, that are below MaxAge at
+/// the moment.
 ///
 /// # Errors
 /// `AllocError` if an allocation is refused.
 pub fn bodies_of<'a>(
     alloc: Global,
-    lsas: &'a KeyedMap<StoredLsa>,
-    times: &KeyedMap<Times>,
-    ages: &Ages,
+    copies: &'a KeyedMap<StoredLsa>,
     last_type: Option<u32>,
     moment: Second,
 ) -> Result<Vec<KeyedBody<'a>>, AllocError>
-    requires foreseen { ForeseesAll ages.now times.now.present }
-    requires timed { HaveTimes lsas.now.present times.now.present }
     ensures bodies { IfOk result (λ bodies. AreBodies last_type
-        (λ key. said_by moment (finite.get (copies_of lsas.now.present times.now.present) key))
-        bodies.items) }
-    ensures few { IfOk result (λ bodies. length bodies.items
-        ≤ finite.len (copies_of lsas.now.present times.now.present)) }
+        (λ key. said_by moment (finite.get copies.now.present key)) bodies.items) }
+    ensures few { IfOk result (λ bodies. length bodies.items ≤ finite.len copies.now.present) }
 {
     let mut bodies = Vec::new(alloc);
-    for (key, stored) in lsas.entries() {
+    for (key, copy) in copies.entries() {
         if !is_up_to(last_type, &key) {
             break;
         }
-        if !has_max_age(ages, times, &key, moment) {
-            bodies.push(KeyedBody::new(key, stored.lsa().body()))?;
+        if !copy.is_aged_out(moment) {
+            bodies.push(KeyedBody::new(key, copy.lsa().body()))?;
         }
     }
     Ok(bodies)

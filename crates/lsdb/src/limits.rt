@@ -2,8 +2,7 @@
 ghost use Rattle.std.specs.Prelude.{◌≡◌, if◌then◌else◌, false};
 ghost use Rattle.std.specs.FinMap as map;
 ghost use Rattle.keyed_map.specs.Slots.{count_after_change};
-ghost use Rattle.lsdb.specs.Joined.{count_own_externals};
-ghost use Rattle.lsdb.specs.Limits.{is_own_external};
+ghost use Rattle.lsdb.specs.Limits.{count_own_externals, is_own_external};
 
 use crate::stored::StoredLsa;
 use keyed_map::KeyedMap;
@@ -24,12 +23,12 @@ pub fn is_own_external(router: RouterId, key: &Key) -> bool
 
 /// Whether this is the key of an AS-external-LSA of the router that is in the database. Other keys
 /// aren't looked up.
-pub fn holds_own(router: RouterId, lsas: &KeyedMap<StoredLsa>, key: &Key) -> bool
+pub fn holds_own(router: RouterId, copies: &KeyedMap<StoredLsa>, key: &Key) -> bool
     ensures { result ≡ (if is_own_external router key.now
-        then map.contains_key lsas.now.present key.now else false) }
+        then map.contains_key copies.now.present key.now else false) }
 {
     if is_own_external(router, key) {
-        lsas.contains(key)
+        copies.contains(key)
     } else {
         false
     }
@@ -40,18 +39,18 @@ pub fn holds_own(router: RouterId, lsas: &KeyedMap<StoredLsa>, key: &Key) -> boo
 /// it has the key now.
 pub fn recount(
     router: RouterId,
-    lsas: &KeyedMap<StoredLsa>,
+    copies: &KeyedMap<StoredLsa>,
     key: &Key,
     held: bool,
     holds: bool,
     externals: usize,
 ) -> usize
-    requires { count_own_externals router lsas.now.present
+    requires { count_own_externals router copies.now.present
         ≡ (if is_own_external router key.now then count_after_change held holds externals
         else externals) }
-    ensures { result ≡ count_own_externals router lsas.now.present }
+    ensures { result ≡ count_own_externals router copies.now.present }
 {
-    let _lsas = lsas.len();
+    let _copies = copies.len();
     if !is_own_external(router, key) {
         return externals;
     }

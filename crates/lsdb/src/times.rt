@@ -1,6 +1,4 @@
 //! The times of a copy.
-use keyed_map::Copied;
-use std::alloc::{AllocError, Global};
 use words::Second;
 
 /// What may change for a copy while its LSA stays the same.
@@ -13,10 +11,4 @@ pub struct Times {
     pub installed: Option<Second>,
     /// When it was last sent in a Link State Update, if it was.
     pub sent: Option<Second>,
-}
-
-impl Copied for Times {
-    fn copy(&self, _alloc: Global) -> Result<Self, AllocError> {
-        Ok(*self)
-    }
 }

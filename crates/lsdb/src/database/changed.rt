@@ -5,24 +5,12 @@ ghost use Rattle.std.specs.FinMap as finite;
 ghost use Rattle.std.specs.List.{Contains};
 ghost use Rattle.lsdb.specs.Changes.{SaysTheSame};
 ghost use Rattle.lsdb.specs.Copies.{said_by};
-ghost use Rattle.lsdb.specs.Joined.{aged_at};
 ghost use Rattle.words.specs.declared.key.Key.{Key as KeyValue};
 
-use super::{AlikeAges, Lsdb, SameBodies, tells_max_age};
-use crate::times::Times;
+use super::{Lsdb, SameUpTo};
 use lsa::Body;
 use std::alloc::{AllocError, Global};
 use words::{Key, Second};
-
-// Whether these times give MaxAge at the moment.
-fn is_aged(moment: Second, times: Option<&Times>) -> bool
-    ensures { result ≡ aged_at moment (option_copied times.entry) }
-{
-    match times {
-        None => false,
-        Some(times) => tells_max_age(moment, times),
-    }
-}
 
 impl Lsdb {
     /// The keys whose copies don't say at the moment what the copies of these keys said when the
@@ -40,17 +28,11 @@ impl Lsdb {
             → SaysTheSame moment
             (finite.get self.now.settled key) (finite.get self.now.present key)) }
     {
-        let mut keys = self
-            .lsas
-            .changed_keys(alloc, &SameBodies { last_type: None })?;
-        let ages = AlikeAges {
-            lsas: &self.lsas,
+        let test = SameUpTo {
             last_type: None,
             moment,
         };
-        let aged = self.times.changed_keys(alloc, &ages)?;
-        keys.extend_from_slice(&aged)?;
-        Ok(keys)
+        self.copies.changed_keys(alloc, &test)
     }
 
     /// The body that the copy of this key had when the database was last settled, if there was one
@@ -58,14 +40,9 @@ impl Lsdb {
     pub fn settled_body_at(&self, moment: Second, key: &Key) -> Option<&Body>
         ensures { option_copied result ≡ said_by moment (finite.get self.now.settled key.now) }
     {
-        match self.lsas.settled_get(key) {
+        match self.copies.settled_get(key) {
             None => None,
-            Some(stored) => {
-                if is_aged(moment, self.times.settled_get(key)) {
-                    return None;
-                }
-                Some(stored.lsa().body())
-            }
+            Some(copy) => copy.body_at(moment),
         }
     }
 }

@@ -6,10 +6,10 @@ ghost use Rattle.lsdb.specs.Changes.{SaysTheSame};
 ghost use Rattle.lsdb.specs.Silence.{SaysNoMore};
 ghost use Rattle.words.specs.declared.key.Key.{Key as KeyValue};
 
-use super::{Lsdb, counts_alike, is_same_body};
+use super::Lsdb;
+use crate::sameness::says_no_more;
 use crate::stored::StoredLsa;
-use crate::times::Times;
-use keyed_map::{ChangeTest, KeyedMap};
+use keyed_map::ChangeTest;
 use std::alloc::{AllocError, Global};
 use words::{Key, Second};
 
@@ -28,23 +28,26 @@ pub trait KeyRule {
 }
 
 // Whether the key counts.
-pub(super) fn counts_by<T: KeyRule>(rule: &T, alloc: Global, key: &Key) -> Result<bool, AllocError>
+fn counts_by<T: KeyRule>(rule: &T, alloc: Global, key: &Key) -> Result<bool, AllocError>
     ensures { IfOk result (λ counts. (counts ≡ true → T.leaves_out rule.now key.now → ⊥)
         × (counts ≡ false → T.leaves_out rule.now key.now)) }
 {
     Ok(!rule.leaves_out(alloc, key)?)
 }
 
-// Whether the LSAs of the keys that count have the same bodies as before.
+// Whether the copies of the keys that count say what they said, or nothing before and now.
 #[derive(Drop)]
-struct OtherBodies<'a, T> {
+struct OthersSayNoMore<'a, T> {
     rule: &'a T,
+    before: Second,
+    moment: Second,
 }
 
-impl<'a, T: KeyRule> ChangeTest<StoredLsa> for OtherBodies<'a, T> {
-    ghost use Rattle.lsdb.specs.Changes.{IsSameBody};
+impl<'a, T: KeyRule> ChangeTest<StoredLsa> for OthersSayNoMore<'a, T> {
+    ghost use Rattle.lsdb.specs.Silence.{SaysNoMore};
 
-    ghost same = { λ a key before now. (T.leaves_out a.rule.now key → ⊥) → IsSameBody before now };
+    ghost same = { λ a key old new. (T.leaves_out a.rule.now key → ⊥)
+        → SaysNoMore a.before a.moment old new };
 
     ghost counted = { λ a key. T.leaves_out a.rule.now key → ⊥ };
 
@@ -56,71 +59,14 @@ impl<'a, T: KeyRule> ChangeTest<StoredLsa> for OtherBodies<'a, T> {
         &self,
         alloc: Global,
         _key: &Key,
-        before: Option<&StoredLsa>,
-        now: Option<&StoredLsa>,
+        old: Option<&StoredLsa>,
+        new: Option<&StoredLsa>,
     ) -> Result<bool, AllocError> {
-        is_same_body(alloc, before, now)
-    }
-}
-
-// Whether the times of the keys that count give the same age as before, or no MaxAge at the moment.
-#[derive(Drop)]
-struct OtherAges<'a, T> {
-    rule: &'a T,
-    lsas: &'a KeyedMap<StoredLsa>,
-    moment: Second,
-}
-
-impl<'a, T: KeyRule> ChangeTest<Times> for OtherAges<'a, T> {
-    ghost use Rattle.std.specs.Prelude.{◌≡◌, true};
-    ghost use Rattle.lsdb.specs.Changes.{CountsAlike};
-
-    ghost same = { λ a key before now. (T.leaves_out a.rule.now key → ⊥)
-        → finite.contains_key a.lsas.now.present key ≡ true → CountsAlike a.moment before now };
-
-    ghost counted = { λ a key. T.leaves_out a.rule.now key → ⊥ };
-
-    fn counts(&self, alloc: Global, key: &Key) -> Result<bool, AllocError> {
-        counts_by(self.rule, alloc, key)
-    }
-
-    fn is_same(
-        &self,
-        _alloc: Global,
-        key: &Key,
-        before: Option<&Times>,
-        now: Option<&Times>,
-    ) -> Result<bool, AllocError> {
-        if !self.lsas.contains(key) {
-            return Ok(true);
-        }
-        Ok(counts_alike(self.moment, before, now))
+        says_no_more(alloc, self.before, self.moment, old, new)
     }
 }
 
 impl Lsdb {
-    // `keeps` for the copies whose keys count.
-    fn keeps_counted<T: KeyRule>(
-        &self,
-        alloc: Global,
-        rule: &T,
-        moment: Second,
-    ) -> Result<bool, AllocError>
-        ensures { IfOk result (λ keeps. IsTrue keeps
-            ↔ ((key : KeyValue) → (T.leaves_out rule.now key → ⊥) → SaysTheSame moment
-            (finite.get self.now.settled key) (finite.get self.now.present key))) }
-    {
-        if !self.lsas.keeps(alloc, &OtherBodies { rule })? {
-            return Ok(false);
-        }
-        let ages = OtherAges {
-            rule,
-            lsas: &self.lsas,
-            moment,
-        };
-        self.times.keeps(alloc, &ages)
-    }
-
     /// Whether each copy whose key counts says at the moment what the copy of its key said when the
     /// database was last settled, as `keeps` compares them (RFC 2328, section 13.2). A key that had
     /// no copy then, or one that had MaxAge at the moment `before`, may have none now, or one at
@@ -144,10 +90,12 @@ impl Lsdb {
             (finite.get self.now.settled key) (finite.get self.now.present key))
             → IsTrue keeps) }
     {
-        if self.keeps_counted(alloc, rule, moment)? {
-            return Ok(true);
-        }
-        self.says_no_more(alloc, rule, before, moment)
+        let test = OthersSayNoMore {
+            rule,
+            before,
+            moment,
+        };
+        self.copies.keeps(alloc, &test)
     }
 
     /// The first `count` keys from a key on, in their order, or all if there are fewer.
@@ -158,13 +106,13 @@ impl Lsdb {
         ensures { IfOk result (λ keys. keys.items
             ≡ take count (keys_from key.now (finite.keys self.now.present))) }
     {
-        self.lsas.first_from(alloc, key, count)
+        self.copies.first_from(alloc, key, count)
     }
 
     /// The least key that is equal to or greater than a key, if there is one.
     pub fn next_from(&self, key: &Key) -> Option<Key>
         ensures { result ≡ slice_get (keys_from key.now (finite.keys self.now.present)) 0 }
     {
-        self.lsas.next_from(key)
+        self.copies.next_from(key)
     }
 }

@@ -1,41 +1,37 @@
-use Rattle.std.proofs.Common.{Some, ap, sym, subst, ◌∙◌}
+use Rattle.std.proofs.Common.{◌≡◌, Some, ap, sym, subst, ◌∙◌}
+use Rattle.std.specs.Prelude.{is_some}
 use Rattle.std.specs.FinMap as finite
-use Rattle.lsdb.specs.Copies.{mark_sent}
-use Rattle.keyed_map.proofs.Helds.{after, on_ok}
+use Rattle.keyed_map.proofs.Helds.{after}
+use Rattle.lsdb.specs.Copies.{DatabaseCopy, mark_sent}
 use Rattle.lsdb.specs.Foresight.{Foresees, ForeseesAll}
+use Rattle.lsdb.specs.Limits.{count_own_externals, is_own_external}
+use Rattle.lsdb.proofs.Copies.{marks_none}
 use Rattle.lsdb.proofs.Foresight.{foresees_put}
-use Rattle.lsdb.specs.Joined.{HaveTimes, copies_of}
-use Rattle.lsdb.specs.declared.times.Times.{Times}
-use Rattle.lsdb.proofs.Joins.{have_more, marks, marks-none}
+use Rattle.lsdb.proofs.Owned.{count_change}
 use Rattle.lsdb.proofs.database.Lsdb.mark_sent.Goals as goal
 
 pub returns-in_default-clause-ok : goal.returns-in_default-clause-ok
 returns-in_default-clause-ok c =
     ap (λ h. h.present) (sym c.self.view_is)
-    ∙ marks-none c.args.moment c.self.inside.lsas.present c.self.inside.times.present c.args.key.now (sym c.in_default.ensures)
+    ∙ marks_none c.args.moment c.args.key.now c.self.inside.copies.present (sym c.in_default.ensures)
     ∙ ap (λ h. mark_sent c.args.moment c.args.key.now h.present) c.self.view_is
 
-pub returns-clause-ok : goal.returns-clause-ok
-returns-clause-ok c =
-    on_ok c.insert.result (λ is.
-    ap (copies_of c.self.inside.lsas.present) is
-    ∙ marks c.args.moment c.self.inside.lsas.present c.self.inside.times.present c.args.key.now c.in-Some.times.now (sym c.in-Some.ensures)
-    ∙ ap (λ h. mark_sent c.args.moment c.args.key.now h.present) c.self.view_is) c.insert.ensures.ok
-
+-- the age of a copy stays when it is sent
 pub invariant_of-self : goal.invariant_of-self
 invariant_of-self c =
-    let lsas = c.self.inside.lsas.present in
-    let times = c.self.inside.times.present in
+    let router = c.self.inside.router in
+    let copies = c.self.inside.copies.present in
+    let key = c.args.key.now in
     let ages = c.self.inside.ages in
-    let t : Times = record c.in-Some.times.now { sent = Some c.args.moment } in record {
-      present = after c.insert.result (HaveTimes lsas) c.insert.new.self.present times (finite.insert times c.args.key.now t) c.insert.ensures.ok c.insert.ensures.err
-          (have_more lsas times c.args.key.now c.self.invariant.present t) c.self.invariant.present;
-      settled = subst (HaveTimes c.self.inside.lsas.settled) (sym c.insert.ensures.settled) c.self.invariant.settled;
-      counted = c.self.invariant.counted;
-      settled_counted = c.self.invariant.settled_counted;
-      foreseen = after c.insert.result (ForeseesAll ages) c.insert.new.self.present times (finite.insert times c.args.key.now t) c.insert.ensures.ok c.insert.ensures.err
-          (foresees_put ages times c.args.key.now c.self.invariant.foreseen t
-          (subst (Foresees ages c.args.key.now) (sym c.in-Some.ensures) (c.self.invariant.foreseen c.args.key.now)))
-          c.self.invariant.foreseen;
+    let marked = c.in_ok-marked.marked in
+    let edited = finite.insert copies key marked in
+    let there = ap is_some (sym c.in-Some.ensures) in
+    let stays : Foresees ages key (Some marked) =
+    subst (λ (x : DatabaseCopy). Foresees ages key (Some x)) (sym c.in_ok-marked.ensures) (subst (Foresees ages key) (sym c.in-Some.ensures) (c.self.invariant.foreseen key)) in record {
+      counted = after c.insert.result (λ d. c.self.inside.externals ≡ count_own_externals router d) c.insert.new.self.present copies edited c.insert.ensures.ok c.insert.ensures.err
+          (c.self.invariant.counted ∙ sym (count_change (is_own_external router) copies key marked there)) c.self.invariant.counted;
+      settled_counted = c.self.invariant.settled_counted ∙ sym (ap (count_own_externals router) c.insert.ensures.settled);
+      foreseen = after c.insert.result (ForeseesAll ages) c.insert.new.self.present copies edited c.insert.ensures.ok c.insert.ensures.err
+          (foresees_put ages copies key c.self.invariant.foreseen marked stays) c.self.invariant.foreseen;
       settled_foreseen = subst (ForeseesAll ages) (sym c.insert.ensures.settled) c.self.invariant.settled_foreseen;
     }

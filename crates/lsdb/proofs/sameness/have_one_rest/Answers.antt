@@ -1,7 +1,7 @@
 use Rattle.std.proofs.Common.{◌∙◌, sym}
 use Rattle.std.specs.Cmp.Lexicographic.{told_text}
 use Rattle.lsdb.proofs.Changes.{by_test}
-use Rattle.lsdb.proofs.database.have_one_rest.Goals as goal
+use Rattle.lsdb.proofs.sameness.have_one_rest.Goals as goal
 
 pub returns : goal.returns
 returns c =

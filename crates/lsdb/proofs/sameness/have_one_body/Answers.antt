@@ -2,7 +2,7 @@ use Rattle.std.proofs.Common.{◌≡◌, ◌≤◌, ◌∙◌, length, drop, ap,
 use Rattle.lsa.specs.declared.header.Header.{Header}
 use Rattle.lsdb.specs.Headers.{lsa_aged}
 use Rattle.lsdb.proofs.Bodies.{long, one_body, one_rest, one_type}
-use Rattle.lsdb.proofs.database.have_one_body.Goals as goal
+use Rattle.lsdb.proofs.sameness.have_one_body.Goals as goal
 
 pub have_one_rest-requires-clause-first : goal.have_one_rest-requires-clause-first
 have_one_rest-requires-clause-first c =

@@ -1,0 +1,145 @@
+//! Whether two copies of one key say the same (RFC 2328, section 13.2).
+ghost use Rattle.std.specs.Prelude.{◌≡◌, ◌≤◌, ◌↔◌, ◌⊎◌, drop, length, IfOk, IsTrue, None};
+ghost use Rattle.std.specs.Prelude.{option_copied};
+ghost use Rattle.lsdb.specs.Changes.{HaveNoMaxAge, HaveOneAge, SaysTheSame, header_length};
+ghost use Rattle.lsdb.specs.Copies.{said_by};
+ghost use Rattle.lsdb.specs.Silence.{SaysNoMore, StaysSilent};
+
+use crate::stored::StoredLsa;
+use lsa::laws::texts_are_determined;
+use lsa::{HEADER_LENGTH, Lsa, write_at_age};
+use std::alloc::{AllocError, Global};
+use words::Second;
+
+/// Whether both copies say the same at the moment, or neither exists.
+///
+/// # Errors
+/// `AllocError` if an allocation for their bytes, which are compared, is refused.
+pub fn says_the_same(
+    alloc: Global,
+    moment: Second,
+    before: Option<&StoredLsa>,
+    now: Option<&StoredLsa>,
+) -> Result<bool, AllocError>
+    ensures { IfOk result (λ same. IsTrue same
+        ↔ SaysTheSame moment (option_copied before.entry) (option_copied now.entry)) }
+{
+    match before {
+        None => Ok(now.is_none()),
+        Some(old) => match now {
+            None => Ok(false),
+            Some(new) => say_the_same(alloc, moment, old, new),
+        },
+    }
+}
+
+// Whether both copies have one body, and one age or no MaxAge at the moment. The bodies of copies
+// whose ages differ aren't compared.
+fn say_the_same(
+    alloc: Global,
+    moment: Second,
+    old: &StoredLsa,
+    new: &StoredLsa,
+) -> Result<bool, AllocError>
+    ensures { IfOk result (λ same. IsTrue same ↔ ((old.now.lsa.body ≡ new.now.lsa.body)
+        × (HaveOneAge old.now new.now ⊎ HaveNoMaxAge moment old.now new.now))) }
+{
+    if !count_alike(moment, old, new) {
+        return Ok(false);
+    }
+    have_one_body(alloc, old.lsa(), new.lsa())
+}
+
+// Whether both copies had one age at one moment, or neither has MaxAge at this one.
+fn count_alike(moment: Second, old: &StoredLsa, new: &StoredLsa) -> bool
+    ensures { IsTrue result ↔ (HaveOneAge old.now new.now ⊎ HaveNoMaxAge moment old.now new.now) }
+{
+    if old.has_age_of(new) {
+        return true;
+    }
+    have_no_max_age(moment, old, new)
+}
+
+fn have_no_max_age(moment: Second, old: &StoredLsa, new: &StoredLsa) -> bool
+    ensures { IsTrue result ↔ HaveNoMaxAge moment old.now new.now }
+{
+    !old.is_aged_out(moment) && !new.is_aged_out(moment)
+}
+
+// Whether both LSAs have one body: one LS type, and the same bytes after their headers.
+fn have_one_body(alloc: Global, old: &Lsa, new: &Lsa) -> Result<bool, AllocError>
+    ensures { IfOk result (λ same. IsTrue same ↔ (old.now.body ≡ new.now.body)) }
+{
+    let old_text = write_at_age(alloc, old, 0)?;
+    let new_text = write_at_age(alloc, new, 0)?;
+    texts_are_determined();
+    if old.header().ls_type != new.header().ls_type {
+        return Ok(false);
+    }
+    Ok(have_one_rest(old_text.as_slice(), new_text.as_slice()))
+}
+
+// Whether the bytes after both headers are the same.
+fn have_one_rest(old: &[u8], new: &[u8]) -> bool
+    requires first { header_length ≤ length old.now }
+    requires second { header_length ≤ length new.now }
+    ensures { IsTrue result ↔ (drop header_length old.now ≡ drop header_length new.now) }
+{
+    behind_header(old) == behind_header(new)
+}
+
+// The bytes of an LSA after its header (RFC 2328, section A.4.1).
+fn behind_header(text: &[u8]) -> &[u8]
+    requires { header_length ≤ length text.now }
+    ensures { result.now ≡ drop header_length text.now }
+{
+    &text[HEADER_LENGTH..]
+}
+
+/// Whether the present copy says at the moment what the earlier one said, or the earlier one said
+/// nothing at the moment `before`, and the present one says nothing.
+///
+/// # Errors
+/// `AllocError` if an allocation for their bytes, which are compared, is refused.
+pub fn says_no_more(
+    alloc: Global,
+    before: Second,
+    moment: Second,
+    old: Option<&StoredLsa>,
+    new: Option<&StoredLsa>,
+) -> Result<bool, AllocError>
+    ensures { IfOk result (λ no_more. IsTrue no_more
+        ↔ SaysNoMore before moment (option_copied old.entry) (option_copied new.entry)) }
+{
+    if stays_silent(before, moment, old, new) {
+        return Ok(true);
+    }
+    says_the_same(alloc, moment, old, new)
+}
+
+// Whether the earlier copy said nothing at the moment `before`, and the present one says nothing at
+// `moment`.
+fn stays_silent(
+    before: Second,
+    moment: Second,
+    old: Option<&StoredLsa>,
+    new: Option<&StoredLsa>,
+) -> bool
+    ensures { IsTrue result ↔ StaysSilent before moment
+        (option_copied old.entry) (option_copied new.entry) }
+{
+    if !is_silent(before, old) {
+        return false;
+    }
+    is_silent(moment, new)
+}
+
+// Whether the copy says nothing at the moment: it doesn't exist, or is at MaxAge.
+fn is_silent(moment: Second, copy: Option<&StoredLsa>) -> bool
+    ensures { IsTrue result ↔ (said_by moment (option_copied copy.entry) ≡ None) }
+{
+    match copy {
+        None => true,
+        Some(copy) => copy.is_aged_out(moment),
+    }
+}
