@@ -5,6 +5,7 @@ ghost use Rattle.lsdb.specs.Changes.{HaveNoMaxAge, HaveOneAge, SaysTheSame, head
 ghost use Rattle.lsdb.specs.Copies.{said_by};
 ghost use Rattle.lsdb.specs.Silence.{SaysNoMore, StaysSilent};
 
+use crate::plain_bodies::are_plainly_one;
 use crate::stored::StoredLsa;
 use lsa::laws::texts_are_determined;
 use lsa::{HEADER_LENGTH, Lsa, write_at_age};
@@ -70,6 +71,9 @@ fn have_no_max_age(moment: Second, old: &StoredLsa, new: &StoredLsa) -> bool
 fn have_one_body(alloc: Global, old: &Lsa, new: &Lsa) -> Result<bool, AllocError>
     ensures { IfOk result (λ same. IsTrue same ↔ (old.now.body ≡ new.now.body)) }
 {
+    if are_plainly_one(old.body(), new.body()) {
+        return Ok(true);
+    }
     let old_text = write_at_age(alloc, old, 0)?;
     let new_text = write_at_age(alloc, new, 0)?;
     texts_are_determined();
