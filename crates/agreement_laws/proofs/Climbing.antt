@@ -49,10 +49,11 @@ use Rattle.flood_laws.specs.InOrder.{IsInOrder}
 use Rattle.flood_laws.proofs.Acknowledged.{in_order, order_begun, order_brings, order_kept}
 use Rattle.flood_laws.proofs.EventWalk.{IsKeptToo, event_kept_too}
 use Rattle.flood_laws.proofs.Limits.{new_key, tied_key, wanted_type}
-use Rattle.agreement_laws.specs.CopiesClimb.{BecameOf, CopiesClimb}
+use Rattle.agreement_laws.specs.CopiesClimb.{BecameOf, CopiesClimb, HasHad}
 use Rattle.agreement_laws.specs.Ranks.{is_at_least}
 use Rattle.agreement_laws.proofs.Ages.{noted_at_least, still_at_least}
 use Rattle.agreement_laws.proofs.Describing.{held, instance_at}
+use Rattle.agreement_laws.proofs.Having.{Whole, joined, whole_begun, whole_kept}
 use Rattle.agreement_laws.proofs.Lists.{some_same}
 use Rattle.agreement_laws.proofs.Parts.{held_marked, held_other, held_put}
 use Rattle.agreement_laws.proofs.Ranks.{at_least_on, itself_at_least, newer}
@@ -119,7 +120,7 @@ module _ (key : Key) (moment : ℕ) (first : Instance) where
   same k c db here new = (copy_now moment c, held_put moment key k c db here, new)
 
   -- the instance is that of the copy
-  of_copy : (db : Database) (k : Key) (c : DatabaseCopy) → key ≡ k → finite.get db k ≡ Some c → Climbs db → is_at_least (copy_now moment c) first ≡ true
+  pub of_copy : (db : Database) (k : Key) (c : DatabaseCopy) → key ≡ k → finite.get db k ≡ Some c → Climbs db → is_at_least (copy_now moment c) first ≡ true
   of_copy db k c same at h =
       let it : h.0 ≡ copy_now moment c = some_same (sym h.1 ∙ ap (instance_at moment) (subst (λ (q : Key). finite.get db q ≡ Some c) (sym same) at)) in
       subst (λ (i : Instance). is_at_least i first ≡ true) it h.2
@@ -239,16 +240,16 @@ module _ (key : Key) (moment : ℕ) (first : Instance) where
       ages before es (with_age before moment o e)
       (chosen (λ (p : Outcome). Climbs p.area.database) (has_just_aged_out before moment e.1) (flood_from_nobody moment (lsa_now moment e.1) o) o
       (λ is. each (flood_to moment None (lsa_now moment e.1)) o h) (λ is. h))
-
   -- ---- the end
 
+module _ (old : Router) (event : Occurrence) (key : Key) (moment : ℕ) (first : Instance) where
   abbrev pub Ended : Outcome → Type 0
   Ended o =
-      Climbs o.area.database
-      ⊎ ((i : Instance) × (is_at_least i first ≡ true) × (is_max_age i.age ≡ true) × (finite.get o.area.database key ≡ None) × (any_has_retransmission key o.area.links ≡ false))
+      Climbs key moment first o.area.database
+      ⊎ ((i : Instance) × HasHad old event key i × (is_at_least i first ≡ true) × (is_max_age i.age ≡ true) × (finite.get o.area.database key ≡ None) × (any_has_retransmission key o.area.links ≡ false))
 
-  pub removes : (o : Outcome) → Climbs o.area.database → Ended (on_database (λ db. finite.retain_keys db (stays moment o.area)) o)
-  removes o h = by_copy (finite.get o.area.database key) refl
+  pub removes : (o : Outcome) → Climbs key moment first o.area.database → Whole old event moment o.area.database → Ended (on_database (λ db. finite.retain_keys db (stays moment o.area)) o)
+  removes o h whole = by_copy (finite.get o.area.database key) refl
     where
       goes : (a b : Bool) → (not a || b) ≡ false → (a ≡ true) × (b ≡ false)
       goes true false e = (refl, refl)
@@ -267,7 +268,8 @@ module _ (key : Key) (moment : ℕ) (first : Instance) where
           let both = goes (is_aged_out moment c) (any_has_retransmission key o.area.links) (sym (ap (stays_as moment (any_has_retransmission key o.area.links)) at) ∙ is) in
           inr (
             copy_now moment c,
-            of_copy o.area.database key c refl at h,
+            whole key (copy_now moment c) (ap (instance_at moment) at),
+            of_copy key moment first o.area.database key c refl at h,
             both.0,
             finite.get-retain_keys o.area.database (stays moment o.area) key (λ y e. ap (stays moment o.area) (sym (keys_exact key y e)))
                 ∙ ap (λ b. cond b (finite.get o.area.database key) None) is,
@@ -278,13 +280,13 @@ module _ (key : Key) (moment : ℕ) (first : Instance) where
       by_copy None at = let no : None ≡ Some h.0 = sym (ap (instance_at moment) at) ∙ h.1 in absurd cc
       by_copy (Some c) at = by_test c at (stays moment o.area key) refl
 
-  pub in_words : (new : Router) → Ended (outcome (record { router = new; sends = [] })) → BecameOf moment first key new
+  pub in_words : (new : Router) → Ended (outcome (record { router = new; sends = [] })) → BecameOf old moment event first key new
   in_words new (inl h) = by_copy (finite.get new.area.database key) refl
     where
-      by_copy : (c : Option DatabaseCopy) → finite.get new.area.database key ≡ c → BecameOf moment first key new
+      by_copy : (c : Option DatabaseCopy) → finite.get new.area.database key ≡ c → BecameOf old moment event first key new
       by_copy None at = let no : None ≡ Some h.0 = sym (ap (instance_at moment) at) ∙ h.1 in absurd cc
-      by_copy (Some c) at = BecameOf.IsHeld c at (of_copy new.area.database key c refl at h)
-  in_words new (inr h) = BecameOf.IsGone h.0 h.1 h.2 h.3 h.4
+      by_copy (Some c) at = BecameOf.IsHeld c at (of_copy key moment first new.area.database key c refl at h)
+  in_words new (inr h) = BecameOf.IsGone h.0 h.1 h.2 h.3 h.4 h.5
 
 -- ---- the complete event
 
@@ -296,10 +298,16 @@ module _ (key : Key) (old : Router) (moment : ℕ) (event : Occurrence) (copy : 
   X o t = Climbs key moment first o.area.database
 
   abbrev Y : Outcome → ByKey ℕ → Type 0
-  Y o t = Ended key moment first o
+  Y o t = Ended old event key moment first o
 
-  each_part : IsKeptToo (in_order old.id) X Y (start_event moment old) moment event
-  each_part = record {
+  abbrev Anything : Outcome → ByKey ℕ → Type 0
+  Anything o t = Unit {0}
+
+  abbrev Both : Outcome → ByKey ℕ → Type 0
+  Both o t = X o t × Whole old event moment o.area.database
+
+  climbs : IsKeptToo (in_order old.id) X Anything (start_event moment old) moment event
+  climbs = record {
     flushes = λ k c o t at young area h. flushes key moment first k c o at h;
     originates = λ k says p of_key goes may wants so h.
         originates key moment first k says (outcome p) (new_key k (finite.get p.router.area.database k) says (wanted_type p.router k says so.announced.1 wants)) h;
@@ -319,20 +327,25 @@ module _ (key : Key) (old : Router) (moment : ℕ) (event : Occurrence) (copy : 
     link_down = λ place o t area h. h;
     loaded = λ o t area h. h;
     requests = λ o t area h. each key moment first (λ place link n. request_next moment n) o h;
-    removes = λ o t area h. removes key moment first o h;
-    stays = λ o t area h. inl h;
+    removes = λ o t area h. tt;
+    stays = λ o t area h. tt;
   }
+
+  each_part : IsKeptToo (in_order old.id) Both Y (start_event moment old) moment event
+  each_part =
+      joined (in_order old.id) X (λ o t. Whole old event moment o.area.database) Anything Anything Y (start_event moment old) moment event climbs (whole_kept old event moment)
+      (λ o t h whole. removes old event key moment first o h whole) (λ o t h whole. inl h)
 
   begun : X (outcome (start_event moment old)) old.originated
   begun =
       ages key moment first old.moment (finite.entries old.area.database) (record { area = old.area; sends = [] })
       (first, ap (instance_at moment) there, itself_at_least first)
 
-  became : (outs : List Out) (new : Router) → Happens old moment event outs new → IsInOrder old → BecameOf moment first key new
+  became : (outs : List Out) (new : Router) → Happens old moment event outs new → IsInOrder old → BecameOf old moment event first key new
   became outs new happens order =
-      in_words key moment first new
-      (subst (λ (r : Router). Ended key moment first (outcome (record { router = r; sends = [] }))) (sym happens.router)
-      (event_kept_too (in_order old.id) (order_kept old.id) X Y old moment event each_part happens.after (order_brings old event) happens.own (order_begun old moment order) begun))
+      in_words old event key moment first new
+      (subst (λ (r : Router). Ended old event key moment first (outcome (record { router = r; sends = [] }))) (sym happens.router)
+      (event_kept_too (in_order old.id) (order_kept old.id) Both Y old moment event each_part happens.after (order_brings old event) happens.own (order_begun old moment order) (begun, whole_begun old event moment)))
 
 pub copies_climb : CopiesClimb
 copies_climb old moment event outs new happens order key copy there = became key old moment event copy there outs new happens order

@@ -9,6 +9,7 @@ mod Sent
 mod Walk
 mod Done
 mod Runs
+pub mod Having
 mod Climbing
 mod Sayings
 mod Said
@@ -20,5 +21,6 @@ mod Remembering
 mod Since
 mod Agreeing
 mod WorkedRanks
+mod WorkedCopies
 mod WorkedExchanges
 mod WorkedNeighbors

@@ -157,7 +157,7 @@ module _ (number : ℕ) (Old : LsaInstance → ℕ → Type 0) where
     order : IsInOrder p.router
     order = life_order p.router h.life
 
-    said : SaysWhatIsHeld p.router t.moment ended.sends q.router
+    said : SaysWhatIsHeld p.router t.moment t.event ended.sends q.router
     said = said_is_held p.router t.moment t.event t.outs q.router t.happens order
 
     lives : Life q.router
@@ -171,22 +171,22 @@ module _ (number : ℕ) (Old : LsaInstance → ℕ → Type 0) where
     still : (name : LsaInstance) → HoldsAsNew p.router name → HoldsAsNew q.router name ⊎ IsWithout name.key q.router
     still name has = by_copy (copies_climb p.router t.moment t.event t.outs q.router t.happens order name.key has.copy has.there)
       where
-        by_copy : BecameOf t.moment (copy_now t.moment has.copy) name.key q.router → HoldsAsNew q.router name ⊎ IsWithout name.key q.router
+        by_copy : BecameOf p.router t.moment t.event (copy_now t.moment has.copy) name.key q.router → HoldsAsNew q.router name ⊎ IsWithout name.key q.router
         by_copy (BecameOf.IsHeld c at new) =
             inl (record {
               copy = c;
               there = at;
               as_new = as_new_on (instance_of_lsa c.lsa) (instance_of_lsa has.copy.lsa) name (at_any_age (copy_now t.moment c) (copy_now t.moment has.copy) new) has.as_new;
             })
-        by_copy (BecameOf.IsGone last new aged none off) = inr none
+        by_copy (BecameOf.IsGone last had new aged none off) = inr none
 
-    became : (x : Header) → BecameOf t.moment (instance_of x) (key_of x) q.router → HoldsAsNew q.router (instance_of_header x) ⊎ IsWithout (key_of x) q.router
+    became : (x : Header) → BecameOf p.router t.moment t.event (instance_of x) (key_of x) q.router → HoldsAsNew q.router (instance_of_header x) ⊎ IsWithout (key_of x) q.router
     became x (BecameOf.IsHeld c at new) = inl (record { copy = c; there = at; as_new = at_any_age (copy_now t.moment c) (instance_of x) new })
-    became x (BecameOf.IsGone last new aged none off) = inr none
+    became x (BecameOf.IsGone last had new aged none off) = inr none
 
-    as_young : (name : LsaInstance) → BecameOf t.moment (young name) name.key q.router → HoldsAsNew q.router name ⊎ IsWithout name.key q.router
+    as_young : (name : LsaInstance) → BecameOf p.router t.moment t.event (young name) name.key q.router → HoldsAsNew q.router name ⊎ IsWithout name.key q.router
     as_young name (BecameOf.IsHeld c at new) = inl (record { copy = c; there = at; as_new = at_any_age (copy_now t.moment c) (young name) new })
-    as_young name (BecameOf.IsGone last new aged none off) = inr none
+    as_young name (BecameOf.IsGone last had new aged none off) = inr none
 
     -- ---- packets
 
@@ -201,7 +201,7 @@ module _ (number : ℕ) (Old : LsaInstance → ℕ → Type 0) where
     old_text name text lt (inl has) = or_forgotten name text lt (still name has)
     old_text name text lt (inr old) = inr (inr old)
 
-    received : (x : Header) → IsReceived p.router t.moment q.router number x
+    received : (x : Header) → IsReceived p.router t.moment t.event q.router number x
         → (HoldsAsNew q.router (instance_of_header x) ⊎ IsWithout (key_of x) q.router) ⊎ ((text : ℕ) → Old (instance_of_header x) text)
     received x (IsReceived.Waited w) = by_old (h.waits x w)
       where
@@ -211,7 +211,7 @@ module _ (number : ℕ) (Old : LsaInstance → ℕ → Type 0) where
         by_old (inr old) = inr old
     received x (IsReceived.Held b) = inl (became x b)
 
-    of_database : (name : LsaInstance) → IsOfDatabase p.router t.moment q.router number name → (HoldsAsNew q.router name ⊎ IsWithout name.key q.router) ⊎ ((text : ℕ) → Old name text)
+    of_database : (name : LsaInstance) → IsOfDatabase p.router t.moment t.event q.router number name → (HoldsAsNew q.router name ⊎ IsWithout name.key q.router) ⊎ ((text : ℕ) → Old name text)
     of_database name (IsOfDatabase.ToDescribe left) = by_old (h.left name left)
       where
         by_old : HoldsAsNew p.router name ⊎ ((text : ℕ) → Old name text) → (HoldsAsNew q.router name ⊎ IsWithout name.key q.router) ⊎ ((text : ℕ) → Old name text)
@@ -222,10 +222,10 @@ module _ (number : ℕ) (Old : LsaInstance → ℕ → Type 0) where
     -- a property of what is sent at the interface
     abbrev OfSent : Content → Type 0
     OfSent (Content.SendsHello hello) = Unit {0}
-    OfSent (Content.Describes d) = (x : Header) → Contains d.headers x → IsOfDatabase p.router t.moment q.router number (instance_of_header x)
+    OfSent (Content.Describes d) = (x : Header) → Contains d.headers x → IsOfDatabase p.router t.moment t.event q.router number (instance_of_header x)
     OfSent (Content.Requests keys) = Unit {0}
-    OfSent (Content.Updates lsa) = BecameOf t.moment (instance_of lsa.header) (lsa_key lsa) q.router × IsInstance (instance_of_lsa lsa)
-    OfSent (Content.Acknowledges x) = IsAcknowledged p.router t.moment q.router number x
+    OfSent (Content.Updates lsa) = BecameOf p.router t.moment t.event (instance_of lsa.header) (lsa_key lsa) q.router × IsInstance (instance_of_lsa lsa)
+    OfSent (Content.Acknowledges x) = IsAcknowledged p.router t.moment t.event q.router number x
 
     ranged : AllByRecursion (λ (s : Send). AllByRecursion IsInstance (instances_in_content s.content)) ended.sends
     ranged = named_sends IsInstance ended.sends t.in_range
@@ -237,10 +237,10 @@ module _ (number : ℕ) (Old : LsaInstance → ℕ → Type 0) where
       where
         of_content : (n : ℕ) (says : Content) → Contains ended.sends (record { number = n; content = says }) → n ≡ number → AllByRecursion IsInstance (instances_in_content says) → OfSent says
         of_content n (Content.SendsHello hello) c same is = tt
-        of_content n (Content.Describes d) c same is = λ x among. subst (λ m. IsOfDatabase p.router t.moment q.router m (instance_of_header x)) same (said.described n d x c among)
+        of_content n (Content.Describes d) c same is = λ x among. subst (λ m. IsOfDatabase p.router t.moment t.event q.router m (instance_of_header x)) same (said.described n d x c among)
         of_content n (Content.Requests keys) c same is = tt
         of_content n (Content.Updates lsa) c same is = (said.updates n lsa c, is.0)
-        of_content n (Content.Acknowledges x) c same is = subst (λ m. IsAcknowledged p.router t.moment q.router m x) same (said.acknowledged n x c)
+        of_content n (Content.Acknowledges x) c same is = subst (λ m. IsAcknowledged p.router t.moment t.event q.router m x) same (said.acknowledged n x c)
 
     abbrev Letter : List ℕ → Type 0
     Letter bytes = IsLetter OfSent number p.router.id ended.sends all_sent bytes

@@ -43,7 +43,7 @@ use Rattle.events.specs.LsaInstances.{instance_of_lsa}
 use Rattle.events.specs.Hellos.{accepts, hello_is_due, hello_on, names}
 use Rattle.events.specs.Originations.{install_and_flood, new_instance}
 use Rattle.events.specs.Packets.{hear, heard_on, requested_lsas, with_neighbor}
-use Rattle.events.specs.Routers.{Router}
+use Rattle.events.specs.Routers.{Occurrence, Router}
 use Rattle.events.specs.Ticks.{acknowledge_all, acknowledgments_on, again, hello_sent_on, run_out, send_hellos, sends_of, with_hello_sent, without_acknowledgments}
 use Rattle.flood_laws.proofs.Known.{each_all}
 use Rattle.flood_laws.proofs.Retransmitted.{OwnKeys, There, own_at}
@@ -52,6 +52,7 @@ use Rattle.agreement_laws.proofs.Ages.{noted_at_least}
 use Rattle.agreement_laws.proofs.Climbing.{Climbs, Ended, flushed_copy, flushed_there, installed_there, is_newer_case, originated_there}
 use Rattle.agreement_laws.proofs.Climbing as climbing
 use Rattle.agreement_laws.proofs.Describing.{instance_at}
+use Rattle.agreement_laws.proofs.Having.{Whole}
 use Rattle.agreement_laws.proofs.Ranks.{itself_at_least, older_at_least, same_back}
 use Rattle.agreement_laws.proofs.Sayings.{OfContent, OfCopies, OfLink, OfNamed, OfNeighbor, OfSend, OfStep, OfWaiting, Truth, acknowledged, after_one, asked, both_again, content_more, filled, flooded_so, helloed, link_more, mismatched, quiet_step, run_out_so}
 
@@ -554,15 +555,15 @@ module _ (old : Router) (moment : ℕ) where
 
   -- ---- the end
 
-  abbrev pub AtEnd : Outcome → Type 0
-  AtEnd o = IsSaid (λ (key : Key) (i : Instance). Ended key moment i o) o
+  abbrev pub AtEnd : Occurrence → Outcome → Type 0
+  AtEnd event o = IsSaid (λ (key : Key) (i : Instance). Ended old event key moment i o) o
 
-  pub stays_so : (o : Outcome) → IsSo o → AtEnd o
-  stays_so o h = said_more (AsNew o.area.database) (λ (key : Key) (i : Instance). Ended key moment i o) (λ key i so. inl so) o h.said
+  pub stays_so : (event : Occurrence) (o : Outcome) → IsSo o → AtEnd event o
+  stays_so event o h = said_more (AsNew o.area.database) (λ (key : Key) (i : Instance). Ended old event key moment i o) (λ key i so. inl so) o h.said
 
-  pub removes : (o : Outcome) → IsSo o → AtEnd (on_database (λ db. finite.retain_keys db (stays moment o.area)) o)
-  removes o h =
+  pub removes : (event : Occurrence) (o : Outcome) → IsSo o → Whole old event moment o.area.database → AtEnd event (on_database (λ db. finite.retain_keys db (stays moment o.area)) o)
+  removes event o h whole =
       let left : Outcome = on_database (λ db. finite.retain_keys db (stays moment o.area)) o in
-      let more : IsSaid (λ (key : Key) (i : Instance). Ended key moment i left) o =
-      said_more (AsNew o.area.database) (λ (key : Key) (i : Instance). Ended key moment i left) (λ key i so. climbing.removes key moment i o so) o h.said in
+      let more : IsSaid (λ (key : Key) (i : Instance). Ended old event key moment i left) o =
+      said_more (AsNew o.area.database) (λ (key : Key) (i : Instance). Ended old event key moment i left) (λ key i so. climbing.removes old event key moment i o so whole) o h.said in
       record { sends = more.sends; left = more.left }

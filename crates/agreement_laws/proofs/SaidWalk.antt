@@ -34,6 +34,7 @@ use Rattle.flood_laws.proofs.Retransmitted.{all_there, read}
 use Rattle.agreement_laws.specs.SaidIsHeld.{IsAcknowledged, IsOfDatabase, IsReceived, IsToDescribe, SaysWhatIsHeld, WhatIsSaidIsHeld, young}
 use Rattle.agreement_laws.proofs.Climbing.{Ended, in_words}
 use Rattle.agreement_laws.proofs.Describing.{instance_at}
+use Rattle.agreement_laws.proofs.Having.{Whole, joined, whole_begun, whole_kept}
 use Rattle.agreement_laws.proofs.Ranks.{itself_at_least}
 use Rattle.agreement_laws.proofs.Said as said
 use Rattle.agreement_laws.proofs.Said.{AtEnd, IsSo, OnLink}
@@ -44,10 +45,16 @@ module _ (old : Router) (moment : ℕ) (event : Occurrence) where
   X o t = IsSo old moment o
 
   abbrev Y : Outcome → ByKey ℕ → Type 0
-  Y o t = AtEnd old moment o
+  Y o t = AtEnd old moment event o
 
-  each_part : IsKeptToo (in_order old.id) X Y (start_event moment old) moment event
-  each_part = record {
+  abbrev Anything : Outcome → ByKey ℕ → Type 0
+  Anything o t = Unit {0}
+
+  abbrev Both : Outcome → ByKey ℕ → Type 0
+  Both o t = X o t × Whole old event moment o.area.database
+
+  says : IsKeptToo (in_order old.id) X Anything (start_event moment old) moment event
+  says = record {
     flushes = λ k c o t at young area h. said.flushes old moment k c o area.keys at h;
     originates = λ k says p of_key goes may wants so h.
         said.originates old moment k says (outcome p) (new_key k (finite.get p.router.area.database k) says (wanted_type p.router k says so.announced.1 wants)) h;
@@ -66,9 +73,14 @@ module _ (old : Router) (moment : ℕ) (event : Occurrence) where
     link_down = λ place o t area h. said.down old moment place o h;
     loaded = λ o t area h. said.loaded old moment o h;
     requests = λ o t area h. said.requests old moment o h;
-    removes = λ o t area h. said.removes old moment o h;
-    stays = λ o t area h. said.stays_so old moment o h;
+    removes = λ o t area h. tt;
+    stays = λ o t area h. tt;
   }
+
+  each_part : IsKeptToo (in_order old.id) Both Y (start_event moment old) moment event
+  each_part =
+      joined (in_order old.id) X (λ o t. Whole old event moment o.area.database) Anything Anything Y (start_event moment old) moment event says (whole_kept old event moment)
+      (λ o t h whole. said.removes old moment event o h whole) (λ o t h whole. said.stays_so old moment event o h)
 
   abbrev Now : Key → Instance → Type 0
   Now key i = said.AsNew old moment old.area.database key i
@@ -122,22 +134,24 @@ module _ (old : Router) (moment : ℕ) (event : Occurrence) where
     ended = end_event old moment happens.after
 
     abbrev Held : Key → Instance → Type 0
-    Held key i = Ended key moment i (outcome ended)
+    Held key i = Ended old event key moment i (outcome ended)
 
-    so : AtEnd old moment (outcome ended)
-    so = event_kept_too (in_order old.id) (order_kept old.id) X Y old moment event each_part happens.after (order_brings old event) happens.own (order_begun old moment order) (begun order)
+    so : AtEnd old moment event (outcome ended)
+    so =
+        event_kept_too (in_order old.id) (order_kept old.id) Both Y old moment event each_part happens.after (order_brings old event) happens.own (order_begun old moment order)
+        (begun order, whole_begun old event moment)
 
-    received : (number : ℕ) (h : Header) → OfReceived old Held number h → IsReceived old moment ended.router number h
+    received : (number : ℕ) (h : Header) → OfReceived old Held number h → IsReceived old moment event ended.router number h
     received number h (inl waited) = IsReceived.Waited waited
-    received number h (inr held) = IsReceived.Held (in_words (key_of h) moment (instance_of h) ended.router held)
+    received number h (inr held) = IsReceived.Held (in_words old event (key_of h) moment (instance_of h) ended.router held)
 
-    why : (number : ℕ) (h : Header) → OfAcknowledged old Held number h → IsAcknowledged old moment ended.router number h
+    why : (number : ℕ) (h : Header) → OfAcknowledged old Held number h → IsAcknowledged old moment event ended.router number h
     why number h (inl so) = IsAcknowledged.Received (received number h so)
     why number h (inr nothing) = IsAcknowledged.NothingToFlush nothing.0 nothing.1
 
-    of_database : (number : ℕ) (name : LsaInstance) → OfNamed old Held number name → IsOfDatabase old moment ended.router number name
+    of_database : (number : ℕ) (name : LsaInstance) → OfNamed old Held number name → IsOfDatabase old moment event ended.router number name
     of_database number name (inl left) = IsOfDatabase.ToDescribe left
-    of_database number name (inr held) = IsOfDatabase.Held (in_words name.key moment (young name) ended.router held)
+    of_database number name (inr held) = IsOfDatabase.Held (in_words old event name.key moment (young name) ended.router held)
 
     of_left : (number : ℕ) (n : Neighbor) → neighbor_at number ended.router.area.links ≡ Some n → OfNeighbor old Held number n
     of_left number n at = by_link (link_at number ended.router.area.links) (so.left number) at
@@ -146,17 +160,17 @@ module _ (old : Router) (moment : ℕ) (event : Occurrence) where
         by_link None h is = absurd cc
         by_link (Some link) h is = subst (Holds (OfNeighbor old Held number)) is h.neighbor
 
-    to_describe : (number : ℕ) (name : LsaInstance) → IsToDescribe number name ended.router.area.links → IsOfDatabase old moment ended.router number name
+    to_describe : (number : ℕ) (name : LsaInstance) → IsToDescribe number name ended.router.area.links → IsOfDatabase old moment event ended.router number name
     to_describe number name (IsToDescribe.Listed n key l at there is) =
         of_database number name (subst (OfNamed old Held number) is (subst (IfThere (OfListed old Held number) key) there ((of_left number n at).summary key)))
     to_describe number name (IsToDescribe.Last n d h at there c is) =
         of_database number name (subst (OfNamed old Held number) is
         (of_member (λ (x : Header). OfNamed old Held number (instance_of_header x)) d.headers (subst (OfLast old Held number) there (of_left number n at).last) h c))
 
-    at_end : SaysWhatIsHeld old moment ended.sends ended.router
+    at_end : SaysWhatIsHeld old moment event ended.sends ended.router
     at_end = record {
       updates = λ number lsa c.
-          in_words (lsa_key lsa) moment (instance_of lsa.header) ended.router
+          in_words old event (lsa_key lsa) moment (instance_of lsa.header) ended.router
           (of_member (OfSend old Held) ended.sends so.sends (record { number = number; content = Content.Updates lsa }) c);
       acknowledged = λ number h c. why number h (of_member (OfSend old Held) ended.sends so.sends (record { number = number; content = Content.Acknowledges h }) c);
       waiting = λ number h w.
@@ -171,4 +185,4 @@ module _ (old : Router) (moment : ℕ) (event : Occurrence) where
 
 pub said_is_held : WhatIsSaidIsHeld
 said_is_held old moment event outs new happens order =
-    subst (λ (r : Router). SaysWhatIsHeld old moment (end_event old moment happens.after).sends r) (sym happens.router) (at_end old moment event outs new happens order)
+    subst (λ (r : Router). SaysWhatIsHeld old moment event (end_event old moment happens.after).sends r) (sym happens.router) (at_end old moment event outs new happens order)

@@ -6,6 +6,7 @@ use Rattle.std.specs.FinMap as finite
 use Rattle.words.specs.Numbers.{Moment}
 use Rattle.words.specs.declared.key.Key.{Key}
 use Rattle.lsdb.specs.Copies.{DatabaseCopy, copy_now}
+use Rattle.lsdb.specs.Headers.{Lsa, lsa_key}
 use Rattle.lsdb.specs.Order.{is_max_age}
 use Rattle.lsdb.specs.declared.order.Instance.{Instance}
 use Rattle.received.specs.Links.{any_has_retransmission}
@@ -13,17 +14,39 @@ use Rattle.events.specs.declared.model.Out.{Out}
 use Rattle.events.specs.Events.{Happens}
 use Rattle.events.specs.Routers.{Occurrence, Router}
 use Rattle.flood_laws.specs.InOrder.{IsInOrder}
+use Rattle.flood_laws.specs.NewInstances.{BringsLsa}
 use Rattle.agreement_laws.specs.Ranks.{is_at_least}
 
+-- the LSA is of the instance, whatever their ages
+pub record IsOfInstance (lsa : Lsa) (instance : Instance) : Type 0 where
+  pub sequence : lsa.header.sequence ≡ instance.sequence
+  pub checksum : lsa.header.checksum ≡ instance.checksum
+
+-- why the router has had an instance of the key, at some age, by the end of an event
+pub data HasHad (old : Router) (event : Occurrence) (key : Key) (instance : Instance)
+    : Type 0 where
+  -- it held it before the event
+  Before : (copy : DatabaseCopy) → finite.get old.area.database key ≡ Some copy
+      → IsOfInstance copy.lsa instance → HasHad old event key instance
+  -- the event's Link State Update has it
+  Brought : (lsa : Lsa) → BringsLsa event lsa → lsa_key lsa ≡ key
+      → IsOfInstance lsa instance → HasHad old event key instance
+  -- the key is the router's own, so that it may have originated it
+  Own : key.advertising_router ≡ old.id → HasHad old event key instance
+
 -- after an event at the moment, with the router `new` as the result
-pub data BecameOf (moment : Moment) (instance : Instance) (key : Key) (new : Router) : Type 0 where
+pub data BecameOf (old : Router) (moment : Moment) (event : Occurrence) (instance : Instance)
+    (key : Key) (new : Router) : Type 0 where
   -- it holds an instance that is at least as new
   IsHeld : (copy : DatabaseCopy) → finite.get new.area.database key ≡ Some copy
-      → is_at_least (copy_now moment copy) instance ≡ true → BecameOf moment instance key new
-  -- it holds none: the last one was at least as new, at MaxAge, and is on no retransmission list
-  IsGone : (last : Instance) → is_at_least last instance ≡ true → is_max_age last.age ≡ true
-      → finite.get new.area.database key ≡ None
-      → any_has_retransmission key new.area.links ≡ false → BecameOf moment instance key new
+      → is_at_least (copy_now moment copy) instance ≡ true
+      → BecameOf old moment event instance key new
+  -- it holds none: the last one that it had was at least as new, at MaxAge, and is on no
+  -- retransmission list
+  IsGone : (last : Instance) → HasHad old event key last → is_at_least last instance ≡ true
+      → is_max_age last.age ≡ true → finite.get new.area.database key ≡ None
+      → any_has_retransmission key new.area.links ≡ false
+      → BecameOf old moment event instance key new
 
 -- for routers of any run: this is so for each copy in each event, compared at the event's moment
 abbrev pub CopiesClimb : Type 0
@@ -31,4 +54,4 @@ CopiesClimb =
     (old : Router) (moment : Moment) (event : Occurrence) (outs : List Out) (new : Router)
     → Happens old moment event outs new → IsInOrder old
     → (key : Key) (copy : DatabaseCopy) → finite.get old.area.database key ≡ Some copy
-    → BecameOf moment (copy_now moment copy) key new
+    → BecameOf old moment event (copy_now moment copy) key new

@@ -4,6 +4,7 @@ pub mod Exchanged
 pub mod WorkedExchanges
 pub mod HeldWasTold
 pub mod CopiesClimb
+pub mod WorkedCopies
 pub mod SaidIsHeld
 pub mod NeighborHistories
 pub mod NeighborsAgree

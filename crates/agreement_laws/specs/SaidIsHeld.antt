@@ -68,50 +68,52 @@ young name = record { sequence = name.sequence; checksum = name.checksum; age = 
 
 -- the header's instance was received: after an event at the moment, with the router `new` as the
 -- result, for acknowledgments at this interface
-pub data IsReceived (old : Router) (moment : Moment) (new : Router) (number : InterfaceNumber)
-    (header : Header) : Type 0 where
+pub data IsReceived (old : Router) (moment : Moment) (event : Occurrence) (new : Router)
+    (number : InterfaceNumber) (header : Header) : Type 0 where
   -- its acknowledgment was delayed before the event
-  Waited : Waits number header old.area.links → IsReceived old moment new number header
+  Waited : Waits number header old.area.links → IsReceived old moment event new number header
   -- an instance that is at least as new is held; or it was, and was removed in this event, at
   -- MaxAge
-  Held : BecameOf moment (instance_of header) (key_of header) new
-      → IsReceived old moment new number header
+  Held : BecameOf old moment event (instance_of header) (key_of header) new
+      → IsReceived old moment event new number header
 
 -- why an acknowledgment is sent
-pub data IsAcknowledged (old : Router) (moment : Moment) (new : Router)
+pub data IsAcknowledged (old : Router) (moment : Moment) (event : Occurrence) (new : Router)
     (number : InterfaceNumber) (header : Header) : Type 0 where
-  Received : IsReceived old moment new number header
-      → IsAcknowledged old moment new number header
+  Received : IsReceived old moment event new number header
+      → IsAcknowledged old moment event new number header
   -- there was nothing to flush: the header is at MaxAge, and there was no copy before the event
   NothingToFlush : finite.get old.area.database (key_of header) ≡ None
-      → is_max_age header.age ≡ true → IsAcknowledged old moment new number header
+      → is_max_age header.age ≡ true → IsAcknowledged old moment event new number header
 
 -- why an instance is described, or is to be
-pub data IsOfDatabase (old : Router) (moment : Moment) (new : Router) (number : InterfaceNumber)
-    (name : LsaInstance) : Type 0 where
+pub data IsOfDatabase (old : Router) (moment : Moment) (event : Occurrence) (new : Router)
+    (number : InterfaceNumber) (name : LsaInstance) : Type 0 where
   -- it was to be described before the event
   ToDescribe : IsToDescribe number name old.area.links
-      → IsOfDatabase old moment new number name
+      → IsOfDatabase old moment event new number name
   -- one that is at least as new is held; or it was, and was removed in this event, at MaxAge
-  Held : BecameOf moment (young name) name.key new → IsOfDatabase old moment new number name
+  Held : BecameOf old moment event (young name) name.key new
+      → IsOfDatabase old moment event new number name
 
-pub record SaysWhatIsHeld (old : Router) (moment : Moment) (sends : List Send) (new : Router)
-    : Type 0 where
+pub record SaysWhatIsHeld (old : Router) (moment : Moment) (event : Occurrence)
+    (sends : List Send) (new : Router) : Type 0 where
   pub updates : (number : InterfaceNumber) (lsa : Lsa) → Updates sends number lsa
-      → BecameOf moment (instance_of lsa.header) (lsa_key lsa) new
+      → BecameOf old moment event (instance_of lsa.header) (lsa_key lsa) new
   pub acknowledged : (number : InterfaceNumber) (header : Header)
-      → Acknowledges sends number header → IsAcknowledged old moment new number header
+      → Acknowledges sends number header → IsAcknowledged old moment event new number header
   pub waiting : (number : InterfaceNumber) (header : Header)
-      → Waits number header new.area.links → IsReceived old moment new number header
+      → Waits number header new.area.links → IsReceived old moment event new number header
   pub described : (number : InterfaceNumber) (d : Description) (header : Header)
       → Describes sends number d → Contains d.headers header
-      → IsOfDatabase old moment new number (instance_of_header header)
+      → IsOfDatabase old moment event new number (instance_of_header header)
   pub to_describe : (number : InterfaceNumber) (name : LsaInstance)
-      → IsToDescribe number name new.area.links → IsOfDatabase old moment new number name
+      → IsToDescribe number name new.area.links
+      → IsOfDatabase old moment event new number name
 
 -- for routers of any run: this is so for each event
 abbrev pub WhatIsSaidIsHeld : Type 0
 WhatIsSaidIsHeld =
     (old : Router) (moment : Moment) (event : Occurrence) (outs : List Out) (new : Router)
     → (happens : Happens old moment event outs new) → IsInOrder old
-    → SaysWhatIsHeld old moment (end_event old moment happens.after).sends new
+    → SaysWhatIsHeld old moment event (end_event old moment happens.after).sends new

@@ -8,6 +8,7 @@ ghost use Rattle.agreement_laws.specs.HeldWasTold.{NothingIsLeftToDescribe, What
 ghost use Rattle.agreement_laws.specs.NeighborsAgree.{NeighborsAgreeOnWhatWasRenewed};
 ghost use Rattle.agreement_laws.specs.Ranks.{RanksFollowTheComparison};
 ghost use Rattle.agreement_laws.specs.SaidIsHeld.{WhatIsSaidIsHeld};
+ghost use Rattle.agreement_laws.specs.WorkedCopies.{WorkedCopies};
 ghost use Rattle.agreement_laws.specs.WorkedExchanges.{WorkedExchanges};
 ghost use Rattle.agreement_laws.specs.WorkedNeighbors.{WorkedNeighbors};
 ghost use Rattle.agreement_laws.specs.WorkedRanks.{WorkedRanks};
@@ -43,7 +44,8 @@ pub fn full_neighbors_were_told()
 
 /// In each event a copy stays, or is replaced by one that is at least as new, or is removed from
 /// the database, at MaxAge and when it is on no retransmission list (RFC 2328, sections 12.1.6, 13
-/// and 14). This requires an invariant that holds in every run.
+/// and 14). What is removed was held before the event, or is in its Link State Update, or is an LSA
+/// of the router itself. This requires an invariant that holds in every run.
 pub fn copies_climb()
     ensures { CopiesClimb }
 {}
@@ -73,6 +75,12 @@ pub fn neighbors_agree_on_what_was_renewed()
 /// matter, although section 13.1 of RFC 2328 considers them, which by itself is no order.
 pub fn worked_ranks()
     ensures { WorkedRanks }
+{}
+
+/// Worked examples of what leaves a database: nothing of a key of another router that wasn't held
+/// and that the event doesn't bring; at a Tick only a copy that was held.
+pub fn worked_copies()
+    ensures { WorkedCopies }
 {}
 
 /// Worked examples of what was exchanged in a conversation: each header in the Database Description

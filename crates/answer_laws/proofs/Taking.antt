@@ -144,11 +144,11 @@ module _ (laws : Laws) (ends : Ends) (side : Side) (name : LsaInstance) where
         }))
 
     became : (g : Header) → is_as_new (instance_of_header g) name ≡ true
-        → WasThere p t.event key → BecameOf t.moment (instance_of g) key q → Result
+        → WasThere p t.event key → BecameOf p t.moment t.event (instance_of g) key q → Result
     became g new there (BecameOf.IsHeld c there_now more) =
         held_as c there_now (instance_of_header g)
         (at_any_age (copy_now t.moment c) (instance_of g) more) new
-    became g new there (BecameOf.IsGone last more aged none off) = lost there none
+    became g new there (BecameOf.IsGone last had more aged none off) = lost there none
 
     -- what stands on the neighbor's list
     asked : (x : Neighbor) → neighbor_at number q.area.links ≡ Some x → (entry : ListEntry)
@@ -182,14 +182,14 @@ module _ (laws : Laws) (ends : Ends) (side : Side) (name : LsaInstance) where
           (ap (λ (k : Key). finite.get y.requests k) (sym l.of_key) ∙ asks) its_new
 
       by_outcome : WasThere p t.event key
-          → IsRequestedOrHeld t.moment number
+          → IsRequestedOrHeld p t.moment t.event number
           (conversation_with (two_way_received t.moment x).neighbor) (key_of l.header) entered
           (instance_of l.header) q → Result
       by_outcome there (IsRequestedOrHeld.Requested y there_now same asks) =
           requested y there_now asks
       by_outcome there (IsRequestedOrHeld.Held b) =
           became l.header its_new there
-          (subst (λ (k : Key). BecameOf t.moment (instance_of l.header) k q) l.of_key b)
+          (subst (λ (k : Key). BecameOf p t.moment t.event (instance_of l.header) k q) l.of_key b)
 
       by_decision : WasThere p t.event key ⊎ (IsForeignAndAbsent p key × BringsNone t.event key)
           → Result
@@ -241,14 +241,14 @@ module _ (laws : Laws) (ends : Ends) (side : Side) (name : LsaInstance) where
             → Result
         by_met was_there (BecameOfRequest.Stays s) = by_rest s
           where
-            by_rest : IsRequestedOrHeld t.moment number (conversation_with n) key entry
+            by_rest : IsRequestedOrHeld p t.moment t.event number (conversation_with n) key entry
                 (listed_now t.moment entry) q → Result
             by_rest (IsRequestedOrHeld.Requested y at_now same_now still) =
                 asked y at_now entry still new
             by_rest (IsRequestedOrHeld.Held (BecameOf.IsHeld c at_now more)) =
                 held_as c at_now (instance_of_header entry.header)
                 (at_any_age (copy_now t.moment c) (listed_now t.moment entry) more) new
-            by_rest (IsRequestedOrHeld.Held (BecameOf.IsGone last more aged none off)) =
+            by_rest (IsRequestedOrHeld.Held (BecameOf.IsGone last had more aged none off)) =
                 lost was_there none
         by_met was_there (BecameOfRequest.Again k) = again n there k
         by_met was_there (BecameOfRequest.Over over) = goes_on over
@@ -265,11 +265,11 @@ module _ (laws : Laws) (ends : Ends) (side : Side) (name : LsaInstance) where
 
       climbed : (c : DatabaseCopy) → finite.get p.area.database key ≡ Some c
           → is_as_new (instance_of_lsa c.lsa) name ≡ true
-          → BecameOf t.moment (copy_now t.moment c) key q → Result
+          → BecameOf p t.moment t.event (copy_now t.moment c) key q → Result
       climbed c there_before new (BecameOf.IsHeld e at_now more) =
           held_as e at_now (instance_of_lsa c.lsa)
           (at_any_age (copy_now t.moment e) (copy_now t.moment c) more) new
-      climbed c there_before new (BecameOf.IsGone last more aged none off) =
+      climbed c there_before new (BecameOf.IsGone last had more aged none off) =
           lost (WasThere.Before c there_before) none
 
       older : State before earlier h.1 n → Result

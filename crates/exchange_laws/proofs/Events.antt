@@ -54,6 +54,8 @@ use Rattle.flood_laws.proofs.Retransmitted.{IsItsOwn, all_there, own_at, read}
 use Rattle.flood_laws.proofs.Retransmitted as retransmitted
 use Rattle.agreement_laws.specs.Exchanged.{Conversation, conversation_with}
 use Rattle.agreement_laws.specs.Ranks.{RanksFollowTheComparison, is_at_least}
+use Rattle.agreement_laws.specs.CopiesClimb.{HasHad}
+use Rattle.agreement_laws.proofs.Having.{Whole, joined, whole_at, whole_begun, whole_each, whole_flushed, whole_kept, whole_originated, whole_sent}
 use Rattle.exchange_laws.specs.Accepted.{AcceptsDescription, IsLastOfItsKey, accepts_description}
 use Rattle.exchange_laws.specs.Requests.{AcceptsKey, BecameOfRequest, IsRequestedOrHeld, RequestsAreMet, WhatIsAcceptedIsRequested}
 use Rattle.exchange_laws.specs.Stays.{BringsNone, IsForeignAndAbsent, IsRequested, RequestsStay, StaysRequested}
@@ -90,7 +92,7 @@ module _ (ranks : RanksFollowTheComparison) (old : Router) (moment : ℕ) (event
   Stands o = parts.Stands ranks key moment first entry low with_it (Unit {0}) Told number o
 
   abbrev Ends : Outcome → Type 0
-  Ends o = parts.Ends ranks key moment first entry low with_it (Unit {0}) Told number o
+  Ends o = parts.Ends ranks key moment first entry low with_it (Unit {0}) Told number (HasHad old event key) o
 
   abbrev BareAt : Option Neighbor → Type 0
   BareAt o = parts.AsksThere ranks key moment first entry low with_it ⊥ ⊥ number o
@@ -196,8 +198,14 @@ module _ (ranks : RanksFollowTheComparison) (old : Router) (moment : ℕ) (event
   abbrev Ended : Outcome → ByKey ℕ → Type 0
   Ended o t = Ends o
 
-  each_part : IsKeptToo (in_order old.id) Lately Ended start moment event
-  each_part = record {
+  abbrev Anything : Outcome → ByKey ℕ → Type 0
+  Anything o t = Unit {0}
+
+  abbrev IsWhole : Outcome → ByKey ℕ → Type 0
+  IsWhole o t = Whole old event moment o.area.database
+
+  stands_kept : IsKeptToo (in_order old.id) Lately Anything start moment event
+  stands_kept = record {
     flushes = λ k c o t at young area h. parts.flushes ranks key moment first entry low with_it (Unit {0}) Told number k c o at (own_at o.area.database k c area.keys at) h;
     originates = λ k says p of_key goes may wants so h.
         parts.originates ranks key moment first entry low with_it (Unit {0}) Told number k says (outcome p)
@@ -217,9 +225,16 @@ module _ (ranks : RanksFollowTheComparison) (old : Router) (moment : ℕ) (event
     link_down = λ place o t area h. parts.down ranks key moment first entry low with_it (Unit {0}) Told number tt place o h;
     loaded = λ o t area h. parts.loaded ranks key moment first entry low with_it (Unit {0}) Told number o h;
     requests = λ o t area h. parts.requests ranks key moment first entry low with_it (Unit {0}) Told number o h;
-    removes = λ o t area h. parts.removes ranks key moment first entry low with_it (Unit {0}) Told number o h;
-    stays = λ o t area h. parts.remain ranks key moment first entry low with_it (Unit {0}) Told number o h;
+    removes = λ o t area h. tt;
+    stays = λ o t area h. tt;
   }
+
+  each_part : IsKeptToo (in_order old.id) (λ o t. Lately o t × IsWhole o t) Ended start moment event
+  each_part =
+      joined (in_order old.id) Lately IsWhole Anything Anything Ended start moment event stands_kept (whole_kept old event moment)
+      (λ o t h whole.
+      parts.removes ranks key moment first entry low with_it (Unit {0}) Told number (HasHad old event key) o (λ c at. whole_at old event moment o.area.database key c whole at) h)
+      (λ o t h whole. parts.remain ranks key moment first entry low with_it (Unit {0}) Told number (HasHad old event key) o h)
 
   -- ---- in the law's words
 
@@ -234,14 +249,15 @@ module _ (ranks : RanksFollowTheComparison) (old : Router) (moment : ℕ) (event
 
   said : (new : Router) → Ends (outcome (record { router = new; sends = [] })) → BecameOfRequest old moment event number n key entry new
   said new (inl told) = BecameOfRequest.Again told
-  said new (inr (inl h)) = BecameOfRequest.Stays (IsRequestedOrHeld.Held (in_words ranks key moment first new h))
+  said new (inr (inl h)) = BecameOfRequest.Stays (IsRequestedOrHeld.Held (in_words ranks key moment first old event new h))
   said new (inr (inr k)) = in_conversation new (neighbor_at number new.area.links) refl k
 
   became : (outs : List Out) (new : Router) → Happens old moment event outs new → BecameOfRequest old moment event number n key entry new
   became outs new happens =
       said new
       (subst (λ (r : Router). Ends (outcome (record { router = r; sends = [] }))) (sym happens.router)
-      (event_kept_too (in_order old.id) (order_kept old.id) Lately Ended old moment event each_part happens.after (order_brings old event) happens.own (order_begun old moment order) (more (outcome start) begun)))
+      (event_kept_too (in_order old.id) (order_kept old.id) (λ o t. Lately o t × IsWhole o t) Ended old moment event each_part happens.after (order_brings old event) happens.own (order_begun old moment order)
+      (more (outcome start) begun, whole_begun old event moment)))
 
   -- ---- where nothing that could meet it is there, or comes
 
@@ -319,7 +335,7 @@ module _ (ranks : RanksFollowTheComparison) (old : Router) (moment : ℕ) (event
         none_stepped key moment (flood_to moment None (lsa_aged 3600 c.lsa)) (on_database (age_out moment k) o)
             (none_changed key k (λ x. record x { lsa = lsa_aged 3600 x.lsa; stored = moment }) o.area.database
             (finite.get o.area.database k) refl h.0),
-        each_part.flushes k c o t at young area h.1,
+        stands_kept.flushes k c o t at young area h.1,
       );
       originates = λ k says p of_key goes may wants so h.
           let lsa : Lsa = new_instance k (finite.get p.router.area.database k) says in
@@ -327,48 +343,48 @@ module _ (ranks : RanksFollowTheComparison) (old : Router) (moment : ℕ) (event
             none_stepped key moment (flood_to moment None lsa) (on_database (install_originated moment lsa) (outcome p))
                 (none_put key (lsa_key lsa) (record { lsa = lsa; stored = moment; installed = None; sent = None }) p.router.area.database
                 (subst (λ (q : Key). same_key key q ≡ false) (sym its) (not_own k of_key)) h.0),
-            each_part.originates k says p of_key goes may wants so h.1,
+            stands_kept.originates k says p of_key goes may wants so h.1,
           );
       case = λ place packet heard case lsa o t among other is area h. (
         lacks_case case place packet heard lsa o among h.0,
-        each_part.case place packet heard case lsa o t among other is area h.1,
+        stands_kept.case place packet heard case lsa o t among other is area h.1,
       );
       hello = λ place packet hello heard is so h. (
         lacks_hello place packet.router hello (outcome start) h.0,
-        each_part.hello place packet hello heard is so h.1,
+        stands_kept.hello place packet hello heard is so h.1,
       );
       description = λ place packet d heard is so h. (
         none_stepped key moment (only_at place (after_description start.router.id moment start.router.area.database d)) (outcome start) h.0,
-        each_part.description place packet d heard is so h.1,
+        stands_kept.description place packet d heard is so h.1,
       );
       acknowledgment = λ place packet headers heard is so h. (
         none_stepped key moment (only_at place (λ (m : Neighbor). no_sends (after_acknowledgment moment headers m))) (outcome start) h.0,
-        each_part.acknowledgment place packet headers heard is so h.1,
+        stands_kept.acknowledgment place packet headers heard is so h.1,
       );
       requested = λ place keys o t area h. (
         none_marked key moment (sends_at place (map Content.Updates (requested_lsas moment o.area.database keys))) o.area.database h.0,
-        each_part.requested place keys o t area h.1,
+        stands_kept.requested place keys o t area h.1,
       );
       mismatch = λ place o t area h. (
         none_stepped key moment (only_at place (mismatch_step moment)) o h.0,
-        each_part.mismatch place o t area h.1,
+        stands_kept.mismatch place o t area h.1,
       );
-      forgets = λ r o area h. (h.0, each_part.forgets r o area h.1);
-      inactive = λ o t area h. (h.0, each_part.inactive o t area h.1);
-      again = λ o t area h. (none_stepped key moment (again moment o) o h.0, each_part.again o t area h.1);
+      forgets = λ r o area h. (h.0, stands_kept.forgets r o area h.1);
+      inactive = λ o t area h. (h.0, stands_kept.inactive o t area h.1);
+      again = λ o t area h. (none_stepped key moment (again moment o) o h.0, stands_kept.again o t area h.1);
       acknowledges = λ o t area h. (
         none_marked key moment (sends_of acknowledgments_on o.area.links) o.area.database h.0,
-        each_part.acknowledges o t area h.1,
+        stands_kept.acknowledges o t area h.1,
       );
       hellos = λ o t area h. (
         none_marked key moment (sends_of (hello_sent_on moment) o.area.links) o.area.database h.0,
-        each_part.hellos o t area h.1,
+        stands_kept.hellos o t area h.1,
       );
-      link_down = λ place o t area h. (h.0, each_part.link_down place o t area h.1);
-      loaded = λ o t area h. (h.0, each_part.loaded o t area h.1);
+      link_down = λ place o t area h. (h.0, stands_kept.link_down place o t area h.1);
+      loaded = λ o t area h. (h.0, stands_kept.loaded o t area h.1);
       requests = λ o t area h. (
         none_stepped key moment (λ place link m. request_next moment m) o h.0,
-        each_part.requests o t area h.1,
+        stands_kept.requests o t area h.1,
       );
       removes = λ o t area h. left_of o t h;
       stays = λ o t area h. left_of o t h;
@@ -405,19 +421,24 @@ requests_are_met ranks old moment event outs new happens order number n there ke
 
 -- ---- the end of an event, where the conversation isn't over
 
-module _ (ranks : RanksFollowTheComparison) (own : ℕ) (moment : ℕ) (key : Key) (first : Instance) (entry : ListEntry) (low : is_at_least (listed_now moment entry) first ≡ true)
-    (with_it : Conversation) (number : ℕ) (Absent : Type 0) (others : Absent → key.advertising_router ≡ own → ⊥) where
+module _ (ranks : RanksFollowTheComparison) (was : Router) (event : Occurrence) (moment : ℕ) (key : Key) (first : Instance) (entry : ListEntry) (low : is_at_least (listed_now moment entry) first ≡ true)
+    (with_it : Conversation) (number : ℕ) (Absent : Type 0) (others : Absent → key.advertising_router ≡ was.id → ⊥) where
+  abbrev own : ℕ
+  own = was.id
+
   abbrev Remains : Outcome → Type 0
   Remains o = parts.Stands ranks key moment first entry low with_it ⊥ ⊥ number o
 
   abbrev Finally : Outcome → Type 0
-  Finally o = parts.Ends ranks key moment first entry low with_it ⊥ ⊥ number o
+  Finally o = parts.Ends ranks key moment first entry low with_it ⊥ ⊥ number (HasHad was event key) o
 
   record Going (p : EventState) : Type 0 where
     so : OfEvent (in_order own) p
     remains : Remains (outcome p)
     -- what was absent still is
     lacks : Absent → Lacks key (outcome p)
+    -- and what is held has been had
+    whole : Whole was event moment p.router.area.database
 
   not_its : Absent → (k : Key) → k.advertising_router ≡ own → same_key key k ≡ false
   not_its a k its = by_key (same_key key k) refl
@@ -426,25 +447,28 @@ module _ (ranks : RanksFollowTheComparison) (own : ℕ) (moment : ℕ) (key : Ke
       by_key true same = absurd (others a (ap (λ (q : Key). q.advertising_router) (tied_key key k same) ∙ its))
       by_key false other = other
 
-  flushed : (k : Key) (c : Option DatabaseCopy) (o : Outcome) → finite.get o.area.database k ≡ c → IsItsOwn o.area → Remains o → (Absent → Lacks key o)
-      → IsItsOwn (flush_copy moment k c o).area × Remains (flush_copy moment k c o) × (Absent → Lacks key (flush_copy moment k c o))
-  flushed k None o at its h none = (its, h, none)
-  flushed k (Some c) o at its h none =
-      chosen (λ (q : Outcome). IsItsOwn q.area × Remains q × (Absent → Lacks key q)) (is_aged_out moment c) o (flood_from_nobody moment (lsa_aged 3600 c.lsa) (on_database (age_out moment k) o)) (λ aged. (its, h, none))
+  flushed : (k : Key) (c : Option DatabaseCopy) (o : Outcome) → finite.get o.area.database k ≡ c → IsItsOwn o.area → Remains o → (Absent → Lacks key o) → Whole was event moment o.area.database
+      → IsItsOwn (flush_copy moment k c o).area × Remains (flush_copy moment k c o) × (Absent → Lacks key (flush_copy moment k c o)) × Whole was event moment (flush_copy moment k c o).area.database
+  flushed k None o at its h none whole = (its, h, none, whole)
+  flushed k (Some c) o at its h none whole =
+      chosen (λ (q : Outcome). IsItsOwn q.area × Remains q × (Absent → Lacks key q) × Whole was event moment q.area.database) (is_aged_out moment c) o
+      (flood_from_nobody moment (lsa_aged 3600 c.lsa) (on_database (age_out moment k) o)) (λ aged. (its, h, none, whole))
       (λ young. (
         (order_kept own).flushes moment k c o at young its,
         parts.flushes ranks key moment first entry low with_it ⊥ ⊥ number k c o at (own_at o.area.database k c its.keys at) h,
         λ a. none_stepped key moment (flood_to moment None (lsa_aged 3600 c.lsa)) (on_database (age_out moment k) o)
             (none_changed key k (λ x. record x { lsa = lsa_aged 3600 x.lsa; stored = moment }) o.area.database (finite.get o.area.database k) refl (none a)),
+        whole_sent was event moment (stepping_sends (flood_to moment None (lsa_aged 3600 c.lsa)) o.area.links) (age_out moment k o.area.database)
+            (whole_flushed was event moment k c o.area.database at whole),
       ))
 
   flush_goes : (k : Key) (p : EventState) → Going p → Going (flush moment k p)
   flush_goes k p h =
-      let q = flushed k (finite.get p.router.area.database k) (outcome p) refl h.so.area h.remains h.lacks in
-      record { so = record { area = q.0; announced = h.so.announced }; remains = q.1; lacks = q.2 }
+      let q = flushed k (finite.get p.router.area.database k) (outcome p) refl h.so.area h.remains h.lacks h.whole in
+      record { so = record { area = q.0; announced = h.so.announced }; remains = q.1; lacks = q.2; whole = q.3 }
 
   waits : (k : Key) (p : EventState) → Going p → Going (on_router (wait k) p)
-  waits k p h = record { so = record { area = h.so.area; announced = h.so.announced }; remains = h.remains; lacks = h.lacks }
+  waits k p h = record { so = record { area = h.so.area; announced = h.so.announced }; remains = h.remains; lacks = h.lacks; whole = h.whole }
 
   body_goes : (may_now : Bool) (k : Key) (says : Option LsaBody) (p : EventState) → k.advertising_router ≡ own → wanted_body p.router k ≡ says → Going p → Going (originate_body may_now moment k says p)
   body_goes may_now k None p its wants h = h
@@ -462,6 +486,11 @@ module _ (ranks : RanksFollowTheComparison) (own : ℕ) (moment : ℕ) (key : Ke
             none_stepped key moment (flood_to moment None lsa) (on_database (install_originated moment lsa) (outcome p))
             (none_put key (lsa_key lsa) (record { lsa = lsa; stored = moment; installed = None; sent = None }) p.router.area.database
             (subst (λ (q : Key). same_key key q ≡ false) (sym its_key) (not_its a k its)) (h.lacks a));
+        whole =
+            let lsa : Lsa = new_instance k (finite.get p.router.area.database k) says in
+            whole_sent was event moment (stepping_sends (flood_to moment None lsa) p.router.area.links) (install_originated moment lsa p.router.area.database)
+            (whole_originated was event moment k (finite.get p.router.area.database k) says p.router.area.database
+            (new_key k (finite.get p.router.area.database k) says (wanted_type p.router k says h.so.announced.1 wants)) its h.whole);
       }) (λ may. waits k p h))
 
   loads : (p : EventState) → Going p → Going (loading_done p)
@@ -469,6 +498,7 @@ module _ (ranks : RanksFollowTheComparison) (own : ℕ) (moment : ℕ) (key : Ke
     so = record { area = (order_kept own).loaded (outcome p) h.so.area; announced = h.so.announced };
     remains = parts.loaded ranks key moment first entry low with_it ⊥ ⊥ number (outcome p) h.remains;
     lacks = h.lacks;
+    whole = h.whole;
   }
 
   describes : (before : List Link) (p : EventState) → Going p → Going (describe_router before moment p)
@@ -489,7 +519,9 @@ module _ (ranks : RanksFollowTheComparison) (own : ℕ) (moment : ℕ) (key : Ke
       let o : Outcome = request_all moment (outcome refilled) in
       let asks : Remains o = parts.requests ranks key moment first entry low with_it ⊥ ⊥ number (outcome refilled) q.remains in
       chosen Finally (any_exchange_or_loading o.area.links) o (on_database (λ db. finite.retain_keys db (stays moment o.area)) o)
-      (λ is. parts.remain ranks key moment first entry low with_it ⊥ ⊥ number o asks) (λ is. parts.removes ranks key moment first entry low with_it ⊥ ⊥ number o asks)
+      (λ is. parts.remain ranks key moment first entry low with_it ⊥ ⊥ number (HasHad was event key) o asks)
+      (λ is. parts.removes ranks key moment first entry low with_it ⊥ ⊥ number (HasHad was event key) o
+      (λ c at. whole_at was event moment o.area.database key c (whole_each was event moment (λ place link m. request_next moment m) (outcome refilled) q.whole) at) asks)
 
   -- where nothing was there, it stands on the list
   ended_absent : (old : Router) (after : EventState) → Absent → Going after
@@ -586,45 +618,46 @@ module _ (ranks : RanksFollowTheComparison) (old : Router) (moment : ℕ) (event
       by_place (inl k) = inr (inr k)
       by_place (inr unwanted) = inr (inl (held (finite.get begins.router.area.database (key_of h)) refl unwanted))
 
-  in_law : (new : Router) → Finally ranks old.id moment (key_of h) told entered as_new conversation number (IsForeignAndAbsent old (key_of h)) (λ f e. f.others e) (outcome (record { router = new; sends = [] }))
-      → IsRequestedOrHeld moment number conversation (key_of h) entered told new
+  in_law : (new : Router) → Finally ranks old event moment (key_of h) told entered as_new conversation number (IsForeignAndAbsent old (key_of h)) (λ f e. f.others e) (outcome (record { router = new; sends = [] }))
+      → IsRequestedOrHeld old moment event number conversation (key_of h) entered told new
   in_law new (inl none) = absurd none
-  in_law new (inr (inl k)) = IsRequestedOrHeld.Held (in_words ranks (key_of h) moment told new k)
+  in_law new (inr (inl k)) = IsRequestedOrHeld.Held (in_words ranks (key_of h) moment told old event new k)
   in_law new (inr (inr k)) = by_neighbor (neighbor_at number new.area.links) refl k
     where
       by_neighbor : (o : Option Neighbor) → neighbor_at number new.area.links ≡ o → parts.AsksThere ranks (key_of h) moment told entered as_new conversation ⊥ ⊥ number o
-          → IsRequestedOrHeld moment number conversation (key_of h) entered told new
+          → IsRequestedOrHeld old moment event number conversation (key_of h) entered told new
       by_neighbor None at k = absurd k
       by_neighbor (Some m) at (inl over) = absurd over.0
       by_neighbor (Some m) at (inr it) = IsRequestedOrHeld.Requested m at it.0 it.1
 
   going : (after : EventState) → OwnPart moment event begins after
-      → Going ranks old.id moment (key_of h) told entered as_new conversation number (IsForeignAndAbsent old (key_of h)) (λ f e. f.others e) after
+      → Going ranks old event moment (key_of h) told entered as_new conversation number (IsForeignAndAbsent old (key_of h)) (λ f e. f.others e) after
   going after own =
-      subst (Going ranks old.id moment (key_of h) told entered as_new conversation number (IsForeignAndAbsent old (key_of h)) (λ f e. f.others e)) (sym (is_taken after own))
+      subst (Going ranks old event moment (key_of h) told entered as_new conversation number (IsForeignAndAbsent old (key_of h)) (λ f e. f.others e)) (sym (is_taken after own))
       (record {
         so = record { area = (order_kept old.id).description old.id moment number d (outcome begins) so.area; announced = so.announced };
         remains = taken;
         lacks = λ foreign.
             none_stepped (key_of h) moment (only_at number takes) (outcome begins)
             (none_aged (key_of h) old.moment moment (finite.entries old.area.database) (record { area = old.area; sends = [] }) foreign.absent);
+        whole = whole_each old event moment (only_at number takes) (outcome begins) (whole_begun old event moment);
       })
     where
       so : OfEvent (in_order old.id) begins
       so = order_begun old moment order
 
-  accepted : (outs : List Out) (new : Router) → Happens old moment event outs new → IsRequestedOrHeld moment number conversation (key_of h) entered told new
+  accepted : (outs : List Out) (new : Router) → Happens old moment event outs new → IsRequestedOrHeld old moment event number conversation (key_of h) entered told new
   accepted outs new happens =
       in_law new
-      (subst (λ (r : Router). Finally ranks old.id moment (key_of h) told entered as_new conversation number (IsForeignAndAbsent old (key_of h)) (λ f e. f.others e) (outcome (record { router = r; sends = [] }))) (sym happens.router)
-      (ended ranks old.id moment (key_of h) told entered as_new conversation number (IsForeignAndAbsent old (key_of h)) (λ f e. f.others e) old happens.after (going happens.after happens.own)))
+      (subst (λ (r : Router). Finally ranks old event moment (key_of h) told entered as_new conversation number (IsForeignAndAbsent old (key_of h)) (λ f e. f.others e) (outcome (record { router = r; sends = [] }))) (sym happens.router)
+      (ended ranks old event moment (key_of h) told entered as_new conversation number (IsForeignAndAbsent old (key_of h)) (λ f e. f.others e) old happens.after (going happens.after happens.own)))
 
   -- where no copy is held, and the key is another router's
   is_requested : (outs : List Out) (new : Router) → Happens old moment event outs new → IsForeignAndAbsent old (key_of h) → IsRequested number conversation (key_of h) entered new
   is_requested outs new happens foreign =
       by_neighbor (neighbor_at number new.area.links) refl
       (subst (λ (r : Router). parts.AsksThere ranks (key_of h) moment told entered as_new conversation ⊥ ⊥ number (neighbor_at number r.area.links)) (sym happens.router)
-      (ended_absent ranks old.id moment (key_of h) told entered as_new conversation number (IsForeignAndAbsent old (key_of h)) (λ f e. f.others e) old happens.after foreign
+      (ended_absent ranks old event moment (key_of h) told entered as_new conversation number (IsForeignAndAbsent old (key_of h)) (λ f e. f.others e) old happens.after foreign
       (going happens.after happens.own)))
     where
       by_neighbor : (o : Option Neighbor) → neighbor_at number new.area.links ≡ o → parts.AsksThere ranks (key_of h) moment told entered as_new conversation ⊥ ⊥ number o

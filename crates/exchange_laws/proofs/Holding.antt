@@ -29,9 +29,9 @@ use Rattle.events.specs.Endings.{stays, stays_as}
 use Rattle.events.specs.Originations.{new_instance, next_sequence}
 use Rattle.flood_laws.proofs.Limits.{tied_key}
 use Rattle.flood_laws.proofs.Owing.{put_other, put_same}
-use Rattle.agreement_laws.specs.CopiesClimb.{BecameOf}
+use Rattle.agreement_laws.specs.CopiesClimb.{BecameOf, HasHad}
 use Rattle.agreement_laws.specs.Ranks.{RanksFollowTheComparison, compare_ranks, is_at_least}
-use Rattle.events.specs.Routers.{Router}
+use Rattle.events.specs.Routers.{Occurrence, Router}
 
 pub some_same : {X : Type 0} {x y : X} → Some x ≡ Some y → x ≡ y
 some_same e = cc
@@ -129,9 +129,9 @@ module _ (ranks : RanksFollowTheComparison) where
   itself_at_least a = ap (λ (o : Ordering). is_ge o) (tied_itself ranks.total a)
 
   -- what is as new as the one became so of the other
-  pub became_less : (moment : ℕ) (a b : Instance) (key : Key) (new : Router) → is_at_least a b ≡ true → BecameOf moment a key new → BecameOf moment b key new
-  became_less moment a b key new less (BecameOf.IsHeld copy there as_new) = BecameOf.IsHeld copy there (at_least_on (copy_now moment copy) a b as_new less)
-  became_less moment a b key new less (BecameOf.IsGone last as_new aged none off) = BecameOf.IsGone last (at_least_on last a b as_new less) aged none off
+  pub became_less : (old : Router) (moment : ℕ) (event : Occurrence) (a b : Instance) (key : Key) (new : Router) → is_at_least a b ≡ true → BecameOf old moment event a key new → BecameOf old moment event b key new
+  became_less old moment event a b key new less (BecameOf.IsHeld copy there as_new) = BecameOf.IsHeld copy there (at_least_on (copy_now moment copy) a b as_new less)
+  became_less old moment event a b key new less (BecameOf.IsGone last had as_new aged none off) = BecameOf.IsGone last had (at_least_on last a b as_new less) aged none off
 
   -- ---- one key
 
@@ -233,13 +233,14 @@ module _ (ranks : RanksFollowTheComparison) where
     -- ---- the end
 
     -- an area's database and links, as they are at the end of an event
-    abbrev pub HasEnded : Area → Type 0
-    HasEnded a =
+    abbrev pub HasEnded : (Instance → Type 0) → Area → Type 0
+    HasEnded Had a =
         IsHeldAsNew a.database
-        ⊎ ((i : Instance) × (is_at_least i first ≡ true) × (is_max_age i.age ≡ true) × (finite.get a.database key ≡ None) × (any_has_retransmission key a.links ≡ false))
+        ⊎ ((i : Instance) × Had i × (is_at_least i first ≡ true) × (is_max_age i.age ≡ true) × (finite.get a.database key ≡ None) × (any_has_retransmission key a.links ≡ false))
 
-    pub held_removed : (a : Area) → IsHeldAsNew a.database → HasEnded (record a { database = finite.retain_keys a.database (stays moment a) })
-    held_removed a h = by_test (stays moment a key) refl
+    pub held_removed : (Had : Instance → Type 0) (a : Area) → ((c : DatabaseCopy) → finite.get a.database key ≡ Some c → Had (copy_now moment c)) → IsHeldAsNew a.database
+        → HasEnded Had (record a { database = finite.retain_keys a.database (stays moment a) })
+    held_removed Had a why h = by_test (stays moment a key) refl
       where
         goes : (p q : Bool) → (not p || q) ≡ false → (p ≡ true) × (q ≡ false)
         goes true false e = (refl, e)
@@ -251,12 +252,12 @@ module _ (ranks : RanksFollowTheComparison) where
             finite.get-retain_keys a.database (stays moment a) key (λ y e. ap (stays moment a) (sym (keys_exact key y e)))
             ∙ ap (λ p. cond p (finite.get a.database key) None) is
 
-        by_test : (b : Bool) → stays moment a key ≡ b → HasEnded (record a { database = finite.retain_keys a.database (stays moment a) })
+        by_test : (b : Bool) → stays moment a key ≡ b → HasEnded Had (record a { database = finite.retain_keys a.database (stays moment a) })
         by_test true is = inl (h.0, left true is ∙ h.1, h.2)
         by_test false is =
             let both = goes (is_aged_out moment h.0) (any_has_retransmission key a.links) (sym (ap (stays_as moment (any_has_retransmission key a.links)) h.1) ∙ is) in
-            inr (copy_now moment h.0, h.2, both.0, left false is, both.1)
+            inr (copy_now moment h.0, why h.0 h.1, h.2, both.0, left false is, both.1)
 
-    pub in_words : (new : Router) → HasEnded new.area → BecameOf moment first key new
-    in_words new (inl h) = BecameOf.IsHeld h.0 h.1 h.2
-    in_words new (inr h) = BecameOf.IsGone h.0 h.1 h.2 h.3 h.4
+    pub in_words : (old : Router) (event : Occurrence) (new : Router) → HasEnded (HasHad old event key) new.area → BecameOf old moment event first key new
+    in_words old event new (inl h) = BecameOf.IsHeld h.0 h.1 h.2
+    in_words old event new (inr h) = BecameOf.IsGone h.0 h.1 h.2 h.3 h.4 h.5

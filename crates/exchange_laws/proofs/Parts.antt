@@ -62,8 +62,8 @@ module _ (ranks : RanksFollowTheComparison) (key : Key) (moment : ℕ) (first : 
   Stands o = Told ⊎ Has o.area.database ⊎ AsksThere (neighbor_at number o.area.links)
 
   -- so at the end of the event
-  abbrev pub Ends : Outcome → Type 0
-  Ends o = Told ⊎ HasEnded ranks key moment first o.area ⊎ AsksThere (neighbor_at number o.area.links)
+  abbrev pub Ends : (Instance → Type 0) → Outcome → Type 0
+  Ends Had o = Told ⊎ HasEnded ranks key moment first Had o.area ⊎ AsksThere (neighbor_at number o.area.links)
 
   -- ---- the database and the links
 
@@ -288,12 +288,13 @@ module _ (ranks : RanksFollowTheComparison) (key : Key) (moment : ℕ) (first : 
   pub requests : (o : Outcome) → Stands o → Stands (each_neighbor moment (λ place link m. request_next moment m) o)
   requests o h = each_step (λ place link m. request_next moment m) o (λ link m at. asking.asked ranks key moment first entry low with_it May m at) h
 
-  pub removes : (o : Outcome) → Stands o → Ends (on_database (λ db. finite.retain_keys db (stays moment o.area)) o)
-  removes o (inl told) = inl told
-  removes o (inr (inl h)) = inr (inl (held_removed ranks key moment first o.area h))
-  removes o (inr (inr k)) = inr (inr k)
+  pub removes : (Had : Instance → Type 0) (o : Outcome) → ((c : DatabaseCopy) → finite.get o.area.database key ≡ Some c → Had (copy_now moment c)) → Stands o
+      → Ends Had (on_database (λ db. finite.retain_keys db (stays moment o.area)) o)
+  removes Had o why (inl told) = inl told
+  removes Had o why (inr (inl h)) = inr (inl (held_removed ranks key moment first Had o.area why h))
+  removes Had o why (inr (inr k)) = inr (inr k)
 
-  pub remain : (o : Outcome) → Stands o → Ends o
-  remain o (inl told) = inl told
-  remain o (inr (inl h)) = inr (inl (inl h))
-  remain o (inr (inr k)) = inr (inr k)
+  pub remain : (Had : Instance → Type 0) (o : Outcome) → Stands o → Ends Had o
+  remain Had o (inl told) = inl told
+  remain Had o (inr (inl h)) = inr (inl (inl h))
+  remain Had o (inr (inr k)) = inr (inr k)

@@ -67,7 +67,7 @@ module _ (number : ℕ) (with_it : Conversation) where
             WasTakenIn.Later r goes.1 new s steps goes.2 (more x is asks goes.3 none.1)
         by_state more (BecameOfRequest.Stays (IsRequestedOrHeld.Held became)) =
             WasTakenIn.Now r goes.1 new s steps goes.2
-            (became_less ranks s.moment (listed_now s.moment entry) told key goes.1 (entry_as_new entry s.moment) became) (as_run steps goes.1 new goes.3)
+            (became_less ranks r s.moment s.event (listed_now s.moment entry) told key goes.1 (entry_as_new entry s.moment) became) (as_run steps goes.1 new goes.3)
         by_state more (BecameOfRequest.Again again) =
             absurd (none.0 (subst (λ (w : Conversation). AcceptsKey r s.moment s.event number w.router key) mine again))
         by_state more (BecameOfRequest.Over over) =
@@ -93,7 +93,7 @@ full_took_in ranks c earlier old middle new run step rest happens number n d a h
     nothing : m.requests ≡ finite.empty
     nothing = let is : IsBareWhereFull m = subst (Holds IsBareWhereFull) there bare in finite.empty_of_len m.requests (eqb-true (finite.len m.requests) 0 (is full))
 
-    by_state : IsRequestedOrHeld step.moment number (conversation_with (two_way_received step.moment n).neighbor) (key_of h) (record { header = h; at = step.moment }) (instance_of h) middle → WasTakenIn (key_of h) (instance_of h) old (step ∷ rest) new
+    by_state : IsRequestedOrHeld old step.moment step.event number (conversation_with (two_way_received step.moment n).neighbor) (key_of h) (record { header = h; at = step.moment }) (instance_of h) middle → WasTakenIn (key_of h) (instance_of h) old (step ∷ rest) new
     by_state (IsRequestedOrHeld.Requested x is same asks) =
         WasTakenIn.Later old middle new step rest happens
         (followed number with_it ranks (key_of h) (record { header = h; at = step.moment }) new m there nothing rest middle

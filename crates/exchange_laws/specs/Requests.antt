@@ -27,16 +27,17 @@ use Rattle.agreement_laws.specs.Exchanged.{Conversation, Converses, conversation
 use Rattle.exchange_laws.specs.Accepted.{AcceptsDescription, IsLastOfItsKey}
 use Rattle.exchange_laws.specs.Accepted.{accepts_description}
 
--- after an event at the moment, in which the router became the new one
-pub data IsRequestedOrHeld (moment : Moment) (number : InterfaceNumber) (with_it : Conversation)
-    (key : Key) (entry : ListEntry) (instance : Instance) (new : Router) : Type 0 where
+-- after the event at the moment, in which the old router became the new one
+pub data IsRequestedOrHeld (old : Router) (moment : Moment) (event : Occurrence)
+    (number : InterfaceNumber) (with_it : Conversation) (key : Key) (entry : ListEntry)
+    (instance : Instance) (new : Router) : Type 0 where
   -- the entry stands on the neighbor's request list, in this conversation
   Requested : (n : Neighbor) → neighbor_at number new.area.links ≡ Some n
       → conversation_with n ≡ with_it → finite.get n.requests key ≡ Some entry
-      → IsRequestedOrHeld moment number with_it key entry instance new
+      → IsRequestedOrHeld old moment event number with_it key entry instance new
   -- one as new as the instance is held; or it was, and left in this event, at MaxAge
-  Held : BecameOf moment instance key new
-      → IsRequestedOrHeld moment number with_it key entry instance new
+  Held : BecameOf old moment event instance key new
+      → IsRequestedOrHeld old moment event number with_it key entry instance new
 
 -- ---- in an event
 
@@ -65,7 +66,7 @@ pub data BecameOfRequest (old : Router) (moment : Moment) (event : Occurrence)
     (number : InterfaceNumber) (n : Neighbor) (key : Key) (entry : ListEntry) (new : Router)
     : Type 0 where
   -- it is still requested, or met
-  Stays : IsRequestedOrHeld moment number (conversation_with n) key entry
+  Stays : IsRequestedOrHeld old moment event number (conversation_with n) key entry
       (listed_now moment entry) new
       → BecameOfRequest old moment event number n key entry new
   -- another Description with a header of the key is accepted, and so that one may have taken its
@@ -93,5 +94,6 @@ WhatIsAcceptedIsRequested =
     → (number : InterfaceNumber) (n : Neighbor) (d : Description)
     → AcceptsDescription old moment event number n d
     → (h : Header) → IsLastOfItsKey d.headers h
-    → IsRequestedOrHeld moment number (conversation_with (two_way_received moment n).neighbor)
+    → IsRequestedOrHeld old moment event number
+    (conversation_with (two_way_received moment n).neighbor)
     (key_of h) (record { header = h; at = moment }) (instance_of h) new

@@ -23,7 +23,7 @@ use Rattle.exchange_laws.specs.Requests.{AcceptsKey}
 pub data WasTakenIn (key : Key) (instance : Instance) : Router → List Step → Router → Type 0 where
   Now : (old middle new : Router) (step : Step) (rest : List Step)
       → Happens old step.moment step.event step.outs middle
-      → BecameOf step.moment instance key middle → Run middle rest new
+      → BecameOf old step.moment step.event instance key middle → Run middle rest new
       → WasTakenIn key instance old (step ∷ rest) new
   Later : (old middle new : Router) (step : Step) (rest : List Step)
       → Happens old step.moment step.event step.outs middle
