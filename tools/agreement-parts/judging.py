@@ -1,6 +1,6 @@
 """Judges each link at rest by the law on Full neighbors, from what goes over the wires and what routers show alone.
 
-A link is at rest where each end is Full with the other, and neither owes an acknowledgment. A key is judged already where both are Full and
+A link is at rest where each end is Full with the other, and neither owes anything. A key is judged already where both are Full and
 neither owes that of the key: then both ends hold the same instance, by sequence number and checksum, with the same text, and both at MaxAge
 or none; or one holds none, and the other's copy is at MaxAge. Where that isn't so, one of these took effect at an end in its present
 conversation, which begins where it enters ExStart:
@@ -16,8 +16,9 @@ before MaxAge        an Update brought the key at MaxAge, or acknowledged it so,
 clocks               an instance that was requested came to MaxAge on the request list
 two bodies            the originator said two things under one sequence number and checksum (and the texts alone differ)
 
-The list of what is owed isn't shown but as a count. It is followed here by section 13's rules from what goes out and comes in, and
-compared with the count after each event: where they differ, nothing is judged, and `Miscounted` is raised.
+What is owed isn't shown but as a count: acknowledgments, and requested LSAs. Both lists are followed here by the rules of sections 10.6 and
+13, from what goes out and comes in, and compared with the count after each event: where they differ, nothing is judged, and `Miscounted`
+is raised.
 """
 from __future__ import annotations
 
@@ -191,6 +192,8 @@ class Judge:
         for number in known.ends:
             self._owes(event, number, number in entered)
         self._remembers(event)
+        for number, seen in known.ends.items():
+            self._counts(event, number, seen)
         return [(number, self._packet(event, number, text, said)) for number, text, said in outs]
 
     def _converses(self, event: Event, number: int) -> bool:
@@ -283,7 +286,6 @@ class Judge:
     def _owes(self, event: Event, number: int, is_entered: bool) -> None:
         """Follows which keys the neighbor has still to acknowledge (sections 13.3, 13.5 and 13.7)."""
         seen = self.routers[event.place].ends[number]
-        seen.count = event.shown.owed.get(number, 0)
         if seen.state < EXCHANGE:
             seen.owed = set()
         else:
@@ -294,9 +296,14 @@ class Judge:
                     seen.owed.remove(key)
                     self._name_acknowledgment(event, seen, key)
             self._floods(event, number, seen)
-        if len(seen.owed) != seen.count:
+
+    def _counts(self, event: Event, number: int, seen: Seen) -> None:
+        """Compares what the neighbor owes with what the router says."""
+        seen.count = event.shown.owed.get(number, 0)
+        if len(seen.owed) + len(seen.requested) != seen.count:
             where = f"event {self.number} at router {event.place + 1}, interface {number}"
-            raise Miscounted(f"{where}: {len(seen.owed)} owed, and it says {seen.count}")
+            owed = f"{len(seen.owed)} acknowledgments and {len(seen.requested)} LSAs"
+            raise Miscounted(f"{where}: {owed} owed, and it says {seen.count}")
 
     def _floods(self, event: Event, number: int, seen: Seen) -> None:
         """A copy that is new is owed where it goes out in an Update, and nowhere else. The one before it, which answers an older instance,

@@ -183,6 +183,22 @@ class Judged(unittest.TestCase):
         with self.assertRaises(Miscounted):
             Two().happens(1, outs=[packet(ACKNOWLEDGMENT, lsa(1))], is_tick=True)
 
+    def test_requested_lsas_are_owed_until_they_come(self) -> None:
+        for owed in (0, 1):
+            with self.subTest(owed=owed):
+                two = Two([], [lsa(1)])
+                opening = [two.happens(place, EX_START, outs=[description(7, 1001)])[0] for place in (0, 1)]
+                answer = two.happens(1, LOADING, outs=[description(0, 1001, lsa(1))], came=opening[0])[0]
+                if not owed:
+                    with self.assertRaises(Miscounted):
+                        two.happens(0, LOADING, came=answer)
+                    continue
+                two.happens(0, LOADING, came=answer, owed=1)
+                two.held[0] = [lsa(1)]
+                two.happens(0)
+                two.happens(1)
+                self.assertTrue(two.judge.is_at_rest(LINK))
+
     def test_two_bodies_of_one_name(self) -> None:
         two = Two([lsa(1, rest=b"a")], [lsa(1, rest=b"a")])
         two.judge.begins(0, 1001, Shown([], {}, {}, {}))

@@ -10,7 +10,6 @@ mod event;
 mod keeping;
 pub mod laws;
 mod making;
-mod owed;
 mod part;
 mod profile;
 mod router_core;

@@ -15,7 +15,6 @@ ghost use Rattle.flood.specs.Owed.{owed_at};
 use crate::clash::is_announced;
 use crate::event::Event;
 use crate::keeping::take_and_keep;
-use crate::owed::owed_on;
 use crate::profile::in_profile;
 use crate::start::begin;
 use crate::taking::refuses;
@@ -218,19 +217,18 @@ impl Core {
         link.neighbor()
     }
 
-    /// The number of entries of the retransmission list of the neighbor at the interface with this
-    /// number (RFC 2328, section 10), all of which are in the database. 0 if it is Down or there is
-    /// no such interface. It visits each key of the database, and doesn't allocate.
+    /// How many acknowledgments and requested LSAs the neighbor at the interface with this number
+    /// owes: the entries of its retransmission list and of its request list (RFC 2328, section 10).
+    /// 0 if it is Down or there is no such interface. It takes constant time.
     pub fn owes(&self, number: u16) -> usize
         ensures { result ≡ owed_at self.now number }
     {
-        let area = self.router.area();
-        let links = area.links();
+        let links = self.router.area().links();
         let number = usize::from(number);
         if number == 0 || number > links.len() {
             return 0;
         }
-        owed_on(&links[number - 1], area.database())
+        links[number - 1].owes()
     }
 
     /// The candidates for the routing table at the moment of the last event (RFC 2328, section 16).

@@ -12,6 +12,7 @@ ghost use Rattle.adjacency.specs.Retransmissions.{remove_retransmission};
 ghost use Rattle.adjacency.specs.Steps.{named_neighbor};
 ghost use Rattle.received.specs.Links.{acknowledge_later};
 ghost use Rattle.flooding.specs.Links.{unused_link, with_neighbor};
+ghost use Rattle.neighbor_places.specs.neighbors.Owed.{owed_on};
 
 mod acknowledgments;
 mod copying;
@@ -136,6 +137,13 @@ impl Link {
         ensures { result ≡ was_requested key.now self.now.present.neighbor }
     {
         self.place.was_requested(key)
+    }
+
+    /// How many entries the neighbor's retransmission list and request list have; 0 if it is Down.
+    pub fn owes(&self) -> usize
+        ensures { result ≡ owed_on self.now.present.neighbor }
+    {
+        self.place.owes()
     }
 
     /// Whether exactly this instance is on the neighbor's retransmission list.

@@ -26,7 +26,7 @@ pub enum Happening {
 pub enum Shown {
     /// `neighbors`
     Neighbors,
-    /// `owed`: how many LSAs each neighbor that isn't Down has still to acknowledge.
+    /// `owed`: how many acknowledgments and requested LSAs each neighbor that isn't Down owes.
     Owed,
     /// `table`
     Table,

@@ -43,7 +43,8 @@ pub fn push_neighbors(text: &mut String, alloc: Global, core: &Core) -> Result<(
     text.push_str(&neighbors_text(alloc, &neighbors)?)
 }
 
-/// Adds `owed I N` for each neighbor that isn't Down: N LSAs stand on its retransmission list.
+/// Adds `owed I N` for each neighbor that isn't Down: its retransmission list and its request list
+/// have N entries.
 pub fn push_owed(text: &mut String, core: &Core) -> Result<(), AllocError> {
     for interface in 1..=core.interface_count() {
         let number = (interface % 64) as u16;

@@ -72,7 +72,8 @@ Each other line is one of these (empty lines and those with # say nothing):
   MOMENT install all              each candidate for a route is let in
   MOMENT install nothing          no candidate has an answer
   neighbors, table                prints them as a router's console does
-  owed                            prints how many LSAs each neighbor has still to acknowledge
+  owed                            prints how many acknowledgments and requested LSAs each neighbor
+                                  owes
   router ID MOMENT ..             another router begins in the place of this one
   database                        prints each LSA of the database, as `lsa` does, and `end`
   lsas                            prints how many LSAs the database has

@@ -8,6 +8,7 @@ ghost use Rattle.adjacency.specs.Drafts.{drafting};
 ghost use Rattle.adjacency.specs.Retransmissions.{remove_retransmission};
 ghost use Rattle.adjacency.specs.Asked.{any_exchange_or_loading, has_instance, has_retransmission};
 ghost use Rattle.adjacency.specs.Asked.{was_requested};
+ghost use Rattle.neighbors.specs.Owed.{owed_on};
 
 use super::Place;
 use adjacency::Draft;
@@ -43,6 +44,16 @@ impl Place {
         match &self.neighbor {
             None => false,
             Some(neighbor) => neighbor.has_retransmission(key),
+        }
+    }
+
+    /// How many entries the neighbor's retransmission list and request list have.
+    pub fn owes(&self) -> usize
+        ensures { result ≡ owed_on self.now.present }
+    {
+        match &self.neighbor {
+            None => 0,
+            Some(neighbor) => neighbor.owes(),
         }
     }
 

@@ -5,6 +5,7 @@ ghost use Rattle.std.specs.FinMap as finite;
 ghost use Rattle.lsa.specs.Headers.{key_of};
 ghost use Rattle.adjacency.specs.Neighbors.{is_exchange_or_loading};
 ghost use Rattle.adjacency.specs.Retransmissions.{is_entry, remove_retransmission};
+ghost use Rattle.neighbors.specs.Owed.{owed_by};
 
 use super::{Neighbor, is_entry, is_exchange_or_loading};
 use lsa::Header;
@@ -31,6 +32,15 @@ impl Neighbor {
         ensures { result ≡ finite.contains_key self.now.present.retransmissions key.now }
     {
         self.retransmissions.contains(key)
+    }
+
+    /// The number of entries of the retransmission list and of the request list.
+    pub fn owes(&self) -> usize
+        ensures { result ≡ owed_by self.now.present }
+    {
+        self.retransmissions
+            .len()
+            .saturating_add(self.requests.len())
     }
 
     /// Whether exactly this instance is on the retransmission list (RFC 2328, section 13, step 7a).
