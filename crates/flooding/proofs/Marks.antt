@@ -11,7 +11,7 @@ use Rattle.adjacency.specs.lsdb.Copies.{Database, DatabaseCopy, mark_sent}
 use Rattle.adjacency.specs.lsdb.Headers.{Lsa, lsa_key}
 use Rattle.adjacency.specs.lsdb.Keys.{key_cmp}
 use Rattle.adjacency.proofs.lsdb.Keys.{keys_exact, keys_total}
-use Rattle.adjacency.proofs.lsdb.Joins.{change_is}
+use Rattle.adjacency.proofs.lsdb.Copies.{marks, marks_none}
 use Rattle.adjacency.specs.Contents.{Content, Updates}
 use Rattle.received.specs.Links.{Link}
 use Rattle.received.specs.Outcomes.{Send, marked_database, sends_at}
@@ -25,14 +25,14 @@ over false c o = refl
 -- marking a copy again changes nothing
 twice_by : (moment : ℕ) (k : Key) (d : Database) (o : Option DatabaseCopy) → finite.get d k ≡ o → mark_sent moment k (mark_sent moment k d) ≡ mark_sent moment k d
 twice_by moment k d None is =
-    let once : mark_sent moment k d ≡ d = change_is k (λ c. record c { sent = Some moment }) d None is in
+    let once : mark_sent moment k d ≡ d = sym (marks_none moment k d is) in
     ap (mark_sent moment k) once
 twice_by moment k d (Some c) is =
     let c1 : DatabaseCopy = record c { sent = Some moment } in
     let d1 : Database = finite.insert d k c1 in
-    let once : mark_sent moment k d ≡ d1 = change_is k (λ c. record c { sent = Some moment }) d (Some c) is in
+    let once : mark_sent moment k d ≡ d1 = sym (marks moment k d c is) in
     let there : finite.get d1 k ≡ Some c1 = finite.get-insert keys_total d k c1 k ∙ ap (λ (r : Ordering). cond (is_eq r) (Some c1) (finite.get d k)) (tied_itself keys_total k) in
-    let again : mark_sent moment k d1 ≡ finite.insert d1 k c1 = change_is k (λ c. record c { sent = Some moment }) d1 (Some c1) there in
+    let again : mark_sent moment k d1 ≡ finite.insert d1 k c1 = sym (marks moment k d1 c1 there) in
     let same : finite.insert d1 k c1 ≡ d1 = finite.same_map keys_total keys_exact (finite.insert d1 k c1) d1 (λ q.
     finite.get-insert keys_total d1 k c1 q ∙ ap (cond (eq_by_cmp key_cmp q k) (Some c1)) (finite.get-insert keys_total d k c1 q)
     ∙ over (eq_by_cmp key_cmp q k) c1 (finite.get d q) ∙ sym (finite.get-insert keys_total d k c1 q)) in
