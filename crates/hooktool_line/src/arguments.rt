@@ -27,7 +27,8 @@ where price.bin is made of C by
   clang -O2 -target bpf -mcpu=v3 -c price.c -o price.elf
   llvm-objcopy -O binary --only-section=.text price.elf price.bin
 
-CODE may be an object too, which begins with BPFH: the statements that it has are kept.
+CODE may be an object too, which begins with BPFH: the statements that it has are kept. Of an ELF
+file hooktool build makes objects.
 
 A loop that counts up has no rank, a number that falls with each turn. If it is found how often
 such loops go back at most, the code counts that, and never uses it up: turns counted, at most
@@ -41,12 +42,13 @@ change; OBJECT is then as it was.
 
 Statuses:
   0  accepted, and OBJECT was written
-  1  not accepted, or CODE is no code: code refusal N slot S, object refusal N
+  1  not accepted, or CODE is no code for the hook: code refusal N slot S, object refusal N, an
+     object for another hook, an ELF file
   2  the words are wrong
   3  CODE can't be read, or OBJECT or the output can't be written
   4  memory was refused
 
-docs/use/HOOKTOOL.md says which C is accepted, and what to write instead of what isn't.";
+examples/c/README.md says which C is accepted, and what to write instead of what isn't.";
 
 const BUILD_ABOUT: &str =
     "Makes an object of each function that clang compiled for a hook, as annotate does of bare code";
@@ -73,19 +75,24 @@ Statuses:
   4  memory was refused";
 
 const EXPLAIN_ABOUT: &str =
-    "Prints the program of an object file slot by slot, with all that the verifier knows there, \
-        and where and why it refuses";
+    "Prints a program slot by slot, with all that the verifier knows there, and where and why it \
+        refuses: that of an object file, or each function of an ELF file";
 
 const EXPLAIN_MORE: &str = "\
-Example: hooktool explain sum.o
+Examples: hooktool explain sum.o
+          hooktool explain bogons.elf
+
+where bogons.elf is what clang -target bpf -c wrote: each function in the section of a hook is
+explained with the statements that annotate finds for it, whether it is accepted or not.
 
 Prints each slot's instruction, and below it each register that may still be read and what is
 known of the stack; at a statement its rank. The last line is routerd verify's: accepted bound N,
 or refused slot S rule R with the rule's name, the value that breaks it, and what is allowed.
 
 Statuses:
-  0  accepted
-  1  refused, or the file holds no program: object refusal N, code refusal N slot S
+  0  accepted; of an ELF file, each of its functions
+  1  refused, or the file holds no program: object refusal N, code refusal N slot S, or what in
+     an ELF file isn't as it has to be
   2  the words are wrong
   3  the file can't be read, or the output can't be written
   4  memory was refused
@@ -141,7 +148,7 @@ expected answer, and what was found where one isn't ok.
 Statuses:
   0  each point is ok
   1  one isn't
-  2  the words are wrong, or a line of FILE, which is named
+  2  the words are wrong, or a line of FILE, which is named, or its file can't be read
   3  FILE can't be read, or the output can't be written
   4  memory was refused
 
@@ -285,7 +292,7 @@ const EXPLAIN_WORDS: [Word; 1] = [Word {
     given: Given::Required,
     name: "OBJECT",
     value: "OBJECT",
-    help: "The object file",
+    help: "The object file, or the ELF file that clang wrote",
 }];
 
 const PREFIX_WORD: Word = Word {
