@@ -19,13 +19,13 @@ from leafrunt_host.forwarding import CannotKeep, Hop, KernelTable
 from leafrunt_host.holding import Holding
 from leafrunt_host.journal import where_it_failed
 from leafrunt_host.packets import HELLO, Packet, PacketType
+from leafrunt_host.refusals import Refusals
 from leafrunt_host.router import Router, RouterGone
 from leafrunt_host.status import Kept, Known, neighbors_of, originated
 from leafrunt_host.statuses import Stopped
 from leafrunt_host.work_queue import WorkQueue
 
 log = logging.getLogger("leafrunt.box")
-ENDLESS = float("inf")
 EACH = 0.5
 """Seconds between two looks at the neighbors, whose states timers change too."""
 AFTER = (0.02, 0.03, 0.05, 0.1, 0.15, 1.0)
@@ -120,7 +120,10 @@ class Keeper:
     ) -> None:
         """`holding` is told what the kernel has."""
         self._known, self._router = known, router
-        self._give_up, self._short_since = give_up, ENDLESS
+        self._give_up = give_up
+        self._refusals, self._has_given_up = Refusals(), False
+        self._refused: set[str] = set()
+        """The lists that `routerd` has refused when it was asked last."""
         self._kernel, self._waker, self._holding = kernel, waker, holding
         self._work = WorkQueue()
         self._ending, self._is_kept = threading.Event(), threading.Event()
@@ -162,6 +165,7 @@ class Keeper:
         def change() -> KernelTable | None:
             before, self._kernel = self._kernel, kernel
             self._is_kept.clear()
+            self._refused.clear()
             self._tell_holding(kernel)
             self._known.kept, self._said = Kept(), None
             self._pace.woken(time.monotonic())
@@ -219,20 +223,38 @@ class Keeper:
     def _looked(self, now: float) -> bool:
         """Looks once; whether there is something to look at still."""
         try:
-            self._look(now)
-            self._say(None)
+            self._try_look(now)
+            self._look_at_refusals(now)
         except RouterGone:
             return False
-        except (CannotKeep, Stopped, ValueError) as error:
-            self._say(str(error))
-        except Exception as error:  # told, and tried again
-            self._say(where_it_failed(error))
         self._known.looked = time.monotonic()
         return True
 
+    def _try_look(self, now: float) -> None:
+        try:
+            self._look(now)
+            self._say(None)
+        except (CannotKeep, Stopped, ValueError) as error:
+            self._say(str(error))
+        except RouterGone:
+            raise
+        except Exception as error:  # told, and tried again
+            self._say(where_it_failed(error))
+
+    def _look_at_refusals(self, now: float) -> None:
+        """Whether `routerd` takes what happens. Where it has no memory, and gets none for long, the
+        box ends."""
+        refusals = self._refusals
+        refusals.look(self._router.ask, self._known.announced, bool(self._refused), now)
+        self._known.refusal = refusals.last
+        if refusals.seconds(now) >= SECONDS_SHORT and not self._has_given_up:
+            self._has_given_up = True
+            self._give_up()
+
     def _say(self, error: str | None) -> None:
-        """Logs what keeps the kernel's table from being kept, once, and that it is over."""
-        if error and error != self._said:
+        """Logs what keeps the kernel's table from being kept, once, and that it is over. (Want of
+        memory is told as such.)"""
+        if error and error not in (self._said, OUT_OF_MEMORY):
             log.error("%s", error)
         if self._said and not error:
             log.info("kernel: the table is kept again")
@@ -260,6 +282,7 @@ class Keeper:
         """Logs what changed of the neighbors, and says whether something did."""
         known = self._known
         neighbors = self._router.ask_list("neighbors")
+        self._note("neighbors", neighbors is None)
         if neighbors is None or neighbors == self._neighbors:
             return False
         self._neighbors = neighbors
@@ -269,6 +292,13 @@ class Keeper:
         for line in known.adjacencies.look(neighbors, names, now):
             log.info("%s", line)
         return True
+
+    def _note(self, name: str, is_refused: bool) -> None:
+        """What became of a list that `routerd` was asked for."""
+        if is_refused:
+            self._refused.add(name)
+        else:
+            self._refused.discard(name)
 
     def _follow_sessions(self, sessions: Sessions) -> None:
         """Says which neighbors there are, to those that BFD watches."""
@@ -292,14 +322,9 @@ class Keeper:
     def _kept(self, kernel: KernelTable) -> bool:
         """Brings the table to the kernel; whether it was another than the last one."""
         table = self._router.ask_bytes("table")
+        self._note("table", table is None)
         if table is None:
-            now = time.monotonic()
-            self._short_since = min(self._short_since, now)
-            if now - self._short_since >= SECONDS_SHORT:
-                self._short_since = ENDLESS
-                self._give_up()
             raise Stopped(OUT_OF_MEMORY)
-        self._short_since = ENDLESS
         is_changed = table != self._table
         if is_changed:
             self._table, self._lines = table, table.splitlines()

@@ -84,6 +84,10 @@ def families_of_box(status: Json) -> Iterator[Family]:
     about = "Workers of routerd that stopped: their interfaces are served no longer."
     stopped = len(status["routerd"]["stopped"])
     yield of_one(gauge("leafrunt_routerd_stopped_workers", about), stopped, box=box)
+    about = "1 where routerd refuses packets, timers and commands now, as for want of memory."
+    refusal = status["routerd"]["refusal"]
+    refuses = refusal is not None and refusal["until"] is None
+    yield of_one(gauge("leafrunt_routerd_refuses", about), refuses, box=box)
     lsas = gauge("leafrunt_lsas", "LSAs in the link-state database, by their type.")
     for kind, count in status["lsas"].items():
         lsas.add(count, box=box, type=kind)

@@ -18,6 +18,7 @@ from leafrunt_host.kernel import Json
 from leafrunt_host.link import Link
 from leafrunt_host.observing import Adjacencies
 from leafrunt_host.owed import Debts
+from leafrunt_host.refusals import Refusal
 from leafrunt_host.rtnetlink import MAIN
 from leafrunt_host.table_changes import MOST_KEPT, TableChange, change_document
 
@@ -81,6 +82,8 @@ class Known:
     """Interfaces that `routerd` serves no longer."""
     not_announced: tuple[str, ...] = ()
     """What isn't announced of what is asked for, and why: some lines."""
+    refusal: Refusal | None = None
+    """The last time that `routerd` refused what happens, or that it does."""
     steps: tuple[Step, ...] = ()
     """The last steps of the machine's clock."""
     sessions: Sessions | None = None
@@ -119,7 +122,9 @@ def warnings_of(configuration: Configuration) -> list[str]:
 
 def remarks_of(known: Known, now: float) -> list[str]:
     """What is wrong with the box as a whole, beside its interfaces."""
-    said = [each for step in known.steps if (each := step.remark(now))]
+    refused = known.refusal.remark(time.time()) if known.refusal else None
+    said = [refused] if refused else []
+    said += [each for step in known.steps if (each := step.remark(now))]
     said += known.not_announced
     if known.looked is not None and now - known.looked > SECONDS_TO_LOOK:
         said.append(
@@ -183,7 +188,10 @@ def interface_status(known: Known, number: int, each: InterfaceSettings) -> Json
 
 def at_rest_since(known: Known) -> float | None:
     """The moment, in seconds since 1970, from which on all neighbors have been Full, owed nothing
-    and were owed nothing; None where one isn't, or does, or there is none."""
+    and were owed nothing; None where one isn't, or does, or there is none, or `routerd` refuses
+    what happens."""
+    if known.refusal and known.refusal.until is None:
+        return None
     began = []
     for neighbor in known.neighbors.values():
         link, full = known.links.get(neighbor.number), since(known, neighbor)
@@ -214,7 +222,11 @@ def status_of(known: Known, lsas: Mapping[str, int] | None = None) -> Json:
         "box": configuration.name,
         "router_id": str(configuration.router_id),
         "since": known.started,
-        "routerd": {"pid": known.routerd, "stopped": list(known.stopped)},
+        "routerd": {
+            "pid": known.routerd,
+            "stopped": list(known.stopped),
+            "refusal": known.refusal.document() if known.refusal else None,
+        },
         "kernel": {
             "kept": configuration.kernel,
             "routes": kept.routes,

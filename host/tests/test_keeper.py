@@ -116,6 +116,12 @@ class StandInRouter:
         self.silence = threading.Event()
         self.silence.set()
         self.is_asked = threading.Event()
+        self.answers: dict[str, str] = {}
+        self.lines: list[str] = []
+
+    def ask(self, line: str) -> list[str]:
+        self.lines.append(line)
+        return [self.answers.get(line, "unknown")]
 
     def ask_list(self, _line: str) -> list[str]:
         self.is_asked.set()
