@@ -3,6 +3,7 @@
 from __future__ import annotations
 
 import json
+import re
 import subprocess
 
 from leafrunt_host.kernel import Json
@@ -22,11 +23,13 @@ from tests.network import (
     run,
     within,
 )
-from tests.pty_terminal import Terminal
+from tests.pty_terminal import SEQUENCE, Terminal
 from tests.test_metrics import PROMETHEUS, Prometheus, Server
 from tests.try_wire import ROUTER_IDS, Pair
 
 COUNT = 300
+COUNTS = HOST.parent / "examples/first/count_types.o"
+"""A program that counts Hellos by counter 1."""
 LIBRARY = "import prometheus_client"
 LISTS = ("table", "neighbors", "interfaces", "announced", "programs", "counters", "database")
 
@@ -38,13 +41,14 @@ def watching(given: Try) -> None:
     box, bird = it.tried, it.neighbor
     assert isinstance(box, Box) and not isinstance(bird, Box)
     bird.externals = prefixes(50, COUNT)
-    box.more = "[counters]\nmartians = 5\n"
+    box.more = f'[counters]\nmartians = 200\nhellos = 1\n[[program]]\nobject = "{COUNTS}"\n'
     it.start()
     looks.timed("Full", COMES_UP, it.is_up)
     looks.timed("all routes in the kernel", 30, lambda: len(box.kernel_routes()) > COUNT)
     looks.timed("at rest: nobody owes anything", 20, lambda: is_said(box, "at rest since "))
     lists(it, box, looks)
     levels(box, looks)
+    it.attack("hello", it.far, "10.0.1.1", 3).wait(30)  # (packets that don't count)
     metrics(box, looks)
     terminal(it, box, looks)
     it.stop()
@@ -105,10 +109,28 @@ def metrics(box: Box, looks: Looks) -> None:
             ('leafrunt_lsas{type="external"}', str(COUNT)),
             ('leafrunt_routes{path_type="ext2"}', str(COUNT)),
             ("leafrunt_kernel_refusals", "0"),
+            ("leafrunt_routerd_refuses", "0"),
             ('leafrunt_program_counts_total{name="martians"}', "0"),
+            ('leafrunt_program_counts_total{name="hellos"} > bool 0', "1"),
+            ("leafrunt_packets_received_total > bool 0", "1"),
+            ("leafrunt_packets_sent_total > bool 0", "1"),
+            ('leafrunt_packets_refused_total{reason=~"strange .* address"} > bool 0', "1"),
         ):
             said = it.value(query)
             looks.look(f"Prometheus: {query}", said == value, said)
+
+
+def hellos_shown(view: Terminal) -> list[int]:
+    """The values of the counter named `hellos` that were shown, once there are two or for a while:
+    each must be above the one before."""
+    found: list[int] = []
+    for _ in range(100):
+        view.read(0.2)
+        text = SEQUENCE.sub("", view.text)
+        found = [int(each) for each in re.findall(r"counter 1 +hellos +(\d+) ", text)]
+        if len(set(found)) > 1:
+            break
+    return list(dict.fromkeys(found))
 
 
 def terminal(it: Pair, box: Box, looks: Looks) -> None:
@@ -117,6 +139,9 @@ def terminal(it: Pair, box: Box, looks: Looks) -> None:
     try:
         view.size(40, 120)
         looks.look("watch shows the neighbor", view.shows(f"{ROUTER_IDS[1]}          Full"))
+        values = hellos_shown(view)
+        is_counted = len(values) > 1 and values == sorted(values)
+        looks.look("watch shows a program's counter grow", is_counted, f"{values}")
         it.neighbor.externals = [*it.neighbor.externals, "198.51.100.0/24"]
         it.neighbor.configure()
         looks.look("watch shows a route that comes", view.shows("+ 198.51.100.0/24 ext2"))
