@@ -401,6 +401,8 @@ class Bird:
         self.externals: list[str] = []
         self.stub_networks: list[str] = []
         self.area, self.imported = "area 0", "all"
+        self.table = ""
+        """The number of another table of the kernel than the main one."""
         self.folder = network.work / "bird"
         self.folder.mkdir(exist_ok=True)
         self._ran: subprocess.Popen[str] | None = None
@@ -418,19 +420,28 @@ class Bird:
 
     def configure(self) -> str:
         """Writes its configuration anew; BIRD reads it again where it runs, and says what of it."""
+        self.write()
+        return self.says("configure") if self._ran else ""
+
+    def send_signal(self, number: int) -> None:
+        if self._ran:
+            self._ran.send_signal(number)
+
+    def write(self) -> None:
+        """Writes its configuration alone."""
         stubs = " ".join(f"stubnet {each};" for each in self.stub_networks)
         interfaces = "\n".join(self._interface(side) for side in self.sides)
         routes = "\n".join(f"route {each} blackhole;" for each in self.externals)
         bfd = " ".join(side.bfd.of_bird(side.name) for side in self.sides if side.bfd)
+        table = f"kernel table {self.table};" if self.table else ""
         (self.folder / "conf").write_text(
             f"protocol bfd {{ {bfd} }}\n"
             f'log "{self.folder}/log" all; router id {self.router_id}; protocol device {{ scan time 1; }}\n'
-            "protocol kernel { ipv4 { export where source != RTS_STATIC; import none; }; }\n"
+            f"protocol kernel {{ {table} ipv4 {{ export where source != RTS_STATIC; import none; }}; }}\n"
             f"protocol static {{ ipv4; {routes} }}\n"
             f"protocol ospf v2 {{ ipv4 {{ import {self.imported}; export where source = RTS_STATIC; }};\n"
             f"{self.area} {{ {stubs} {interfaces} }}; }}\n"
         )
-        return self.says("configure") if self._ran else ""
 
     def start(self) -> None:
         self.configure()

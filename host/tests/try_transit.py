@@ -217,7 +217,7 @@ TAKES_OVER = 4.8
 """Seconds that a new `routerd` lives at least before it takes over: its own router-LSA follows the
 first one after five (RFC 2328, MinLSInterval)."""
 NEXT = Secret(6, "hmac sha256", "the next secret")
-EXTERNAL, BY_HAND = "203.0.113.0/24", "192.0.2.0/24"
+EXTERNAL, BY_HAND, BY_SIGNAL = "203.0.113.0/24", "192.0.2.0/24", "198.51.100.0/24"
 LONG = "198.18.0.16/28"
 """What a program at `veto` keeps out."""
 NUMBER = 100
@@ -246,12 +246,14 @@ def reload(given: Try) -> None:
             it.start()
             given.looks.timed(f"{kind}: the packets go by it", COMES_UP, it.is_by_tried)
             time.sleep(SETTLED)
-            of_box = (kernel_changes, kernel_left_alone) if kind == "a box" else ()
+            of_box = (kernel_left_alone,) if kind == "a box" else ()
             with ByHand(it, given):
                 for change in (
                     destination_comes,
                     keys_change,
                     programs_change,
+                    signal_comes,
+                    kernel_changes,
                     *of_box,
                     passive_or_not,
                     costs_change,
@@ -284,6 +286,23 @@ def destination_comes(it: Transit, given: Try) -> None:
         given.looks.timed(f"{it.kind}: another destination", 10, lambda: EXTERNAL in at_left(it))
 
     nothing_lost(it, given, "another destination is announced", comes)
+
+
+def signal_comes(it: Transit, given: Try) -> None:
+    """The same by SIGHUP, with another destination."""
+
+    def comes() -> None:
+        if isinstance(it.tried, Box):
+            it.tried.announced = [Announce(each) for each in (EXTERNAL, BY_SIGNAL)]
+            it.tried.configure()
+        elif isinstance(it.tried, Bird):
+            it.tried.externals = [EXTERNAL, BY_SIGNAL]
+            it.tried.write()
+        it.tried.send_signal(signal.SIGHUP)
+        what = f"{it.kind}: SIGHUP: another destination"
+        given.looks.timed(what, 10, lambda: BY_SIGNAL in at_left(it))
+
+    nothing_lost(it, given, "SIGHUP has it read its configuration", comes)
 
 
 def at_left(it: Transit) -> str:
@@ -362,9 +381,9 @@ def at_tried(it: Transit) -> str:
 
 
 def kernel_changes(it: Transit, given: Try) -> None:
-    """Another limit of next hops, another table, to which a rule leads, and back."""
-    space, box = it.spaces["tried"], it.tried
-    assert isinstance(box, Box)
+    """Another limit of next hops, another table, to which a rule leads, and back; at BIRD the table
+    alone."""
+    space, router = it.spaces["tried"], it.tried
     run("ip", "-n", space, "rule", "add", "lookup", NUMBER, "pref", 40_000)
 
     def is_in(table: str) -> bool:
@@ -377,13 +396,20 @@ def kernel_changes(it: Transit, given: Try) -> None:
             (f"[kernel]\ntable = {NUMBER}\n", str(NUMBER)),
             ("", "main"),
         ):
-            box.more = more
+            if isinstance(router, Box):
+                router.more = more
+            elif isinstance(router, Bird):
+                router.table = "" if table == "main" else table
             changed(it, it.sides, (EXTERNAL,))
             other = {"main": str(NUMBER), str(NUMBER): "main"}[table]
-            what = f"a box: its routes are in table {table} alone"
+            what = f"{it.kind}: its routes are in table {table} alone"
             given.looks.timed(what, 10, lambda: is_in(table) and not is_in(other))
 
-    nothing_lost(it, given, "[kernel] has another limit, then another table", changes)
+    if isinstance(router, Box):
+        nothing_lost(it, given, "[kernel] has another limit, then another table", changes)
+    else:
+        _, said = it.lost_in(changes, SETTLED)
+        print(f"     beside it: {it.kind}: another table, and back: {said}", flush=True)
 
 
 def kernel_left_alone(it: Transit, given: Try) -> None:
