@@ -139,7 +139,9 @@ def full(given: Try) -> None:
         if not looks.timed("10,000 are withdrawn: all routes, by itself", 90, has_all, 1):
             print(f"     {counted(row)}")
         looks.look("nothing is wrong any more", not is_said(row.box, "the network has more"))
-        looks.look("Full", is_full(row.box, "2.2.2.2"))
+        # (the last of them come in an exchange that is under way: its end is waited for)
+        if not looks.timed("Full", COMES_UP, lambda: is_full(row.box, "2.2.2.2")):
+            print(f"     {'; '.join(each for each in row.box.log_lines() if ' -> ' in each)}")
         started_with_fewer(row, looks, most)
     finally:
         row.close()
