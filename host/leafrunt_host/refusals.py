@@ -40,6 +40,11 @@ class Refusal:
     def is_of_memory(self) -> bool:
         return MEANINGS.get(self.answer) == OUT_OF_MEMORY
 
+    @property
+    def is_of_clock(self) -> bool:
+        """Of the clock's steps `status` says more."""
+        return self.answer == "refused 4"
+
     def news(self) -> str:
         """What happens, and what to do."""
         what = "its lists" if self.answer == NO_LIST else "packets, timers and commands"

@@ -122,9 +122,10 @@ def warnings_of(configuration: Configuration) -> list[str]:
 
 def remarks_of(known: Known, now: float) -> list[str]:
     """What is wrong with the box as a whole, beside its interfaces."""
+    said = [each for step in known.steps if (each := step.remark(now))]
     refused = known.refusal.remark(time.time()) if known.refusal else None
-    said = [refused] if refused else []
-    said += [each for step in known.steps if (each := step.remark(now))]
+    if refused and known.refusal and not (said and known.refusal.is_of_clock):
+        said.insert(0, refused)
     said += known.not_announced
     if known.looked is not None and now - known.looked > SECONDS_TO_LOOK:
         said.append(

@@ -5,6 +5,7 @@ import unittest
 from ipaddress import IPv4Network
 from unittest import mock
 
+from leafrunt_host.clock import Step
 from leafrunt_host.forwarding import KernelTable
 from leafrunt_host.keeper import SECONDS_SHORT, Keeper, Waker
 from leafrunt_host.kernel import Json
@@ -51,7 +52,7 @@ class Refuses(unittest.TestCase):
     def status(self) -> Json:
         """Of a box that was at rest before."""
         it = known(neighbors=("neighbor 1 2.2.2.2 Full",))
-        it.refusal = self.known.refusal
+        it.refusal, it.steps = self.known.refusal, self.known.steps
         status: Json = json.loads(json.dumps(status_of(it, dict.fromkeys(LSAS, 0))))
         self.assertEqual(faults(schema("status"), status), [])
         return status
@@ -118,6 +119,10 @@ class Refuses(unittest.TestCase):
         with self.assertLogs("leafrunt.box", "ERROR"):
             self.looks(200)
         self.assertIn("(refused 4): the machine's clock was set back", self.warnings())
+        self.known.steps = (Step(-300.0, time.monotonic(), time.time()),)
+        self.assertNotIn("refused 4", self.warnings())
+        self.assertIn("(or wait ", self.warnings())
+        self.known.steps = ()
         self.answers("withdrawn")
         self.looks(1)
         self.assertEqual((self.ended, self.warnings().count("refused 4")), ([], 0))
