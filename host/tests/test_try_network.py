@@ -60,6 +60,22 @@ class Parts(unittest.TestCase):
         own.close.assert_called_once()
 
 
+class Rounds(unittest.TestCase):
+    def test_how_many_in_a_row(self) -> None:
+        """A NO begins the count anew, and makes the status 1."""
+        good = iter((True, True, False, True, True))
+
+        def tried(_part: object, looks: network.Looks, _routerd: Path) -> None:
+            looks.look("it", next(good))
+
+        said = io.StringIO()
+        with mock.patch.object(try_network, "tried", tried), contextlib.redirect_stdout(said):
+            self.assertTrue(try_network.played(["ring"], Path("routerd"), 2))
+            self.assertFalse(try_network.played(["ring"], Path("routerd"), 3))
+        rounds = [each for each in said.getvalue().splitlines() if each.startswith("round")]
+        self.assertEqual([each.split(": ")[1].split()[0] for each in rounds], list("12012"))
+
+
 class Within(unittest.TestCase):
     def setUp(self) -> None:
         self.now = 0.0
