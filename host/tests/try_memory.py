@@ -3,12 +3,14 @@ from __future__ import annotations
 
 import json
 import re
+import resource
 import subprocess
 import time
 from pathlib import Path
 
 from tests.network import (
     COMES_UP,
+    DEAD_INTERVAL,
     Bird,
     Box,
     End,
@@ -29,7 +31,8 @@ HEADROOM = 600_000
 WHOLE = 1 << 30
 """What a box gives it (isolation.py)."""
 SAID = "routerd refuses packets, timers and commands (refused 6): routerd is out of memory"
-SECONDS_SHORT = 20
+SECONDS_SHORT = DEAD_INTERVAL + 2
+"""The neighbor is lost by then; after a minute the box would end."""
 
 
 def limit(process: int, size: int) -> None:
@@ -43,7 +46,7 @@ def limit(process: int, size: int) -> None:
 
 def address_space(process: int) -> int:
     pages = Path(f"/proc/{process}/statm").read_text(encoding="ascii").split()[0]
-    return int(pages) * 4096
+    return int(pages) * resource.getpagesize()
 
 
 def memory(given: Try) -> None:
