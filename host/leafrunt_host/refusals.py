@@ -14,6 +14,7 @@ from ipaddress import IPv4Network
 from leafrunt_host.announcements import MEANINGS, OUT_OF_MEMORY
 from leafrunt_host.clock import TOLD, moment_text
 from leafrunt_host.kernel import Json
+from leafrunt_host.observing import Limiter
 
 log = logging.getLogger("leafrunt.box")
 NOBODYS = IPv4Network("255.255.255.255/32")
@@ -71,7 +72,7 @@ class Refusals:
     """Gives `routerd` the line, and notes what becomes of it."""
 
     def __init__(self, clock: Callable[[], float] = time.time) -> None:
-        self._clock = clock
+        self._clock, self._limiter = clock, Limiter()
         self._due = float("-inf")
         self._began = 0.0
         self.last: Refusal | None = None
@@ -106,10 +107,16 @@ class Refusals:
     def _note(self, answer: str, now: float) -> None:
         if answer and not self.is_lasting:
             self._began, self.last = now, Refusal(answer, self._clock())
-            log.error("%s", self.last.news())
+            self._tell(logging.ERROR, self.last.news(), now)
         elif answer and self.last and self.last.answer != answer:
             self.last = replace(self.last, answer=answer)
-            log.error("%s", self.last.news())
+            self._tell(logging.ERROR, self.last.news(), now)
         elif not answer and self.last and self.last.until is None:
-            self.last = replace(self.last, until=self.last.since + now - self._began)
-            log.info("routerd refuses nothing any more, after %.0f s", now - self._began)
+            seconds = now - self._began
+            self.last = replace(self.last, until=self.last.since + seconds)
+            said = f"routerd refuses nothing any more, after {seconds:.0f} s"
+            self._tell(logging.INFO, said, now)
+
+    def _tell(self, level: int, said: str, now: float) -> None:
+        for each in self._limiter.passing("routerd", [said], now):
+            log.log(level, "%s", each)

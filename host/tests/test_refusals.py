@@ -113,6 +113,15 @@ class Refuses(unittest.TestCase):
             self.looks(6)
         self.assertTrue(any("refuses nothing any more" in each for each in logged.output))
 
+    def test_one_that_comes_and_goes(self) -> None:
+        """The log has a bounded number of lines of it."""
+        with self.assertLogs("leafrunt.box", "INFO") as logged:
+            for at in range(120):
+                said = None if at % 2 else ["neighbor 1 2.2.2.2 Full"]
+                with mock.patch.object(self.router, "ask_list", return_value=said):
+                    self.looks(1, 0.5)
+        self.assertLessEqual(len([each for each in logged.output if "refuses" in each]), 21)
+
     def test_the_clock(self) -> None:
         """The answer while the clock is behind the last event: that ends no box."""
         self.answers("refused 4")
