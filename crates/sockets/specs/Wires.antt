@@ -51,20 +51,41 @@ abbrev pub IsHandedOver : {Socket : Type 0} → (takes : Socket → ℕ → List
 IsHandedOver takes wires interface bytes =
     MatchOption (wire_at wires interface) (Unit {0}) (λ wire. takes wire.socket wire.peer bytes)
 
--- Why a link hears nothing of a socket: its receive was refused for a reason after which it is of
--- use, as there being none; or there was no memory for the datagram that it gave.
+-- a receive of the socket was refused for a reason after which it is of use, as there being none
+abbrev pub IsNoneThere : {Socket : Type 0} → (refuses : Socket → Error → Type 0) → Socket → Type 0
+IsNoneThere refuses socket =
+    (error : Error) × refuses socket error × IsTrue (is_passing error)
+
+-- Why a link hears nothing of a socket: there was no datagram, nor after it has waited; or there
+-- was no memory for the datagram that came.
 abbrev pub IsSilent : {Socket : Type 0} → (hands : Socket → List ℕ → Type 0)
-    → (refuses : Socket → Error → Type 0) → Socket → Type 0
-IsSilent hands refuses socket =
-    ((error : Error) × refuses socket error × IsTrue (is_passing error))
-    ⊎ ((bytes : List ℕ) × hands socket bytes)
+    → (refuses : Socket → Error → Type 0) → (waits : Type 0) → Socket → Type 0
+IsSilent hands refuses waits socket =
+    (IsNoneThere refuses socket × waits) ⊎ ((bytes : List ℕ) × hands socket bytes)
 
 -- what came, if anything did, the socket of this interface gave; where nothing did, that socket was
 -- silent, or there is none
 abbrev pub IsHeardAt : {Socket : Type 0} → (hands : Socket → List ℕ → Type 0)
-    → (refuses : Socket → Error → Type 0) → List (Wire Socket) → (interface : ℕ)
-    → (heard : Option (List ℕ)) → Type 0
-IsHeardAt hands refuses wires interface None =
-    MatchOption (wire_at wires interface) (Unit {0}) (λ wire. IsSilent hands refuses wire.socket)
-IsHeardAt hands refuses wires interface (Some bytes) =
+    → (refuses : Socket → Error → Type 0) → (waits : Type 0) → List (Wire Socket)
+    → (interface : ℕ) → (heard : Option (List ℕ)) → Type 0
+IsHeardAt hands refuses waits wires interface None =
+    MatchOption (wire_at wires interface) (Unit {0})
+    (λ wire. IsSilent hands refuses waits wire.socket)
+IsHeardAt hands refuses waits wires interface (Some bytes) =
     MatchOption (wire_at wires interface) ⊥ (λ wire. hands wire.socket bytes)
+
+-- ---- waiting
+
+-- who waits has waited for a second, or until it was woken before
+abbrev pub HasWaited : {Ear : Type 0} → (waited : Ear → (seconds : ℕ) → Ear → Type 0)
+    → (before after : Option Ear) → Type 0
+HasWaited waited None after = Unit {0}
+HasWaited waited (Some before) None = ⊥
+HasWaited waited (Some before) (Some after) = waited before 1 after
+
+-- it waits at the socket of the interface of this number
+abbrev pub IsListening : {Ear Socket : Type 0} → (listens : Ear → Socket → Type 0)
+    → List (Wire Socket) → (interface : ℕ) → Option Ear → Type 0
+IsListening listens wires interface None = ⊥
+IsListening listens wires interface (Some ear) =
+    MatchOption (wire_at wires interface) ⊥ (λ wire. listens ear wire.socket)

@@ -9,11 +9,13 @@ mod error;
 mod refusals;
 mod socket;
 mod socket_links;
+mod waiting;
 mod wire;
 
 pub use clock::{ReadsSeconds, SystemSeconds};
 pub use error::SocketError;
 pub use refusals::{came, sent};
 pub use socket::DatagramSocket;
-pub use socket_links::{LinkEnd, Sockets, listening};
+pub use socket_links::{LinkEnd, Sockets, listening, listening_with};
+pub use waiting::{Ear, ListensAt, SystemPoller, Waits};
 pub use wire::{BindsSockets, SystemSockets, Wire, bind_each, bind_each_with};

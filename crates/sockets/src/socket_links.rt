@@ -1,41 +1,31 @@
 //! A worker's link over the sockets of all interfaces: any worker sends at each of them, its own
 //! worker alone receives.
-ghost use Rattle.std.specs.Prelude.{◌≡◌, ◌<◌, ◌≤◌, IfNone, IfOk, IfSome, OnOk, length, map, take};
+ghost use Rattle.std.specs.Prelude.{◌≡◌, ◌<◌, ◌≤◌, All, IfNone, IfOk, IfSome, OnOk, length, map, take};
 ghost use Rattle.std.specs.Prelude.{nat_lt, vec_len};
 ghost use Rattle.links.specs.Descending.{CountDownTo};
 ghost use Rattle.sockets.specs.Ends.{has_failed};
-ghost use Rattle.sockets.specs.Wires.{IsHeardAt, IsSilent};
+ghost use Rattle.sockets.specs.Wires.{HasWaited, IsHeardAt, IsListening, IsNoneThere};
 
 use crate::error::SocketError;
 use crate::refusals::{came, sent};
 use crate::socket::DatagramSocket;
+use crate::waiting::{Ear, ListensAt, SystemPoller, Waits};
 use crate::wire::{Wire, wire_at};
 use links::{Link, LinkFault, datagram};
 use mio::net::UdpSocket;
-use mio::unix::SourceFd;
-use mio::{Events, Interest, Poll, Token};
-use std::alloc::{AllocError, Global};
-use std::io::{self, ErrorKind};
+use std::alloc::Global;
+use std::io::ErrorKind;
 use std::net::Net;
-use std::os::fd::AsRawFd;
-use std::time::Duration;
 use words::Sequence;
-
-/// Where a worker waits for its interface's datagrams.
-#[derive(Drop)]
-struct Ear {
-    poll: Poll,
-    events: Events,
-}
 
 /// A worker's link: it sends at each interface, and receives at its own, if it has one. Once it has
 /// failed it gives and takes nothing more.
 #[derive(Drop)]
-pub struct Sockets<'a, S = UdpSocket> {
+pub struct Sockets<'a, S = UdpSocket, E = Ear> {
     wires: &'a [Wire<S>],
     /// The number of its own interface, and 0 for the console's link, which only sends.
     own: u16,
-    ear: Option<Ear>,
+    ear: Option<E>,
     /// How many calls failed: 0, or 1, after which none is made.
     faults: u8,
 }
@@ -55,30 +45,24 @@ impl LinkEnd {
     }
 }
 
-fn listen<R: Net>(rt: &R, alloc: Global, wire: &Wire) -> io::Result<Ear> {
-    let poll = Poll::new(rt)?;
-    let events = Events::with_capacity(alloc, 1)?;
-    let fd = wire.socket.as_raw_fd();
-    poll.registry()
-        .register(&mut SourceFd(&fd), Token(0), Interest::READABLE)?;
-    Ok(Ear { poll, events })
-}
-
-impl<'a> Sockets<'a> {
-    /// The link of the worker at the interface of this number. `Wait` where the socket can't be
-    /// waited at, or there is none of this number; `Memory` where memory was refused.
-    pub fn of_interface<R: Net>(
-        rt: &R,
+impl<'a, S, E> Sockets<'a, S, E> {
+    /// The link of the worker at the interface of this number, which waits at that interface's
+    /// socket. `Wait` where the socket can't be waited at, or there is none of this number;
+    /// `Memory` where memory was refused.
+    #[tactic(auto, using(crate::proofs::Silent::listening_at))]
+    pub fn of_interface_with<P: ListensAt<S, E>>(
+        poller: &P,
         alloc: Global,
-        wires: &'a [Wire],
+        wires: &'a [Wire<S>],
         interface: u16,
-    ) -> Result<Sockets<'a>, SocketError>
-        ensures { IfOk result (λ link. (link.own ≡ interface) × (link.wires.now ≡ wires.now)) }
+    ) -> Result<Sockets<'a, S, E>, SocketError>
+        ensures own { IfOk result (λ link. (link.own ≡ interface) × (link.wires.now ≡ wires.now)) }
+        ensures ear { IfOk result (λ link. IsListening P.listens wires.now interface link.ear) }
     {
         let Some(wire) = wire_at(wires, interface) else {
             return Err(SocketError::Wait);
         };
-        match listen(rt, alloc, wire) {
+        match poller.listen(alloc, &wire.socket) {
             Ok(ear) => Ok(Sockets {
                 wires,
                 own: interface,
@@ -91,7 +75,9 @@ impl<'a> Sockets<'a> {
             },
         }
     }
+}
 
+impl<'a> Sockets<'a> {
     /// Lets the link go.
     pub fn end(self) -> LinkEnd
         ensures { has_failed result ≡ nat_lt 0 self.entry.faults }
@@ -123,12 +109,39 @@ impl<'a, S> Sockets<'a, S> {
     }
 }
 
-/// The links of the workers, that of the first interface last.
+/// The links of the workers, that of the first interface last. Each waits at its own interface's
+/// socket.
 ///
 /// # Errors
 ///
 /// `Wait` where a socket can't be waited at, or there are more than 65,535; `Memory` where memory
 /// was refused.
+pub fn listening_with<'x, S, E: Drop, P: ListensAt<S, E>>(
+    poller: &P,
+    alloc: Global,
+    wires: &'x [Wire<S>],
+) -> Result<Vec<Sockets<'x, S, E>>, SocketError>
+    ensures each { IfOk result (λ links. vec_len links ≡ length wires.now) }
+    ensures interfaces { IfOk result (λ links. CountDownTo 1 (map (λ l. l.own) links.items)) }
+    ensures ears { IfOk result (λ links.
+        All (λ l. IsListening P.listens wires.now l.own l.ear) links.items) }
+{
+    let mut links = Vec::with_capacity(alloc, wires.len())?;
+    for before in 0..wires.len() {
+        let Ok(interface) = u16::try_from(wires.len() - before) else {
+            return Err(SocketError::Wait);
+        };
+        let link = Sockets::of_interface_with(poller, alloc, wires, interface)?;
+        links.push(link)?;
+    }
+    Ok(links)
+}
+
+/// The links of the workers, which wait by the system.
+///
+/// # Errors
+///
+/// As [`listening_with`].
 pub fn listening<'x, R: Net>(
     rt: &R,
     alloc: Global,
@@ -137,19 +150,11 @@ pub fn listening<'x, R: Net>(
     ensures each { IfOk result (λ links. vec_len links ≡ length wires.now) }
     ensures interfaces { IfOk result (λ links. CountDownTo 1 (map (λ l. l.own) links.items)) }
 {
-    let mut links = Vec::with_capacity(alloc, wires.len())?;
-    for before in 0..wires.len() {
-        let Ok(interface) = u16::try_from(wires.len() - before) else {
-            return Err(SocketError::Wait);
-        };
-        let link = Sockets::of_interface(rt, alloc, wires, interface)?;
-        links.push(link)?;
-    }
-    Ok(links)
+    listening_with(&SystemPoller { rt }, alloc, wires)
 }
 
 /// One datagram that is there already. A datagram longer than the buffer is cut.
-#[tactic(auto, using(crate::proofs::Silent::silent_then))]
+#[tactic(auto, using(crate::proofs::Silent::refused_then))]
 fn take<S: DatagramSocket>(
     wire: &Wire<S>,
     buffer: &mut [u8; 8193],
@@ -157,37 +162,35 @@ fn take<S: DatagramSocket>(
     ensures length { IfOk result (λ n. IfSome n (λ n. n ≤ 8193)) }
     ensures handed { IfOk result (λ n.
         IfSome n (λ n. S.hands wire.now.socket (take n buffer.new))) }
-    ensures silent { IfOk result (λ n.
-        IfNone n (IsSilent S.hands S.refuses wire.now.socket)) }
+    ensures none { IfOk result (λ n. IfNone n (IsNoneThere S.refuses wire.now.socket)) }
 {
     came(wire.socket.receive(buffer))
 }
 
 /// Waits until a datagram may be there, at most a second. Who has no ear doesn't wait.
-fn wait(ear: &mut Option<Ear>) -> Result<(), LinkFault> {
+fn wait<E: Waits>(ear: &mut Option<E>) -> Result<(), LinkFault>
+    ensures { OnOk result (HasWaited E.waited ear.old ear.new) }
+{
     let Some(ear) = ear else {
         return Ok(());
     };
-    match ear.poll.poll(&mut ear.events, Some(Duration::from_secs(1))) {
+    match ear.wait(1) {
         Ok(()) => Ok(()),
-        Err(error) => match error.kind() {
-            ErrorKind::Interrupted => Ok(()),
-            _ => Err(LinkFault {}),
-        },
+        Err(_) => Err(LinkFault {}),
     }
 }
 
 /// A datagram that is there, or that comes within a second.
-fn hear<S: DatagramSocket>(
+fn hear<S: DatagramSocket, E: Waits>(
     wire: &Wire<S>,
-    ear: &mut Option<Ear>,
+    ear: &mut Option<E>,
     buffer: &mut [u8; 8193],
 ) -> Result<Option<usize>, LinkFault>
     ensures length { IfOk result (λ n. IfSome n (λ n. n ≤ 8193)) }
     ensures handed { IfOk result (λ n.
         IfSome n (λ n. S.hands wire.now.socket (take n buffer.new))) }
-    ensures silent { IfOk result (λ n.
-        IfNone n (IsSilent S.hands S.refuses wire.now.socket)) }
+    ensures none { IfOk result (λ n. IfNone n (IsNoneThere S.refuses wire.now.socket)) }
+    ensures waited { IfOk result (λ n. IfNone n (HasWaited E.waited ear.old ear.new)) }
 {
     if let Some(length) = take(wire, buffer)? {
         return Ok(Some(length));
@@ -198,14 +201,15 @@ fn hear<S: DatagramSocket>(
 
 // What the socket of this interface gives, as a datagram of its own.
 #[tactic(auto, using(crate::proofs::Silent::hearing))]
-fn heard<S: DatagramSocket>(
+fn heard<S: DatagramSocket, E: Waits>(
     wires: &[Wire<S>],
     interface: u16,
-    ear: &mut Option<Ear>,
+    ear: &mut Option<E>,
     alloc: Global,
     buffer: &mut [u8; 8193],
 ) -> Result<Option<Sequence<u8>>, LinkFault>
-    ensures heard { IfOk result (IsHeardAt S.hands S.refuses wires.now interface) }
+    ensures heard { IfOk result (IsHeardAt S.hands S.refuses
+        (HasWaited E.waited ear.old ear.new) wires.now interface) }
     ensures cut { IfOk result (λ heard. IfSome heard (λ datagram. length datagram ≤ 8193)) }
 {
     let Some(wire) = wire_at(wires, interface) else {
@@ -228,17 +232,18 @@ fn say<S: DatagramSocket>(wire: &Wire<S>, bytes: &[u8]) -> Result<bool, LinkFaul
     sent(wire.socket.send(bytes, wire.peer))
 }
 
-impl<'a, S: DatagramSocket> Link for Sockets<'a, S> {
+impl<'a, S: DatagramSocket, E: Waits> Link for Sockets<'a, S, E> {
     ghost use Rattle.std.specs.Prelude.{◌⊎◌, None};
-    ghost use Rattle.sockets.specs.Wires.{IsHandedOver};
+    ghost use Rattle.sockets.specs.Wires.{HasWaited, IsHandedOver, IsHeardAt};
 
     ghost faults = { λ s. s.faults };
 
     ghost gives = { λ s interface bytes _. s.faults ≡ 0
         → IsHandedOver S.takes s.wires.now interface bytes };
 
-    ghost hears = { λ s heard _.
-        IsHeardAt S.hands S.refuses s.wires.now s.own heard ⊎ ((0 < s.faults) × (heard ≡ None)) };
+    ghost hears = { λ s heard next.
+        IsHeardAt S.hands S.refuses (HasWaited E.waited s.ear next.ear) s.wires.now s.own heard
+        ⊎ ((0 < s.faults) × (heard ≡ None)) };
 
     fn receive(
         &mut self,

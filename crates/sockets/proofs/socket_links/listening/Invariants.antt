@@ -1,9 +1,0 @@
-use Rattle.std.specs.Prelude.{◌≡◌, ◌+◌, ◌-◌, length, map, vec_len}
-use Rattle.links.specs.Descending.{CountDownTo}
-use Rattle.sockets.proofs.socket_links.listening.Given as goal
-
-abbrev pub invariant-loop-before : goal.invariant-loop-before
-invariant-loop-before g l = record {
-  each : vec_len l.links ≡ l.before;
-  interfaces : CountDownTo (length l.wires - l.before + 1) (map (λ link. link.own) l.links.items);
-}

@@ -1,0 +1,80 @@
+//! Waiting at a socket until a datagram may be there.
+ghost use Rattle.std.specs.Prelude.{◌≡◌, ℕ, IfOk, OnOk, ⊤};
+
+use mio::net::UdpSocket;
+use mio::unix::SourceFd;
+use mio::{Events, Interest, Poll, Token};
+use std::alloc::Global;
+use std::io::{self, ErrorKind};
+use std::net::Net;
+use std::os::fd::AsRawFd;
+use std::time::Duration;
+
+/// Waits until a datagram may be there.
+///
+/// What it says of the time that it has waited is left open here: a link, proved for any such
+/// waiter, can say it only by the call itself.
+pub trait Waits {
+    ghost waited: { Self → (seconds : ℕ) → Self → Type 0 };
+
+    /// Waits until a datagram may be there, but no longer than so many seconds. A signal may end it
+    /// earlier.
+    fn wait(&mut self, seconds: u64) -> io::Result<()>
+        ensures { OnOk result (waited self.old seconds self.new) };
+}
+
+/// Makes what waits at a socket.
+///
+/// What it says of the socket is left open here: who makes it by this trait alone can say it only
+/// by the call itself.
+pub trait ListensAt<S, E> {
+    ghost listens: { E → S → Type 0 };
+
+    /// What waits at this socket.
+    fn listen(&self, alloc: Global, socket: &S) -> io::Result<E>
+        ensures { IfOk result (λ ear. listens ear socket.now) };
+}
+
+/// Waits by the system.
+#[derive(Drop)]
+pub struct Ear {
+    poll: Poll,
+    events: Events,
+}
+
+// No contract says how long the system waits.
+impl Waits for Ear {
+    ghost waited = { λ _ _ _. ⊤ };
+
+    fn wait(&mut self, seconds: u64) -> io::Result<()> {
+        match self
+            .poll
+            .poll(&mut self.events, Some(Duration::from_secs(seconds)))
+        {
+            Ok(()) => Ok(()),
+            Err(error) => match error.kind() {
+                ErrorKind::Interrupted => Ok(()),
+                _ => Err(error),
+            },
+        }
+    }
+}
+
+/// Makes what waits at a socket of the system, of which nothing is known.
+#[derive(Drop)]
+pub struct SystemPoller<'a, R> {
+    pub rt: &'a R,
+}
+
+impl<'a, R: Net> ListensAt<UdpSocket, Ear> for SystemPoller<'a, R> {
+    ghost listens = { λ _ _. ⊤ };
+
+    fn listen(&self, alloc: Global, socket: &UdpSocket) -> io::Result<Ear> {
+        let poll = Poll::new(self.rt)?;
+        let events = Events::with_capacity(alloc, 1)?;
+        let fd = socket.as_raw_fd();
+        poll.registry()
+            .register(&mut SourceFd(&fd), Token(0), Interest::READABLE)?;
+        Ok(Ear { poll, events })
+    }
+}
