@@ -57,7 +57,7 @@ fn packet(alloc: Global) -> Result<Work, AllocError> {
 fn labor<L: Site, R: Wait>(rt: &R, hub: &Hub<L, Book<L>>, port: &mut Port<L>, work: &Work) -> u64 {
     let mut taken = 0u64;
     for _turn in 0..TURNS {
-        if turn(rt, hub, port, &Open {}, Second::new(10), work).is_ok() {
+        if turn(rt, hub, port, &mut Open {}, Second::new(10), work).is_ok() {
             taken = taken.wrapping_add(1);
         }
     }

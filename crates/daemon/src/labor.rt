@@ -38,7 +38,7 @@ pub fn work<L: Site, R: Wait + Clock + Log>(
         alloc,
         hub,
         &mut port,
-        &Open {},
+        &mut Open {},
         &mut link,
         &mut clock,
         quit,

@@ -94,8 +94,8 @@ change before now known due counted counts seat seated = record {
 -- the router took the event of this work, at some moment, whatever was known of the programs
 abbrev pub IsDone : Offers → Took → Work → Type 0
 IsDone offers took w =
-    (known : List Operation) × (moment : Moment) × (outs : List Out)
-    × TakesFor offers took known moment w outs
+    (known : List Operation) × (moment : Moment) × (outs : List Out) × (stale : Option Bool)
+    × TakesFor offers took known moment w outs stale
 
 -- the event of this work was refused for this, or its questions were, at some moment, whatever was
 -- known of the programs
@@ -120,9 +120,10 @@ IsMadeUp offers took true still before counted seat between =
 
 -- ---- answers
 
--- After the programs were changed those of the port are no older, and the router took a refresh of
--- its table, or one is due.
+-- After the programs were changed the workers were told so, those of the port are no older, and the
+-- router took a refresh of its table, or one is due.
 pub record IsFollowed (offers : Offers) (took : Took) (c : Change) : Type 0 where
+  pub told : took.told c.now
   pub learnt : IsPrefix c.now c.known
   pub refreshed : MatchBool c.due (Unit {0}) (IsDone offers took work.Refresh)
 

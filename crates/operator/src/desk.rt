@@ -3,7 +3,7 @@ ghost use Rattle.std.specs.Prelude.{◌≡◌, ℕ, Bool, MatchBool};
 ghost use mathlib.Core.List.{IsPrefix};
 ghost use Rattle.maps.specs.Words.{SeatView};
 ghost use Rattle.hooks.specs.Known.{history_of, known_to, operations_of};
-ghost use Rattle.worker.specs.Turns.{IsListed};
+ghost use Rattle.worker.specs.Turns.{IsListed, IsTold};
 ghost use Rattle.operator.specs.Answers.{
   IsAnswerToAdd,
   IsAnswerToAttach,
@@ -106,6 +106,7 @@ impl<L: Site, Q: Wait + Drop, K: Link + Drop, C: Seconds + Drop> Desk<L, Q, K, C
     // After the programs were changed: workers install no answer of the earlier ones any more, the
     // port's are no older, and the table is made anew.
     fn follow<B: Taker<L>, R: Wait>(&mut self, rt: &R, hub: &Hub<L, B>, port: &mut Port<L>)
+        ensures told { IsTold B.took (operations_of self.old.loader) }
         ensures learnt { IsPrefix (operations_of self.old.loader) (known_to port.new.asker) }
         ensures done { MatchBool self.new.unrefreshed
             (port.new.share.amount ≡ port.old.share.amount)
@@ -113,8 +114,9 @@ impl<L: Site, Q: Wait + Drop, K: Link + Drop, C: Seconds + Drop> Desk<L, Q, K, C
         ensures loader { self.new.loader ≡ self.old.loader }
         ensures interfaces { self.new.interfaces ≡ self.old.interfaces }
     {
-        hub.programs_changed();
-        port.learn(self.loader.notice());
+        let notice = self.loader.notice();
+        hub.programs_changed(&notice);
+        port.learn(notice);
         self.refresh(rt, hub, port);
     }
 
@@ -215,13 +217,6 @@ impl<L: Site, Q: Wait + Drop, K: Link + Drop, C: Seconds + Drop> Desk<L, Q, K, C
             Command::Counters => lines(counters(self.alloc, hub, port)),
             Command::Quit => return None,
         })
-    }
-
-    /// Before the first line: a Tick's turn.
-    pub fn tick<B: Taker<L>, R: Wait>(&mut self, rt: &R, hub: &Hub<L, B>, port: &mut Port<L>)
-        ensures { self.new.interfaces ≡ self.old.interfaces }
-    {
-        let _ticked = self.outlet.take(rt, hub, port, &Work::Tick);
     }
 
     // Makes the table anew where that is due.

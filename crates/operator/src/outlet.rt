@@ -37,7 +37,15 @@ impl<K: Link + Drop, C: Seconds + Drop> Outlet<K, C> {
             ↔ (IsTrue self.old.failed ⊎ (K.faults self.old.link < K.faults self.new.link)) }
     {
         let mut moment = self.clock.second();
-        let turned = tried(rt, hub, port, &Open {}, &mut self.clock, &mut moment, work)?;
+        let turned = tried(
+            rt,
+            hub,
+            port,
+            &mut Open {},
+            &mut self.clock,
+            &mut moment,
+            work,
+        )?;
         if send_all(&mut self.link, &turned).is_err() {
             self.failed = true;
         }

@@ -1,6 +1,6 @@
 -- What is so of this router is so of some router.
-use Rattle.std.proofs.Common.{◌≡◌, ℕ, List, IfErr, IfOk, subst}
-use Rattle.std.specs.Prelude.{Result, Ok, Err}
+use Rattle.std.proofs.Common.{◌≡◌, ℕ, Bool, List, Option, None, Some, IfErr, IfOk, subst, sym}
+use Rattle.std.specs.Prelude.{◌↔◌, Result, Ok, Err, IfSome, IsTrue, MatchResult}
 use Rattle.words.specs.Numbers.{Moment}
 use Rattle.words.specs.declared.route.Route.{Route}
 use Rattle.words.specs.declared.route.TableRow.{TableRow}
@@ -13,24 +13,26 @@ use Rattle.book.specs.Refusals.{AnswersAnew}
 use Rattle.book.specs.Replay.{BookView, Leads}
 use Rattle.book.specs.declared.error.BookError.{BookError}
 use Rattle.book.specs.declared.error.BookError.TheVariants as refusing
-use Rattle.book.specs.Offers.{AreCandidatesNow, IsOffered}
+use Rattle.book.specs.Offers.{AreCandidatesNow, IsOffered, IsStaleNow}
 use Rattle.turns.specs.Turns.{IsOfferedBySome, IsRefusedBySome, RefusesAt, Sends, taken_at}
 use Rattle.turns.proofs.Tables.{rows_beside}
 
-pub sent_by_some : {V E : Type 0} (items : V → List Out) (origin : Router) (taken : ℕ) (moment at : Moment) (e : Event) (old new : Router)
-    (r : Result V E) → Leads origin taken old → at ≡ taken_at e moment old.moment
-    → IfOk r (λ outs. Happens old at (occurrence_of e) (items outs) new) → IfOk r (λ outs. Sends origin moment e (items outs))
-sent_by_some items origin taken moment at e old new (Ok x) leads is h =
-    (taken, old, new, leads, subst (λ (m : Moment). Happens old m (occurrence_of e) (items x) new) is h)
-sent_by_some items origin taken moment at e old new (Err x) leads is h = h
+pub sent_by_some : (origin : Router) (taken : ℕ) (moment at : Moment) (e : Event) (old new : Router) (outs : List Out) (stale : Option Bool)
+    → Leads origin taken old → at ≡ taken_at e moment old.moment → Happens old at (occurrence_of e) outs new
+    → IfSome stale (λ is. IsTrue is ↔ IsStaleNow new) → Sends origin moment e outs stale
+sent_by_some origin taken moment at e old new outs stale leads is h left =
+    (taken, old, new, leads, subst (λ (m : Moment). Happens old m (occurrence_of e) outs new) is h, left)
 
-pub taken_then : {V E : Type 0} (items : V → List Out) (moment at : Moment) (e : Event) (old new : Router) (r : Result V E)
-    → at ≡ taken_at e moment old.moment
-    → IfOk r (λ outs. Happens old at (occurrence_of e) (items outs) new)
-    → IfOk r (λ outs. Happens old (taken_at e moment old.moment) (occurrence_of e) (items outs) new)
-taken_then items moment at e old new (Ok x) is h =
-    subst (λ (m : Moment). Happens old m (occurrence_of e) (items x) new) is h
-taken_then items moment at e old new (Err x) is h = h
+-- whether it is stale, where that was told
+pub left_stale : {E : Type 0} (new : Router) (told : Result Bool E) (stale : Option Bool) → IfOk told (λ is. IsTrue is ↔ IsStaleNow new)
+    → MatchResult told (λ is. stale ≡ Some is) (λ _. stale ≡ None) → IfSome stale (λ is. IsTrue is ↔ IsStaleNow new)
+left_stale new (Ok is) stale h same = subst (λ (o : Option Bool). IfSome o (λ is. IsTrue is ↔ IsStaleNow new)) (sym same) h
+left_stale new (Err e) stale h same = subst (λ (o : Option Bool). IfSome o (λ is. IsTrue is ↔ IsStaleNow new)) (sym same) tt
+
+pub taken_then : (moment at : Moment) (e : Event) (old new : Router) (outs : List Out)
+    → at ≡ taken_at e moment old.moment → Happens old at (occurrence_of e) outs new
+    → Happens old (taken_at e moment old.moment) (occurrence_of e) outs new
+taken_then moment at e old new outs is h = subst (λ (m : Moment). Happens old m (occurrence_of e) outs new) is h
 
 pub offered_by_some : {V E : Type 0} (candidates : V → List Route) (rows : V → List TableRow) (origin : Router) (taken : ℕ) (now : Router)
     (r : Result V E) → Leads origin taken now

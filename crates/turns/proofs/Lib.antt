@@ -1,3 +1,4 @@
+mod Away
 mod Configured
 mod Counted
 mod FromSome

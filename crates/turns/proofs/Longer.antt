@@ -1,6 +1,6 @@
 -- What begins with a longer list begins with a shorter one.
-use Rattle.std.proofs.Common.{◌≡◌, ◌⊎◌, inl, inr, ◌∙◌, ℕ, ◌+◌, List, Option, None, Some, arith}
-use Rattle.std.specs.Prelude.{MatchOption}
+use Rattle.std.proofs.Common.{◌≡◌, ◌⊎◌, inl, inr, ◌∙◌, ℕ, ◌+◌, Bool, List, Option, None, Some, arith}
+use Rattle.std.specs.Prelude.{IfNone, IfSome, MatchOption}
 use Rattle.std.specs.List.{All}
 use mathlib.Core.List.{IsPrefix}
 use Rattle.words.specs.Numbers.{Moment}
@@ -13,7 +13,7 @@ use Rattle.hooks.specs.declared.operation.Operation.{Operation}
 use Rattle.hooks.specs.Questions.{ExternalAnswer, RouteAnswer}
 use Rattle.hooks.proofs.Fronts.{prefix_trans}
 use Rattle.book.specs.Event.{Event}
-use Rattle.turns.specs.Turns.{AreAsked, AreBeside, AreVetoes, IsFor, IsInstall, IsPriceOn, IsRedistribute, IsTagOn, IsTurned, IsVetoOn, IsWordOn, Offers, Refuses, RefusesFor, TakesFor, Took}
+use Rattle.turns.specs.Turns.{AreAsked, AreBeside, AreVetoes, IsChangedSince, IsFor, IsInstall, IsPriceOn, IsRedistribute, IsTagOn, IsTurned, IsUnrefreshed, IsVetoOn, IsWordOn, Offers, Refuses, RefusesFor, TakesFor, Took}
 use Rattle.turns.specs.declared.turned.Turned.{Turned}
 use Rattle.turns.specs.declared.turned.TurnError.{TurnError}
 use Rattle.turns.specs.declared.work.Work.{Work}
@@ -68,9 +68,9 @@ module _ (known more : List Operation) (longer : IsPrefix known more) where
   for_longer offers (work.Down number) moment e h = h
   for_longer offers work.Refresh moment e h = install_longer offers moment e h
 
-  pub takes_longer : (offers : Offers) (took : Took) (moment : Moment) (w : Work) (outs : List Out)
-      → TakesFor offers took more moment w outs → TakesFor offers took known moment w outs
-  takes_longer offers took moment w outs (e, is, taken) = (e, for_longer offers w moment e is, taken)
+  pub takes_longer : (offers : Offers) (took : Took) (moment : Moment) (w : Work) (outs : List Out) (stale : Option Bool)
+      → TakesFor offers took more moment w outs stale → TakesFor offers took known moment w outs stale
+  takes_longer offers took moment w outs stale (e, is, taken) = (e, for_longer offers w moment e is, taken)
 
   pub refused_longer : (offers : Offers) (refuses : Refuses) (moment : Moment) (w : Work) (error : TurnError)
       → RefusesFor offers refuses more moment w error → RefusesFor offers refuses known moment w error
@@ -78,24 +78,42 @@ module _ (known more : List Operation) (longer : IsPrefix known more) where
   refused_longer offers refuses moment w error (inr (e, why, is, refused, same)) =
       inr (e, why, for_longer offers w moment e is, refused, same)
 
-  refreshed_longer : {X : Type 0} (items : X → List Out) (offers : Offers) (took : Took) (moment : Moment) (none : Type 0) (some : Type 0) (o : Option X)
-      → MatchOption o none (λ x. TakesFor offers took more moment work.Refresh (items x) × some)
-      → MatchOption o none (λ x. TakesFor offers took known moment work.Refresh (items x) × some)
-  refreshed_longer items offers took moment none some None h = h
-  refreshed_longer items offers took moment none some (Some x) h = (takes_longer offers took moment work.Refresh (items x) h.0, h.1)
+  unrefreshed_longer : (offers : Offers) (refuses : Refuses) (moment : Moment) → IsUnrefreshed offers refuses more moment → IsUnrefreshed offers refuses known moment
+  unrefreshed_longer offers refuses moment (inl changed) = inl changed
+  unrefreshed_longer offers refuses moment (inr (error, why)) = inr (error, refused_longer offers refuses moment work.Refresh error why)
 
-  pub turned_longer : (offers : Offers) (took : Took) (moment : Moment) (w : Work) (before after : ℕ) (turned : Turned)
-      → IsTurned offers took more moment w before after turned → IsTurned offers took known moment w before after turned
-  turned_longer offers took moment w before after turned h = record {
-    outs = takes_longer offers took moment w turned.outs.items h.outs;
-    refreshed = refreshed_longer (λ outs. outs.items) offers took moment _ _ turned.refreshed h.refreshed;
+  refreshed_longer : {X : Type 0} (items : X → List Out) (offers : Offers) (took : Took) (refuses : Refuses) (moment : Moment) (one due two : Type 0) (o : Option X)
+      → MatchOption o (one × (due → IsUnrefreshed offers refuses more moment))
+      (λ x. due × ((left : Option Bool) × TakesFor offers took more moment work.Refresh (items x) left) × two)
+      → MatchOption o (one × (due → IsUnrefreshed offers refuses known moment))
+      (λ x. due × ((left : Option Bool) × TakesFor offers took known moment work.Refresh (items x) left) × two)
+  refreshed_longer items offers took refuses moment one due two None h = (h.0, λ is. unrefreshed_longer offers refuses moment (h.1 is))
+  refreshed_longer items offers took refuses moment one due two (Some x) h =
+      (h.0, (h.1.0, takes_longer offers took moment work.Refresh (items x) h.1.0 h.1.1), h.2)
+
+  pub turned_longer : (offers : Offers) (took : Took) (refuses : Refuses) (moment : Moment) (w : Work) (before after : ℕ) (turned : Turned)
+      → IsTurned offers took refuses more moment w before after turned → IsTurned offers took refuses known moment w before after turned
+  turned_longer offers took refuses moment w before after turned h = record {
+    stale = h.stale;
+    outs = takes_longer offers took moment w turned.outs.items h.stale h.outs;
+    refreshed = refreshed_longer (λ outs. outs.items) offers took refuses moment _ _ _ turned.refreshed h.refreshed;
   }
 
+  unrefreshed_since : (offers : Offers) (refuses : Refuses) (moment : Moment) (changes : ℕ) → refuses.counted changes
+      → IsChangedSince refuses changes ⊎ ((error : TurnError) × RefusesFor offers refuses more moment work.Refresh error)
+      → IsUnrefreshed offers refuses known moment
+  unrefreshed_since offers refuses moment changes counted (inl changed) = inl (changes, counted, changed)
+  unrefreshed_since offers refuses moment changes counted (inr (error, why)) =
+      inr (error, refused_longer offers refuses moment work.Refresh error why)
+
   -- what follows an event that counts once
-  pub follows : {X : Type 0} (items : X → List Out) (offers : Offers) (took : Took) (moment : Moment) (before between after : ℕ) (o : Option X)
-      → between ≡ before + 1
-      → MatchOption o (after ≡ between) (λ x. TakesFor offers took more moment work.Refresh (items x) × (after ≡ between + 1))
-      → MatchOption o (after ≡ before + 1) (λ x. TakesFor offers took known moment work.Refresh (items x) × (after ≡ before + 2))
-  follows items offers took moment before between after None one h = h ∙ one
-  follows items offers took moment before between after (Some x) one h =
-      (takes_longer offers took moment work.Refresh (items x) h.0, omega (arith, h.1, one))
+  pub follows : {X : Type 0} (items : X → List Out) (offers : Offers) (took : Took) (refuses : Refuses) (moment : Moment) (before between after changes : ℕ)
+      (due : Type 0) (o : Option X) → between ≡ before + 1 → refuses.counted changes
+      → IfNone o ((after ≡ between) × (due → IsChangedSince refuses changes ⊎ ((error : TurnError) × RefusesFor offers refuses more moment work.Refresh error)))
+      → IfSome o (λ x. due × ((left : Option Bool) × TakesFor offers took more moment work.Refresh (items x) left) × (after ≡ between + 1))
+      → MatchOption o ((after ≡ before + 1) × (due → IsUnrefreshed offers refuses known moment))
+      (λ x. due × ((left : Option Bool) × TakesFor offers took known moment work.Refresh (items x) left) × (after ≡ before + 2))
+  follows items offers took refuses moment before between after changes due None one counted none some =
+      (none.0 ∙ one, λ is. unrefreshed_since offers refuses moment changes counted (none.1 is))
+  follows items offers took refuses moment before between after changes due (Some x) one counted none some =
+      (some.0, (some.1.0, takes_longer offers took moment work.Refresh (items x) some.1.0 some.1.1), omega (arith, some.2, one))

@@ -1,5 +1,5 @@
 -- What the definitions of turns mean, as laws.
-use Rattle.std.specs.Prelude.{◌≡◌, ◌↔◌, ℕ, List}
+use Rattle.std.specs.Prelude.{◌≡◌, ◌↔◌, ℕ, Bool, List, Option}
 use Rattle.words.specs.Numbers.{InterfaceNumber, Moment}
 use Rattle.words.specs.declared.route.External.{External}
 use Rattle.words.specs.declared.route.Route.{Route}
@@ -10,7 +10,7 @@ use Rattle.hooks.specs.declared.operation.Operation.{Operation}
 use Rattle.hooks.specs.Questions.{ExternalAnswer}
 use Rattle.book.specs.Event.{Event}
 use Rattle.book.specs.Event.TheVariants as event
-use Rattle.turns.specs.Turns.{AreBeside, IsFor, IsOfferedBySome, Sends, TakesFor}
+use Rattle.turns.specs.Turns.{AreBeside, IsFor, IsOfferedBySome, Sends, TakesFor, took_from}
 use Rattle.turns.specs.declared.work.Work.TheVariants as work
 
 -- A turn for a datagram gives the packet of just these bytes from just this interface, and sends
@@ -18,9 +18,9 @@ use Rattle.turns.specs.declared.work.Work.TheVariants as work
 abbrev pub CountReachesNoEvent : Type 0
 CountReachesNoEvent =
     (origin : Router) (known : List Operation) (moment : Moment) (number : InterfaceNumber)
-    (bytes : List ℕ) (outs : List Out)
-    → TakesFor (IsOfferedBySome origin) (Sends origin) known moment (work.Datagram number bytes) outs
-    ↔ Sends origin moment (event.Packet number bytes) outs
+    (bytes : List ℕ) (outs : List Out) (stale : Option Bool)
+    → TakesFor (IsOfferedBySome origin) (took_from origin) known moment (work.Datagram number bytes)
+    outs stale ↔ Sends origin moment (event.Packet number bytes) outs stale
 
 -- Wherever a table is offered, the answers of an announcement are beside the rows of one that is:
 -- those for which none was asked are the same beside each.

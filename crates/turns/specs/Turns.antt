@@ -1,5 +1,6 @@
 -- What a turn gives to the book, and what comes of it.
-use Rattle.std.specs.Prelude.{◌≡◌, ◌⊎◌, ℕ, ◌+◌, ◌<◌, Bool, List, [], Option, Some, MatchOption}
+use Rattle.std.specs.Prelude.{◌≡◌, ◌≢◌, ◌⊎◌, ◌↔◌, ℕ, ◌+◌, ◌<◌, Bool, true, List, [], Option, Some}
+use Rattle.std.specs.Prelude.{IfSome, IsTrue, MatchOption}
 use Rattle.std.specs.Prelude.{Result, Err, length, map, max, slice_get}
 use Rattle.std.specs.FinMap as finite
 use Rattle.std.specs.List.{All}
@@ -28,7 +29,7 @@ use Rattle.book.specs.declared.error.BookError.TheVariants as book_error
 use Rattle.book.specs.Event.{Event}
 use Rattle.book.specs.Event.TheVariants as event
 use Rattle.book.specs.Occurrences.{occurrence_of}
-use Rattle.book.specs.Offers.{IsOffered}
+use Rattle.book.specs.Offers.{IsOffered, IsStaleNow}
 use Rattle.book.specs.Refusals.{AnswersAnew}
 use Rattle.book.specs.Replay.{BookView, Leads}
 use Rattle.book.specs.State.{State}
@@ -40,13 +41,40 @@ use Rattle.turns.specs.declared.work.Work.TheVariants as work
 
 -- ---- what the book is asked
 
--- what is said of an event that was taken, with what it sent
-abbrev pub Took : Type 1
-Took = Moment → Event → List Out → Type 0
+-- What is said of an event that was taken, with what it sent and whether it left the router stale,
+-- which isn't known where memory was refused; and of word that the programs are now those that
+-- these operations leave.
+pub record Took : Type 1 where
+  pub taken : Moment → Event → List Out → (stale : Option Bool) → Type 0
+  pub told : List Operation → Type 0
 
--- what is said of an event that was refused, and why
-abbrev pub Refuses : Type 1
-Refuses = Moment → Event → BookError → Type 0
+-- what a question is refused for: no reading of the programs for its input, or no memory
+pub data Lack : Type 0 where
+  Reading : (input : Given) → Lack
+  Memory : Lack
+
+-- What is said of an event that was refused, and why; of what was lacking; and of a number of
+-- changes of the programs that was read.
+pub record Refuses : Type 1 where
+  pub refused : Moment → Event → BookError → Type 0
+  pub lacks : Lack → Type 0
+  pub counted : ℕ → Type 0
+
+-- the same by a name of its own
+abbrev pub IsTaken : Took → Moment → Event → List Out → (stale : Option Bool) → Type 0
+IsTaken took = took.taken
+
+abbrev pub IsTold : Took → List Operation → Type 0
+IsTold took = took.told
+
+abbrev pub IsRefused : Refuses → Moment → Event → BookError → Type 0
+IsRefused refuses = refuses.refused
+
+abbrev pub IsLacking : Refuses → Lack → Type 0
+IsLacking refuses = refuses.lacks
+
+abbrev pub is_counted : Refuses → ℕ → Type 0
+is_counted refuses = refuses.counted
 
 -- what is said of candidates, and of the rows of the table beside them
 abbrev pub Offers : Type 1
@@ -63,11 +91,13 @@ taken_at (event.Install answers) moment last = max moment last
 taken_at (event.LinkDown number) moment last = moment
 
 -- a book that began with this router says: the event that is given at this moment sends these, from
--- a router to which events lead from there
-abbrev pub Sends : (origin : Router) → Moment → Event → List Out → Type 0
-Sends origin moment e outs =
+-- a router to which events lead from there, and leaves one that is stale or isn't, where that is
+-- known
+abbrev pub Sends : (origin : Router) → Moment → Event → List Out → (stale : Option Bool) → Type 0
+Sends origin moment e outs stale =
     (taken : ℕ) × (old : Router) × (new : Router) × Leads origin taken old
     × Happens old (taken_at e moment old.moment) (occurrence_of e) outs new
+    × IfSome stale (λ is. IsTrue is ↔ IsStaleNow new)
 
 -- a book says: given at this moment, the event is refused so, by the state that the book has then
 abbrev pub RefusesAt : BookView → Moment → Event → BookError → Type 0
@@ -80,6 +110,18 @@ abbrev pub IsRefusedBySome : (origin : Router) → Moment → Event → BookErro
 IsRefusedBySome origin moment e error =
     (b : BookView) × Leads origin b.taken b.current × RefusesAt b moment e error
 
+-- All that is said of a book which began with this router. Nothing is known of a question that got
+-- no reading or no memory, nor of a number of changes that was read or told.
+abbrev pub took_from : (origin : Router) → Took
+took_from origin = record { taken = Sends origin; told = λ operations. Unit {0} }
+
+abbrev pub refuses_from : (origin : Router) → Refuses
+refuses_from origin = record {
+  refused = IsRefusedBySome origin;
+  lacks = λ lack. Unit {0};
+  counted = λ number. Unit {0};
+}
+
 -- a book that began with this router says: they are those of a router to which events lead from
 -- there
 abbrev pub IsOfferedBySome : (origin : Router) → List Route → List TableRow → Type 0
@@ -90,7 +132,8 @@ IsOfferedBySome origin candidates rows =
 abbrev pub announces : Router → Network → Bool
 announces r prefix = is_for prefix (finite.get r.announced (external_key r.id prefix))
 
--- a book that began with this router says: a router to which events lead from there does, or doesn't
+-- a book that began with this router says: a router to which events lead from there does, or
+-- doesn't
 abbrev pub IsWantedBySome : (origin : Router) → Network → Bool → Type 0
 IsWantedBySome origin prefix wanted =
     (taken : ℕ) × (r : Router) × Leads origin taken r × (wanted ≡ announces r prefix)
@@ -148,21 +191,23 @@ AreVetoes known moment rows routes answers =
 
 -- The datagram was counted as one of the interface: an asker's list and its seat are those after a
 -- word that the programs answer of it; or they are as before, where it got no reading.
-abbrev pub IsCounted : (before now : List Operation) → (old new : SeatView)
+abbrev pub IsCounted : Refuses → (before now : List Operation) → (old new : SeatView)
     → InterfaceNumber → Moment → (packet : List ℕ) → Type 0
-IsCounted before now old new number moment packet =
-    ((now ≡ before) × (new ≡ old))
+IsCounted refuses before now old new number moment packet =
+    ((now ≡ before) × (new ≡ old)
+    × refuses.lacks (Lack.Reading (count_input number moment packet)))
     ⊎ ((word : ℕ) × IsAnswered before now old new (count_input number moment packet) word)
 
 -- where the work is a datagram, that is counted
-abbrev pub CountsFor : (before now : List Operation) → (old new : SeatView) → Work → Moment → Type 0
-CountsFor before now old new (work.Datagram number bytes) moment =
-    IsCounted before now old new number moment bytes
-CountsFor before now old new work.Tick moment = Unit {0}
-CountsFor before now old new (work.Add external) moment = Unit {0}
-CountsFor before now old new (work.Withdraw prefix) moment = Unit {0}
-CountsFor before now old new (work.Down number) moment = Unit {0}
-CountsFor before now old new work.Refresh moment = Unit {0}
+abbrev pub CountsFor : Refuses → (before now : List Operation) → (old new : SeatView) → Work
+    → Moment → Type 0
+CountsFor refuses before now old new (work.Datagram number bytes) moment =
+    IsCounted refuses before now old new number moment bytes
+CountsFor refuses before now old new work.Tick moment = Unit {0}
+CountsFor refuses before now old new (work.Add external) moment = Unit {0}
+CountsFor refuses before now old new (work.Withdraw prefix) moment = Unit {0}
+CountsFor refuses before now old new (work.Down number) moment = Unit {0}
+CountsFor refuses before now old new work.Refresh moment = Unit {0}
 
 -- ---- the event of a work
 
@@ -203,23 +248,11 @@ IsFor offers known (work.Withdraw prefix) moment e = e ≡ event.Withdraw prefix
 IsFor offers known (work.Down number) moment e = e ≡ event.LinkDown number
 IsFor offers known work.Refresh moment e = IsInstall offers known moment e
 
--- the work's event was given at this moment, and sent these
-abbrev pub TakesFor : Offers → Took → (known : List Operation) → Moment → Work → List Out → Type 0
-TakesFor offers took known moment w outs =
-    (e : Event) × IsFor offers known w moment e × took moment e outs
-
--- it was at some moment, whatever was known
-abbrev pub TakesOnce : Offers → Took → Work → List Out → Type 0
-TakesOnce offers took w outs = (moment : Moment) × TakesFor offers took [] moment w outs
-
--- What comes of a turn at a port that knew these operations: the outs of the work's event, and,
--- where a refresh followed, those of its installation. The events count in the port's share, which
--- grew from one number to the other.
-pub record IsTurned (offers : Offers) (took : Took) (known : List Operation) (moment : Moment)
-    (w : Work) (before after : ℕ) (turned : Turned) : Type 0 where
-  pub outs : TakesFor offers took known moment w turned.outs.items
-  pub refreshed : MatchOption turned.refreshed (after ≡ before + 1)
-      (λ outs. TakesFor offers took known moment work.Refresh outs.items × (after ≡ before + 2))
+-- the work's event was given at this moment, sent these, and left the router so
+abbrev pub TakesFor : Offers → Took → (known : List Operation) → Moment → Work → List Out
+    → (stale : Option Bool) → Type 0
+TakesFor offers took known moment w outs stale =
+    (e : Event) × IsFor offers known w moment e × took.taken moment e outs stale
 
 -- ---- refusals
 
@@ -227,27 +260,72 @@ pub record IsTurned (offers : Offers) (took : Took) (known : List Operation) (mo
 abbrev pub IsInstalling : Event → Type 0
 IsInstalling e = (answers : List RouteAnswer) × (e ≡ event.Install answers)
 
--- what questions are refused for: no reading, or no memory
-abbrev pub IsUnasked : TurnError → Type 0
-IsUnasked e =
-    (e ≡ turn_error.Away) ⊎ (e ≡ turn_error.Book (book_error.Core core_error.Memory))
+-- memory was refused, and that is why
+abbrev pub IsShort : Refuses → TurnError → Type 0
+IsShort refuses error =
+    (error ≡ turn_error.Book (book_error.Core core_error.Memory)) × refuses.lacks Lack.Memory
+
+-- a question of this got no reading, and that is why
+abbrev pub IsAway : Refuses → (asks : Given → Type 0) → TurnError → Type 0
+IsAway refuses asks error =
+    (error ≡ turn_error.Away) × ((input : Given) × refuses.lacks (Lack.Reading input) × asks input)
+
+-- the questions of an announcement, and of a refresh
+abbrev pub AsksOf : External → Moment → Given → Type 0
+AsksOf external moment input = (rows : List TableRow)
+    × ((input ≡ tag_input external moment rows) ⊎ (input ≡ price_input external moment rows))
+
+abbrev pub AsksOfRoutes : Moment → Given → Type 0
+AsksOfRoutes moment input =
+    (route : Route) × (rows : List TableRow) × (input ≡ veto_input route moment rows)
 
 -- What a work is refused for before its event is given. A datagram has no question, but is copied;
 -- a Tick, a withdrawal and a link's end need neither a reading nor memory.
-abbrev pub IsUnaskedFor : Work → TurnError → Type 0
-IsUnaskedFor (work.Datagram number bytes) e =
-    e ≡ turn_error.Book (book_error.Core core_error.Memory)
-IsUnaskedFor work.Tick e = ⊥
-IsUnaskedFor (work.Add external) e = IsUnasked e
-IsUnaskedFor (work.Withdraw prefix) e = ⊥
-IsUnaskedFor (work.Down number) e = ⊥
-IsUnaskedFor work.Refresh e = IsUnasked e
+abbrev pub IsUnaskedFor : Refuses → Work → Moment → TurnError → Type 0
+IsUnaskedFor refuses (work.Datagram number bytes) moment error = IsShort refuses error
+IsUnaskedFor refuses work.Tick moment error = ⊥
+IsUnaskedFor refuses (work.Add external) moment error =
+    IsAway refuses (AsksOf external moment) error ⊎ IsShort refuses error
+IsUnaskedFor refuses (work.Withdraw prefix) moment error = ⊥
+IsUnaskedFor refuses (work.Down number) moment error = ⊥
+IsUnaskedFor refuses work.Refresh moment error =
+    IsAway refuses (AsksOfRoutes moment) error ⊎ IsShort refuses error
 
--- The work's event was given at this moment and refused, for this; or one of its questions was
--- refused before.
+-- the work's event was given at this moment and refused, for this
+abbrev pub IsGivenInVain : Offers → Refuses → (known : List Operation) → Moment → Work → TurnError
+    → Type 0
+IsGivenInVain offers refuses known moment w error =
+    (e : Event) × (why : BookError) × IsFor offers known w moment e × refuses.refused moment e why
+    × (error ≡ turn_error.Book why)
+
+-- that is why, or one of its questions was refused before
 abbrev pub RefusesFor : Offers → Refuses → (known : List Operation) → Moment → Work → TurnError
     → Type 0
 RefusesFor offers refuses known moment w error =
-    IsUnaskedFor w error
-    ⊎ ((e : Event) × (why : BookError) × IsFor offers known w moment e × refuses moment e why
-    × (error ≡ turn_error.Book why))
+    IsUnaskedFor refuses w moment error ⊎ IsGivenInVain offers refuses known moment w error
+
+-- a number of changes of the programs was read that isn't this one
+abbrev pub IsChangedSince : Refuses → ℕ → Type 0
+IsChangedSince refuses before = (now : ℕ) × refuses.counted now × (now ≢ before)
+
+-- The refresh that was due isn't taken: the programs were changed meanwhile, which two numbers of
+-- changes tell; or it was refused, as any refresh is.
+abbrev pub IsUnrefreshed : Offers → Refuses → (known : List Operation) → Moment → Type 0
+IsUnrefreshed offers refuses known moment =
+    ((before : ℕ) × refuses.counted before × IsChangedSince refuses before)
+    ⊎ ((error : TurnError) × RefusesFor offers refuses known moment work.Refresh error)
+
+-- ---- a turn
+
+-- What comes of a turn at a port that knew these operations: the outs of the work's event, and,
+-- where a refresh followed, those of its installation. It followed where the event left the router
+-- stale and only there, unless one wasn't taken. The events count in the port's share, which grew
+-- from one number to the other.
+pub record IsTurned (offers : Offers) (took : Took) (refuses : Refuses) (known : List Operation)
+    (moment : Moment) (w : Work) (before after : ℕ) (turned : Turned) : Type 0 where
+  pub stale : Option Bool
+  pub outs : TakesFor offers took known moment w turned.outs.items stale
+  pub refreshed : MatchOption turned.refreshed
+      ((after ≡ before + 1) × (stale ≡ Some true → IsUnrefreshed offers refuses known moment))
+      (λ outs. (stale ≡ Some true) × ((left : Option Bool)
+      × TakesFor offers took known moment work.Refresh outs.items left) × (after ≡ before + 2))

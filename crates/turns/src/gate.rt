@@ -6,16 +6,17 @@ ghost use Rattle.std.specs.Prelude.{ℕ};
 pub struct Open {}
 
 impl Gate for Open {
-    fn pass(&self, _port: u16) {}
+    fn pass(&mut self, _port: u16) {}
 }
 
 /// What each turn passes once, after the programs were asked and before the lock is taken.
 ///
-/// What is so of a port that passed is left open here: a turn, which is proved for any gate, can
-/// say it only of one that passed.
+/// What is so of a gate before and after a port passed is left open here: a turn, which is proved
+/// for any gate, can say it only of one that was passed, and that a gate is as it was only of one
+/// that wasn't.
 pub trait Gate {
-    ghost passed: { Self → ℕ → Type 0 } = { λ gate port. Unit {0} };
+    ghost passes: { Self → ℕ → Self → Type 0 } = { λ before port after. Unit {0} };
 
-    fn pass(&self, port: u16)
-        ensures { passed self.now port };
+    fn pass(&mut self, port: u16)
+        ensures { passes self.old port self.new };
 }

@@ -1,5 +1,5 @@
 //! The book under its lock.
-ghost use Rattle.std.specs.Prelude.{◌≡◌, ◌+◌, ◌<◌, ◌≤◌, List, Err};
+ghost use Rattle.std.specs.Prelude.{◌≡◌, ◌+◌, ◌<◌, ◌≤◌, ◌⊎◌, List, Err};
 ghost use Rattle.std.specs.Prelude.{IfErr, IfOk, OnOk, OnErr, max};
 ghost use mathlib.Core.List.{IsPrefix};
 ghost use Rattle.words.specs.Constants.{clock_end};
@@ -7,18 +7,30 @@ ghost use Rattle.words.specs.declared.route.TableRow.{TableRow};
 ghost use Rattle.maps.specs.Access.{floor};
 ghost use Rattle.maps.specs.Words.{seat_after};
 ghost use Rattle.maps.specs.declared.access.Access.TheVariants.{Read};
-ghost use Rattle.hooks.specs.Known.{known_to};
-ghost use Rattle.turns.specs.Turns.{AreNeighbors, IsInstalling, IsListed};
+ghost use Rattle.hooks.specs.Known.{known_to, told_by};
+ghost use Rattle.turns.specs.Turns.{
+  AreNeighbors,
+  IsChangedSince,
+  IsInstalling,
+  IsLacking,
+  IsListed,
+  IsRefused,
+  IsTaken,
+  IsTold,
+  Lack,
+  is_counted,
+};
 
 use crate::port::Port;
 use crate::site::Site;
-use crate::taker::Taker;
+use crate::taker::{Taken, Taker};
 use crate::turned::TurnError;
-use book::{Book, BookError, CoreError, Event, Offered, Out, State};
+use book::{Book, BookError, CoreError, Event, Offered, State};
+use hooks::Notice;
 use maps::Shared;
 use std::alloc::{AllocError, Global};
 use std::marker::PhantomData;
-use std::sync::atomic::{AtomicU64, Ordering};
+use std::sync::atomic::AtomicU64;
 use std::sync::ledger::Share;
 use std::sync::{Mutex, Wait};
 use words::{Prefix, Route, RouterId, Second};
@@ -32,38 +44,6 @@ pub struct Hub<L: Site, B: Taker<L>> {
     changes: AtomicU64,
     pub(crate) shared: Shared,
     pub ghost words: { shared ≡ L.words },
-}
-
-/// What the book gave, and whether it left the router stale.
-#[derive(Drop)]
-pub(crate) struct Taken {
-    pub(crate) outs: Vec<Out>,
-    pub(crate) stale: bool,
-}
-
-// Gives an event to the book that is locked.
-fn take<L: Site, B: Taker<L>>(
-    book: &mut B,
-    mine: &mut Share<L>,
-    moment: Second,
-    event: Event,
-) -> Result<Taken, BookError>
-    requires { 0 < mine.old.parts }
-    ensures ok { IfOk result (λ r. B.took moment event r.outs.items) }
-    ensures refused { IfErr result (λ error. B.refuses moment event error) }
-    ensures share { OnOk result (mine.new.amount ≡ mine.old.amount + 1) }
-    ensures parts { mine.new.parts ≡ mine.old.parts }
-    ensures err { OnErr result (mine.new.amount ≡ mine.old.amount) }
-    ensures clock { IsInstalling event
-        → result ≡ Err (BookError.Core CoreError.ClockBack)
-        → clock_end ≤ max moment (B.moment_of book.old) }
-{
-    let outs = book.take(mine, moment, event)?;
-    let stale = match book.stale() {
-        Ok(stale) => stale,
-        Err(_) => false,
-    };
-    Ok(Taken { outs, stale })
 }
 
 // The neighbors at the interfaces 1 to so many.
@@ -122,20 +102,23 @@ impl<L: Site, B: Taker<L>> Hub<L, B> {
         self.shared.read(&mut port.seat, index)
     }
 
-    /// Tells the workers that the programs were changed: a refresh that follows a turn which began
-    /// before isn't taken any more, so that no answer of an earlier program comes after those of
-    /// the refresh that whoever changed them makes.
-    pub fn programs_changed(&self) {
-        let _before = self.changes.fetch_add(1, Ordering::SeqCst);
+    /// Tells the workers that the programs are now those of the notice: a refresh that follows a
+    /// turn which began before isn't taken any more, so that no answer of an earlier program comes
+    /// after those of the refresh that whoever changed them makes.
+    pub fn programs_changed(&self, notice: &Notice)
+        ensures { IsTold B.took (told_by notice.now) }
+    {
+        B::tell(&self.changes, notice);
     }
 
     // How often the programs were changed.
-    pub(crate) fn changes(&self) -> u64 {
-        self.changes.load(Ordering::SeqCst)
+    pub(crate) fn changes(&self) -> u64
+        ensures { is_counted B.refuses result }
+    {
+        B::changes(&self.changes)
     }
 
-    /// Takes an event under the lock. Where it isn't told whether the router is stale, for want of
-    /// memory, it counts as not stale: the next turn tells again.
+    /// Takes an event under the lock.
     pub(crate) fn take<R: Wait>(
         &self,
         rt: &R,
@@ -144,8 +127,8 @@ impl<L: Site, B: Taker<L>> Hub<L, B> {
         event: Event,
     ) -> Result<Taken, BookError>
         requires { 0 < mine.old.parts }
-        ensures ok { IfOk result (λ r. B.took moment event r.outs.items) }
-        ensures refused { IfErr result (λ error. B.refuses moment event error) }
+        ensures ok { IfOk result (λ r. IsTaken B.took moment event r.outs.items r.stale) }
+        ensures refused { IfErr result (λ error. IsRefused B.refuses moment event error) }
         ensures share { OnOk result (mine.new.amount ≡ mine.old.amount + 1) }
         ensures parts { mine.new.parts ≡ mine.old.parts }
         ensures err { OnErr result (mine.new.amount ≡ mine.old.amount) }
@@ -154,7 +137,8 @@ impl<L: Site, B: Taker<L>> Hub<L, B> {
             → (book : B) × (clock_end ≤ max moment (B.moment_of book)) }
     {
         let mut guard = self.book.lock(rt);
-        take(&mut *guard, mine, moment, event)
+        let book: &mut B = &mut *guard;
+        book.take(mine, moment, event)
     }
 
     /// The same, unless the programs were changed since they had been so often: `Away` then.
@@ -167,7 +151,10 @@ impl<L: Site, B: Taker<L>> Hub<L, B> {
         changes: u64,
     ) -> Result<Taken, TurnError>
         requires { 0 < mine.old.parts }
-        ensures ok { IfOk result (λ r. B.took moment event r.outs.items) }
+        ensures ok { IfOk result (λ r. IsTaken B.took moment event r.outs.items r.stale) }
+        ensures refused { IfErr result (λ error. IsChangedSince B.refuses changes
+            ⊎ ((why : BookError) × IsRefused B.refuses moment event why
+            × (error ≡ TurnError.Book why))) }
         ensures share { OnOk result (mine.new.amount ≡ mine.old.amount + 1) }
         ensures parts { mine.new.parts ≡ mine.old.parts }
         ensures err { OnErr result (mine.new.amount ≡ mine.old.amount) }
@@ -176,13 +163,15 @@ impl<L: Site, B: Taker<L>> Hub<L, B> {
         if self.changes() != changes {
             return Err(TurnError::Away);
         }
-        let taken = take(&mut *guard, mine, moment, event)?;
+        let book: &mut B = &mut *guard;
+        let taken = book.take(mine, moment, event)?;
         Ok(taken)
     }
 
     /// The candidates now and the rows of the table now, of one moment under the lock.
     pub fn offered<R: Wait>(&self, rt: &R) -> Result<Offered, AllocError>
-        ensures { IfOk result (λ o. B.offers o.candidates.items o.rows.items) }
+        ensures offered { IfOk result (λ o. B.offers o.candidates.items o.rows.items) }
+        ensures short { OnErr result (IsLacking B.refuses Lack.Memory) }
     {
         let guard = self.book.lock(rt);
         let book: &B = &*guard;
@@ -191,7 +180,8 @@ impl<L: Site, B: Taker<L>> Hub<L, B> {
 
     /// The candidates now, for whom the rows beside them make no difference.
     pub(crate) fn candidates<R: Wait>(&self, rt: &R) -> Result<Vec<Route>, AllocError>
-        ensures { IfOk result (λ c. (rows : List TableRow) × B.offers c.items rows) }
+        ensures offered { IfOk result (λ c. (rows : List TableRow) × B.offers c.items rows) }
+        ensures short { OnErr result (IsLacking B.refuses Lack.Memory) }
     {
         let guard = self.book.lock(rt);
         let book: &B = &*guard;

@@ -24,7 +24,7 @@ pub use gate::{Gate, Open};
 pub use hub::Hub;
 pub use port::Port;
 pub use site::{Place, Site};
-pub use taker::Taker;
+pub use taker::{Taken, Taker};
 pub use turned::{TurnError, Turned};
 pub use turns::turn;
 pub use work::Work;

@@ -10,7 +10,6 @@ ghost use Rattle.turns.specs.Turns.{
   IsInstall,
   IsPriceOn,
   IsTagOn,
-  IsUnasked,
   IsUnaskedFor,
   IsVetoOn,
 };
@@ -23,7 +22,6 @@ use crate::work::Work;
 use book::{Event, Offered};
 use hooks::{Asker, PriceAnswer, TagAnswer, VetoAnswer};
 use maps::{Seat, Shared};
-use std::alloc::AllocError;
 use std::sync::Wait;
 use words::{External, Route, Second, Sequence, TableRow};
 
@@ -39,9 +37,9 @@ pub fn asked<L: Site, B: Taker<L>, R: Wait>(
     requires { IsOf L.words seat.old }
     ensures event { IfOk result (λ event.
         IsFor B.offers (known_to asker.old) work.now moment event) }
-    ensures counted { CountsFor (known_to asker.old) (known_to asker.new) seat.old seat.new
-        work.now moment }
-    ensures err { IfErr result (IsUnaskedFor work.now) }
+    ensures counted { CountsFor B.refuses (known_to asker.old) (known_to asker.new)
+        seat.old seat.new work.now moment }
+    ensures err { IfErr result (IsUnaskedFor B.refuses work.now moment) }
     ensures seat { IsOf L.words seat.new }
     ensures history { asks_of asker.new ≡ asks_of asker.old }
     ensures known { IsPrefix (known_to asker.old) (known_to asker.new) }
@@ -49,8 +47,8 @@ pub fn asked<L: Site, B: Taker<L>, R: Wait>(
     match work {
         Work::Datagram(number, bytes) => {
             // Where the programs give no reading, the datagram passes by.
-            let _passed = asker.count(*number, moment, bytes.as_slice(), &hub.shared, seat);
-            Ok(Event::Packet(*number, bytes.copy()?))
+            let _passed = B::count(asker, *number, moment, bytes.as_slice(), &hub.shared, seat);
+            Ok(Event::Packet(*number, B::copied(bytes)?))
         }
         Work::Tick => Ok(Event::Tick),
         Work::Add(external) => redistribution(rt, hub, asker, seat, moment, external),
@@ -73,7 +71,7 @@ fn redistribution<L: Site, B: Taker<L>, R: Wait>(
     requires { IsOf L.words seat.old }
     ensures event { IfOk result (λ event.
         IsFor B.offers (known_to asker.old) (Work.Add external.now) moment event) }
-    ensures err { IfErr result IsUnasked }
+    ensures err { IfErr result (IsUnaskedFor B.refuses (Work.Add external.now) moment) }
     ensures seat { IsOf L.words seat.new }
     ensures history { asks_of asker.new ≡ asks_of asker.old }
     ensures known { IsPrefix (known_to asker.old) (known_to asker.new) }
@@ -97,18 +95,18 @@ fn beside_table<L: Site, B: Taker<L>, R: Wait>(
     requires { IsOf L.words seat.old }
     ensures event { IfOk result (λ event.
         IsFor B.offers (known_to asker.old) (Work.Add external.now) moment event) }
-    ensures err { IfErr result IsUnasked }
+    ensures err { IfErr result (IsUnaskedFor B.refuses (Work.Add external.now) moment) }
     ensures seat { IsOf L.words seat.new }
     ensures history { asks_of asker.new ≡ asks_of asker.old }
     ensures known { IsPrefix (known_to asker.old) (known_to asker.new) }
 {
     let offered = hub.offered(rt)?;
-    let (tagged, priced) = answers(&hub.shared, asker, seat, moment, external, &offered)?;
+    let (tagged, priced) = answers::<L, B>(&hub.shared, asker, seat, moment, external, &offered)?;
     Ok(Event::Redistribute(tagged, priced))
 }
 
 // The tag and the metric that a destination is announced with, beside the rows of the table.
-fn answers(
+fn answers<L: Site, B: Taker<L>>(
     shared: &Shared,
     asker: &mut Asker,
     seat: &mut Seat,
@@ -121,20 +119,20 @@ fn answers(
         IsTagOn (known_to asker.old) external.now moment offered.now.rows.items r.0) }
     ensures price { IfOk result (λ r.
         IsPriceOn (known_to asker.old) external.now moment offered.now.rows.items r.1) }
-    ensures err { IfErr result IsUnasked }
+    ensures err { IfErr result (IsUnaskedFor B.refuses (Work.Add external.now) moment) }
     ensures seat { IsOf shared.now seat.new }
     ensures history { asks_of asker.new ≡ asks_of asker.old }
     ensures known { IsPrefix (known_to asker.old) (known_to asker.new) }
 {
     let rows = offered.rows.as_slice();
-    let tagged = tag(asker, external, moment, rows, shared, seat)?;
-    match price(asker, external, moment, rows, shared, seat) {
+    let tagged = tag::<L, B>(asker, external, moment, rows, shared, seat)?;
+    match price::<L, B>(asker, external, moment, rows, shared, seat) {
         Ok(priced) => Ok((tagged, priced)),
         Err(error) => Err(error),
     }
 }
 
-fn tag(
+fn tag<L: Site, B: Taker<L>>(
     asker: &mut Asker,
     external: &External,
     moment: Second,
@@ -145,18 +143,18 @@ fn tag(
     requires { IsOf shared.now seat.old }
     ensures answer { IfOk result (λ a.
         IsTagOn (known_to asker.old) external.now moment rows.now a) }
-    ensures err { IfErr result IsUnasked }
+    ensures err { IfErr result (IsUnaskedFor B.refuses (Work.Add external.now) moment) }
     ensures seat { IsOf shared.now seat.new }
     ensures history { asks_of asker.new ≡ asks_of asker.old }
     ensures known { IsPrefix (known_to asker.old) (known_to asker.new) }
 {
-    match asker.tag(external, moment, rows, shared, seat) {
+    match B::tag(asker, external, moment, rows, shared, seat) {
         Some(answer) => Ok(answer),
         None => Err(TurnError::Away),
     }
 }
 
-fn price(
+fn price<L: Site, B: Taker<L>>(
     asker: &mut Asker,
     external: &External,
     moment: Second,
@@ -167,12 +165,12 @@ fn price(
     requires { IsOf shared.now seat.old }
     ensures answer { IfOk result (λ a.
         IsPriceOn (known_to asker.old) external.now moment rows.now a) }
-    ensures err { IfErr result IsUnasked }
+    ensures err { IfErr result (IsUnaskedFor B.refuses (Work.Add external.now) moment) }
     ensures seat { IsOf shared.now seat.new }
     ensures history { asks_of asker.new ≡ asks_of asker.old }
     ensures known { IsPrefix (known_to asker.old) (known_to asker.new) }
 {
-    match asker.price(external, moment, rows, shared, seat) {
+    match B::price(asker, external, moment, rows, shared, seat) {
         Some(answer) => Ok(answer),
         None => Err(TurnError::Away),
     }
@@ -191,14 +189,14 @@ pub fn installation<L: Site, B: Taker<L>, R: Wait>(
     requires { IsOf L.words seat.old }
     ensures event { IfOk result (λ event.
         IsInstall B.offers (known_to asker.old) moment event) }
-    ensures err { IfErr result IsUnasked }
+    ensures err { IfErr result (IsUnaskedFor B.refuses Work.Refresh moment) }
     ensures seat { IsOf L.words seat.new }
     ensures history { asks_of asker.new ≡ asks_of asker.old }
     ensures known { IsPrefix (known_to asker.old) (known_to asker.new) }
 {
     let candidates = hub.candidates(rt)?;
     let routes = candidates.as_slice();
-    let all = asker.all_let_in(*candidates.allocator(), routes, moment)?;
+    let all = B::all_let_in(asker, *candidates.allocator(), routes, moment)?;
     match all {
         Some(answers) => Ok(Event::Install(Sequence::from_vec(answers))),
         None => vetoed(rt, hub, asker, seat, moment),
@@ -217,18 +215,18 @@ fn vetoed<L: Site, B: Taker<L>, R: Wait>(
     requires { IsOf L.words seat.old }
     ensures event { IfOk result (λ event.
         IsInstall B.offers (known_to asker.old) moment event) }
-    ensures err { IfErr result IsUnasked }
+    ensures err { IfErr result (IsUnaskedFor B.refuses Work.Refresh moment) }
     ensures seat { IsOf L.words seat.new }
     ensures history { asks_of asker.new ≡ asks_of asker.old }
     ensures known { IsPrefix (known_to asker.old) (known_to asker.new) }
 {
     let offered = hub.offered(rt)?;
-    let answers = vetoes(&hub.shared, asker, seat, moment, &offered)?;
+    let answers = vetoes::<L, B>(&hub.shared, asker, seat, moment, &offered)?;
     Ok(Event::Install(Sequence::from_vec(answers)))
 }
 
 // The answers on the candidates, in their order, each by a question of its own.
-fn vetoes(
+fn vetoes<L: Site, B: Taker<L>>(
     shared: &Shared,
     asker: &mut Asker,
     seat: &mut Seat,
@@ -238,27 +236,21 @@ fn vetoes(
     requires { IsOf shared.now seat.old }
     ensures answers { IfOk result (λ answers. AreVetoes (known_to asker.old)
         moment offered.now.rows.items offered.now.candidates.items answers.items) }
-    ensures err { IfErr result IsUnasked }
+    ensures err { IfErr result (IsUnaskedFor B.refuses Work.Refresh moment) }
     ensures seat { IsOf shared.now seat.new }
     ensures history { asks_of asker.new ≡ asks_of asker.old }
     ensures known { IsPrefix (known_to asker.old) (known_to asker.new) }
 {
     let rows = offered.rows.as_slice();
-    let mut answers = Vec::with_capacity(
-        *offered.candidates.allocator(),
-        offered.candidates.len(),
-    )?;
+    let mut answers = B::room(*offered.candidates.allocator(), offered.candidates.len())?;
     for route in &offered.candidates {
-        let answer = veto(asker, route, moment, rows, shared, seat)?;
-        match answers.push(answer) {
-            Ok(()) => {}
-            Err(e) => return Err(AllocError::from(e).into()),
-        }
+        let answer = veto::<L, B>(asker, route, moment, rows, shared, seat)?;
+        answers.push_reserved(answer);
     }
     Ok(answers)
 }
 
-fn veto(
+fn veto<L: Site, B: Taker<L>>(
     asker: &mut Asker,
     route: &Route,
     moment: Second,
@@ -269,12 +261,12 @@ fn veto(
     requires { IsOf shared.now seat.old }
     ensures answer { IfOk result (λ a.
         (a.route ≡ route.now) × IsVetoOn (known_to asker.old) moment rows.now a) }
-    ensures err { IfErr result IsUnasked }
+    ensures err { IfErr result (IsUnaskedFor B.refuses Work.Refresh moment) }
     ensures seat { IsOf shared.now seat.new }
     ensures history { asks_of asker.new ≡ asks_of asker.old }
     ensures known { IsPrefix (known_to asker.old) (known_to asker.new) }
 {
-    match asker.veto(route, moment, rows, shared, seat) {
+    match B::veto(asker, route, moment, rows, shared, seat) {
         Some(answer) => Ok(answer),
         None => Err(TurnError::Away),
     }

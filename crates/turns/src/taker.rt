@@ -1,44 +1,72 @@
-//! What takes events, as a turn sees it.
-ghost use Rattle.std.specs.Prelude.{◌≡◌, ◌+◌, ◌<◌, ◌≤◌, Bool, List, Option, Err, IfOk, OnOk, OnErr};
-ghost use Rattle.std.specs.Prelude.{IfErr, max};
+//! What takes events, as a turn sees it, and what a turn asks beside.
+ghost use Rattle.std.specs.Prelude.{◌≡◌, ◌+◌, ◌<◌, ◌≤◌, ◌↔◌, ℕ, Bool, List, Option, Err, IfOk};
+ghost use Rattle.std.specs.Prelude.{IfErr, IfNone, IfSome, IsTrue, MatchResult, None, OnErr};
+ghost use Rattle.std.specs.Prelude.{OnOk, Some, [], map, max, vec_capacity};
+ghost use mathlib.Core.List.{IsPrefix};
 ghost use Rattle.words.specs.Constants.{clock_end};
 ghost use Rattle.words.specs.Numbers.{InterfaceNumber, Moment, RouterNumber};
 ghost use Rattle.words.specs.Prefixes.{Network};
 ghost use Rattle.words.specs.declared.route.Route.{Route as RouteValue};
 ghost use Rattle.words.specs.declared.route.TableRow.{TableRow};
-ghost use Rattle.book.specs.events.declared.model.Out.{Out};
+ghost use Rattle.maps.specs.Words.{IsOf};
+ghost use Rattle.hooks.specs.Answered.{IsAnswered};
+ghost use Rattle.hooks.specs.Known.{asks_of, known_to, told_by};
+ghost use Rattle.hooks.specs.Questions.{count_input, price_input, tag_input, veto_input};
+ghost use Rattle.hooks.specs.Vacant.{IsAnsweredByNone, let_in};
 ghost use Rattle.book.specs.events.Events.{Happens};
 ghost use Rattle.book.specs.events.Routers.{shown_at};
 ghost use Rattle.book.specs.Event.{Event};
 ghost use Rattle.book.specs.Occurrences.{occurrence_of};
-ghost use Rattle.book.specs.Offers.{AreCandidatesNow, IsOffered};
+ghost use Rattle.book.specs.Offers.{AreCandidatesNow, IsOffered, IsStaleNow};
 ghost use Rattle.book.specs.State.{State};
 ghost use Rattle.turns.specs.Turns.{
   IsInstalling,
+  IsLacking,
   IsOfferedBySome,
   IsOwn,
+  IsRefused,
   IsRefusedBySome,
+  IsTaken,
+  IsTold,
   IsWantedBySome,
+  Lack,
   Refuses,
   RefusesAt,
   Sends,
+  Took,
   announces,
+  is_counted,
+  refuses_from,
   taken_at,
+  took_from,
 };
 
 use book::{Book, BookError, CoreError, Event, Offered, Origin, Out, State};
-use std::alloc::AllocError;
+use hooks::{Answer, Asker, Notice, PriceAnswer, TagAnswer, VetoAnswer};
+use maps::{Seat, Shared};
+use std::alloc::{AllocError, Global};
+use std::sync::atomic::{AtomicU64, Ordering};
 use std::sync::ledger::Share;
-use words::{Prefix, Route, RouterId, Second};
+use words::{External, Prefix, Route, RouterId, Second, Sequence, TableRow};
 
-/// Takes events, and tells what it offers.
+/// What an event sends, and whether it left the router stale: some candidate stands in no answer of
+/// the last installation then. None where that isn't known, for want of memory.
+#[derive(Drop)]
+pub struct Taken {
+    pub outs: Vec<Out>,
+    pub stale: Option<bool>,
+}
+
+/// Takes events, and tells what it offers. What a turn asks beside it asks by such a type too: the
+/// programs, memory, and whether the programs were changed.
 ///
 /// What it says of an event that it took or refused, and of what it offers and wants, is left open
-/// here: a turn, which is proved for any such type, can say it only by the call itself. So a turn
-/// that gave another event, at another moment, or to another book, couldn't say what it promises,
-/// nor could one that gave none.
+/// here, and so is what it says where a question gets no reading or no memory: a turn, which is
+/// proved for any such type, can say it only by the call itself. So a turn that gave another event,
+/// at another moment, or to another book, couldn't say what it promises, nor could one that gave
+/// none, or that claims to lack what it didn't ask for.
 pub trait Taker<L: Origin> {
-    ghost took: { Moment → Event → List Out → Type 0 };
+    ghost took: { Took };
 
     ghost refuses: { Refuses };
 
@@ -61,10 +89,10 @@ pub trait Taker<L: Origin> {
         mine: &mut Share<L>,
         moment: Second,
         event: Event,
-    ) -> Result<Vec<Out>, BookError>
+    ) -> Result<Taken, BookError>
         requires { 0 < mine.old.parts }
-        ensures ok { IfOk result (λ outs. took moment event outs.items) }
-        ensures refused { IfErr result (λ error. refuses moment event error) }
+        ensures ok { IfOk result (λ t. IsTaken took moment event t.outs.items t.stale) }
+        ensures refused { IfErr result (λ error. IsRefused refuses moment event error) }
         ensures share { OnOk result (mine.new.amount ≡ mine.old.amount + 1) }
         ensures parts { mine.new.parts ≡ mine.old.parts }
         ensures err { OnErr result (mine.new.amount ≡ mine.old.amount) }
@@ -72,17 +100,16 @@ pub trait Taker<L: Origin> {
             → result ≡ Err (BookError.Core CoreError.ClockBack)
             → clock_end ≤ max moment (moment_of self.old) };
 
-    /// Tells whether a candidate stands in no answer of the last installation.
-    fn stale(&mut self) -> Result<bool, AllocError>;
-
     /// The candidates now, and the rows of the table now.
     fn offered(&self) -> Result<Offered, AllocError>
-        ensures { IfOk result (λ o. offers o.candidates.items o.rows.items) };
+        ensures offered { IfOk result (λ o. offers o.candidates.items o.rows.items) }
+        ensures short { OnErr result (IsLacking refuses Lack.Memory) };
 
     /// The candidates now, for whom the rows beside them make no difference: that takes less time
     /// than [`offered`](Taker::offered).
     fn candidates(&self) -> Result<Vec<Route>, AllocError>
-        ensures { IfOk result (λ c. (rows : List TableRow) × offers c.items rows) };
+        ensures offered { IfOk result (λ c. (rows : List TableRow) × offers c.items rows) }
+        ensures short { OnErr result (IsLacking refuses Lack.Memory) };
 
     /// Tells whether this destination is announced now.
     fn wants(&self, prefix: Prefix) -> bool
@@ -93,6 +120,122 @@ pub trait Taker<L: Origin> {
     fn neighbor(&self, interface: u16) -> Option<(RouterId, State)>
         ensures at { result ≡ neighbor_at self.now interface }
         ensures own { own self.now };
+
+    /// What [`Asker::count`] answers.
+    fn count(
+        asker: &mut Asker,
+        interface: u16,
+        moment: Second,
+        packet: &[u8],
+        shared: &Shared,
+        seat: &mut Seat,
+    ) -> Option<Answer>
+        requires { IsOf shared.now seat.old }
+        ensures history { asks_of asker.new ≡ asks_of asker.old }
+        ensures unread { IfNone result ((known_to asker.new ≡ known_to asker.old)
+            × (seat.new ≡ seat.old)) }
+        ensures lacking { IfNone result
+            (IsLacking refuses (Lack.Reading (count_input interface moment packet.now))) }
+        ensures answered { IfSome result (λ a. IsAnswered (known_to asker.old) (known_to asker.new)
+            seat.old seat.new (count_input interface moment packet.now) a.word) }
+        ensures table { IsOf shared.now seat.new };
+
+    /// What [`Asker::tag`] answers.
+    fn tag(
+        asker: &mut Asker,
+        external: &External,
+        moment: Second,
+        rows: &[TableRow],
+        shared: &Shared,
+        seat: &mut Seat,
+    ) -> Option<TagAnswer>
+        requires { IsOf shared.now seat.old }
+        ensures history { asks_of asker.new ≡ asks_of asker.old }
+        ensures unread { IfNone result ((known_to asker.new ≡ known_to asker.old)
+            × (seat.new ≡ seat.old)) }
+        ensures lacking { IfNone result
+            (IsLacking refuses (Lack.Reading (tag_input external.now moment rows.now))) }
+        ensures question { IfSome result (λ a.
+            (a.external ≡ external.now) × (a.moment ≡ moment)) }
+        ensures answered { IfSome result (λ a. IsAnswered (known_to asker.old) (known_to asker.new)
+            seat.old seat.new (tag_input external.now moment rows.now) a.word) }
+        ensures table { IsOf shared.now seat.new };
+
+    /// What [`Asker::price`] answers.
+    fn price(
+        asker: &mut Asker,
+        external: &External,
+        moment: Second,
+        rows: &[TableRow],
+        shared: &Shared,
+        seat: &mut Seat,
+    ) -> Option<PriceAnswer>
+        requires { IsOf shared.now seat.old }
+        ensures history { asks_of asker.new ≡ asks_of asker.old }
+        ensures unread { IfNone result ((known_to asker.new ≡ known_to asker.old)
+            × (seat.new ≡ seat.old)) }
+        ensures lacking { IfNone result
+            (IsLacking refuses (Lack.Reading (price_input external.now moment rows.now))) }
+        ensures question { IfSome result (λ a.
+            (a.external ≡ external.now) × (a.moment ≡ moment)) }
+        ensures answered { IfSome result (λ a. IsAnswered (known_to asker.old) (known_to asker.new)
+            seat.old seat.new (price_input external.now moment rows.now) a.word) }
+        ensures table { IsOf shared.now seat.new };
+
+    /// What [`Asker::veto`] answers.
+    fn veto(
+        asker: &mut Asker,
+        route: &Route,
+        moment: Second,
+        rows: &[TableRow],
+        shared: &Shared,
+        seat: &mut Seat,
+    ) -> Option<VetoAnswer>
+        requires { IsOf shared.now seat.old }
+        ensures history { asks_of asker.new ≡ asks_of asker.old }
+        ensures unread { IfNone result ((known_to asker.new ≡ known_to asker.old)
+            × (seat.new ≡ seat.old)) }
+        ensures lacking { IfNone result
+            (IsLacking refuses (Lack.Reading (veto_input route.now moment rows.now))) }
+        ensures question { IfSome result (λ a. (a.route ≡ route.now) × (a.moment ≡ moment)) }
+        ensures answered { IfSome result (λ a. IsAnswered (known_to asker.old) (known_to asker.new)
+            seat.old seat.new (veto_input route.now moment rows.now) a.word) }
+        ensures table { IsOf shared.now seat.new };
+
+    /// What [`Asker::all_let_in`] answers.
+    fn all_let_in(
+        asker: &mut Asker,
+        alloc: Global,
+        routes: &[Route],
+        moment: Second,
+    ) -> Result<Option<Vec<VetoAnswer>>, AllocError>
+        ensures history { asks_of asker.new ≡ asks_of asker.old }
+        ensures known { IsPrefix (known_to asker.old) (known_to asker.new) }
+        ensures all { IfOk result (λ o. IfSome o (λ answers.
+            answers.items ≡ map (let_in moment) routes.now)) }
+        ensures answered { IfOk result (λ o. IfSome o (λ answers.
+            (route : RouteValue) (rows : List TableRow) → IsAnsweredByNone
+            (known_to asker.old) (known_to asker.new) (veto_input route moment rows) 0)) }
+        ensures short { OnErr result (IsLacking refuses Lack.Memory) };
+
+    /// A copy of a datagram.
+    fn copied(bytes: &Sequence<u8>) -> Result<Sequence<u8>, AllocError>
+        ensures copied { IfOk result (λ copy. copy ≡ bytes.now) }
+        ensures short { OnErr result (IsLacking refuses Lack.Memory) };
+
+    /// A list with room for so many answers.
+    fn room(alloc: Global, answers: usize) -> Result<Vec<VetoAnswer>, AllocError>
+        ensures none { IfOk result (λ list. list.items ≡ []) }
+        ensures room { IfOk result (λ list. answers ≤ vec_capacity list) }
+        ensures short { OnErr result (IsLacking refuses Lack.Memory) };
+
+    /// Counts one more change of the programs, which are now those of the notice.
+    fn tell(changes: &AtomicU64, notice: &Notice)
+        ensures { IsTold took (told_by notice.now) };
+
+    /// How many changes were counted.
+    fn changes(changes: &AtomicU64) -> u64
+        ensures { is_counted refuses result };
 }
 
 // When an event that is given at a moment is taken, after one that came last: an installation isn't
@@ -110,14 +253,24 @@ fn taken_at(event: &Event, moment: Second, last: Second) -> Second
     }
 }
 
+// What is known, where memory wasn't refused.
+fn known(told: Result<bool, AllocError>) -> Option<bool>
+    ensures { MatchResult told (λ is. result ≡ Some is) (λ _. result ≡ None) }
+{
+    match told {
+        Ok(is) => Some(is),
+        Err(_) => None,
+    }
+}
+
 /// A book takes an event by [`Book::apply_anew`], an installation at the moment of its last event
 /// where this is later. What is sent is what the event makes of its own router, which is then the
 /// one that the event leaves; and all that it says is of a router to which the events that it took
 /// lead from the one that it began with.
 impl<L: Origin> Taker<L> for Book<L> {
-    ghost took = { λ moment e outs. Sends L.origin moment e outs };
+    ghost took = { took_from L.origin };
 
-    ghost refuses = { λ moment e error. IsRefusedBySome L.origin moment e error };
+    ghost refuses = { refuses_from L.origin };
 
     ghost offers = { λ candidates rows. IsOfferedBySome L.origin candidates rows };
 
@@ -134,12 +287,14 @@ impl<L: Origin> Taker<L> for Book<L> {
         mine: &mut Share<L>,
         moment: Second,
         event: Event,
-    ) -> Result<Vec<Out>, BookError>
+    ) -> Result<Taken, BookError>
         requires { 0 < mine.old.parts }
-        ensures now { IfOk result (λ outs. Happens
+        ensures now { IfOk result (λ t. Happens
             self.old.current (taken_at event moment self.old.current.moment)
-            (occurrence_of event) outs.items self.new.current) }
-        ensures ok { IfOk result (λ outs. Sends L.origin moment event outs.items) }
+            (occurrence_of event) t.outs.items self.new.current) }
+        ensures stale { IfOk result (λ t.
+            IfSome t.stale (λ is. IsTrue is ↔ IsStaleNow self.new.current)) }
+        ensures ok { IfOk result (λ t. Sends L.origin moment event t.outs.items t.stale) }
         ensures refused_now { IfErr result (λ error. RefusesAt self.old moment event error) }
         ensures refused { IfErr result (λ error. IsRefusedBySome L.origin moment event error) }
         ensures share { OnOk result (mine.new.amount ≡ mine.old.amount + 1) }
@@ -150,11 +305,9 @@ impl<L: Origin> Taker<L> for Book<L> {
             → clock_end ≤ max moment self.old.current.moment }
     {
         let at = taken_at(&event, moment, self.now().moment());
-        self.apply_anew(mine, at, event)
-    }
-
-    fn stale(&mut self) -> Result<bool, AllocError> {
-        self.is_stale()
+        let outs = self.apply_anew(mine, at, event)?;
+        let stale = known(self.is_stale());
+        Ok(Taken { outs, stale })
     }
 
     fn offered(&self) -> Result<Offered, AllocError>
@@ -181,5 +334,74 @@ impl<L: Origin> Taker<L> for Book<L> {
 
     fn neighbor(&self, interface: u16) -> Option<(RouterId, State)> {
         self.now().neighbor(interface)
+    }
+
+    fn count(
+        asker: &mut Asker,
+        interface: u16,
+        moment: Second,
+        packet: &[u8],
+        shared: &Shared,
+        seat: &mut Seat,
+    ) -> Option<Answer> {
+        asker.count(interface, moment, packet, shared, seat)
+    }
+
+    fn tag(
+        asker: &mut Asker,
+        external: &External,
+        moment: Second,
+        rows: &[TableRow],
+        shared: &Shared,
+        seat: &mut Seat,
+    ) -> Option<TagAnswer> {
+        asker.tag(external, moment, rows, shared, seat)
+    }
+
+    fn price(
+        asker: &mut Asker,
+        external: &External,
+        moment: Second,
+        rows: &[TableRow],
+        shared: &Shared,
+        seat: &mut Seat,
+    ) -> Option<PriceAnswer> {
+        asker.price(external, moment, rows, shared, seat)
+    }
+
+    fn veto(
+        asker: &mut Asker,
+        route: &Route,
+        moment: Second,
+        rows: &[TableRow],
+        shared: &Shared,
+        seat: &mut Seat,
+    ) -> Option<VetoAnswer> {
+        asker.veto(route, moment, rows, shared, seat)
+    }
+
+    fn all_let_in(
+        asker: &mut Asker,
+        alloc: Global,
+        routes: &[Route],
+        moment: Second,
+    ) -> Result<Option<Vec<VetoAnswer>>, AllocError> {
+        asker.all_let_in(alloc, routes, moment)
+    }
+
+    fn copied(bytes: &Sequence<u8>) -> Result<Sequence<u8>, AllocError> {
+        bytes.copy()
+    }
+
+    fn room(alloc: Global, answers: usize) -> Result<Vec<VetoAnswer>, AllocError> {
+        Vec::with_capacity(alloc, answers)
+    }
+
+    fn tell(changes: &AtomicU64, _notice: &Notice) {
+        let _before = changes.fetch_add(1, Ordering::SeqCst);
+    }
+
+    fn changes(changes: &AtomicU64) -> u64 {
+        changes.load(Ordering::SeqCst)
     }
 }

@@ -1,10 +1,20 @@
 //! A turn of a worker.
-ghost use Rattle.std.specs.Prelude.{◌≡◌, ◌+◌, ◌≤◌, Err, IfErr, IfOk, MatchOption};
-ghost use Rattle.std.specs.Prelude.{OnOk, OnErr, max};
+ghost use Rattle.std.specs.Prelude.{◌≡◌, ◌+◌, ◌≤◌, ◌⊎◌, Bool, Err, IfErr, IfNone, IfOk};
+ghost use Rattle.std.specs.Prelude.{IfSome, List, OnErr, OnOk, Option, Some, false, max, true};
 ghost use mathlib.Core.List.{IsPrefix};
 ghost use Rattle.words.specs.Constants.{clock_end};
+ghost use Rattle.maps.specs.Words.{SeatView};
 ghost use Rattle.hooks.specs.Known.{known_to};
-ghost use Rattle.turns.specs.Turns.{IsTurned, RefusesFor, TakesFor};
+ghost use Rattle.hooks.specs.declared.operation.Operation.{Operation};
+ghost use Rattle.turns.specs.Turns.{
+  CountsFor,
+  IsChangedSince,
+  IsGivenInVain,
+  IsTurned,
+  IsUnaskedFor,
+  RefusesFor,
+  TakesFor,
+};
 
 use crate::gate::Gate;
 use crate::hub::Hub;
@@ -33,20 +43,29 @@ use words::Second;
 /// nothing; the steps that the programs made on the shared words stand, and so does a mark. The
 /// refresh is refused too where the programs were changed since the turn began
 /// ([`Hub::programs_changed`]). A refusal of the refresh leaves the turn's outs as they are: the
-/// next turn tries again.
+/// next turn tries again. So it does where it isn't known whether the router is stale, for want of
+/// memory.
+///
+/// A turn that is refused before its event is given hasn't passed the gate.
 pub fn turn<L: Site, B: Taker<L>, G: Gate, R: Wait>(
     rt: &R,
     hub: &Hub<L, B>,
     port: &mut Port<L>,
-    gate: &G,
+    gate: &mut G,
     moment: Second,
     work: &Work,
 ) -> Result<Turned, TurnError>
-    ensures turned { IfOk result (λ r. IsTurned B.offers B.took (known_to port.old.asker)
-        moment work.now port.old.share.amount port.new.share.amount r) }
+    ensures turned { IfOk result (λ r. IsTurned B.offers B.took B.refuses
+        (known_to port.old.asker) moment work.now port.old.share.amount port.new.share.amount r) }
     ensures refused { IfErr result (λ error. RefusesFor B.offers B.refuses
         (known_to port.old.asker) moment work.now error) }
-    ensures passed { OnOk result (G.passed gate.now port.old.number) }
+    ensures counted { (known : List Operation) × (seat : SeatView)
+        × CountsFor B.refuses (known_to port.old.asker) known port.old.seat seat work.now moment }
+    ensures passed { OnOk result (G.passes gate.old port.old.number gate.new) }
+    ensures held { IfErr result (λ error.
+        ((gate.new ≡ gate.old) × IsUnaskedFor B.refuses work.now moment error)
+        ⊎ (G.passes gate.old port.old.number gate.new
+        × IsGivenInVain B.offers B.refuses (known_to port.old.asker) moment work.now error)) }
     ensures err { OnErr result (port.new.share.amount ≡ port.old.share.amount) }
     ensures clock { work.now ≡ Work.Refresh
         → result ≡ Err (TurnError.Book (BookError.Core CoreError.ClockBack))
@@ -65,27 +84,42 @@ pub fn turn<L: Site, B: Taker<L>, G: Gate, R: Wait>(
     })
 }
 
+// Whether it is known that the router is stale.
+fn is_stale(stale: Option<bool>) -> bool
+    ensures stale { result ≡ true → stale ≡ Some true }
+    ensures other { result ≡ false → stale ≡ Some true → ⊥ }
+{
+    match stale {
+        Some(stale) => stale,
+        None => false,
+    }
+}
+
 // The refresh that follows a turn which left the router stale; None where it didn't, or the refresh
-// is refused.
+// isn't taken.
 fn follow<L: Site, B: Taker<L>, R: Wait>(
     rt: &R,
     hub: &Hub<L, B>,
     port: &mut Port<L>,
     moment: Second,
     changes: u64,
-    stale: bool,
+    stale: Option<bool>,
 ) -> Option<Vec<Out>>
-    ensures refreshed { MatchOption result
-        (port.new.share.amount ≡ port.old.share.amount)
-        (λ outs. TakesFor B.offers B.took (known_to port.old.asker) moment Work.Refresh outs.items
+    ensures none { IfNone result ((port.new.share.amount ≡ port.old.share.amount)
+        × (stale ≡ Some true → IsChangedSince B.refuses changes ⊎ ((error : TurnError)
+        × RefusesFor B.offers B.refuses (known_to port.old.asker) moment Work.Refresh error))) }
+    ensures some { IfSome result (λ outs. (stale ≡ Some true) × ((left : Option Bool)
+        × TakesFor B.offers B.took (known_to port.old.asker) moment Work.Refresh outs.items left)
         × (port.new.share.amount ≡ port.old.share.amount + 1)) }
     ensures number { port.new.number ≡ port.old.number }
     ensures known { IsPrefix (known_to port.old.asker) (known_to port.new.asker) }
 {
-    if stale {
-        refresh(rt, hub, port, moment, changes).ok()
-    } else {
-        None
+    if !is_stale(stale) {
+        return None;
+    }
+    match refresh(rt, hub, port, moment, changes) {
+        Ok(outs) => Some(outs),
+        Err(_) => None,
     }
 }
 
@@ -97,8 +131,10 @@ fn refresh<L: Site, B: Taker<L>, R: Wait>(
     moment: Second,
     changes: u64,
 ) -> Result<Vec<Out>, TurnError>
-    ensures outs { IfOk result (λ outs.
-        TakesFor B.offers B.took (known_to port.old.asker) moment Work.Refresh outs.items) }
+    ensures outs { IfOk result (λ outs. (left : Option Bool) × TakesFor B.offers B.took
+        (known_to port.old.asker) moment Work.Refresh outs.items left) }
+    ensures refused { IfErr result (λ error. IsChangedSince B.refuses changes
+        ⊎ RefusesFor B.offers B.refuses (known_to port.old.asker) moment Work.Refresh error) }
     ensures share { OnOk result (port.new.share.amount ≡ port.old.share.amount + 1) }
     ensures err { OnErr result (port.new.share.amount ≡ port.old.share.amount) }
     ensures number { port.new.number ≡ port.old.number }

@@ -114,13 +114,13 @@ module _ {Link Clock : Type 0} (gives : Gives Link) (hears : Hears Link) (shows 
 
   given_longer : (work : Work) (ended : ℕ) (before after : Standing Link Clock) (outcome : Result Turned TurnError)
       → MatchResult outcome
-      (λ turned. IsTurned offers took more ended work before.events after.events turned × IsSent gives before.link turned after.link)
+      (λ turned. IsTurned offers took refuses more ended work before.events after.events turned × IsSent gives before.link turned after.link)
       (λ error. RefusesFor offers refuses more ended work error × (after.link ≡ before.link) × (after.events ≡ before.events))
       → MatchResult outcome
-      (λ turned. IsTurned offers took known ended work before.events after.events turned × IsSent gives before.link turned after.link)
+      (λ turned. IsTurned offers took refuses known ended work before.events after.events turned × IsSent gives before.link turned after.link)
       (λ error. RefusesFor offers refuses known ended work error × (after.link ≡ before.link) × (after.events ≡ before.events))
   given_longer work ended before after (Ok turned) h =
-      (turned_longer known more longer offers took ended work before.events after.events turned h.0, h.1)
+      (turned_longer known more longer offers took refuses ended work before.events after.events turned h.0, h.1)
   given_longer work ended before after (Err error) h =
       (refused_longer known more longer offers refuses ended work error h.0, h.1, h.2)
 

@@ -11,20 +11,20 @@ use Rattle.turns.specs.declared.work.Work.{Work}
 use Rattle.turns.proofs.Longer.{refused_longer, turned_longer}
 
 -- what it gives begins with what the port knew at first
-pub turned_first : (offers : Offers) (took : Took) (known more : List Operation) (moment : Moment) (w : Work) (before now after : ℕ)
-    (turned : Turned) → IsPrefix known more → now ≡ before → IsTurned offers took more moment w now after turned
-    → IsTurned offers took known moment w before after turned
-turned_first offers took known more moment w before now after turned longer same h =
-    subst (λ n. IsTurned offers took known moment w n after turned) same (turned_longer known more longer offers took moment w now after turned h)
+pub turned_first : (offers : Offers) (took : Took) (refuses : Refuses) (known more : List Operation) (moment : Moment) (w : Work) (before now after : ℕ)
+    (turned : Turned) → IsPrefix known more → now ≡ before → IsTurned offers took refuses more moment w now after turned
+    → IsTurned offers took refuses known moment w before after turned
+turned_first offers took refuses known more moment w before now after turned longer same h =
+    subst (λ n. IsTurned offers took refuses known moment w n after turned) same (turned_longer known more longer offers took refuses moment w now after turned h)
 
 -- so it is of what was answered
-pub answered_first : (offers : Offers) (took : Took) (known more : List Operation) (moment : Moment) (w : Work) (before now after : ℕ)
+pub answered_first : (offers : Offers) (took : Took) (refuses : Refuses) (known more : List Operation) (moment : Moment) (w : Work) (before now after : ℕ)
     (outcome : Result Turned TurnError) → IsPrefix known more → now ≡ before
-    → IfOk outcome (λ turned. IsTurned offers took more moment w now after turned)
-    → IfOk outcome (λ turned. IsTurned offers took known moment w before after turned)
-answered_first offers took known more moment w before now after (Ok turned) longer same h =
-    turned_first offers took known more moment w before now after turned longer same h
-answered_first offers took known more moment w before now after (Err error) longer same h = h
+    → IfOk outcome (λ turned. IsTurned offers took refuses more moment w now after turned)
+    → IfOk outcome (λ turned. IsTurned offers took refuses known moment w before after turned)
+answered_first offers took refuses known more moment w before now after (Ok turned) longer same h =
+    turned_first offers took refuses known more moment w before now after turned longer same h
+answered_first offers took refuses known more moment w before now after (Err error) longer same h = h
 
 -- and of what was refused
 pub refused_first : (offers : Offers) (refuses : Refuses) (known more : List Operation) (moment : Moment) (w : Work)

@@ -55,7 +55,7 @@ senses_of gives hears shows offers took refuses known number = record {
   gives = gives;
   hears = hears;
   shows = shows;
-  turns = IsTurned offers took known;
+  turns = IsTurned offers took refuses known;
   refusals = RefusesFor offers refuses known;
   number = number;
 }

@@ -2,16 +2,18 @@
 //! link and its clock, and what they bring back.
 #![tactic(auto)]
 
+mod flag;
 mod opening;
 mod serving;
 mod settling;
 mod setup;
 
+pub use flag::Flag;
 pub use opening::open_hub;
 pub use serving::{Ended, run, send_all, tried};
 pub use settling::{Closed, Settled, close_hub, settle};
 pub use setup::Setup;
 pub use turns::{
     Book, BookError, Config, ConfigError, Core, CoreError, Event, Gate, Hub, Interface, Offered,
-    Open, Origin, Out, Place, Port, Site, State, Taker, TurnError, Turned, Work, turn,
+    Open, Origin, Out, Place, Port, Site, State, Taken, Taker, TurnError, Turned, Work, turn,
 };

@@ -10,10 +10,10 @@ ghost use Rattle.worker.specs.Lives.{HasLived, IsTried, IsTurnedTo, Listens, Rou
 ghost use Rattle.worker.specs.Lives.{senses_of};
 ghost use Rattle.worker.specs.declared.serving.Ended.TheVariants.{Fault, Quit};
 
+use crate::flag::Flag;
 use links::{Link, LinkFault, Seconds};
 use std::alloc::Global;
 use std::sync::Wait;
-use std::sync::atomic::{AtomicBool, Ordering};
 use turns::{
     BookError, CoreError, Gate, Hub, Out, Port, Site, Taker, TurnError, Turned, Work, turn,
 };
@@ -48,16 +48,17 @@ impl Ended {
 /// A refused turn sends nothing. After a fault in the midst of a turn's outs the event stands, and
 /// the later outs aren't sent.
 #[tactic(auto, using(crate::proofs::Living::has_lived, crate::proofs::Tries::known_first))]
-pub fn run<L: Site, B: Taker<L>, G: Gate, K: Link, S: Seconds, R: Wait>(
+pub fn run<L: Site, B: Taker<L>, G: Gate, K: Link, S: Seconds, F: Flag, R: Wait>(
     rt: &R,
     alloc: Global,
     hub: &Hub<L, B>,
     port: &mut Port<L>,
-    gate: &G,
+    gate: &mut G,
     link: &mut K,
     clock: &mut S,
-    quit: &AtomicBool,
+    quit: &F,
 ) -> Ended
+    ensures told { result ≡ Quit → F.reads quit.now true }
     ensures ended { (result ≡ Fault) ↔ (K.faults link.old < K.faults link.new) }
     ensures lived { result ≡ Quit → HasLived
         (senses_of K.gives K.hears S.shows B.offers B.took B.refuses
@@ -71,7 +72,7 @@ pub fn run<L: Site, B: Taker<L>, G: Gate, K: Link, S: Seconds, R: Wait>(
     let mut ticked = None;
     let mut buffer = [0u8; 8193];
     for _ in rt.forever() {
-        if quit.load(Ordering::SeqCst) {
+        if quit.is_set() {
             break;
         }
         let Ok(()) = round(
@@ -98,7 +99,7 @@ fn round<L: Site, B: Taker<L>, G: Gate, K: Link, S: Seconds, R: Wait>(
     alloc: Global,
     hub: &Hub<L, B>,
     port: &mut Port<L>,
-    gate: &G,
+    gate: &mut G,
     link: &mut K,
     clock: &mut S,
     ticked: &mut Option<Second>,
@@ -124,7 +125,7 @@ fn tick<L: Site, B: Taker<L>, G: Gate, K: Link, S: Seconds, R: Wait>(
     rt: &R,
     hub: &Hub<L, B>,
     port: &mut Port<L>,
-    gate: &G,
+    gate: &mut G,
     link: &mut K,
     clock: &mut S,
     ticked: &mut Option<Second>,
@@ -155,7 +156,7 @@ fn listen<L: Site, B: Taker<L>, G: Gate, K: Link, S: Seconds, R: Wait>(
     alloc: Global,
     hub: &Hub<L, B>,
     port: &mut Port<L>,
-    gate: &G,
+    gate: &mut G,
     link: &mut K,
     clock: &mut S,
     buffer: &mut [u8; 8193],
@@ -182,7 +183,7 @@ fn hear<L: Site, B: Taker<L>, G: Gate, K: Link, S: Seconds, R: Wait>(
     rt: &R,
     hub: &Hub<L, B>,
     port: &mut Port<L>,
-    gate: &G,
+    gate: &mut G,
     link: &mut K,
     clock: &mut S,
     heard: Sequence<u8>,
@@ -209,7 +210,7 @@ fn serve<L: Site, B: Taker<L>, G: Gate, K: Link, S: Seconds, R: Wait>(
     rt: &R,
     hub: &Hub<L, B>,
     port: &mut Port<L>,
-    gate: &G,
+    gate: &mut G,
     link: &mut K,
     clock: &mut S,
     moment: &mut Second,
@@ -250,13 +251,14 @@ pub fn tried<L: Site, B: Taker<L>, G: Gate, S: Seconds, R: Wait>(
     rt: &R,
     hub: &Hub<L, B>,
     port: &mut Port<L>,
-    gate: &G,
+    gate: &mut G,
     clock: &mut S,
     moment: &mut Second,
     work: &Work,
 ) -> Result<Turned, TurnError>
-    ensures turned { IfOk result (λ r. IsTurned B.offers B.took (known_to port.old.asker)
-        moment.new work.now port.old.share.amount port.new.share.amount r) }
+    ensures turned { IfOk result (λ r. IsTurned B.offers B.took B.refuses
+        (known_to port.old.asker) moment.new work.now
+        port.old.share.amount port.new.share.amount r) }
     ensures refused { IfErr result (λ error. RefusesFor B.offers B.refuses
         (known_to port.old.asker) moment.new work.now error) }
     ensures err { OnErr result (port.new.share.amount ≡ port.old.share.amount) }

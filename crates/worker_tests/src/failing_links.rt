@@ -39,7 +39,16 @@ pub fn serve<L: Site, B: Taker<L>, R: Wait>(
     };
     let mut link = Script::new(answers, &quit);
     let mut clock = Times::new(Vec::new(alloc));
-    let ended = run(rt, alloc, hub, port, &Open {}, &mut link, &mut clock, &quit);
+    let ended = run(
+        rt,
+        alloc,
+        hub,
+        port,
+        &mut Open {},
+        &mut link,
+        &mut clock,
+        &quit,
+    );
     Ok((ended.status(), link.sent))
 }
 

@@ -26,7 +26,7 @@ fn turned_once<L: Site, B: Taker<L>, R: Wait>(
     moment: Second,
     work: &Work,
 ) -> Result<Vec<Out>, TurnError> {
-    match turn(rt, hub, port, &Open {}, moment, work) {
+    match turn(rt, hub, port, &mut Open {}, moment, work) {
         Ok(turned) => Ok(turned.outs),
         Err(error) => Err(error),
     }

@@ -41,7 +41,7 @@ struct Detaching<'a, L: Site, B: Taker<L>, R: Wait, Q: Wait + Drop> {
 }
 
 impl<'a, L: Site, B: Taker<L>, R: Wait, Q: Wait + Drop> Gate for Detaching<'a, L, B, R, Q> {
-    fn pass(&self, _port: u16) {
+    fn pass(&mut self, _port: u16) {
         let mut desk = self.desk.lock(self.rt);
         let mut port = self.port.lock(self.rt);
         let desk = &mut *desk;
@@ -76,14 +76,14 @@ pub fn operate<L: Site, B: Taker<L>, R: Wait, Q: Wait + Drop>(
         unrefreshed: false,
         of: PhantomData,
     };
-    let gate = Detaching {
+    let mut gate = Detaching {
         rt,
         hub,
         desk: Mutex::new(desk),
         port: Mutex::new(console),
     };
     let mut port = ticks;
-    let turned = turn(rt, hub, &mut port, &gate, Second::new(5), &Work::Tick);
+    let turned = turn(rt, hub, &mut port, &mut gate, Second::new(5), &Work::Tick);
     Ok(number_of(turned))
 }
 

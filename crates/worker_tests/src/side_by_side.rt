@@ -39,7 +39,7 @@ struct Held<'a, R: Clock> {
 }
 
 impl<'a, R: Clock> Gate for Held<'a, R> {
-    fn pass(&self, _port: u16) {
+    fn pass(&mut self, _port: u16) {
         self.came.store(true, Ordering::SeqCst);
         if !waited(self.rt, self.released) {
             self.gave_up.store(true, Ordering::SeqCst);
@@ -65,7 +65,14 @@ pub fn tick<L: Site, B: Taker<L>, R: Wait>(
 ) -> u8 {
     let mut refused = 0;
     for moment in from..until {
-        let turned = turn(rt, hub, port, &Open {}, Second::new(moment), &Work::Tick);
+        let turned = turn(
+            rt,
+            hub,
+            port,
+            &mut Open {},
+            Second::new(moment),
+            &Work::Tick,
+        );
         refused = number_of(turned).max(refused);
     }
     refused
@@ -100,7 +107,7 @@ pub fn hold<
     let work = work_of(alloc, held)?;
     let (came, released) = (AtomicBool::new(false), AtomicBool::new(false));
     let gave_up = AtomicBool::new(false);
-    let gate = Held {
+    let mut gate = Held {
         rt,
         came: &came,
         released: &released,
@@ -109,7 +116,7 @@ pub fn hold<
     let (first, second) = (&mut stage.first, &mut stage.second);
     let (answer, refused) = join(
         rt,
-        || -> u8 { number_of(turn(rt, hub, first, &gate, Second::new(5), &work)) },
+        || -> u8 { number_of(turn(rt, hub, first, &mut gate, Second::new(5), &work)) },
         || -> u8 {
             if !waited(rt, &came) {
                 return 9;

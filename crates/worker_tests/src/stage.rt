@@ -3,7 +3,7 @@ ghost use Rattle.std.specs.Prelude.{◌≡◌};
 ghost use Rattle.hooks.specs.Known.{history_of};
 
 use crate::samples::hello;
-use hooks::Loader;
+use hooks::{Loader, Notice};
 use isa::Hook;
 use object_verdicts::verify_object;
 use std::alloc::{AllocError, Global};
@@ -76,11 +76,12 @@ pub struct Stage<L: Site, Q: Wait + Drop> {
 #[derive(Drop)]
 struct Changing<'a, L: Site, B: Taker<L>> {
     hub: &'a Hub<L, B>,
+    notice: Notice,
 }
 
 impl<'a, L: Site, B: Taker<L>> Gate for Changing<'a, L, B> {
-    fn pass(&self, _port: u16) {
-        self.hub.programs_changed();
+    fn pass(&mut self, _port: u16) {
+        self.hub.programs_changed(&self.notice);
     }
 }
 
@@ -111,9 +112,9 @@ impl<L: Site, Q: Wait + Drop> Stage<L, Q> {
         work: &Work,
     ) -> Result<bool, TurnError> {
         let turned = match port {
-            1 => turn(rt, hub, &mut self.first, &Open {}, now, work),
-            2 => turn(rt, hub, &mut self.second, &Open {}, now, work),
-            _ => turn(rt, hub, &mut self.console, &Open {}, now, work),
+            1 => turn(rt, hub, &mut self.first, &mut Open {}, now, work),
+            2 => turn(rt, hub, &mut self.second, &mut Open {}, now, work),
+            _ => turn(rt, hub, &mut self.console, &mut Open {}, now, work),
         };
         match turned {
             Ok(turned) => Ok(turned.refreshed.is_some()),
@@ -127,14 +128,11 @@ impl<L: Site, Q: Wait + Drop> Stage<L, Q> {
         hub: &Hub<L, B>,
         now: Second,
     ) -> Result<bool, TurnError> {
-        match turn(
-            rt,
+        let mut gate = Changing {
             hub,
-            &mut self.console,
-            &Changing { hub },
-            now,
-            &Work::Tick,
-        ) {
+            notice: self.loader.notice(),
+        };
+        match turn(rt, hub, &mut self.console, &mut gate, now, &Work::Tick) {
             Ok(turned) => Ok(turned.refreshed.is_some()),
             Err(error) => Err(error),
         }

@@ -7,15 +7,17 @@ ghost use Rattle.worker.specs.Opening.{IsSetUpFor};
 use crate::samples::{destination, first};
 use crate::scenes::set_up;
 use crate::side_by_side::number_of;
-use hooks::Loader;
+use hooks::{Answer, Asker, Loader, Notice, PriceAnswer, TagAnswer, VetoAnswer};
+use maps::{Seat, Shared};
 use std::alloc::{AllocError, Global};
 use std::marker::Brand;
 use std::sync::Wait;
+use std::sync::atomic::{AtomicU64, Ordering};
 use std::sync::ledger::Share;
 use std::test::Fail;
-use words::{External, ExternalType, Prefix, Route, RouterId, Second};
+use words::{External, ExternalType, Prefix, Route, RouterId, Second, Sequence, TableRow};
 use worker::{
-    Book, BookError, Core, Event, Hub, Offered, Open, Out, Port, Setup, Site, State, Taker, Work,
+    Book, BookError, Core, Event, Hub, Offered, Open, Port, Setup, Site, State, Taken, Taker, Work,
     open_hub, turn,
 };
 
@@ -26,9 +28,13 @@ struct Tableless<L: Site> {
 }
 
 impl<L: Site> Taker<L> for Tableless<L> {
-    ghost took = { λ moment event outs. ⊤ };
+    ghost took = { record { taken = λ moment event outs stale. ⊤; told = λ operations. ⊤ } };
 
-    ghost refuses = { λ moment event error. ⊤ };
+    ghost refuses = { record {
+      refused = λ moment event error. ⊤;
+      lacks = λ lack. ⊤;
+      counted = λ number. ⊤;
+    } };
 
     ghost offers = { λ candidates rows. ⊤ };
 
@@ -45,12 +51,8 @@ impl<L: Site> Taker<L> for Tableless<L> {
         mine: &mut Share<L>,
         moment: Second,
         event: Event,
-    ) -> Result<Vec<Out>, BookError> {
+    ) -> Result<Taken, BookError> {
         self.book.take(mine, moment, event)
-    }
-
-    fn stale(&mut self) -> Result<bool, AllocError> {
-        self.book.stale()
     }
 
     fn offered(&self) -> Result<Offered, AllocError> {
@@ -67,6 +69,75 @@ impl<L: Site> Taker<L> for Tableless<L> {
 
     fn neighbor(&self, interface: u16) -> Option<(RouterId, State)> {
         self.book.neighbor(interface)
+    }
+
+    fn count(
+        asker: &mut Asker,
+        interface: u16,
+        moment: Second,
+        packet: &[u8],
+        shared: &Shared,
+        seat: &mut Seat,
+    ) -> Option<Answer> {
+        asker.count(interface, moment, packet, shared, seat)
+    }
+
+    fn tag(
+        asker: &mut Asker,
+        external: &External,
+        moment: Second,
+        rows: &[TableRow],
+        shared: &Shared,
+        seat: &mut Seat,
+    ) -> Option<TagAnswer> {
+        asker.tag(external, moment, rows, shared, seat)
+    }
+
+    fn price(
+        asker: &mut Asker,
+        external: &External,
+        moment: Second,
+        rows: &[TableRow],
+        shared: &Shared,
+        seat: &mut Seat,
+    ) -> Option<PriceAnswer> {
+        asker.price(external, moment, rows, shared, seat)
+    }
+
+    fn veto(
+        asker: &mut Asker,
+        route: &Route,
+        moment: Second,
+        rows: &[TableRow],
+        shared: &Shared,
+        seat: &mut Seat,
+    ) -> Option<VetoAnswer> {
+        asker.veto(route, moment, rows, shared, seat)
+    }
+
+    fn all_let_in(
+        asker: &mut Asker,
+        alloc: Global,
+        routes: &[Route],
+        moment: Second,
+    ) -> Result<Option<Vec<VetoAnswer>>, AllocError> {
+        asker.all_let_in(alloc, routes, moment)
+    }
+
+    fn copied(bytes: &Sequence<u8>) -> Result<Sequence<u8>, AllocError> {
+        bytes.copy()
+    }
+
+    fn room(alloc: Global, answers: usize) -> Result<Vec<VetoAnswer>, AllocError> {
+        Vec::with_capacity(alloc, answers)
+    }
+
+    fn tell(changes: &AtomicU64, _notice: &Notice) {
+        let _before = changes.fetch_add(1, Ordering::SeqCst);
+    }
+
+    fn changes(changes: &AtomicU64) -> u64 {
+        changes.load(Ordering::SeqCst)
     }
 }
 
@@ -85,7 +156,7 @@ fn announce<L: Site, R: Wait>(
             rt,
             &hub,
             &mut port,
-            &Open {},
+            &mut Open {},
             Second::new(5),
             &Work::Add(external),
         )),

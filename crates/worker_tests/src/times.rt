@@ -46,7 +46,7 @@ pub fn try_again<L: Site, B: Taker<L>, R: Wait>(
     let mut clock = Times::new(Vec::from_slice(alloc, trial.moments)?);
     let mut moment = clock.second();
     let work = trial.work();
-    let turned = tried(rt, hub, port, &Open {}, &mut clock, &mut moment, &work);
+    let turned = tried(rt, hub, port, &mut Open {}, &mut clock, &mut moment, &work);
     let is_next = clock.second().count() == trial.next;
     Ok(if is_next { number_of(turned) } else { 9 })
 }
@@ -69,7 +69,16 @@ pub fn follow<L: Site, B: Taker<L>, R: Wait>(
     }
     let mut link = Script::new(answers, &quit);
     let mut clock = Times::new(Vec::from_slice(alloc, moments)?);
-    let ended = run(rt, alloc, hub, port, &Open {}, &mut link, &mut clock, &quit);
+    let ended = run(
+        rt,
+        alloc,
+        hub,
+        port,
+        &mut Open {},
+        &mut link,
+        &mut clock,
+        &quit,
+    );
     Ok((ended.status(), link.sent))
 }
 

@@ -25,7 +25,7 @@ struct Noting<'a, L: Site, B: Taker<L>, R: Wait> {
 }
 
 impl<'a, L: Site, B: Taker<L>, R: Wait> Gate for Noting<'a, L, B, R> {
-    fn pass(&self, _port: u16) {
+    fn pass(&mut self, _port: u16) {
         let mut port = self.port.lock(self.rt);
         let counted = self.hub.counter(&mut *port, 5);
         let before = self.noted.load(Ordering::SeqCst);
@@ -56,14 +56,14 @@ pub fn watch<L: Site, B: Taker<L>, R: Wait, Q: Wait + Drop>(
     };
     loader.attach(program)?;
     port.learn(loader.notice());
-    let gate = Noting {
+    let mut gate = Noting {
         rt,
         hub,
         port: Mutex::new(looks),
         noted: AtomicU64::new(0),
     };
     let work = hello(alloc, 1, 0)?;
-    let answer = number_of(turn(rt, hub, &mut port, &gate, Second::new(5), &work));
+    let answer = number_of(turn(rt, hub, &mut port, &mut gate, Second::new(5), &work));
     let noted = gate.noted.load(Ordering::SeqCst);
     Ok(if noted == 4 { answer } else { 9 })
 }

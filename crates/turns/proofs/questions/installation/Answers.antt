@@ -14,16 +14,16 @@ use Rattle.turns.proofs.questions.installation.Goals as goal
 pub returns-in-Some-clause-event : goal.returns-in-Some-clause-event
 returns-in-Some-clause-event g c =
     let known = known_to c.args.asker.now in
-    let now = known_to c.all_let_in.new.self in
+    let now = known_to c.all_let_in.new.asker in
     let routes = c.in_ok-candidates.candidates.items in
     let asked = c.as_slice-routes.result.now in
-    let rows = c.in_ok-candidates.ensures.0 in
+    let rows = c.in_ok-candidates.ensures.offered.0 in
     let answers = c.in-Some.answers.items in
     let vetoes =
     all_let_in known now c.args.seat.now c.args.moment rows asked routes answers c.as_slice-routes.ensures.value
     (subst (λ o. IfSome o (λ answers. answers.items ≡ map (let_in c.args.moment) asked)) c.in-Some.is c.in_ok-all.ensures.all)
     (subst (λ o. IfSome o (λ answers. (route : Route) (rows : List TableRow) → IsAnsweredByNone known now (veto_input route c.args.moment rows) 0)) c.in-Some.is c.in_ok-all.ensures.answered) in
-    (routes, rows, answers, c.in_ok-candidates.ensures.1, vetoes, ap (λ (l : List RouteAnswer). event.Install l) c.from_vec.ensures)
+    (routes, rows, answers, c.in_ok-candidates.ensures.offered.1, vetoes, ap (λ (l : List RouteAnswer). event.Install l) c.from_vec.ensures)
 
 pub returns-clause-event : goal.returns-clause-event
 returns-clause-event g c =

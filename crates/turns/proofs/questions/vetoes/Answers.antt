@@ -1,4 +1,4 @@
-use Rattle.std.proofs.Common.{◌≡◌, ◌<◌, [], ◌∷◌, ◌++◌, length, ◌∙◌, arith}
+use Rattle.std.proofs.Common.{◌≡◌, ◌<◌, [], ◌∷◌, ◌++◌, length, ◌∙◌, arith, rules}
 use Rattle.hooks.specs.Known.{known_to}
 use Rattle.hooks.proofs.Fronts.{prefix_trans}
 use Rattle.turns.proofs.Longer.{veto_longer}
@@ -6,19 +6,21 @@ use Rattle.turns.proofs.Vetoes.{one_more}
 use Rattle.turns.proofs.questions.vetoes.Goals as goal
 
 pub loop-route-preserved : goal.loop-route-preserved
-loop-route-preserved c =
+loop-route-preserved g c =
     let before = c.loop-route.invariant in
     let began = known_to c.args.asker.now in
     let answer = c.in_ok-answer.answer in
     let one = c.in_ok-answer.ensures.answer in
-    let grown : c.push.new.self.items ≡ c.loop-route.answers.items ++ answer ∷ [] = c.in-Ok.ensures.items in
+    let grown : c.push_reserved.new.self.items ≡ c.loop-route.answers.items ++ answer ∷ [] = c.push_reserved.ensures.items in
     let there : c.loop-route.route-index < length c.deref-route-items.result.now = omega arith in record {
       seat = c.veto.ensures.seat;
       history = c.veto.ensures.history ∙ before.history;
       known = prefix_trans _ _ _ before.known c.veto.ensures.known;
+      room = search rules;
+      many = search rules;
       answers =
           one_more _ c.args.moment c.args.offered.now.rows.items c.as_slice-rows.result.now c.args.offered.now.candidates.items c.deref-route-items.result.now
-          c.loop-route.route-index c.loop-route.answers.items c.push.new.self.items c.route-item.result answer
+          c.loop-route.route-index c.loop-route.answers.items c.push_reserved.new.self.items c.route-item.result answer
           c.as_slice-rows.ensures.value c.deref-route-items.ensures.value before.answers there c.route-item.is grown
           (one.0, veto_longer _ _ before.known _ _ _ one.1);
     }

@@ -4,8 +4,9 @@ use Rattle.turns.proofs.turns.turn.Goals as goal
 
 pub returns-clause-turned : goal.returns-clause-turned
 returns-clause-turned g c = record {
+  stale = c.in_ok-taken.taken.stale;
   outs = (c.in_ok-event.event, c.in_ok-event.ensures.event, c.in_ok-taken.ensures.ok);
   refreshed =
-      follows (known_to c.args.port.now.asker) _ c.in_ok-event.ensures.known (λ outs. outs.items) g.B.Taker.offers g.B.Taker.took c.args.moment
-      _ _ _ c.follow-refreshed.result c.in_ok-taken.ensures.share c.follow-refreshed.ensures.refreshed;
+      follows (known_to c.args.port.now.asker) _ c.in_ok-event.ensures.known (λ outs. outs.items) g.B.Taker.offers g.B.Taker.took g.B.Taker.refuses c.args.moment
+      _ _ _ _ _ c.follow-refreshed.result c.in_ok-taken.ensures.share c.changes-changes.ensures c.follow-refreshed.ensures.none c.follow-refreshed.ensures.some;
 }

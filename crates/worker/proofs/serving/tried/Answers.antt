@@ -26,7 +26,7 @@ loop-tries-preserved g c = record {
 
 pub returns-then-not-is_clock_back-clause-turned : goal.returns-then-not-is_clock_back-clause-turned
 returns-then-not-is_clock_back-clause-turned g c =
-    answered_first g.B.Taker.offers g.B.Taker.took (known_to c.args.port.now.asker) (known_to c.loop-tries.port.asker)
+    answered_first g.B.Taker.offers g.B.Taker.took g.B.Taker.refuses (known_to c.args.port.now.asker) (known_to c.loop-tries.port.asker)
     c.loop-tries.moment c.args.work.now c.args.port.now.share.amount c.loop-tries.port.share.amount
     c.turn-turned.new.port.share.amount c.turn-turned.result c.loop-tries.invariant.known c.loop-tries.invariant.events
     c.turn-turned.ensures.turned
@@ -38,7 +38,7 @@ returns-then-not-is_clock_back-clause-refused g c =
 
 pub returns-clause-turned : goal.returns-clause-turned
 returns-clause-turned g c =
-    answered_first g.B.Taker.offers g.B.Taker.took (known_to c.args.port.now.asker) (known_to c.loop-tries.port.asker)
+    answered_first g.B.Taker.offers g.B.Taker.took g.B.Taker.refuses (known_to c.args.port.now.asker) (known_to c.loop-tries.port.asker)
     c.loop-tries.moment c.args.work.now c.args.port.now.share.amount c.loop-tries.port.share.amount
     c.turn.new.port.share.amount c.turn.result c.loop-tries.invariant.known c.loop-tries.invariant.events c.turn.ensures.turned
 
