@@ -8,7 +8,7 @@ pub returns : goal.returns
 returns g c = (
   c.in_ok-offered.offered.candidates.items,
   c.in_ok-offered.offered.rows.items,
-  c.in_ok-offered.ensures,
+  c.in_ok-offered.ensures.offered,
   λ table part rows.
       let same = subst (λ (l : List Route). IsPartOf l table) (sym c.as_slice.ensures.value) part in
       let routes = c.in_ok-routes.ensures table same (c.as_slice-2.ensures.value ∙ rows) in
