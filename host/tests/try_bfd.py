@@ -135,6 +135,24 @@ class Heard:
         return max(to - at for at, to in pairs)
 
 
+def falls_of(lines: list[str], heards: dict[str, Heard]) -> tuple[list[str], list[str]]:
+    """The sessions that fell, by lines of a box's log: those where the other end was heard in time,
+    or this one wasn't; and those by the other end's silence alone."""
+    of_box, of_other = list[str](), list[str]()
+    found = list(filter(None, map(FALL.match, lines)))
+    time.sleep(1 if found else 0)  # (tcpdump writes what it has)
+    for each in found:
+        second, heard = datetime.fromisoformat(each[1]).timestamp(), heards[each[2]]
+        own = "10.0.1.1" if each[2] == "eth1" else "10.0.2.1"
+        is_expired = "expired" in each[4]
+        until = min(heard.fell(own if is_expired else each[3], second), time.time())
+        theirs, ours = (heard.silence(who, until, 2 * DETECTION) for who in (each[3], own))
+        is_others = theirs >= DETECTION if is_expired else ours < DETECTION
+        said = f"{theirs:.2f} s without the neighbor's packets, {ours:.2f} s without its own"
+        (of_other if is_others else of_box).append(f"{each[0]} ({said})")
+    return of_box, of_other
+
+
 class Watched:
     """The router that is tried, 1.1.1.1, has two links with BFD to 2.2.2.2, by bridges that may
     fall silent; the first is the better one."""
@@ -216,27 +234,10 @@ class Watched:
         """What the box's log has of adjacencies that weren't Full any more, from that line on."""
         return [each for each in self.box_log()[since:] if "2.2.2.2 Full ->" in each]
 
-    def falls(self, since: int) -> tuple[list[str], list[str]]:
-        """The sessions that fell, by the log from that line on: those where the other end was heard in
-        time, or this one wasn't; and those by the other end's silence alone."""
-        of_box, of_other = list[str](), list[str]()
-        found = list(filter(None, (FALL.match(each) for each in self.box_log()[since:])))
-        time.sleep(1 if found else 0)  # (tcpdump writes what it has)
-        for each in found:
-            second, heard = datetime.fromisoformat(each[1]).timestamp(), self.heard[each[2]]
-            own = "10.0.1.1" if each[2] == "eth1" else "10.0.2.1"
-            is_expired = "expired" in each[4]
-            until = min(heard.fell(own if is_expired else each[3], second), time.time())
-            theirs, ours = (heard.silence(who, until, 2 * DETECTION) for who in (each[3], own))
-            is_others = theirs >= DETECTION if is_expired else ours < DETECTION
-            said = f"{theirs:.2f} s without the neighbor's packets, {ours:.2f} s without its own"
-            (of_other if is_others else of_box).append(f"{each[0]} ({said})")
-        return of_box, of_other
-
     def holds(self, since: int) -> tuple[bool, str]:
         """Whether nothing has changed at either end since that line of the log, but by the other end's
         silence, after which all is well again; what has."""
-        of_box, of_other = self.falls(since)
+        of_box, of_other = falls_of(self.box_log()[since:], self.heard)
         is_well = self.is_up() or (of_other and within(COMES_UP, self.is_up) is not None)
         changes = [] if of_other else self.changes(since)
         return bool(is_well and not of_box and not changes), "; ".join([*of_box, *of_other, *changes])
@@ -332,7 +333,8 @@ def undisturbed(it: Watched, fail: Callable[[], None], mend: Callable[[], None])
         mend()
         if within(COMES_UP, it.is_up) is None:
             return math.inf
-        of_box, of_other = it.falls(since) if it.heard else ([], [])
+        lines = it.box_log()[since:] if it.heard else []
+        of_box, of_other = falls_of(lines, it.heard)
         if len(of_other) <= 1 and not of_box:
             return seconds
         print(f"     disturbed, {seconds:.2f} s: {'; '.join(of_box + of_other)}", flush=True)
@@ -472,6 +474,7 @@ class Between:
         self.bird = Bird(network, names[1], "2.2.2.2", [one, three])
         self.frr = Frr(network, names[2], "3.3.3.3", [two, three])
         self.load = Load(network, names[0])
+        self.heard = {each: Heard(network, names[0], each) for each in ("eth1", "eth2")}
 
     def start(self) -> None:
         for each in (self.box, self.bird, self.frr):
@@ -505,11 +508,12 @@ def bfd_load(given: Try) -> None:
     while time.monotonic() < end:
         it.load.look()
         time.sleep(10)
-    fallen = [each for each in it.box.log_lines() if "Up -> Down" in each]
+    of_box, of_other = falls_of(it.box.log_lines(), it.heard)
+    is_well = it.is_up() or (of_other and within(COMES_UP, it.is_up) is not None)
     late = max(each["late_seconds"] for each in it.reports()) * 1000  # type: ignore[type-var]
     said = f"mean load {statistics.mean(it.load.seen):.1f}, {late:.1f} ms late at most; "
-    what = f"{SECONDS_OF_LOAD} s: no session of the box's falls"
-    looks.look(what, not fallen and it.is_up(), said + "; ".join(fallen))
+    what = f"{SECONDS_OF_LOAD} s: no session of the box's falls by its fault"
+    looks.look(what, is_well and not of_box, said + "; ".join([*of_box, *of_other]))
     is_same = it.of_bird() == before
     print(f"     beside it: BIRD's sessions stay Up: {'yes' if is_same else 'no'}", flush=True)
     it.stop()
