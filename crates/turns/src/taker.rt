@@ -305,9 +305,13 @@ impl<L: Origin> Taker<L> for Book<L> {
             → clock_end ≤ max moment self.old.current.moment }
     {
         let at = taken_at(&event, moment, self.now().moment());
-        let outs = self.apply_anew(mine, at, event)?;
-        let stale = known(self.is_stale());
-        Ok(Taken { outs, stale })
+        match self.apply_anew(mine, at, event) {
+            Ok(outs) => {
+                let stale = known(self.is_stale());
+                Ok(Taken { outs, stale })
+            }
+            Err(error) => Err(error),
+        }
     }
 
     fn offered(&self) -> Result<Offered, AllocError>
