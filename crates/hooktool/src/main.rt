@@ -4,19 +4,19 @@
 
 use hooktool_commands::program;
 use std::alloc::{AllocError, Global};
-use std::io::Write;
 use std::process::ExitCode;
 use std::{env, io};
+use streams::{Stream, Written};
 
 /// Hands the arguments and the standard streams to the program, and ends with its status.
 fn main(rt: HostRuntime) -> ExitCode {
-    let mut output = io::writer(&rt);
-    let mut errors = rt.stderr();
+    let mut output = Written::new(io::writer(&rt));
+    let mut errors = Written::new(rt.stderr());
     ExitCode::from(status(&rt, &mut output, &mut errors))
 }
 
 // Runs the program, if its arguments can be read, and answers the status.
-fn status<O: Write, E: Write>(rt: &HostRuntime, output: &mut O, errors: &mut E) -> u8 {
+fn status<O: Stream, E: Stream>(rt: &HostRuntime, output: &mut O, errors: &mut E) -> u8 {
     match arguments(rt) {
         Ok(words) => run(rt, &words, output, errors),
         Err(error) => program::end_without_words(rt.alloc(), &error, output, errors),
@@ -24,7 +24,7 @@ fn status<O: Write, E: Write>(rt: &HostRuntime, output: &mut O, errors: &mut E) 
 }
 
 // The same, with these arguments.
-fn run<O: Write, E: Write>(
+fn run<O: Stream, E: Stream>(
     rt: &HostRuntime,
     words: &[String],
     output: &mut O,

@@ -1,5 +1,5 @@
 -- What is told of what was found for a file.
-use Rattle.std.proofs.Common.{◌≡◌, true, false, ℕ, List, Ok, Err, Option, inl, inr}
+use Rattle.std.proofs.Common.{◌≡◌, false, ℕ, List, Ok, Err, Option, inl}
 use Rattle.std.specs.Prelude.{IfOk, Result, string_bytes}
 use Rattle.annotations.specs.Annotated.{IsAnnotation, with_found}
 use Rattle.isa.specs.declared.hook.Hook.{Hook}
@@ -11,12 +11,7 @@ use Rattle.hooktool_commands.specs.declared.report.Report.{Report}
 
 pub found : {E : Type 0} (hook : Hook) (fuel : FuelAsked) (file : List ℕ) (object : ObjectParts) (bytes : List ℕ) (accepted : Program) (turns : Option ℕ) (r : Result Report E)
     → IsAnnotation hook (with_found (fuel_for hook fuel) turns) file object bytes accepted → IfOk r (λ report. string_bytes report.text ≡ accepted_text accepted turns)
-    → IfOk r (λ report. report.is_refused ≡ false) → IfOk r (λ report. (f : List ℕ) × IsAnnotated hook fuel f report)
+    → IfOk r (λ report. report.is_refused ≡ false) → IfOk r (IsAnnotated hook fuel file)
 found {E} hook fuel file object bytes accepted turns (Ok report) is told done =
-    (file, inl (record { object = object; bytes = bytes; accepted = accepted; found = turns; annotation = is; told = told; done = done }))
+    inl (record { object = object; bytes = bytes; accepted = accepted; found = turns; annotation = is; told = told; done = done })
 found {E} hook fuel file object bytes accepted turns (Err e) is told done = tt
-
-pub refused : {E : Type 0} (hook : Hook) (fuel : FuelAsked) (file : List ℕ) (r : Result Report E) → IfOk r (λ report. report.is_refused ≡ true)
-    → IfOk r (λ report. (f : List ℕ) × IsAnnotated hook fuel f report)
-refused {E} hook fuel file (Ok report) is = (file, inr is)
-refused {E} hook fuel file (Err e) is = tt

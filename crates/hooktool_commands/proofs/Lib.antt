@@ -1,5 +1,6 @@
 pub mod Built
-pub mod Ended
 pub mod Explained
+pub mod Faulted
 pub mod Found
+pub mod Told
 pub mod Tried

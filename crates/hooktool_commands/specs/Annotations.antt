@@ -1,10 +1,11 @@
 -- What is told of an object that was found for code.
 use Rattle.std.specs.Prelude.{◌≡◌, ◌⊎◌, ℕ, ◌∷◌, ◌++◌, [], List, Option, Some, None, true, false, codes, decimal}
-use Rattle.std.specs.Prelude.{string_bytes}
+use Rattle.std.specs.Prelude.{string_bytes, take}
 use Rattle.isa.specs.declared.hook.Hook.{Hook}
 use Rattle.object.specs.Objects.{ObjectParts}
 use Rattle.verifier.specs.Programs.{Program}
-use Rattle.annotations.specs.Annotated.{IsAnnotation, with_found}
+use Rattle.verifier.specs.declared.refusal.Refusal.{Refusal}
+use Rattle.annotations.specs.Annotated.{IsAnnotation, IsRejection, with_found}
 use Rattle.annotations.specs.CountedCode.{answer_without_turns}
 use Rattle.annotations.specs.declared.fuel.Fuel.{Fuel}
 use Rattle.hooktool_line.specs.declared.requests.FuelAsked.{FuelAsked}
@@ -40,6 +41,18 @@ pub record IsFound (hook : Hook) (fuel : FuelAsked) (file : List ℕ) (report : 
   pub told : string_bytes report.text ≡ accepted_text accepted found
   pub done : report.is_refused ≡ false
 
--- Or none was, and that is told.
+-- The verifier refuses the best object that was found of the file's code.
+pub record IsRefusedFile (hook : Hook) (fuel : FuelAsked) (file : List ℕ) : Type 0 where
+  pub object : ObjectParts
+  pub bytes : List ℕ
+  pub refusal : Refusal
+  pub rejection : IsRejection hook (fuel_for hook fuel) file object bytes refusal
+
+-- an ELF file begins so
+abbrev pub elf_magic : List ℕ
+elf_magic = 127 ∷ codes "ELF"
+
+-- Or none was, since the verifier refuses it, or the file is an ELF file; and that is told.
 abbrev pub IsAnnotated : Hook → FuelAsked → List ℕ → Report → Type 0
-IsAnnotated hook fuel file report = IsFound hook fuel file report ⊎ (report.is_refused ≡ true)
+IsAnnotated hook fuel file report = IsFound hook fuel file report
+    ⊎ ((report.is_refused ≡ true) × (IsRefusedFile hook fuel file ⊎ (take 4 file ≡ elf_magic)))

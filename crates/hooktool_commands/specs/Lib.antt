@@ -4,6 +4,7 @@ pub mod Cells
 pub mod Orders
 pub mod Endings
 pub mod Explanations
+pub mod Faults
 pub mod Statuses
 pub mod Tests
 pub mod Trials

@@ -9,8 +9,6 @@ use Rattle.isa.specs.Refusals.{fault_number}
 use Rattle.object.specs.declared.error.ReadError.{ReadError}
 use Rattle.object.specs.declared.error.ReadError.TheVariants as reading
 use Rattle.object.specs.Refusals.{error_number}
-use Rattle.object_runs.specs.declared.error.RunError.{RunError}
-use Rattle.object_runs.specs.declared.error.RunError.TheVariants as running
 use Rattle.hooktool_commands.specs.declared.fault.Fault.{Fault}
 use Rattle.hooktool_commands.specs.declared.fault.Fault.TheVariants as faults
 
@@ -32,8 +30,6 @@ status_of (faults.Code number slot) = 1
 status_of (faults.Object number) = 1
 status_of (faults.OtherHook hook) = 1
 status_of (faults.Uncounted reason) = 1
-status_of faults.Test = 2
-status_of faults.Output = 3
 status_of faults.Memory = 4
 
 -- What is told of bytes that are no code: the number and slot of the refusal, or want of memory.
@@ -48,8 +44,3 @@ fault_of_refusal error = fault_of_kind error.kind error.slot
 abbrev pub fault_of_object : ReadError → Fault
 fault_of_object reading.Memory = faults.Memory
 fault_of_object error = faults.Object (error_number error)
-
--- What is told of bytes that have no program to run.
-abbrev pub fault_of_run : RunError → Fault
-fault_of_run (running.Object error) = fault_of_object error
-fault_of_run (running.Code error) = fault_of_refusal error

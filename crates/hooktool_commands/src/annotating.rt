@@ -1,9 +1,12 @@
 //! `annotate`: an object that the verifier accepts, of code that has no statements.
 
-ghost use Rattle.std.specs.Prelude.{◌≡◌, List, ℕ, false, true, IfOk, string_bytes};
+ghost use Rattle.std.specs.Prelude.{◌≡◌, ◌⊎◌, ◌↔◌, List, ℕ, false, true, IfErr, IfOk, IsTrue};
+ghost use Rattle.std.specs.Prelude.{string_bytes, take};
 ghost use Rattle.object_verdicts.specs.Verdicts.{Accepts};
 ghost use Rattle.hooktool_commands.specs.Annotations.{IsAnnotated, accepted_text, counted_words};
-ghost use Rattle.hooktool_commands.specs.Annotations.{fuel_for};
+ghost use Rattle.hooktool_commands.specs.Annotations.{elf_magic, fuel_for};
+ghost use Rattle.hooktool_commands.specs.Faults.{IsAnnotationFault, IsByVerifier};
+ghost use Rattle.hooktool_commands.specs.Faults.{IsFaultOfShortfall, TellsNoCount};
 
 use crate::cells::cells_note;
 use crate::explaining::lacks_memory;
@@ -177,7 +180,8 @@ fn rejection<'a>(
     endless: &Option<Endless>,
     telling: Telling,
 ) -> Result<Report, Fault<'a>>
-    ensures { IfOk result (λ report. report.is_refused ≡ true) }
+    ensures refused { IfOk result (λ report. report.is_refused ≡ true) }
+    ensures fault { IfErr result (λ fault. fault ≡ Fault.Memory) }
 {
     match rejection_text(alloc, rejected, endless, telling) {
         Ok(text) => Ok(Report {
@@ -189,7 +193,9 @@ fn rejection<'a>(
 }
 
 /// Why turns can't be counted.
-fn uncounted<'a>(error: CountError) -> Fault<'a> {
+fn uncounted<'a>(error: CountError) -> Fault<'a>
+    ensures { (result ≡ Fault.Memory) ⊎ TellsNoCount result }
+{
     let reason = match error {
         CountError::NoRegister => "no turns can be counted: the program uses each of r6 to r9",
         CountError::TooMany => "no turns can be counted: --fuel is 1000000 or more",
@@ -208,7 +214,8 @@ pub(crate) fn shortfall<'a>(
     shortfall: Shortfall,
     telling: Telling,
 ) -> Result<Report, Fault<'a>>
-    ensures { IfOk result (λ report. report.is_refused ≡ true) }
+    ensures refused { IfOk result (λ report. (report.is_refused ≡ true) × IsByVerifier shortfall) }
+    ensures fault { IfErr result (IsFaultOfShortfall shortfall) }
 {
     match shortfall {
         Shortfall::Refused(rejected, endless) => rejection(alloc, &rejected, &endless, telling),
@@ -247,6 +254,7 @@ fn accepted<'a>(alloc: Global, found: &Found) -> Result<Report, Fault<'a>>
     ensures told { IfOk result (λ report. string_bytes report.text
         ≡ accepted_text found.now.annotated.accepted found.now.turns) }
     ensures done { IfOk result (λ report. report.is_refused ≡ false) }
+    ensures fault { IfErr result (λ fault. fault ≡ Fault.Memory) }
 {
     match accepted_text(alloc, found) {
         Ok(text) => Ok(Report {
@@ -267,6 +275,8 @@ fn written<'a, R: Files + AllocGlobal>(
     ensures told { IfOk result (λ report. string_bytes report.text
         ≡ accepted_text found.now.annotated.accepted found.now.turns) }
     ensures done { IfOk result (λ report. report.is_refused ≡ false) }
+    ensures fault { IfErr result (λ fault. (fault ≡ Fault.Write path.entry)
+        ⊎ (fault ≡ Fault.Memory)) }
 {
     match accepted(rt.alloc(), found) {
         Ok(report) => match files::write_accepted(rt, path, &found.annotated.bytes) {
@@ -288,8 +298,10 @@ pub(crate) fn fuel_for(hook: Hook, asked: FuelAsked) -> Fuel
 }
 
 /// Whether the bytes begin as an ELF file, and so are no code.
-pub(crate) fn is_elf(file: &[u8]) -> bool {
-    matches!(file, [0x7f, b'E', b'L', b'F', ..])
+pub(crate) fn is_elf(file: &[u8]) -> bool
+    ensures { IsTrue result ↔ (take 4 file.now ≡ elf_magic) }
+{
+    file.len() >= 4 && (file[0] == 0x7f) & (file[1] == 0x45) & (file[2] == 0x4c) & (file[3] == 0x46)
 }
 
 /// How many slots bare code in a file has. Of an object nothing.
@@ -302,7 +314,8 @@ fn given_slots(file: &[u8]) -> Option<usize> {
 
 /// What is told of an ELF file in the place of code.
 fn elf_refusal<'a>(alloc: Global) -> Result<Report, Fault<'a>>
-    ensures { IfOk result (λ report. report.is_refused ≡ true) }
+    ensures refused { IfOk result (λ report. report.is_refused ≡ true) }
+    ensures fault { IfErr result (λ fault. fault ≡ Fault.Memory) }
 {
     Ok(Report {
         text: format!(in alloc;
@@ -321,7 +334,9 @@ fn annotate_code<'a, R: Files + AllocGlobal>(
     object: &'a str,
     fuel: FuelAsked,
 ) -> Result<Report, Fault<'a>>
-    ensures { IfOk result (λ report. (file : List ℕ) × IsAnnotated hook fuel file report) }
+    ensures made { IfOk result (IsAnnotated hook fuel file.now) }
+    ensures fault { IfErr result (λ fault. (fault ≡ Fault.Write object.entry)
+        ⊎ IsAnnotationFault hook fuel file.now fault) }
 {
     match annotate_file(rt.alloc(), hook, file, fuel_for(hook, fuel)) {
         Ok(found) => written(rt, object, &found),
@@ -344,7 +359,9 @@ fn annotate_bytes<'a, R: Files + AllocGlobal>(
     object: &'a str,
     fuel: FuelAsked,
 ) -> Result<Report, Fault<'a>>
-    ensures { IfOk result (λ report. (file : List ℕ) × IsAnnotated hook fuel file report) }
+    ensures made { IfOk result (IsAnnotated hook fuel file.now) }
+    ensures fault { IfErr result (λ fault. (fault ≡ Fault.Write object.entry)
+        ⊎ IsAnnotationFault hook fuel file.now fault) }
 {
     if is_elf(file) {
         elf_refusal(rt.alloc())
@@ -365,7 +382,10 @@ pub(crate) fn annotate<'a, R: Files + AllocGlobal>(
     object: &'a str,
     fuel: FuelAsked,
 ) -> Result<Report, Fault<'a>>
-    ensures { IfOk result (λ report. (file : List ℕ) × IsAnnotated hook fuel file report) }
+    ensures made { IfOk result (λ report. (file : List ℕ) × IsAnnotated hook fuel file report) }
+    ensures fault { IfErr result (λ fault. (fault ≡ Fault.Read code.entry)
+        ⊎ (fault ≡ Fault.Write object.entry)
+        ⊎ ((file : List ℕ) × IsAnnotationFault hook fuel file fault)) }
 {
     match files::read(rt, code) {
         Ok(file) => annotate_bytes(rt, hook, file.as_slice(), object, fuel),

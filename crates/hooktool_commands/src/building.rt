@@ -1,8 +1,8 @@
 //! `build`: an object for each function that clang compiled for a hook. `explain`: what the verifier
 //! knows of each.
 
-ghost use Rattle.std.specs.Prelude.{◌≡◌, ◌⊎◌, ◌++◌, ◌||◌, ◌<◌, ℕ, List, true, Some, IfOk, IfSome};
-ghost use Rattle.std.specs.Prelude.{OnOk, length, string_bytes};
+ghost use Rattle.std.specs.Prelude.{◌≡◌, ◌⊎◌, ◌++◌, ◌||◌, ◌<◌, ℕ, List, true, Some, IfErr, IfOk};
+ghost use Rattle.std.specs.Prelude.{IfSome, OnOk, length, string_bytes};
 ghost use Rattle.isa.specs.Hooks.{hook_name};
 ghost use Rattle.object_verdicts.specs.Verdicts.{Accepts};
 ghost use Rattle.elf.specs.Files.{section_count, section_name};
@@ -11,6 +11,7 @@ ghost use Rattle.hooktool_commands.specs.Builds.{AreBuiltFunctions, AreBuiltSect
 ghost use Rattle.hooktool_commands.specs.Builds.{IsBuiltAt, IsBuiltFunction, IsBuiltSection};
 ghost use Rattle.hooktool_commands.specs.Builds.{IsHookOf, built_text, is_program_section};
 ghost use Rattle.hooktool_commands.specs.Explanations.{IsExplained};
+ghost use Rattle.hooktool_commands.specs.Faults.{IsBuildFault};
 ghost use Rattle.hooktool_commands.specs.Orders.{IsBuiltCode, wanted_of};
 
 use crate::annotating::{Telling, accepted_text, fuel_for, shortfall};
@@ -125,7 +126,8 @@ fn function_refusal<'a>(
     names: Names<'_>,
     why: Result<Report, Fault<'a>>,
 ) -> Result<Report, Fault<'a>>
-    ensures { IfOk result (λ report. report.is_refused ≡ true) }
+    ensures refused { IfOk result (λ report. report.is_refused ≡ true) }
+    ensures fault { IfErr result (λ fault. fault ≡ Fault.Memory) }
 {
     let mut text = about(alloc, names.section, names.function);
     match why {
@@ -168,9 +170,11 @@ fn write_function<'a, R: Files + AllocGlobal>(
     found: &Found,
 ) -> Result<Report, Fault<'a>>
     requires { Accepts found.now.annotated.bytes.items found.now.annotated.accepted }
-    ensures { IfOk result (λ report. string_bytes report.text
+    ensures told { IfOk result (λ report. string_bytes report.text
         ≡ built_text folder.now function.now (hook_name hook)
         found.now.annotated.accepted found.now.turns) }
+    ensures fault { IfErr result (λ fault. (fault ≡ Fault.Write folder.entry)
+        ⊎ (fault ≡ Fault.Memory)) }
 {
     let path = format!(in rt.alloc(); "{folder}/{function}.o")?;
     let text = line_of(rt.alloc(), folder, function, hook.name(), found)?;
@@ -186,9 +190,13 @@ fn write_function<'a, R: Files + AllocGlobal>(
 
 /// What the verifier knows at each slot of the object that was found for a function.
 fn explain_function<'a>(alloc: Global, names: Names<'_>, found: &Found) -> Result<Report, Fault<'a>>
-    ensures { IfOk result (IsExplained found.now.annotated.bytes.items) }
+    ensures explained { IfOk result (IsExplained found.now.annotated.bytes.items) }
+    ensures fault { IfErr result (λ fault. fault ≡ Fault.Memory) }
 {
-    let explained = explanation_of(alloc, &found.annotated.bytes)?;
+    let Ok(explained) = explanation_of(alloc, &found.annotated.bytes) else {
+        // The verifier accepted these bytes.
+        return Err(Fault::Memory);
+    };
     let mut head = about(alloc, names.section, names.function);
     head.push(match found.turns {
         Some(_) => ": its turns are counted, so each slot is one later\n",
@@ -210,8 +218,9 @@ fn build_code<'a, R: Files + AllocGlobal>(
     names: Names<'_>,
     code: &[u8],
 ) -> Result<Report, Fault<'a>>
-    ensures { IfOk result (IsBuiltCode (wanted_of order.now) hook names.entry.function.now
+    ensures built { IfOk result (IsBuiltCode (wanted_of order.now) hook names.entry.function.now
         code.now) }
+    ensures fault { IfErr result (IsBuildFault order.now.purpose) }
 {
     let Some(name) = as_file_name(names.function) else {
         let mut text = about(rt.alloc(), names.section, names.function);
@@ -244,9 +253,10 @@ fn build_function<'a, R: Files + AllocGlobal>(
     section: &[u8],
     function: &LinkedSymbol,
 ) -> Result<Report, Fault<'a>>
-    ensures { IfOk result (λ report. (report.is_refused ≡ true)
+    ensures built { IfOk result (λ report. (report.is_refused ≡ true)
         ⊎ IsBuiltFunction file.now (wanted_of order.now) hook function.now
         (string_bytes report.text)) }
+    ensures fault { IfErr result (IsBuildFault order.now.purpose) }
 {
     let Some(name) = file.symbol_name(function.table, function.index) else {
         return Ok(refusal(about(rt.alloc(), section, b""))?);
@@ -306,9 +316,10 @@ fn build_functions<'a, R: Files + AllocGlobal>(
     section: &[u8],
     functions: &[LinkedSymbol],
 ) -> Result<Report, Fault<'a>>
-    ensures { IfOk result (λ report. (report.is_refused ≡ true)
+    ensures built { IfOk result (λ report. (report.is_refused ≡ true)
         ⊎ AreBuiltFunctions file.now (wanted_of order.now) hook functions.now (length functions.now)
         (string_bytes report.text)) }
+    ensures fault { IfErr result (IsBuildFault order.now.purpose) }
 {
     let mut report = Report {
         text: String::new(rt.alloc()),
@@ -329,8 +340,9 @@ fn build_section<'a, R: Files + AllocGlobal>(
     index: usize,
 ) -> Result<Report, Fault<'a>>
     requires { index < section_count file.now }
-    ensures { IfOk result (λ report. (report.is_refused ≡ true)
+    ensures built { IfOk result (λ report. (report.is_refused ≡ true)
         ⊎ IsBuiltSection file.now (wanted_of order.now) index (string_bytes report.text)) }
+    ensures fault { IfErr result (IsBuildFault order.now.purpose) }
 {
     let name = file.section_name(index);
     let Some(hook) = hook_in(order.hook, name) else {
@@ -370,8 +382,9 @@ fn build_at<'a, R: Files + AllocGlobal>(
     index: usize,
 ) -> Result<Report, Fault<'a>>
     requires { index < section_count file.now }
-    ensures { IfOk result (λ report. (report.is_refused ≡ true)
+    ensures built { IfOk result (λ report. (report.is_refused ≡ true)
         ⊎ IsBuiltAt file.now (wanted_of order.now) index (string_bytes report.text)) }
+    ensures fault { IfErr result (IsBuildFault order.now.purpose) }
 {
     if is_program_section(file, index) {
         let report = build_section(rt, order, file, index)?;
@@ -389,9 +402,10 @@ fn build_sections<'a, R: Files + AllocGlobal>(
     order: &Order<'a>,
     file: &ObjectFile<'_>,
 ) -> Result<Report, Fault<'a>>
-    ensures { IfOk result (λ report. (report.is_refused ≡ true)
+    ensures built { IfOk result (λ report. (report.is_refused ≡ true)
         ⊎ AreBuiltSections file.now (wanted_of order.now) (section_count file.now)
         (string_bytes report.text)) }
+    ensures fault { IfErr result (IsBuildFault order.now.purpose) }
 {
     let mut report = Report {
         text: String::new(rt.alloc()),
@@ -406,7 +420,8 @@ fn build_sections<'a, R: Files + AllocGlobal>(
 
 /// What is told of a file that isn't what clang writes.
 fn no_elf<'a>(alloc: Global, path: &str, fault: elf::Fault) -> Result<Report, Fault<'a>>
-    ensures { IfOk result (λ report. report.is_refused ≡ true) }
+    ensures refused { IfOk result (λ report. report.is_refused ≡ true) }
+    ensures fault { IfErr result (λ fault. fault ≡ Fault.Memory) }
 {
     let hint = match fault {
         elf::Fault::NotElf =>
@@ -422,7 +437,8 @@ fn no_elf<'a>(alloc: Global, path: &str, fault: elf::Fault) -> Result<Report, Fa
 
 /// What is told of a file without a program.
 fn no_program<'a>(alloc: Global, path: &str) -> Result<Report, Fault<'a>>
-    ensures { IfOk result (λ report. report.is_refused ≡ true) }
+    ensures refused { IfOk result (λ report. report.is_refused ≡ true) }
+    ensures fault { IfErr result (λ fault. fault ≡ Fault.Memory) }
 {
     Ok(Report {
         text: format!(in alloc; "{path}: it has no function\n")?,
@@ -437,7 +453,8 @@ pub(crate) fn build_bytes<'a, R: Files + AllocGlobal>(
     path: &str,
     bytes: &[u8],
 ) -> Result<Report, Fault<'a>>
-    ensures { IfOk result (IsBuilt bytes.now (wanted_of order.now)) }
+    ensures built { IfOk result (IsBuilt bytes.now (wanted_of order.now)) }
+    ensures fault { IfErr result (IsBuildFault order.now.purpose) }
 {
     match elf::read(bytes) {
         Ok(file) => {
@@ -460,8 +477,10 @@ pub(crate) fn build<'a, R: Files + AllocGlobal>(
     path: &'a str,
     order: Order<'a>,
 ) -> Result<Report, Fault<'a>>
-    ensures { IfOk result (λ report. (bytes : List ℕ)
+    ensures built { IfOk result (λ report. (bytes : List ℕ)
         × IsBuilt bytes (wanted_of order.entry) report) }
+    ensures fault { IfErr result (λ fault. (fault ≡ Fault.Read path.entry)
+        ⊎ IsBuildFault order.entry.purpose fault) }
 {
     match files::read(rt, path) {
         Ok(bytes) => Ok(build_bytes(rt, &order, path, bytes.as_slice())?),

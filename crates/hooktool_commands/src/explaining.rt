@@ -1,8 +1,9 @@
 //! `explain`: what the verifier knows of a program, and its verdict.
 
-ghost use Rattle.std.specs.Prelude.{◌≡◌, ◌++◌, List, ℕ, IfOk, is_err, string_bytes};
+ghost use Rattle.std.specs.Prelude.{◌≡◌, ◌⊎◌, ◌++◌, List, ℕ, IfErr, IfOk, is_err, string_bytes};
 ghost use Rattle.hooktool_commands.specs.Explanations.{IsExplained};
 ghost use Rattle.hooktool_commands.specs.Builds.{IsExplainedFile, explanations_wanted};
+ghost use Rattle.hooktool_commands.specs.Faults.{IsObjectFault};
 ghost use Rattle.hooktool_commands.specs.Orders.{wanted_of};
 
 use crate::annotating::is_elf;
@@ -10,20 +11,24 @@ use crate::building::{Order, Purpose, build_bytes};
 use crate::fault::Fault;
 use crate::files;
 use crate::report::Report;
-use explanations::{ExplainError, Explanation, explain as explained};
+use explanations::{Explanation, explain as explained};
 use hooktool_line::FuelAsked;
+use isa::decode;
 use object_verdicts::VerifyError;
 use std::alloc::Global;
 use std::rt::Files;
 use verifier::{Accepted, Rule};
 
-impl<'a> From<ExplainError> for Fault<'a> {
-    fn from(error: ExplainError) -> Fault<'a> {
-        match error {
-            ExplainError::Object(error) => Fault::from(error),
-            ExplainError::Code(error) => Fault::from(error),
-            ExplainError::Memory => Fault::Memory,
-        }
+/// Why these bytes hold no program. Where they hold one, memory was refused.
+pub(crate) fn fault_in<'a>(alloc: Global, bytes: &[u8]) -> Fault<'a>
+    ensures { IsObjectFault bytes.now result }
+{
+    match object::read(alloc, bytes) {
+        Ok(object) => match decode(alloc, object.code()) {
+            Ok(_) => Fault::Memory,
+            Err(error) => Fault::from(error),
+        },
+        Err(error) => Fault::from(error),
     }
 }
 
@@ -44,6 +49,7 @@ fn report_of<'a>(alloc: Global, explanation: &Explanation) -> Result<Report, Fau
         ++ string_bytes explanation.now.told)) }
     ensures refused { IfOk result (λ report. report.is_refused
         ≡ is_err explanation.now.verdict) }
+    ensures fault { IfErr result (λ fault. fault ≡ Fault.Memory) }
 {
     let before = explanation.before.as_str();
     let last = explanation.last.as_str();
@@ -64,6 +70,7 @@ fn told_of<'a>(alloc: Global, explanation: &Explanation) -> Result<Report, Fault
         ++ string_bytes explanation.now.told)) }
     ensures refused { IfOk result (λ report. report.is_refused
         ≡ is_err explanation.now.verdict) }
+    ensures fault { IfErr result (λ fault. fault ≡ Fault.Memory) }
 {
     if lacks_memory(&explanation.verdict) {
         Err(Fault::Memory)
@@ -74,17 +81,19 @@ fn told_of<'a>(alloc: Global, explanation: &Explanation) -> Result<Report, Fault
 
 /// What is told of the object file that these bytes are.
 pub(crate) fn explanation_of<'a>(alloc: Global, bytes: &[u8]) -> Result<Report, Fault<'a>>
-    ensures { IfOk result (IsExplained bytes.now) }
+    ensures explained { IfOk result (IsExplained bytes.now) }
+    ensures fault { IfErr result (IsObjectFault bytes.now) }
 {
     match explained(alloc, bytes) {
         Ok(explanation) => told_of(alloc, &explanation),
-        Err(error) => Err(Fault::from(error)),
+        Err(_) => Err(fault_in(alloc, bytes)),
     }
 }
 
 /// What is asked for of an ELF file.
 fn explaining<'a>() -> Order<'a>
-    ensures { wanted_of result ≡ explanations_wanted }
+    ensures wanted { wanted_of result ≡ explanations_wanted }
+    ensures purpose { result.purpose ≡ Purpose.Explanation }
 {
     Order {
         purpose: Purpose::Explanation,
@@ -103,7 +112,8 @@ fn explain_bytes<'a, R: Files + AllocGlobal>(
     path: &str,
     bytes: &[u8],
 ) -> Result<Report, Fault<'a>>
-    ensures { IfOk result (IsExplainedFile bytes.now) }
+    ensures explained { IfOk result (IsExplainedFile bytes.now) }
+    ensures fault { IfErr result (IsObjectFault bytes.now) }
 {
     if is_elf(bytes) {
         build_bytes(rt, &explaining(), path, bytes)
@@ -121,7 +131,9 @@ pub(crate) fn explain<'a, R: Files + AllocGlobal>(
     rt: &R,
     path: &'a str,
 ) -> Result<Report, Fault<'a>>
-    ensures { IfOk result (λ report. (bytes : List ℕ) × IsExplainedFile bytes report) }
+    ensures explained { IfOk result (λ report. (bytes : List ℕ) × IsExplainedFile bytes report) }
+    ensures fault { IfErr result (λ fault. (fault ≡ Fault.Read path.entry)
+        ⊎ ((bytes : List ℕ) × IsObjectFault bytes fault)) }
 {
     match files::read(rt, path) {
         Ok(bytes) => explain_bytes(rt, path, bytes.as_slice()),

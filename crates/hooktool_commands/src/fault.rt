@@ -1,13 +1,11 @@
 //! Why a command didn't do what it was asked, and the statuses.
 
 ghost use Rattle.std.specs.Prelude.{◌≡◌, ◌≤◌};
-ghost use Rattle.hooktool_commands.specs.Statuses.{fault_of_object, fault_of_refusal, fault_of_run};
-ghost use Rattle.hooktool_commands.specs.Statuses.{status_of};
+ghost use Rattle.hooktool_commands.specs.Statuses.{fault_of_object, fault_of_refusal, status_of};
 ghost use Rattle.hooktool_commands.specs.declared.fault.Fault.TheVariants.{Memory};
 
 use isa::DecodeError;
 use object::ReadError;
-use object_runs::RunError;
 use std::alloc::AllocError;
 use std::fmt;
 use thiserror::Error;
@@ -16,7 +14,7 @@ use thiserror::Error;
 pub const DONE: u8 = 0;
 /// A program was refused, or a run gave no answer.
 pub const REFUSED: u8 = 1;
-/// The words of the command line are wrong.
+/// The words of the command line, or of a test, are wrong.
 pub const USAGE: u8 = 2;
 /// A file or a stream can't be used.
 pub const OUTSIDE: u8 = 3;
@@ -45,12 +43,6 @@ pub enum Fault<'a> {
     /// Code in which turns can't be counted, and why.
     #[error("{reason}")]
     Uncounted { reason: &'static str },
-    /// A line of a test can't be read or played, which was told before.
-    #[error("the tests aren't played to their end")]
-    Test,
-    /// The output can't be written.
-    #[error("cannot write the output")]
-    Output,
     /// An allocation was refused.
     #[error("out of memory")]
     Memory,
@@ -97,17 +89,6 @@ impl<'a> From<ReadError> for Fault<'a> {
     }
 }
 
-impl<'a> From<RunError> for Fault<'a> {
-    ghost from_gives = { λ error fault. fault ≡ fault_of_run error };
-
-    fn from(error: RunError) -> Fault<'a> {
-        match error {
-            RunError::Object(error) => Fault::from(error),
-            RunError::Code(error) => Fault::from(error),
-        }
-    }
-}
-
 impl<'a> Fault<'a> {
     /// The status that the program ends with.
     pub fn status(&self) -> u8
@@ -115,8 +96,7 @@ impl<'a> Fault<'a> {
         ensures within { result ≤ 4 }
     {
         match self {
-            Fault::Read { .. } | Fault::Write { .. } | Fault::Output => OUTSIDE,
-            Fault::Test => USAGE,
+            Fault::Read { .. } | Fault::Write { .. } => OUTSIDE,
             Fault::Code { .. }
             | Fault::Object { .. }
             | Fault::OtherHook { .. }

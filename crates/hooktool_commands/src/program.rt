@@ -1,52 +1,50 @@
-//! The whole program, over readers and writers that are handed in.
+//! The whole program, over streams that are handed in.
 
-ghost use Rattle.std.specs.Prelude.{◌≡◌, ◌⊎◌, map, IfOk, OnOk};
+ghost use Rattle.std.specs.Prelude.{◌≡◌, ◌⊎◌, map, IfErr, IfOk};
 ghost use Rattle.std.specs.IoError.{error_kind};
-ghost use Rattle.clap.specs.Values.{kind_of};
-ghost use Rattle.hooktool_commands.specs.Endings.{Ends, EndsWords, IsMadeOf, IsTold, Prints};
-ghost use Rattle.hooktool_commands.specs.Endings.{TellsWords};
-ghost use Rattle.hooktool_commands.specs.Statuses.{status_of_usage};
-ghost use Rattle.hooktool_commands.specs.Tests.{IsTested};
-ghost use Rattle.hooktool_commands.specs.declared.testing.Tested.TheVariants.{Played};
+ghost use Rattle.hooktool_commands.specs.Endings.{Ends, EndsPlayed, EndsRequest, EndsWords, Fails};
+ghost use Rattle.hooktool_commands.specs.Endings.{IsFaultOf, IsMadeOf, IsTold, Prints, TellsWords};
 
 use crate::annotating::annotate;
 use crate::building::{Order, Purpose, build};
 use crate::explaining::explain;
-use crate::fault::{DONE, Fault, REFUSED, USAGE};
+use crate::fault::{DONE, Fault, OUTSIDE, REFUSED, USAGE};
 use crate::report::Report;
 use crate::testing::{Tested, test};
 use crate::trying::try_question;
 use clap::Error;
 use clap::error::ErrorKind;
-use hooktool_line::Request;
+use hooktool_line::{FuelAsked, Request};
+use isa::Hook;
 use std::alloc::Global;
-use std::io::{self, ErrorKind as IoKind, Write};
+use std::io::{self, ErrorKind as IoKind};
 use std::rt::Files;
+use streams::Stream;
 
 // Prints what a command made, and answers the status.
-fn print<O: Write>(report: &Report, output: &mut O) -> u8
-    ensures { Prints report.now (O.contents output.old) (O.contents output.new) result }
+fn print<O: Stream>(report: &Report, output: &mut O) -> u8
+    ensures { Prints report.now (O.state output.old) (O.state output.new) result }
 {
-    match output.write_all(report.text.as_bytes()) {
+    match output.print(report.text.as_str()) {
         Ok(()) if report.is_refused => REFUSED,
         Ok(()) => DONE,
-        Err(_) => Fault::Output.status(),
+        Err(_) => OUTSIDE,
     }
 }
 
 // Prints why nothing was made, and answers the status.
-fn tell<O: Write>(fault: Fault<'_>, output: &mut O) -> u8
-    ensures { IsTold fault.entry result }
+fn tell<O: Stream>(fault: Fault<'_>, output: &mut O) -> u8
+    ensures { IsTold fault.entry (O.state output.new) result }
 {
-    match writeln!(output, "{fault}") {
+    match output.print_line(fault) {
         Ok(()) => fault.status(),
-        Err(_) => Fault::Output.status(),
+        Err(_) => OUTSIDE,
     }
 }
 
 // Prints what a command made or what its fault is, and answers the status.
-fn end<O: Write>(outcome: Result<Report, Fault<'_>>, output: &mut O) -> u8
-    ensures { Ends outcome.entry (O.contents output.old) (O.contents output.new) result }
+fn end<O: Stream>(outcome: Result<Report, Fault<'_>>, output: &mut O) -> u8
+    ensures { Ends outcome.entry (O.state output.old) (O.state output.new) result }
 {
     match outcome {
         Ok(report) => print(&report, output),
@@ -54,70 +52,90 @@ fn end<O: Write>(outcome: Result<Report, Fault<'_>>, output: &mut O) -> u8
     }
 }
 
-// The status of a text about usage: help is what the user asked for.
-fn status_of_usage(error: &Error) -> u8
-    ensures { result ≡ status_of_usage (kind_of error.now) }
+// Prints which line of a test can't be played, and answers the status.
+fn tell_unread<O: Stream>(text: &str, output: &mut O) -> u8
+    ensures { Fails (O.state output.new) result ⊎ (result ≡ 2) }
 {
-    if error.use_stderr() { USAGE } else { DONE }
+    match output.print(text) {
+        Ok(()) => USAGE,
+        Err(_) => OUTSIDE,
+    }
 }
 
-// Tells what is wrong with the words, and answers the status. A text about usage goes to the second
-// writer, want of memory to the first.
-fn tell_words<O: Write, E: Write>(error: &Error, output: &mut O, errors: &mut E) -> u8
-    ensures { TellsWords error.now (O.contents output.old) (O.contents output.new)
-        (E.contents errors.old) (E.contents errors.new) result }
+// Prints what a test came to, and answers the status.
+fn end_test<O: Stream>(outcome: Result<Tested, Fault<'_>>, output: &mut O) -> u8
+    ensures { EndsPlayed outcome.entry (O.state output.old) (O.state output.new) result }
+{
+    match outcome {
+        Ok(Tested::Played(report)) => print(&report, output),
+        Ok(Tested::Unread(text)) => tell_unread(text.as_str(), output),
+        Err(fault) => tell(fault, output),
+    }
+}
+
+// Writes a text of clap's, and answers the status, which is this one where that is done.
+fn tell_usage<O: Stream>(error: &Error, stream: &mut O, status: u8) -> u8
+    ensures { Fails (O.state stream.new) result ⊎ (result ≡ status) }
+{
+    match stream.print(error) {
+        Ok(()) => status,
+        Err(_) => OUTSIDE,
+    }
+}
+
+// Tells what is wrong with the words, and answers the status. Help and want of memory go to the
+// first stream, a text about a mistake to the second.
+fn tell_words<O: Stream, E: Stream>(error: &Error, output: &mut O, errors: &mut E) -> u8
+    ensures { TellsWords error.now (O.state output.old) (O.state output.new)
+        (E.state errors.old) (E.state errors.new) result }
 {
     match error.kind() {
         ErrorKind::OutOfMemory => tell(Fault::Memory, output),
-        _ => match write!(errors, "{error}") {
-            Ok(()) => status_of_usage(error),
-            Err(_) => Fault::Output.status(),
-        },
+        ErrorKind::DisplayHelp | ErrorKind::DisplayVersion => tell_usage(error, output, DONE),
+        _ => tell_usage(error, errors, USAGE),
     }
 }
 
 /// Tells that the words can't be read, and answers the status: 4 where memory was refused, 2 where
 /// a word isn't UTF-8, and 3 where that can't be told.
-pub fn end_without_words<O: Write, E: Write>(
+pub fn end_without_words<O: Stream, E: Stream>(
     alloc: Global,
     error: &io::Error,
     output: &mut O,
     errors: &mut E,
 ) -> u8
-    ensures memory { error_kind error.now ≡ IoKind.OutOfMemory → (result ≡ 3) ⊎ (result ≡ 4) }
-    ensures told { (result ≡ 2) ⊎ (result ≡ 3) ⊎ (result ≡ 4) }
+    ensures memory { error_kind error.now ≡ IoKind.OutOfMemory
+        → Fails (O.state output.new) result ⊎ Fails (E.state errors.new) result ⊎ (result ≡ 4) }
+    ensures told { Fails (O.state output.new) result ⊎ Fails (E.state errors.new) result
+        ⊎ (result ≡ 2) ⊎ (result ≡ 4) }
 {
     let error = hooktool_line::unread(alloc, error);
     tell_words(&error, output, errors)
 }
 
-// What is told of a test. Of a line that can't be played that is written, and then its fault.
-fn test_report<'a, R: Files + AllocGlobal, O: Write>(
+// What is made of a file of clang's.
+fn built<'a, R: Files + AllocGlobal>(
     rt: &R,
     file: &'a str,
-    output: &mut O,
+    folder: &'a str,
+    hook: Option<Hook>,
+    fuel: FuelAsked,
 ) -> Result<Report, Fault<'a>>
-    ensures made { IfOk result (λ report. IsTested (Played report)) }
-    ensures same { OnOk result (O.contents output.new ≡ O.contents output.old) }
+    ensures made { IfOk result (IsMadeOf (Request.Build file.entry folder.entry hook fuel)) }
+    ensures fault { IfErr result (IsFaultOf (Request.Build file.entry folder.entry hook fuel)) }
 {
-    match test(rt, file) {
-        Ok(Tested::Played(report)) => Ok(report),
-        Ok(Tested::Unread(text)) => match output.write_all(text.as_bytes()) {
-            Ok(()) => Err(Fault::Test),
-            Err(_) => Err(Fault::Output),
-        },
-        Err(fault) => Err(fault),
-    }
+    let purpose = Purpose::Object { folder };
+    let order = Order {
+        purpose,
+        hook,
+        fuel,
+    };
+    build(rt, file, order)
 }
 
-// What a request makes, or why it can't be carried out.
-fn made_of<'a, R: Files + AllocGlobal, O: Write>(
-    rt: &R,
-    request: Request<'a>,
-    output: &mut O,
-) -> Result<Report, Fault<'a>>
-    ensures made { IfOk result (IsMadeOf request.entry) }
-    ensures same { OnOk result (O.contents output.new ≡ O.contents output.old) }
+// Carries out a request, and answers the status.
+fn carry_out<R: Files + AllocGlobal, O: Stream>(rt: &R, request: Request<'_>, output: &mut O) -> u8
+    ensures { EndsRequest request.entry (O.state output.old) (O.state output.new) result }
 {
     match request {
         Request::Annotate {
@@ -125,49 +143,35 @@ fn made_of<'a, R: Files + AllocGlobal, O: Write>(
             code,
             object,
             fuel,
-        } => annotate(rt, hook, code, object, fuel),
+        } => end(annotate(rt, hook, code, object, fuel), output),
         Request::Build {
             file,
             folder,
             hook,
             fuel,
-        } => {
-            let purpose = Purpose::Object { folder };
-            build(
-                rt,
-                file,
-                Order {
-                    purpose,
-                    hook,
-                    fuel,
-                },
-            )
-        }
-        Request::Explain { object } => explain(rt, object),
-        Request::Try { object, question } => try_question(rt, object, &question),
-        Request::Test { file } => test_report(rt, file, output),
+        } => end(built(rt, file, folder, hook, fuel), output),
+        Request::Explain { object } => end(explain(rt, object), output),
+        Request::Try { object, question } => end(try_question(rt, object, &question), output),
+        Request::Test { file } => end_test(test(rt, file), output),
     }
 }
 
 /// Carries out what the words ask for (the first is the program's name), and answers the status: 0
 /// done, 1 refused or stuck, 2 usage, 3 a file or a stream failed, 4 memory was refused.
 ///
-/// Lines are written to `output`; the texts about usage go to `errors`.
-pub fn program<R: Files + AllocGlobal, O: Write, E: Write>(
+/// Lines and help are written to `output`; the texts about wrong words go to `errors`.
+pub fn program<R: Files + AllocGlobal, O: Stream, E: Stream>(
     rt: &R,
     words: &[&str],
     output: &mut O,
     errors: &mut E,
 ) -> u8
     ensures ended { EndsWords (map (λ word. word.now) words.now)
-        (O.contents output.old) (O.contents output.new)
-        (E.contents errors.old) (E.contents errors.new) result }
+        (O.state output.old) (O.state output.new)
+        (E.state errors.old) (E.state errors.new) result }
 {
     match hooktool_line::parse(rt.alloc(), words) {
-        Ok(request) => {
-            let made = made_of(rt, request, output);
-            end(made, output)
-        }
+        Ok(request) => carry_out(rt, request, output),
         Err(error) => tell_words(&error, output, errors),
     }
 }

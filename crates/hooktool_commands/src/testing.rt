@@ -1,6 +1,6 @@
 //! `test`: the questions of a file, and the answers that are expected.
 
-ghost use Rattle.std.specs.Prelude.{◌≡◌, IfOk, not};
+ghost use Rattle.std.specs.Prelude.{◌≡◌, ◌⊎◌, IfErr, IfOk, not};
 ghost use Rattle.std.specs.List.{list_any};
 ghost use Rattle.hooktool_commands.specs.Tests.{IsTested};
 
@@ -11,6 +11,8 @@ use hooktool_line::{Line, LineError, WrongLine, read_lines, words_of_lines};
 use object_trials::{PlayError, Point, Stopped, play, protocol};
 use std::alloc::{AllocError, Global};
 use std::rt::Files;
+
+const UNPLAYED: &str = "the tests aren't played to their end\n";
 
 /// What a test came to: its points were played, or a line can't be, and this is told.
 #[derive(Drop)]
@@ -27,15 +29,16 @@ fn wrong_text(
     error: &LineError,
 ) -> Result<String, AllocError> {
     match error {
-        LineError::Options(error) => format!(in alloc; "{path}, line {number}: {error}"),
-        LineError::Words(why) => format!(in alloc; "{path}, line {number}: {why}\n"),
+        LineError::Options(error) => format!(in alloc; "{path}, line {number}: {error}{UNPLAYED}"),
+        LineError::Words(why) => format!(in alloc; "{path}, line {number}: {why}\n{UNPLAYED}"),
         LineError::Memory => Err(AllocError),
     }
 }
 
 /// What is told of a line that is wrong.
 fn wrong<'a>(alloc: Global, path: &str, wrong: &WrongLine) -> Result<Tested, Fault<'a>>
-    ensures { IfOk result IsTested }
+    ensures played { IfOk result IsTested }
+    ensures fault { IfErr result (λ fault. fault ≡ Fault.Memory) }
 {
     match wrong_text(alloc, path, wrong.number, &wrong.error) {
         Ok(text) => Ok(Tested::Unread(text)),
@@ -49,13 +52,14 @@ fn stopped_text(alloc: Global, path: &str, stopped: Stopped) -> Result<String, A
     let error = stopped.error;
     match error {
         PlayError::Memory => Err(AllocError),
-        _ => format!(in alloc; "{path}, line {number}: {error}\n"),
+        _ => format!(in alloc; "{path}, line {number}: {error}\n{UNPLAYED}"),
     }
 }
 
 /// What is told of a line that can't be played.
 fn unplayed<'a>(alloc: Global, path: &str, stopped: Stopped) -> Result<Tested, Fault<'a>>
-    ensures { IfOk result IsTested }
+    ensures played { IfOk result IsTested }
+    ensures fault { IfErr result (λ fault. fault ≡ Fault.Memory) }
 {
     match stopped_text(alloc, path, stopped) {
         Ok(text) => Ok(Tested::Unread(text)),
@@ -72,8 +76,9 @@ fn is_any_wrong(points: &[Point<'_>]) -> bool
 
 /// What is told of the points.
 fn report_of<'a>(alloc: Global, points: &[Point<'_>]) -> Result<Report, Fault<'a>>
-    ensures { IfOk result (λ report. report.is_refused
+    ensures refused { IfOk result (λ report. report.is_refused
         ≡ list_any (λ point. not point.verdict.is_ok) points.now) }
+    ensures fault { IfErr result (λ fault. fault ≡ Fault.Memory) }
 {
     match protocol(alloc, points) {
         Ok(text) => Ok(Report {
@@ -90,7 +95,8 @@ fn played<'a, R: Files + AllocGlobal>(
     path: &'a str,
     lines: &[Line<'_>],
 ) -> Result<Tested, Fault<'a>>
-    ensures { IfOk result IsTested }
+    ensures played { IfOk result IsTested }
+    ensures fault { IfErr result (λ fault. fault ≡ Fault.Memory) }
 {
     match play(rt, lines) {
         Ok(points) => match report_of(rt.alloc(), &points) {
@@ -107,7 +113,8 @@ fn test_words<'a, R: Files + AllocGlobal>(
     path: &'a str,
     words: &[Vec<&str>],
 ) -> Result<Tested, Fault<'a>>
-    ensures { IfOk result IsTested }
+    ensures played { IfOk result IsTested }
+    ensures fault { IfErr result (λ fault. fault ≡ Fault.Memory) }
 {
     match read_lines(rt.alloc(), words) {
         Ok(lines) => played(rt, path, &lines),
@@ -121,7 +128,8 @@ fn test_text<'a, R: Files + AllocGlobal>(
     path: &'a str,
     text: &str,
 ) -> Result<Tested, Fault<'a>>
-    ensures { IfOk result IsTested }
+    ensures played { IfOk result IsTested }
+    ensures fault { IfErr result (λ fault. fault ≡ Fault.Memory) }
 {
     let words = words_of_lines(rt.alloc(), text)?;
     let tested = test_words(rt, path, &words)?;
@@ -133,7 +141,9 @@ fn test_text<'a, R: Files + AllocGlobal>(
 ///
 /// A fault where the file can't be read, isn't UTF-8, or memory is refused.
 pub(crate) fn test<'a, R: Files + AllocGlobal>(rt: &R, path: &'a str) -> Result<Tested, Fault<'a>>
-    ensures { IfOk result IsTested }
+    ensures played { IfOk result IsTested }
+    ensures fault { IfErr result (λ fault. (fault ≡ Fault.Read path.entry)
+        ⊎ (fault ≡ Fault.Memory)) }
 {
     match files::read(rt, path) {
         Ok(bytes) => match str::from_utf8(&bytes) {

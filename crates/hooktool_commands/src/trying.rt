@@ -1,11 +1,14 @@
 //! `try`: runs of a program on a question.
 
-ghost use Rattle.std.specs.Prelude.{◌≡◌, List, ℕ, IfOk, is_err};
+ghost use Rattle.std.specs.Prelude.{◌≡◌, ◌⊎◌, List, ℕ, IfErr, IfOk, is_err};
 ghost use Rattle.std.specs.List.{list_any};
+ghost use Rattle.hooktool_commands.specs.Endings.{IsPacketFault};
+ghost use Rattle.hooktool_commands.specs.Faults.{IsObjectFault};
 ghost use Rattle.hooktool_commands.specs.Trials.{IsTried};
 ghost use Rattle.object_trials.specs.Plays.{PacketIs};
 
 use crate::answers::push_answer;
+use crate::explaining::fault_in;
 use crate::fault::Fault;
 use crate::files;
 use crate::report::Report;
@@ -14,19 +17,10 @@ use explanations::{Text, instruction_lines};
 use hooktool_line::{Packet, Question};
 use isa::{Code, Hook, decode};
 use object::Object;
-use object_trials::{Ending, Trial, TrialError, try_object};
+use object_trials::{Ending, Trial, try_object};
 use std::alloc::{AllocError, Global};
 use std::rt::Files;
 use verifier::BUDGET;
-
-impl<'a> From<TrialError> for Fault<'a> {
-    fn from(error: TrialError) -> Fault<'a> {
-        match error {
-            TrialError::Program(error) => Fault::from(error),
-            TrialError::Memory => Fault::Memory,
-        }
-    }
-}
 
 /// The program that was run, and as many instructions as it may take.
 #[derive(Drop)]
@@ -38,31 +32,32 @@ struct Program {
 }
 
 /// The object's program, of this code.
-fn program_with<'a>(alloc: Global, object: &Object, code: Code) -> Result<Program, Fault<'a>> {
+fn program_with(alloc: Global, object: &Object, code: Code) -> Option<Program> {
     match instruction_lines(alloc, object) {
-        Ok(lines) => Ok(Program {
+        Ok(lines) => Some(Program {
             hook: object.hook(),
             bound: bound_of(object),
             code,
             lines,
         }),
-        Err(error) => Err(Fault::from(error)),
+        Err(_) => None,
     }
 }
 
 /// The program of the object.
-fn program_in<'a>(alloc: Global, object: &Object) -> Result<Program, Fault<'a>> {
+fn program_in(alloc: Global, object: &Object) -> Option<Program> {
     match decode(alloc, object.code()) {
         Ok(code) => program_with(alloc, object, code),
-        Err(error) => Err(Fault::from(error)),
+        Err(_) => None,
     }
 }
 
-/// The program of the object file that these bytes are.
-fn program_of<'a>(alloc: Global, bytes: &[u8]) -> Result<Program, Fault<'a>> {
+/// The program of the object file that these bytes are. None where they hold none, or memory is
+/// refused.
+fn program_of(alloc: Global, bytes: &[u8]) -> Option<Program> {
     match object::read(alloc, bytes) {
         Ok(object) => program_in(alloc, &object),
-        Err(error) => Err(Fault::from(error)),
+        Err(_) => None,
     }
 }
 
@@ -122,8 +117,9 @@ fn is_any_stuck(endings: &[Ending]) -> bool
 
 /// What is told of the program's runs.
 fn report_of<'a>(alloc: Global, program: &Program, trial: &Trial) -> Result<Report, Fault<'a>>
-    ensures { IfOk result (λ report. report.is_refused
+    ensures stuck { IfOk result (λ report. report.is_refused
         ≡ list_any (λ ending. is_err ending.outcome) trial.now.endings.items) }
+    ensures fault { IfErr result (λ fault. fault ≡ Fault.Memory) }
 {
     match text_of(alloc, program, trial) {
         Ok(text) => Ok(Report {
@@ -143,11 +139,12 @@ fn told_of<'a>(
     question: &Question<'_>,
     program: &Program,
 ) -> Result<Report, Fault<'a>>
-    ensures { IfOk result (IsTried bytes.now packet.now question.now) }
+    ensures tried { IfOk result (IsTried bytes.now packet.now question.now) }
+    ensures fault { IfErr result (IsObjectFault bytes.now) }
 {
     match try_object(alloc, bytes, packet, question) {
         Ok(trial) => report_of(alloc, program, &trial),
-        Err(error) => Err(Fault::from(error)),
+        Err(_) => Err(fault_in(alloc, bytes)),
     }
 }
 
@@ -158,11 +155,12 @@ fn trial_of<'a>(
     packet: &[u8],
     question: &Question<'_>,
 ) -> Result<Report, Fault<'a>>
-    ensures { IfOk result (IsTried bytes.now packet.now question.now) }
+    ensures tried { IfOk result (IsTried bytes.now packet.now question.now) }
+    ensures fault { IfErr result (IsObjectFault bytes.now) }
 {
     match program_of(alloc, bytes) {
-        Ok(program) => told_of(alloc, bytes, packet, question, &program),
-        Err(fault) => Err(fault),
+        Some(program) => told_of(alloc, bytes, packet, question, &program),
+        None => Err(fault_in(alloc, bytes)),
     }
 }
 
@@ -172,8 +170,10 @@ fn try_bytes<'a, R: Files + AllocGlobal>(
     bytes: &[u8],
     question: &Question<'a>,
 ) -> Result<Report, Fault<'a>>
-    ensures { IfOk result (λ report. (bytes packet : List ℕ) × PacketIs question.now.packet packet
-        × IsTried bytes packet question.now report) }
+    ensures tried { IfOk result (λ report. (bytes packet : List ℕ)
+        × PacketIs question.now.packet packet × IsTried bytes packet question.now report) }
+    ensures fault { IfErr result (λ fault. IsPacketFault question.now.packet fault
+        ⊎ ((bytes : List ℕ) × IsObjectFault bytes fault)) }
 {
     match &question.packet {
         Packet::Bytes(packet) => trial_of(rt.alloc(), bytes, packet.as_slice(), question),
@@ -193,8 +193,11 @@ pub(crate) fn try_question<'a, R: Files + AllocGlobal>(
     path: &'a str,
     question: &Question<'a>,
 ) -> Result<Report, Fault<'a>>
-    ensures { IfOk result (λ report. (bytes packet : List ℕ) × PacketIs question.now.packet packet
-        × IsTried bytes packet question.now report) }
+    ensures tried { IfOk result (λ report. (bytes packet : List ℕ)
+        × PacketIs question.now.packet packet × IsTried bytes packet question.now report) }
+    ensures fault { IfErr result (λ fault. (fault ≡ Fault.Read path.entry)
+        ⊎ IsPacketFault question.now.packet fault
+        ⊎ ((bytes : List ℕ) × IsObjectFault bytes fault)) }
 {
     match files::read(rt, path) {
         Ok(bytes) => try_bytes(rt, bytes.as_slice(), question),

@@ -1,9 +1,8 @@
 use Rattle.std.proofs.Common.{inl, inr, refl}
-use Rattle.hooktool_commands.proofs.Ended.{ends_as_before}
 use Rattle.hooktool_commands.proofs.program.program.Goals as goal
 
 pub returns-in-Ok : goal.returns-in-Ok
-returns-in-Ok g c = record { ended = inl (c.in-Ok.request, c.in-Ok.ensures, (c.made_of-made.result, c.made_of-made.ensures.made, ends_as_before c.made_of-made.result _ _ _ _ c.made_of-made.ensures.same c.end.ensures), refl) }
+returns-in-Ok g c = record { ended = inl (c.in-Ok.request, c.in-Ok.ensures, c.carry_out.ensures, refl) }
 
 pub returns-in-Err : goal.returns-in-Err
 returns-in-Err g c = record { ended = inr (c.in-Err.error, c.in-Err.ensures, c.tell_words.ensures) }

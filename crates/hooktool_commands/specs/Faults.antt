@@ -1,0 +1,81 @@
+-- Which fault a request may end with, of the files that it names.
+use Rattle.std.specs.Prelude.{◌≡◌, ℕ, ◌⊎◌, List}
+use Rattle.isa.specs.declared.decoding.DecodeError.{DecodeError}
+use Rattle.isa.specs.declared.hook.Hook.{Hook}
+use Rattle.isa.specs.Hooks.{hook_name}
+use Rattle.isa.specs.Refusals as code
+use Rattle.object.specs.declared.error.ReadError.{ReadError}
+use Rattle.object.specs.Objects.{ObjectParts}
+use Rattle.object.specs.Spelling.{Spells}
+use Rattle.object.specs.Refusals as objects
+use Rattle.annotations.specs.Verdict.{IsFileShortfall}
+use Rattle.annotations.specs.declared.shortfall.Shortfall.{Shortfall}
+use Rattle.annotations.specs.declared.shortfall.Shortfall.TheVariants as shortfalls
+use Rattle.hooktool_line.specs.declared.requests.FuelAsked.{FuelAsked}
+use Rattle.hooktool_commands.specs.Annotations.{fuel_for}
+use Rattle.hooktool_commands.specs.Statuses.{fault_of_object, fault_of_refusal}
+use Rattle.hooktool_commands.specs.declared.building.Purpose.{Purpose}
+use Rattle.hooktool_commands.specs.declared.building.Purpose.TheVariants as purposes
+use Rattle.hooktool_commands.specs.declared.fault.Fault.{Fault}
+use Rattle.hooktool_commands.specs.declared.fault.Fault.TheVariants as faults
+
+-- the refusal of bytes that are no object file
+pub record IsObjectRefused (bytes : List ℕ) (fault : Fault) : Type 0 where
+  pub error : ReadError
+  pub refuses : objects.Refuses bytes error
+  pub told : fault ≡ fault_of_object error
+
+-- the refusal of an object file's code
+pub record IsCodeRefused (bytes : List ℕ) (fault : Fault) : Type 0 where
+  pub object : ObjectParts
+  pub spells : Spells bytes object
+  pub error : DecodeError
+  pub refuses : code.Refuses object.code error.slot error.kind
+  pub told : fault ≡ fault_of_refusal error
+
+-- Memory was refused, or the bytes hold no program.
+abbrev pub IsObjectFault : List ℕ → Fault → Type 0
+IsObjectFault bytes fault = (fault ≡ faults.Memory) ⊎ IsObjectRefused bytes fault
+    ⊎ IsCodeRefused bytes fault
+
+-- the line about an object for another hook
+abbrev pub NamesHook : Hook → Fault → Type 0
+NamesHook hook (faults.OtherHook name) = name.now ≡ hook_name hook
+NamesHook hook other = ⊥
+
+-- turns can't be counted, for some reason
+abbrev pub TellsNoCount : Fault → Type 0
+TellsNoCount (faults.Uncounted reason) = Unit {0}
+TellsNoCount other = ⊥
+
+-- the verifier refuses what was found
+abbrev pub IsByVerifier : Shortfall → Type 0
+IsByVerifier (shortfalls.Refused rejected endless) = Unit {0}
+IsByVerifier other = ⊥
+
+-- What is told where no object was found for a file, for this reason. A refusal by the verifier is
+-- reported, unless memory is refused.
+abbrev pub IsFaultOfShortfall : Shortfall → Fault → Type 0
+IsFaultOfShortfall (shortfalls.Code error) fault = fault ≡ fault_of_refusal error
+IsFaultOfShortfall (shortfalls.Object error) fault = fault ≡ fault_of_object error
+IsFaultOfShortfall (shortfalls.OtherHook hook) fault = NamesHook hook fault
+IsFaultOfShortfall (shortfalls.Uncounted error) fault = (fault ≡ faults.Memory) ⊎ TellsNoCount fault
+IsFaultOfShortfall other fault = fault ≡ faults.Memory
+
+-- Memory was refused, or there is such a reason.
+pub record IsUnfound (hook : Hook) (fuel : FuelAsked) (file : List ℕ) (fault : Fault)
+    : Type 0 where
+  pub shortfall : Shortfall
+  pub is_so : IsFileShortfall hook (fuel_for hook fuel) file shortfall
+  pub told : IsFaultOfShortfall shortfall fault
+
+abbrev pub IsAnnotationFault : Hook → FuelAsked → List ℕ → Fault → Type 0
+IsAnnotationFault hook fuel file fault = (fault ≡ faults.Memory) ⊎ IsUnfound hook fuel file fault
+
+-- the folder can't be written to, where objects are asked for
+abbrev pub IsUnwritable : Purpose → Fault → Type 0
+IsUnwritable (purposes.Object folder) fault = fault ≡ faults.Write folder
+IsUnwritable purposes.Explanation fault = ⊥
+
+abbrev pub IsBuildFault : Purpose → Fault → Type 0
+IsBuildFault purpose fault = (fault ≡ faults.Memory) ⊎ IsUnwritable purpose fault
