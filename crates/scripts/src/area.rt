@@ -15,7 +15,7 @@ use words::{Address, Route, RouterId, Second, Sequence};
 
 /// The database, the router that calculates its routes, and what was printed so far.
 #[derive(Drop)]
-pub struct Area {
+pub struct ScriptArea {
     alloc: Global,
     database: Lsdb,
     root: Root,
@@ -98,10 +98,10 @@ fn push_rest(text: &mut String, routes: &[Route]) -> Result<(), AllocError> {
     Ok(())
 }
 
-impl Area {
+impl ScriptArea {
     /// No LSA has come in.
-    pub fn new(alloc: Global, root: Root) -> Area {
-        Area {
+    pub fn new(alloc: Global, root: Root) -> ScriptArea {
+        ScriptArea {
             alloc,
             database: Lsdb::new(alloc, root.router),
             root,

@@ -51,7 +51,7 @@ pub enum Shown {
 
 /// A line.
 #[derive(Clone, Copy)]
-pub enum Line {
+pub enum ScriptLine {
     /// `MOMENT ..`: at this moment this happens.
     Happens(Second, Happening),
     Shows(Shown),
@@ -125,29 +125,29 @@ fn shown_by(name: &str) -> Option<Shown> {
 }
 
 // What two words say.
-fn of_two(first: &str, second: &str) -> Option<Line> {
+fn of_two(first: &str, second: &str) -> Option<ScriptLine> {
     match (first, second) {
-        ("announced", _) => Some(Line::Shows(Shown::Announced(read_prefix(second)?))),
-        (_, "tick") => Some(Line::Happens(moment(first)?, Happening::Tick)),
+        ("announced", _) => Some(ScriptLine::Shows(Shown::Announced(read_prefix(second)?))),
+        (_, "tick") => Some(ScriptLine::Happens(moment(first)?, Happening::Tick)),
         _ => None,
     }
 }
 
 // What four words say.
-fn of_four(first: &str, second: &str, third: &str, fourth: &str) -> Option<Line> {
+fn of_four(first: &str, second: &str, third: &str, fourth: &str) -> Option<ScriptLine> {
     if first == "lsa" {
-        return Some(Line::Shows(Shown::Lsa(key(second, third, fourth)?)));
+        return Some(ScriptLine::Shows(Shown::Lsa(key(second, third, fourth)?)));
     }
     let moment = moment(first)?;
-    Some(Line::Happens(moment, with_two(second, third, fourth)?))
+    Some(ScriptLine::Happens(moment, with_two(second, third, fourth)?))
 }
 
 /// What the words of a line say, if it is anything.
-pub fn line_of(words: &[&str]) -> Option<Line> {
+pub fn line_of(words: &[&str]) -> Option<ScriptLine> {
     match *words {
-        [a] => Some(Line::Shows(shown_by(a)?)),
+        [a] => Some(ScriptLine::Shows(shown_by(a)?)),
         [a, b] => of_two(a, b),
-        [a, b, c] => Some(Line::Happens(moment(a)?, with_one(b, c)?)),
+        [a, b, c] => Some(ScriptLine::Happens(moment(a)?, with_one(b, c)?)),
         [a, b, c, d] => of_four(a, b, c, d),
         _ => None,
     }

@@ -1,8 +1,8 @@
 //! The router of a script, played.
-use crate::area::{Area, bytes_of, root_of};
+use crate::area::{ScriptArea, bytes_of, root_of};
 use crate::beginning::{first_of, router_of};
 use crate::fault::ScriptError;
-use crate::line::{Happening, Line, Shown, line_of};
+use crate::line::{Happening, ScriptLine, Shown, line_of};
 use crate::operator::Operator;
 use crate::telling::{
     push_announced, push_answer, push_candidates, push_database, push_lsa, push_neighbors,
@@ -137,10 +137,10 @@ impl<R: Wait + Drop> Stage<R> {
     }
 
     // Does what a line says, whose last word is this; whether it could be done.
-    fn does(&mut self, line: Line, last: &str) -> Result<bool, AllocError> {
+    fn does(&mut self, line: ScriptLine, last: &str) -> Result<bool, AllocError> {
         match line {
-            Line::Happens(moment, happening) => self.happens(moment, happening, last),
-            Line::Shows(shown) => {
+            ScriptLine::Happens(moment, happening) => self.happens(moment, happening, last),
+            ScriptLine::Shows(shown) => {
                 self.show(shown)?;
                 Ok(true)
             }
@@ -238,7 +238,11 @@ impl<R: Wait + Drop> Stage<R> {
 }
 
 // Plays the lines of an area behind the first.
-fn play_area_lines(area: &mut Area, alloc: Global, lines: &[&str]) -> Result<(), ScriptError> {
+fn play_area_lines(
+    area: &mut ScriptArea,
+    alloc: Global,
+    lines: &[&str],
+) -> Result<(), ScriptError> {
     for (index, line) in lines.iter().enumerate() {
         let is_left_out = line.is_empty() || line.starts_with('#');
         let words: Vec<&str> = line.split(' ').collect(alloc)?;
@@ -254,7 +258,7 @@ fn play_area(alloc: Global, words: &[&str], lines: &[&str]) -> Result<String, Sc
     let Some(root) = root_of(alloc, words)? else {
         return Err(ScriptError::Line(1));
     };
-    let mut area = Area::new(alloc, root);
+    let mut area = ScriptArea::new(alloc, root);
     play_area_lines(&mut area, alloc, lines)?;
     Ok(area.told())
 }

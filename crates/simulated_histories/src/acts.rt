@@ -3,7 +3,7 @@ use simulated_networks::{Faults, Random};
 
 /// What is done with a network. Routers and destinations go by their places and numbers.
 #[derive(Clone, Copy)]
-pub enum Act {
+pub enum HistoryStep {
     /// The next packet that is under way comes; it is lost; it comes twice; or it comes after the
     /// one behind it.
     Comes,
@@ -27,39 +27,47 @@ pub enum Act {
     Calm(u32),
 }
 
-impl Act {
+impl HistoryStep {
     /// A simpler act that may do as well, if there is one.
-    pub fn simpler(self) -> Option<Act> {
+    pub fn simpler(self) -> Option<HistoryStep> {
         match self {
-            Act::Twice | Act::Exchanged | Act::Lost | Act::Again(_) => Some(Act::Comes),
-            Act::Tick(_) => Some(Act::Passes),
-            Act::Comes | Act::Passes => Some(Act::Calm(1)),
-            Act::Calm(seconds) if seconds > 1 => Some(Act::Calm(seconds.saturating_sub(1))),
+            HistoryStep::Twice
+            | HistoryStep::Exchanged
+            | HistoryStep::Lost
+            | HistoryStep::Again(_) => Some(HistoryStep::Comes),
+            HistoryStep::Tick(_) => Some(HistoryStep::Passes),
+            HistoryStep::Comes | HistoryStep::Passes => Some(HistoryStep::Calm(1)),
+            HistoryStep::Calm(seconds) if seconds > 1 => Some(HistoryStep::Calm(
+                seconds.saturating_sub(1),
+            )),
             _ => None,
         }
     }
 }
 
 // Where the one isn't asked for, a packet comes.
-fn if_asked(asked: bool, act: Act) -> Act {
-    if asked { act } else { Act::Comes }
+fn if_asked(asked: bool, act: HistoryStep) -> HistoryStep {
+    if asked { act } else { HistoryStep::Comes }
 }
 
-fn chosen_destination(random: &mut Random, place: u32, externals: u32) -> Act {
+fn chosen_destination(random: &mut Random, place: u32, externals: u32) -> HistoryStep {
     let number = random.below(externals);
     if random.below(2) == 0 {
-        Act::Announce(place, number)
+        HistoryStep::Announce(place, number)
     } else {
-        Act::Withdraw(place, number)
+        HistoryStep::Withdraw(place, number)
     }
 }
 
-fn chosen_rarely(random: &mut Random, place: u32, faults: &Faults, restarts: bool) -> Act {
+fn chosen_rarely(random: &mut Random, place: u32, faults: &Faults, restarts: bool) -> HistoryStep {
     match random.below(8) {
-        0 => Act::LinkDown(place, random.below(2).saturating_add(1)),
-        1 => if_asked(restarts && random.below(4) == 0, Act::Restart(place)),
-        2 => if_asked(faults.late > 0, Act::Exchanged),
-        _ => Act::Comes,
+        0 => HistoryStep::LinkDown(place, random.below(2).saturating_add(1)),
+        1 => if_asked(
+            restarts && random.below(4) == 0,
+            HistoryStep::Restart(place),
+        ),
+        2 => if_asked(faults.late > 0, HistoryStep::Exchanged),
+        _ => HistoryStep::Comes,
     }
 }
 
@@ -71,16 +79,16 @@ pub fn chosen(
     externals: u32,
     faults: &Faults,
     restarts: bool,
-) -> Act {
+) -> HistoryStep {
     let place = random.below(routers);
     match random.below(16) {
-        0 => if_asked(faults.loss > 0, Act::Lost),
-        1 => if_asked(faults.late > 0, Act::Again(random.below(32))),
-        2 => if_asked(faults.twice > 0, Act::Twice),
-        3 => Act::Tick(place),
-        4 | 5 => Act::Passes,
+        0 => if_asked(faults.loss > 0, HistoryStep::Lost),
+        1 => if_asked(faults.late > 0, HistoryStep::Again(random.below(32))),
+        2 => if_asked(faults.twice > 0, HistoryStep::Twice),
+        3 => HistoryStep::Tick(place),
+        4 | 5 => HistoryStep::Passes,
         6 => chosen_destination(random, place, externals),
         7 => chosen_rarely(random, place, faults, restarts),
-        _ => Act::Comes,
+        _ => HistoryStep::Comes,
     }
 }

@@ -1,5 +1,5 @@
 //! What is done with a network, second by second, in each scenario.
-use crate::plan::{Plan, Scenario};
+use crate::plan::{Scenario, ScenarioPlan};
 use simulated_networks::{NOBODY, Random, Topology, prefix};
 use std::alloc::Global;
 use std::mem::replace;
@@ -8,7 +8,7 @@ use words::Prefix;
 /// What is done with a network. Links and destinations go by their numbers, routers by their
 /// places.
 #[derive(Clone, Copy)]
-pub enum Deed {
+pub enum ScenarioStep {
     LinkUp(usize),
     /// A link goes down, and both ends are told or not.
     LinkDown(usize, bool),
@@ -26,13 +26,13 @@ pub struct Director<'a> {
     /// Memory was refused: something isn't done that should be.
     pub lacks_memory: bool,
     alloc: Global,
-    plan: &'a Plan,
+    plan: &'a ScenarioPlan,
     topology: &'a Topology,
     random: Random,
     // how long each link stays down yet
     down: Vec<u64>,
     // what is to be done, in this order
-    deeds: Vec<Deed>,
+    deeds: Vec<ScenarioStep>,
 }
 
 fn small(count: usize) -> u32 {
@@ -43,7 +43,7 @@ impl<'a> Director<'a> {
     /// Nobody announces any of so many destinations, and each link is up.
     pub fn new(
         alloc: Global,
-        plan: &'a Plan,
+        plan: &'a ScenarioPlan,
         topology: &'a Topology,
         random: Random,
         destinations: usize,
@@ -65,11 +65,11 @@ impl<'a> Director<'a> {
     }
 
     /// What is to be done now, and isn't asked for again.
-    pub fn take(&mut self) -> Vec<Deed> {
+    pub fn take(&mut self) -> Vec<ScenarioStep> {
         replace(&mut self.deeds, Vec::new(self.alloc))
     }
 
-    fn asks(&mut self, deed: Deed) {
+    fn asks(&mut self, deed: ScenarioStep) {
         if self.deeds.push(deed).is_err() {
             self.lacks_memory = true;
         }
@@ -86,7 +86,7 @@ impl<'a> Director<'a> {
     fn announces(&mut self, number: usize, place: usize) {
         if number < self.owners.len() {
             self.owners[number] = place;
-            self.asks(Deed::Announce(place, number));
+            self.asks(ScenarioStep::Announce(place, number));
         }
     }
 
@@ -94,7 +94,7 @@ impl<'a> Director<'a> {
         if number < self.owners.len() {
             self.owners[number] = NOBODY;
             if let Some(prefix) = prefix(small(number)) {
-                self.asks(Deed::Withdraw(place, prefix));
+                self.asks(ScenarioStep::Withdraw(place, prefix));
             }
         }
     }
@@ -124,7 +124,7 @@ impl<'a> Director<'a> {
     }
 
     fn restarts(&mut self, place: usize) {
-        self.asks(Deed::Restart(place));
+        self.asks(ScenarioStep::Restart(place));
         for number in 0..self.owners.len() {
             if self.owner(number) == place {
                 self.announces(number, place);
@@ -165,9 +165,9 @@ impl<'a> Director<'a> {
 
     fn sets_link(&mut self, link: usize, up: bool) {
         let deed = if up {
-            Deed::LinkUp(link)
+            ScenarioStep::LinkUp(link)
         } else {
-            Deed::LinkDown(link, true)
+            ScenarioStep::LinkDown(link, true)
         };
         self.asks(deed);
     }
@@ -200,7 +200,7 @@ impl<'a> Director<'a> {
         let left = self.left(number);
         self.set_left(number, left.saturating_sub(1));
         if left == 1 {
-            self.asks(Deed::LinkUp(number));
+            self.asks(ScenarioStep::LinkUp(number));
         }
     }
 
@@ -210,7 +210,7 @@ impl<'a> Director<'a> {
         let notice = self.random.below(2) == 0;
         if self.left(number) == 0 {
             self.set_left(number, seconds);
-            self.asks(Deed::LinkDown(number, notice));
+            self.asks(ScenarioStep::LinkDown(number, notice));
         }
     }
 
@@ -257,8 +257,8 @@ impl<'a> Director<'a> {
         let link = self.middle();
         match scenario {
             Scenario::Start => (),
-            Scenario::Link => self.asks(Deed::LinkDown(link, true)),
-            Scenario::Silent => self.asks(Deed::LinkDown(link, false)),
+            Scenario::Link => self.asks(ScenarioStep::LinkDown(link, true)),
+            Scenario::Silent => self.asks(ScenarioStep::LinkDown(link, false)),
             Scenario::Restart => self.restarts_in_the_middle(),
             Scenario::Flap => self.flaps(link, second),
             Scenario::Partition => self.parts(second),

@@ -12,8 +12,8 @@ mod play;
 mod run;
 mod search;
 
-pub use acts::{Act, chosen};
+pub use acts::{HistoryStep, chosen};
 pub use phase::{Look, Phase, Sum};
-pub use plan::{Plan, Scenario};
+pub use plan::{Scenario, ScenarioPlan};
 pub use run::{Outcome, play_scenario};
-pub use search::{Search, Sought, Stage};
+pub use search::{HistorySetting, Search, Sought};

@@ -1,5 +1,5 @@
 //! What is under way in a play, and has come.
-use crate::search::Stage;
+use crate::search::HistorySetting;
 use flood::{Event, Out};
 
 // What is under way to the router at a place, or has come.
@@ -12,7 +12,7 @@ pub struct Sent {
 /// All that was sent. What is refused for want of memory is left out.
 #[derive(Drop)]
 pub struct Mail<'a> {
-    pub stage: Stage<'a>,
+    pub stage: HistorySetting<'a>,
     pub packets: Vec<Sent>,
     /// What stands before this place has come, or was lost.
     pub at: usize,
@@ -22,7 +22,7 @@ pub struct Mail<'a> {
 
 impl<'a> Mail<'a> {
     /// Nothing yet.
-    pub fn new(stage: Stage<'a>) -> Mail<'a> {
+    pub fn new(stage: HistorySetting<'a>) -> Mail<'a> {
         Mail {
             stage,
             packets: Vec::new(stage.alloc),

@@ -1,5 +1,5 @@
 //! What was seen, second by second.
-use simulated_networks::Seen;
+use simulated_networks::TableFaults;
 use std::alloc::Global;
 
 /// What was seen at the end of a second.
@@ -11,7 +11,7 @@ pub struct Look {
     /// Links between Full neighbors whose databases differ; None where it wasn't looked at.
     pub differ: Option<usize>,
     /// What the tables say; None where they weren't looked at.
-    pub seen: Option<Seen>,
+    pub seen: Option<TableFaults>,
 }
 
 impl Look {

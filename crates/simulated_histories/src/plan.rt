@@ -1,5 +1,5 @@
 //! What is to be played.
-use simulated_networks::{Faults, Kind, Times};
+use simulated_networks::{Faults, InterfaceTimes, TopologyShape};
 
 /// What happens after the start.
 #[derive(Clone, Copy, PartialEq, Eq)]
@@ -39,15 +39,15 @@ impl Scenario {
 
 /// A network, and what happens to it.
 #[derive(Clone, Copy)]
-pub struct Plan {
-    pub topology: Kind,
+pub struct ScenarioPlan {
+    pub topology: TopologyShape,
     pub routers: u32,
     /// How many external destinations there are, and how many routers announce them.
     pub externals: u32,
     pub announcers: u32,
     /// Links cost 10 and less than so many more.
     pub spread: u32,
-    pub times: Times,
+    pub times: InterfaceTimes,
     pub faults: Faults,
     pub scenario: Scenario,
     pub seed: u64,

@@ -1,9 +1,9 @@
 //! Acts, played one by one.
-use crate::acts::Act;
+use crate::acts::HistoryStep;
 use crate::mail::Mail;
-use crate::search::Stage;
+use crate::search::HistorySetting;
 use flood::{Core, Event};
-use simulated_networks::{Fault, Link, Routers, Times, holds_the_same, prefix, sees_full};
+use simulated_networks::{Fault, InterfaceTimes, Link, Routers, holds_the_same, prefix, sees_full};
 use words::Route;
 
 // In a second there are fewer packets.
@@ -73,7 +73,7 @@ fn lead_to_each_other(one: &Side<'_>, other: &Side<'_>) -> Option<bool> {
 
 impl<'a> Play<'a> {
     /// The routers of the stage, which begin at 0.
-    pub fn new(stage: Stage<'a>, times: Times) -> Play<'a> {
+    pub fn new(stage: HistorySetting<'a>, times: InterfaceTimes) -> Play<'a> {
         Play {
             routers: Routers::new(stage.alloc, stage.topology, times),
             mail: Mail::new(stage),
@@ -186,33 +186,33 @@ impl<'a> Play<'a> {
     }
 
     // Does what is done at a single router.
-    fn does_at_one(&mut self, act: Act) {
+    fn does_at_one(&mut self, act: HistoryStep) {
         match act {
-            Act::Tick(place) => self.takes(place as usize, &Event::Tick),
-            Act::Announce(place, number) => self.announces(place as usize, number),
-            Act::Withdraw(place, number) => self.withdraws(place as usize, number),
-            Act::LinkDown(place, number) => self.goes_down(place as usize, number),
-            Act::Restart(place) => self.restarts(place as usize),
+            HistoryStep::Tick(place) => self.takes(place as usize, &Event::Tick),
+            HistoryStep::Announce(place, number) => self.announces(place as usize, number),
+            HistoryStep::Withdraw(place, number) => self.withdraws(place as usize, number),
+            HistoryStep::LinkDown(place, number) => self.goes_down(place as usize, number),
+            HistoryStep::Restart(place) => self.restarts(place as usize),
             _ => (),
         }
     }
 
     /// Does the act. What an act names and isn't there is left alone.
-    pub fn does(&mut self, act: Act) {
+    pub fn does(&mut self, act: HistoryStep) {
         match act {
-            Act::Comes => self.next_comes(),
-            Act::Lost => self.mail.goes_on(),
-            Act::Twice => self.next_comes_twice(),
-            Act::Exchanged => self.next_two_are_exchanged(),
-            Act::Again(back) => self.comes_again(back),
-            Act::Passes => self.passes(),
-            Act::Calm(seconds) => self.is_calm_for(seconds),
+            HistoryStep::Comes => self.next_comes(),
+            HistoryStep::Lost => self.mail.goes_on(),
+            HistoryStep::Twice => self.next_comes_twice(),
+            HistoryStep::Exchanged => self.next_two_are_exchanged(),
+            HistoryStep::Again(back) => self.comes_again(back),
+            HistoryStep::Passes => self.passes(),
+            HistoryStep::Calm(seconds) => self.is_calm_for(seconds),
             _ => self.does_at_one(act),
         }
     }
 
     /// Does one act after the other.
-    pub fn does_all(&mut self, acts: &[Act]) {
+    pub fn does_all(&mut self, acts: &[HistoryStep]) {
         for act in acts {
             self.does(*act);
         }

@@ -1,7 +1,7 @@
 //! A network from its start over a change to rest.
-use crate::director::{Deed, Director};
+use crate::director::{Director, ScenarioStep};
 use crate::phase::{Look, Phase};
-use crate::plan::{Plan, Scenario};
+use crate::plan::{Scenario, ScenarioPlan};
 use flood::Event;
 use simulated_networks::{Counts, Fault, Faults, Network, Random, Topology};
 use std::alloc::Global;
@@ -71,15 +71,15 @@ impl<'a> Run<'a> {
         }
     }
 
-    fn does(&mut self, deed: Deed) {
+    fn does(&mut self, deed: ScenarioStep) {
         match deed {
-            Deed::LinkUp(link) => self.network.link_up(link),
-            Deed::LinkDown(link, notice) => self.network.link_down(link, notice),
-            Deed::Announce(place, number) => self.announces(place, number),
-            Deed::Withdraw(place, prefix) => {
+            ScenarioStep::LinkUp(link) => self.network.link_up(link),
+            ScenarioStep::LinkDown(link, notice) => self.network.link_down(link, notice),
+            ScenarioStep::Announce(place, number) => self.announces(place, number),
+            ScenarioStep::Withdraw(place, prefix) => {
                 self.network.happens(place, &Event::Withdraw(prefix))
             }
-            Deed::Restart(place) => self.network.restarts(place),
+            ScenarioStep::Restart(place) => self.network.restarts(place),
         }
     }
 
@@ -127,7 +127,13 @@ impl<'a> Run<'a> {
 
     // A second of the scenario. Tells whether all has been calm for a while since the last act, or
     // memory was refused.
-    fn goes_on(&mut self, plan: &Plan, scenario: Scenario, now: u64, phase: &mut Phase) -> bool {
+    fn goes_on(
+        &mut self,
+        plan: &ScenarioPlan,
+        scenario: Scenario,
+        now: u64,
+        phase: &mut Phase,
+    ) -> bool {
         self.second(scenario, now);
         self.notes(now, plan.watches, phase);
         let is_over = now > scenario.last_act() && phase.has_settled_for(plan.stay);
@@ -135,7 +141,7 @@ impl<'a> Run<'a> {
     }
 
     // Seconds until all is calm for a while after the last act.
-    fn phase(&mut self, plan: &Plan, scenario: Scenario, phase: &mut Phase) {
+    fn phase(&mut self, plan: &ScenarioPlan, scenario: Scenario, phase: &mut Phase) {
         for before in 0..plan.seconds {
             if self.goes_on(plan, scenario, before.saturating_add(1), phase) {
                 return;
@@ -143,7 +149,7 @@ impl<'a> Run<'a> {
         }
     }
 
-    fn begins(&mut self, plan: &Plan) {
+    fn begins(&mut self, plan: &ScenarioPlan) {
         self.network.wires.faults = plan.faults;
         if plan.scenario != Scenario::Announce {
             self.director.announces_all();
@@ -160,7 +166,7 @@ impl<'a> Run<'a> {
         self.notes(seconds, true, phase);
     }
 
-    fn plays(&mut self, plan: &Plan, outcome: &mut Outcome) {
+    fn plays(&mut self, plan: &ScenarioPlan, outcome: &mut Outcome) {
         self.begins(plan);
         self.phase(plan, Scenario::Start, &mut outcome.start);
         if plan.scenario != Scenario::Start {
@@ -198,7 +204,7 @@ fn play_in(
     alloc: Global,
     topology: &Topology,
     random: Random,
-    plan: &Plan,
+    plan: &ScenarioPlan,
     events: &[Event],
     outcome: &mut Outcome,
 ) -> Option<Fault> {
@@ -218,7 +224,7 @@ fn play_in(
 
 fn play_into(
     alloc: Global,
-    plan: &Plan,
+    plan: &ScenarioPlan,
     events: &[Event],
     outcome: &mut Outcome,
 ) -> Result<(), Fault> {
@@ -235,7 +241,11 @@ fn play_into(
 ///
 /// # Errors
 /// Where memory is refused, or the times aren't allowed.
-pub fn play_scenario(alloc: Global, plan: &Plan, events: &[Event]) -> Result<Outcome, Fault> {
+pub fn play_scenario(
+    alloc: Global,
+    plan: &ScenarioPlan,
+    events: &[Event],
+) -> Result<Outcome, Fault> {
     let mut outcome = Outcome::new(alloc);
     match play_into(alloc, plan, events, &mut outcome) {
         Ok(()) => Ok(outcome),

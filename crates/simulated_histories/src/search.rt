@@ -3,10 +3,10 @@
 ghost use Rattle.std.specs.Prelude.{◌≡◌, ◌+◌, ◌<◌, ◌≤◌, ◌++◌, IfOk, IfSome, drop, if◌then◌else◌};
 ghost use Rattle.std.specs.Prelude.{length, slice_set, take, vec_len};
 
-use crate::acts::{Act, chosen};
+use crate::acts::{HistoryStep, chosen};
 use crate::play::Play;
 use flood::Event;
-use simulated_networks::{Fault, Faults, Random, Times, Topology};
+use simulated_networks::{Fault, Faults, InterfaceTimes, Random, Topology};
 use std::alloc::{AllocError, Global};
 
 /// What a history is to end with, after calm seconds.
@@ -24,7 +24,7 @@ pub struct Search {
     pub sought: Sought,
     pub routers: u32,
     pub externals: u32,
-    pub times: Times,
+    pub times: InterfaceTimes,
     /// Which of these may happen to packets: each that isn't 0.
     pub faults: Faults,
     /// Routers may begin anew.
@@ -37,7 +37,7 @@ pub struct Search {
 
 /// Where histories are played: the routers, and the announcements of the destinations.
 #[derive(Clone, Copy)]
-pub struct Stage<'a> {
+pub struct HistorySetting<'a> {
     pub alloc: Global,
     pub topology: &'a Topology,
     pub events: &'a [Event],
@@ -59,7 +59,12 @@ const PARTS: [usize; 10] = [512, 256, 128, 64, 32, 16, 8, 4, 2, 1];
 const TURNS: u32 = 8;
 
 // The acts without so many from a place on.
-fn without(alloc: Global, acts: &[Act], from: usize, many: usize) -> Result<Vec<Act>, AllocError>
+fn without(
+    alloc: Global,
+    acts: &[HistoryStep],
+    from: usize,
+    many: usize,
+) -> Result<Vec<HistoryStep>, AllocError>
     requires { from ≤ length acts.now }
     ensures kept { IfOk result (λ kept. kept.items ≡ take from acts.now
         ++ drop (from + many) acts.now) }
@@ -73,7 +78,12 @@ fn without(alloc: Global, acts: &[Act], from: usize, many: usize) -> Result<Vec<
 }
 
 // The acts with another one at a place.
-fn with_other(alloc: Global, acts: &[Act], place: usize, other: Act) -> Result<Vec<Act>, AllocError>
+fn with_other(
+    alloc: Global,
+    acts: &[HistoryStep],
+    place: usize,
+    other: HistoryStep,
+) -> Result<Vec<HistoryStep>, AllocError>
     requires { place < length acts.now }
     ensures kept { IfOk result (λ kept. kept.items ≡ slice_set acts.now place other) }
     ensures as_many { IfOk result (λ kept. vec_len kept ≡ length acts.now) }
@@ -88,12 +98,12 @@ impl Search {
     ///
     /// # Errors
     /// Where memory is refused.
-    pub fn history(&self, alloc: Global, seed: u64) -> Result<Vec<Act>, AllocError>
+    pub fn history(&self, alloc: Global, seed: u64) -> Result<Vec<HistoryStep>, AllocError>
         ensures { IfOk result (λ acts. vec_len acts ≡ self.now.steps + 1) }
     {
         let mut random = Random::new(seed);
         let mut acts = Vec::new(alloc);
-        acts.push(Act::Calm(15))?;
+        acts.push(HistoryStep::Calm(15))?;
         for _ in 0..self.steps {
             let act = self.next_act(&mut random);
             acts.push(act)?;
@@ -101,7 +111,7 @@ impl Search {
         Ok(acts)
     }
 
-    fn next_act(&self, random: &mut Random) -> Act {
+    fn next_act(&self, random: &mut Random) -> HistoryStep {
         chosen(
             random,
             self.routers,
@@ -112,9 +122,9 @@ impl Search {
     }
 
     // Whether the play ends with what is sought.
-    fn is_seen(&self, play: &mut Play<'_>, acts: &[Act]) -> bool {
+    fn is_seen(&self, play: &mut Play<'_>, acts: &[HistoryStep]) -> bool {
         play.does_all(acts);
-        play.does(Act::Calm(self.calm));
+        play.does(HistoryStep::Calm(self.calm));
         match self.sought {
             Sought::Databases => play.differ(),
             Sought::Loops => play.loop_between_two(),
@@ -125,7 +135,7 @@ impl Search {
     ///
     /// # Errors
     /// Where memory is refused, or the times aren't allowed.
-    pub fn shows(&self, stage: Stage<'_>, acts: &[Act]) -> Result<bool, Fault> {
+    pub fn shows(&self, stage: HistorySetting<'_>, acts: &[HistoryStep]) -> Result<bool, Fault> {
         let mut play = Play::new(stage, self.times);
         let seen = self.is_seen(&mut play, acts);
         let fault = play.fault();
@@ -137,7 +147,7 @@ impl Search {
     }
 
     // Tells whether the history ends with what is sought; not where something stopped the turn.
-    fn shows_yet(&self, stage: Stage<'_>, acts: &[Act], turn: &mut Turn) -> bool {
+    fn shows_yet(&self, stage: HistorySetting<'_>, acts: &[HistoryStep], turn: &mut Turn) -> bool {
         if turn.fault.is_some() {
             return false;
         }
@@ -154,8 +164,8 @@ impl Search {
     // whether.
     fn leaves_out(
         &self,
-        stage: Stage<'_>,
-        kept: &mut Vec<Act>,
+        stage: HistorySetting<'_>,
+        kept: &mut Vec<HistoryStep>,
         from: usize,
         many: usize,
         turn: &mut Turn,
@@ -180,7 +190,13 @@ impl Search {
 
     // Takes parts of so many acts out one after the other, each where the rest still shows what is
     // sought.
-    fn leave_out(&self, stage: Stage<'_>, kept: &mut Vec<Act>, many: usize, turn: &mut Turn)
+    fn leave_out(
+        &self,
+        stage: HistorySetting<'_>,
+        kept: &mut Vec<HistoryStep>,
+        many: usize,
+        turn: &mut Turn,
+    )
         ensures { vec_len kept.new ≤ vec_len kept.old }
     {
         let mut from = 0_usize;
@@ -195,7 +211,14 @@ impl Search {
     }
 
     // Puts this act at the place, if the history still shows what is sought.
-    fn puts(&self, stage: Stage<'_>, kept: &mut Vec<Act>, place: usize, act: Act, turn: &mut Turn)
+    fn puts(
+        &self,
+        stage: HistorySetting<'_>,
+        kept: &mut Vec<HistoryStep>,
+        place: usize,
+        act: HistoryStep,
+        turn: &mut Turn,
+    )
         requires { place < vec_len kept.old }
         ensures { vec_len kept.new ≡ vec_len kept.old }
     {
@@ -211,7 +234,7 @@ impl Search {
     }
 
     // Puts a simpler act at each place, where the history still shows what is sought.
-    fn make_simpler(&self, stage: Stage<'_>, kept: &mut Vec<Act>, turn: &mut Turn)
+    fn make_simpler(&self, stage: HistorySetting<'_>, kept: &mut Vec<HistoryStep>, turn: &mut Turn)
         ensures { vec_len kept.new ≡ vec_len kept.old }
     {
         for place in 0..kept.len() {
@@ -221,7 +244,7 @@ impl Search {
         }
     }
 
-    fn shorten_once(&self, stage: Stage<'_>, kept: &mut Vec<Act>, turn: &mut Turn)
+    fn shorten_once(&self, stage: HistorySetting<'_>, kept: &mut Vec<HistoryStep>, turn: &mut Turn)
         ensures { vec_len kept.new ≤ vec_len kept.old }
     {
         for many in &PARTS {
@@ -236,7 +259,11 @@ impl Search {
     ///
     /// # Errors
     /// Where memory is refused, or the times aren't allowed.
-    pub fn shorten(&self, stage: Stage<'_>, kept: &mut Vec<Act>) -> Result<(), Fault>
+    pub fn shorten(
+        &self,
+        stage: HistorySetting<'_>,
+        kept: &mut Vec<HistoryStep>,
+    ) -> Result<(), Fault>
         ensures { vec_len kept.new ≤ vec_len kept.old }
     {
         for _ in 0..TURNS {
@@ -255,7 +282,11 @@ impl Search {
     }
 
     // Makes the history shorter, if it shows what is sought. Tells whether it does.
-    fn shorten_shown(&self, stage: Stage<'_>, kept: &mut Vec<Act>) -> Result<bool, Fault>
+    fn shorten_shown(
+        &self,
+        stage: HistorySetting<'_>,
+        kept: &mut Vec<HistoryStep>,
+    ) -> Result<bool, Fault>
         ensures { vec_len kept.new ≤ vec_len kept.old }
     {
         let shown = self.shows(stage, kept.as_slice())?;
@@ -269,7 +300,11 @@ impl Search {
     ///
     /// # Errors
     /// Where memory is refused, or the times aren't allowed.
-    pub fn found(&self, stage: Stage<'_>, seed: u64) -> Result<Option<Vec<Act>>, Fault>
+    pub fn found(
+        &self,
+        stage: HistorySetting<'_>,
+        seed: u64,
+    ) -> Result<Option<Vec<HistoryStep>>, Fault>
         ensures { IfOk result (λ found. IfSome found (λ acts. vec_len acts ≤ self.now.steps + 1)) }
     {
         let mut acts = self.history(stage.alloc, seed)?;

@@ -2,9 +2,9 @@
 use crate::counts::{add, is_update};
 use crate::fault::Fault;
 use crate::readings::Readings;
-use crate::router::Times;
+use crate::router::InterfaceTimes;
 use crate::routers::Routers;
-use crate::seen::Seen;
+use crate::seen::TableFaults;
 use crate::topology::Topology;
 use crate::wires::Wires;
 use flood::Event;
@@ -35,7 +35,12 @@ fn may_change_tables(event: &Event) -> bool {
 impl<'a> Network<'a> {
     /// The routers of the topology, which begin at 0 and know nothing, with the numbers of this
     /// seed. Nothing is lost, late or repeated.
-    pub fn new(alloc: Global, topology: &'a Topology, times: Times, seed: u64) -> Network<'a> {
+    pub fn new(
+        alloc: Global,
+        topology: &'a Topology,
+        times: InterfaceTimes,
+        seed: u64,
+    ) -> Network<'a> {
         Network {
             routers: Routers::new(alloc, topology, times),
             wires: Wires::new(alloc, topology, seed),
@@ -155,7 +160,7 @@ impl<'a> Network<'a> {
 
     /// What the tables of all routers say now, where each external destination is announced by the
     /// router at this place.
-    pub fn see(&mut self, owners: &[usize]) -> Seen {
+    pub fn see(&mut self, owners: &[usize]) -> TableFaults {
         let links = self.wires.topology.links.len();
         let prefixes = links.wrapping_add(owners.len());
         self.readings.set_prefixes(prefixes);

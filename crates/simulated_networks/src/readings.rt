@@ -1,7 +1,7 @@
 //! What was last read off all routers, and what it says together.
 use crate::addresses::number_at;
-use crate::seen::Seen;
-use crate::topology::End;
+use crate::seen::TableFaults;
+use crate::topology::FarEnd;
 use crate::ways::{HERE, NO_COST, NONE, way_at, way_of};
 use crate::wires::Wires;
 use forwarding_loops::{Link, Way, count_looping};
@@ -182,7 +182,7 @@ impl Readings {
         number: usize,
         owner: usize,
         is_there: bool,
-    ) -> Seen {
+    ) -> TableFaults {
         let mut ways = Vec::new(self.alloc);
         let fits = self.add_ways(&mut ways, number, owner);
         let mut seen = see_ways(wires, &ways, is_there);
@@ -193,9 +193,9 @@ impl Readings {
         seen
     }
 
-    fn see_all(&mut self, wires: &Wires<'_>, up: &[Link], owners: &[usize]) -> Seen {
+    fn see_all(&mut self, wires: &Wires<'_>, up: &[Link], owners: &[usize]) -> TableFaults {
         let links = wires.topology.links.len();
-        let mut seen = Seen::NOTHING;
+        let mut seen = TableFaults::NOTHING;
         for number in 0..links {
             seen.add(&self.see_prefix(wires, up, number, NOBODY, true));
         }
@@ -208,7 +208,7 @@ impl Readings {
 
     /// What the tables of all routers say, where each external destination is announced by the
     /// router at this place.
-    pub fn see(&mut self, wires: &Wires<'_>, owners: &[usize]) -> Seen {
+    pub fn see(&mut self, wires: &Wires<'_>, owners: &[usize]) -> TableFaults {
         let mut up = Vec::new(self.alloc);
         if !wires.add_links_up(&mut up) {
             self.lacks_memory = true;
@@ -218,7 +218,7 @@ impl Readings {
 }
 
 // What a next hop of the way leads to.
-fn see_hop(wires: &Wires<'_>, ways: &[Way], way: &Way, end: &End, seen: &mut Seen) {
+fn see_hop(wires: &Wires<'_>, ways: &[Way], way: &Way, end: &FarEnd, seen: &mut TableFaults) {
     let cost = way_at(ways, end.place).cost;
     if !wires.is_up(end.link) || cost == NO_COST {
         seen.nowhere = 1;
@@ -228,7 +228,7 @@ fn see_hop(wires: &Wires<'_>, ways: &[Way], way: &Way, end: &End, seen: &mut See
 }
 
 // What the next hops of the way lead to.
-fn see_hops(wires: &Wires<'_>, ways: &[Way], way: &Way, ends: &[End], seen: &mut Seen) {
+fn see_hops(wires: &Wires<'_>, ways: &[Way], way: &Way, ends: &[FarEnd], seen: &mut TableFaults) {
     let mut interface = 0_u8;
     for end in ends {
         interface = interface.saturating_add(1);
@@ -239,8 +239,8 @@ fn see_hops(wires: &Wires<'_>, ways: &[Way], way: &Way, ends: &[End], seen: &mut
 }
 
 // What the router's way says: each count is 0 or 1.
-fn see_way(wires: &Wires<'_>, ways: &[Way], place: usize, is_there: bool) -> Seen {
-    let mut seen = Seen::NOTHING;
+fn see_way(wires: &Wires<'_>, ways: &[Way], place: usize, is_there: bool) -> TableFaults {
+    let mut seen = TableFaults::NOTHING;
     let way = way_at(ways, place);
     if way.cost == NO_COST {
         seen.missing = u64::from(is_there);
@@ -253,8 +253,8 @@ fn see_way(wires: &Wires<'_>, ways: &[Way], place: usize, is_there: bool) -> See
 
 // How many routers' ways lead nowhere, are missing, have another cost, or are there though nobody
 // announces the prefix.
-fn see_ways(wires: &Wires<'_>, ways: &[Way], is_there: bool) -> Seen {
-    let mut seen = Seen::NOTHING;
+fn see_ways(wires: &Wires<'_>, ways: &[Way], is_there: bool) -> TableFaults {
+    let mut seen = TableFaults::NOTHING;
     for place in 0..ways.len() {
         seen.add(&see_way(wires, ways, place, is_there));
     }

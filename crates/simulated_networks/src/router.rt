@@ -1,7 +1,7 @@
 //! Routers as they begin, what is read off one, and what two of them have in common.
 use crate::addresses::on_link;
 use crate::fault::Fault;
-use crate::topology::End;
+use crate::topology::FarEnd;
 use flood::{Config, Core, Interface, State};
 use lsa::Header;
 use std::alloc::Global;
@@ -9,7 +9,7 @@ use words::{Address, Hops, Key, RouterId, Second, Sequence};
 
 /// The times of all interfaces, in seconds.
 #[derive(Clone, Copy)]
-pub struct Times {
+pub struct InterfaceTimes {
     pub hello: u16,
     pub dead: u32,
     pub retransmit: u16,
@@ -21,13 +21,13 @@ fn router_at(place: usize) -> RouterId {
 }
 
 // The end of a link at the router with the lower place has its first address.
-fn address(end: &End, place: usize) -> Address {
+fn address(end: &FarEnd, place: usize) -> Address {
     let number = u32::try_from(end.link).unwrap_or(0);
     let host = if place < end.place { 1 } else { 2 };
     on_link(number, host)
 }
 
-fn interface(end: &End, place: usize, times: Times) -> Interface {
+fn interface(end: &FarEnd, place: usize, times: InterfaceTimes) -> Interface {
     Interface {
         address: address(end, place),
         length: 30,
@@ -40,7 +40,12 @@ fn interface(end: &End, place: usize, times: Times) -> Interface {
 }
 
 // False where memory is refused.
-fn add_interfaces(list: &mut Vec<Interface>, ends: &[End], place: usize, times: Times) -> bool {
+fn add_interfaces(
+    list: &mut Vec<Interface>,
+    ends: &[FarEnd],
+    place: usize,
+    times: InterfaceTimes,
+) -> bool {
     let mut fits = true;
     for end in ends {
         fits = list.push(interface(end, place, times)).is_ok() && fits;
@@ -58,9 +63,9 @@ fn configured(alloc: Global, config: &Config) -> Result<Core, Fault> {
 /// The router at a place as it begins at this moment.
 pub fn begun(
     alloc: Global,
-    ends: &[End],
+    ends: &[FarEnd],
     place: usize,
-    times: Times,
+    times: InterfaceTimes,
     moment: u64,
 ) -> Result<Core, Fault> {
     let mut interfaces = Vec::new(alloc);

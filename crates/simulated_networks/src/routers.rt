@@ -1,7 +1,7 @@
 //! The routers of a network.
 use crate::fault::Fault;
-use crate::router::{Times, begun, fulls_of, print_of};
-use crate::topology::{End, Topology};
+use crate::router::{InterfaceTimes, begun, fulls_of, print_of};
+use crate::topology::{FarEnd, Topology};
 use flood::{Core, CoreError, Event, Out};
 use std::alloc::{AllocError, AllocFailed, Global};
 use std::mem::replace;
@@ -15,13 +15,13 @@ pub struct Routers {
     /// How many events were refused.
     pub refused: u64,
     alloc: Global,
-    times: Times,
+    times: InterfaceTimes,
     cores: Vec<Core>,
 }
 
 impl Routers {
     /// Those of the topology, which begin at 0.
-    pub fn new(alloc: Global, topology: &Topology, times: Times) -> Routers {
+    pub fn new(alloc: Global, topology: &Topology, times: InterfaceTimes) -> Routers {
         let mut routers = Routers {
             fault: None,
             refused: 0,
@@ -35,7 +35,7 @@ impl Routers {
         routers
     }
 
-    fn add(&mut self, ends: &[End]) {
+    fn add(&mut self, ends: &[FarEnd]) {
         match begun(self.alloc, ends, self.cores.len(), self.times, 0) {
             Ok(core) => self.keep(core),
             Err(fault) => self.fault = Some(fault),

@@ -3,7 +3,7 @@ use crate::counts::add;
 
 /// How many pairs of a router and a prefix show this.
 #[derive(Clone, Copy)]
-pub struct Seen {
+pub struct TableFaults {
     /// A walk over next hops comes back to the router.
     pub looping: u64,
     /// A next hop leads over a link that is down, or to a router that has no route.
@@ -16,9 +16,9 @@ pub struct Seen {
     pub stray: u64,
 }
 
-impl Seen {
+impl TableFaults {
     /// All tables are those of the rules.
-    pub const NOTHING: Seen = Seen {
+    pub const NOTHING: TableFaults = TableFaults {
         looping: 0,
         nowhere: 0,
         missing: 0,
@@ -32,7 +32,7 @@ impl Seen {
     }
 
     /// Both together.
-    pub fn add(&mut self, more: &Seen) {
+    pub fn add(&mut self, more: &TableFaults) {
         add(&mut self.looping, more.looping);
         add(&mut self.nowhere, more.nowhere);
         add(&mut self.missing, more.missing);

@@ -6,7 +6,7 @@ use std::alloc::{AllocError, Global};
 /// What an interface of a router leads to: the router at a place, over a link, at an interface
 /// there.
 #[derive(Clone, Copy)]
-pub struct End {
+pub struct FarEnd {
     pub place: usize,
     pub interface: u8,
     pub link: usize,
@@ -15,7 +15,7 @@ pub struct End {
 
 /// The shape of a network.
 #[derive(Clone, Copy)]
-pub enum Kind {
+pub enum TopologyShape {
     /// Squares, as wide as the root of the number of routers.
     Grid,
     Row,
@@ -30,7 +30,7 @@ pub enum Kind {
 #[derive(Drop)]
 pub struct Topology {
     /// For each router its interfaces, of which the first has number 1.
-    pub ends: Vec<Vec<End>>,
+    pub ends: Vec<Vec<FarEnd>>,
     pub links: Vec<Link>,
     // costs are 10 and less than so many more
     spread: u32,
@@ -50,7 +50,7 @@ impl Topology {
     pub fn new(
         alloc: Global,
         random: &mut Random,
-        kind: Kind,
+        kind: TopologyShape,
         routers: usize,
         spread: u32,
     ) -> Result<Topology, AllocError> {
@@ -68,26 +68,26 @@ impl Topology {
         }
     }
 
-    fn grow(&mut self, alloc: Global, random: &mut Random, kind: Kind, routers: usize) {
+    fn grow(&mut self, alloc: Global, random: &mut Random, kind: TopologyShape, routers: usize) {
         let half = half_of(routers);
         let count = match kind {
-            Kind::FatTree => half.wrapping_mul(half).wrapping_mul(5),
+            TopologyShape::FatTree => half.wrapping_mul(half).wrapping_mul(5),
             _ => routers,
         };
         self.add_routers(alloc, count);
         match kind {
-            Kind::Grid => self.join_grid(random, count, count.isqrt()),
+            TopologyShape::Grid => self.join_grid(random, count, count.isqrt()),
             // a row is a grid that is as wide as it has routers
-            Kind::Row => self.join_grid(random, count, count),
-            Kind::Ring => self.join_ring(random, count),
-            Kind::FatTree => self.join_pods(random, half),
-            Kind::Random => self.join_any(random, count),
+            TopologyShape::Row => self.join_grid(random, count, count),
+            TopologyShape::Ring => self.join_ring(random, count),
+            TopologyShape::FatTree => self.join_pods(random, half),
+            TopologyShape::Random => self.join_any(random, count),
         }
     }
 
     fn add_routers(&mut self, alloc: Global, count: usize) {
         for _place in 0..count {
-            let none: Vec<End> = Vec::new(alloc);
+            let none: Vec<FarEnd> = Vec::new(alloc);
             if self.ends.push(none).is_err() {
                 self.lacks_memory = true;
             }
@@ -95,7 +95,7 @@ impl Topology {
     }
 
     /// What the router's interfaces lead to; nothing, where there is no router.
-    pub fn ends_of(&self, place: usize) -> &[End] {
+    pub fn ends_of(&self, place: usize) -> &[FarEnd] {
         if place < self.ends.len() {
             self.ends[place].as_slice()
         } else {
@@ -104,7 +104,7 @@ impl Topology {
     }
 
     /// What the router's interface of this number leads to.
-    pub fn end(&self, place: usize, interface: u16) -> Option<End> {
+    pub fn end(&self, place: usize, interface: u16) -> Option<FarEnd> {
         let ends = self.ends_of(place);
         ends.get(usize::from(interface).wrapping_sub(1)).copied()
     }
@@ -120,7 +120,7 @@ impl Topology {
         u8::try_from(self.ends_of(place).len().wrapping_add(1)).unwrap_or(1)
     }
 
-    fn add_end(&mut self, place: usize, end: End) {
+    fn add_end(&mut self, place: usize, end: FarEnd) {
         if place < self.ends.len() && self.ends[place].push(end).is_err() {
             self.lacks_memory = true;
         }
@@ -130,7 +130,7 @@ impl Topology {
         let cost = u16::try_from(random.below(self.spread).wrapping_add(10)).unwrap_or(10);
         let one_interface = self.next_interface(one);
         let other_interface = self.next_interface(other);
-        let mut end = End {
+        let mut end = FarEnd {
             place: other,
             interface: other_interface,
             link: self.links.len(),
@@ -207,7 +207,7 @@ impl Topology {
     }
 }
 
-fn lead_to(ends: &[End], place: usize) -> bool {
+fn lead_to(ends: &[FarEnd], place: usize) -> bool {
     for end in ends {
         if end.place == place {
             return true;

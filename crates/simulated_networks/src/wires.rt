@@ -1,7 +1,7 @@
 //! What is under way over the links, and what becomes of it.
 use crate::counts::{Counts, add};
 use crate::random::{Faults, Random};
-use crate::topology::{End, Topology};
+use crate::topology::{FarEnd, Topology};
 use flood::{Event, Out};
 use forwarding_loops::Link;
 use std::alloc::Global;
@@ -100,7 +100,7 @@ impl<'a> Wires<'a> {
         }
     }
 
-    fn goes(&mut self, end: &End, event: Event) {
+    fn goes(&mut self, end: &FarEnd, event: Event) {
         let due = self.due();
         self.put(Coming {
             place: end.place,
@@ -110,7 +110,7 @@ impl<'a> Wires<'a> {
         });
     }
 
-    fn goes_again(&mut self, end: &End, event: &Event) {
+    fn goes_again(&mut self, end: &FarEnd, event: &Event) {
         match event.copy() {
             Ok(copy) => self.goes(end, copy),
             Err(_) => self.lacks_memory = true,
@@ -118,7 +118,7 @@ impl<'a> Wires<'a> {
     }
 
     // What goes out to an end, and isn't lost.
-    fn goes_out(&mut self, end: &End, event: Event) {
+    fn goes_out(&mut self, end: &FarEnd, event: Event) {
         if self.random.happens(self.faults.twice) {
             self.goes_again(end, &event);
         }

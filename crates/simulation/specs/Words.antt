@@ -3,10 +3,10 @@ use Rattle.std.specs.Prelude.{◌≡◌, ◌≤◌, ℕ, Option, Some, None, cod
 use Rattle.clap.specs.Walk.{Text}
 use Rattle.simulated_histories.specs.declared.plan.Scenario.{Scenario}
 use Rattle.simulated_histories.specs.declared.plan.Scenario.TheVariants as scenarios
-use Rattle.simulated_networks.specs.declared.topology.Kind.{Kind}
-use Rattle.simulated_networks.specs.declared.topology.Kind.TheVariants as kinds
+use Rattle.simulated_networks.specs.declared.topology.TopologyShape.{TopologyShape}
+use Rattle.simulated_networks.specs.declared.topology.TopologyShape.TheVariants as kinds
 
-abbrev pub topology_word : Kind → Text
+abbrev pub topology_word : TopologyShape → Text
 topology_word kinds.Grid = codes "grid"
 topology_word kinds.Row = codes "row"
 topology_word kinds.Ring = codes "ring"

@@ -1,8 +1,8 @@
 //! What is printed for programs: an object of JSON on one line.
 use crate::names::{scenario_word, topology_word};
 use crate::page::Page;
-use simulated_histories::{Look, Outcome, Phase, Plan};
-use simulated_networks::{Counts, Seen};
+use simulated_histories::{Look, Outcome, Phase, ScenarioPlan};
+use simulated_networks::{Counts, TableFaults};
 use std::io::Write;
 
 const PLAN: &str = concat!(
@@ -17,7 +17,7 @@ const COUNTS: &str = concat!(
 
 const SEEN: &str = r#","looping":{},"nowhere":{},"missing":{},"other_cost":{},"stray":{}"#;
 
-fn write_seen<O: Write>(page: &mut Page<O>, seen: &Seen) {
+fn write_seen<O: Write>(page: &mut Page<O>, seen: &TableFaults) {
     let numbers = [
         seen.looping,
         seen.nowhere,
@@ -72,7 +72,7 @@ fn write_counts<O: Write>(page: &mut Page<O>, counts: &Counts, walks: u64) {
 }
 
 // The network that is played, and what may become of packets.
-fn write_plan<O: Write>(page: &mut Page<O>, plan: &Plan) {
+fn write_plan<O: Write>(page: &mut Page<O>, plan: &ScenarioPlan) {
     let words = [scenario_word(plan.scenario), topology_word(plan.topology)];
     let numbers = [
         plan.spread,
@@ -98,7 +98,7 @@ fn write_outcome<O: Write>(page: &mut Page<O>, outcome: &Outcome) {
 }
 
 /// Writes what came of a plan for one seed.
-pub fn write_run<O: Write>(page: &mut Page<O>, plan: &Plan, outcome: &Outcome) {
+pub fn write_run<O: Write>(page: &mut Page<O>, plan: &ScenarioPlan, outcome: &Outcome) {
     write_plan(page, plan);
     write_outcome(page, outcome);
     write_phase(page, "start", &outcome.start);

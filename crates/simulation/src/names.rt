@@ -1,36 +1,36 @@
 //! The words of topologies and scenarios.
 ghost use Rattle.std.specs.Prelude.{◌≡◌, IfSome, Some};
-ghost use Rattle.simulated_networks.specs.declared.topology.Kind.{Kind};
+ghost use Rattle.simulated_networks.specs.declared.topology.TopologyShape.{TopologyShape};
 ghost use Rattle.simulated_histories.specs.declared.plan.Scenario.{Scenario};
 ghost use Rattle.simulation.specs.Words.{scenario_word, topology_word};
 
 use simulated_histories::Scenario;
-use simulated_networks::Kind;
+use simulated_networks::TopologyShape;
 
 /// The word of a topology.
-pub fn topology_word(kind: Kind) -> &'static str
+pub fn topology_word(kind: TopologyShape) -> &'static str
     ensures { result.now ≡ topology_word kind }
 {
     match kind {
-        Kind::Grid => "grid",
-        Kind::Row => "row",
-        Kind::Ring => "ring",
-        Kind::FatTree => "fat-tree",
-        Kind::Random => "random",
+        TopologyShape::Grid => "grid",
+        TopologyShape::Row => "row",
+        TopologyShape::Ring => "ring",
+        TopologyShape::FatTree => "fat-tree",
+        TopologyShape::Random => "random",
     }
 }
 
 /// The topology of a word.
-pub fn topology_of(word: &str) -> Option<Kind>
+pub fn topology_of(word: &str) -> Option<TopologyShape>
     ensures found { IfSome result (λ kind. word.now ≡ topology_word kind) }
-    ensures only { (kind : Kind) → word.now ≡ topology_word kind → result ≡ Some kind }
+    ensures only { (kind : TopologyShape) → word.now ≡ topology_word kind → result ≡ Some kind }
 {
     match word {
-        "grid" => Some(Kind::Grid),
-        "row" => Some(Kind::Row),
-        "ring" => Some(Kind::Ring),
-        "fat-tree" => Some(Kind::FatTree),
-        "random" => Some(Kind::Random),
+        "grid" => Some(TopologyShape::Grid),
+        "row" => Some(TopologyShape::Row),
+        "ring" => Some(TopologyShape::Ring),
+        "fat-tree" => Some(TopologyShape::FatTree),
+        "random" => Some(TopologyShape::Random),
         _ => None,
     }
 }

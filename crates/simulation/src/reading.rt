@@ -2,14 +2,14 @@
 ghost use Rattle.std.specs.Prelude.{◌≡◌, ◌≤◌, IfOk, codes};
 ghost use Rattle.clap.specs.Matches.{found_of, first_value};
 ghost use Rattle.simulated_histories.specs.declared.plan.Scenario.{Scenario};
-ghost use Rattle.simulated_networks.specs.declared.topology.Kind.{Kind};
+ghost use Rattle.simulated_networks.specs.declared.topology.TopologyShape.{TopologyShape};
 ghost use Rattle.simulation.specs.Words.{IsNumber, OrElse, scenario_word, topology_word};
 
 use crate::names::{scenario_of, topology_of};
 use address_texts::read_within;
 use clap::ArgMatches;
 use simulated_histories::Scenario;
-use simulated_networks::{Faults, Kind, Times};
+use simulated_networks::{Faults, InterfaceTimes, TopologyShape};
 
 /// What is wrong with the words.
 #[derive(Clone, Copy)]
@@ -79,12 +79,12 @@ pub fn small_of(
 ///
 /// # Errors
 /// Where there is no such shape.
-pub fn topology_in(matches: &ArgMatches<'_>) -> Result<Kind, Wrong>
+pub fn topology_in(matches: &ArgMatches<'_>) -> Result<TopologyShape, Wrong>
     ensures { IfOk result (λ kind. OrElse (first_value (found_of matches.now) (codes "topology"))
-        (kind ≡ Kind.Grid) (λ word. word ≡ topology_word kind)) }
+        (kind ≡ TopologyShape.Grid) (λ word. word ≡ topology_word kind)) }
 {
     match matches.get_str("topology") {
-        None => Ok(Kind::Grid),
+        None => Ok(TopologyShape::Grid),
         Some(word) => match topology_of(word) {
             Some(kind) => Ok(kind),
             None => Err(Wrong::Topology),
@@ -149,9 +149,9 @@ impl<'m, 'a> Reader<'m, 'a> {
     }
 
     /// The shape under `topology`.
-    pub fn topology(&mut self) -> Kind {
+    pub fn topology(&mut self) -> TopologyShape {
         let read = topology_in(self.matches);
-        self.kept(read, Kind::Grid)
+        self.kept(read, TopologyShape::Grid)
     }
 
     /// The scenario under `scenario`.
@@ -166,11 +166,11 @@ impl<'m, 'a> Reader<'m, 'a> {
     }
 
     /// The times of the interfaces.
-    pub fn times(&mut self) -> Times {
+    pub fn times(&mut self) -> InterfaceTimes {
         let hello = self.small("hello", 10, 1, 65_535);
         let dead = self.small("dead", 40, 1, 1_000_000);
         let retransmit = self.small("retransmit", 5, 1, 65_535);
-        Times {
+        InterfaceTimes {
             hello: u16::try_from(hello).unwrap_or(10),
             dead,
             retransmit: u16::try_from(retransmit).unwrap_or(5),

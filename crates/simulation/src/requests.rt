@@ -2,15 +2,15 @@
 use crate::arguments::{told, whole};
 use crate::reading::{Reader, Wrong};
 use clap::{ArgMatches, Error};
-use simulated_histories::{Plan, Search, Sought};
-use simulated_networks::Kind;
+use simulated_histories::{ScenarioPlan, Search, Sought};
+use simulated_networks::TopologyShape;
 use std::alloc::Global;
 
 /// A search for histories of so many seeds from the first one on, and the network that is searched.
 #[derive(Clone, Copy)]
-pub struct Asked {
+pub struct SearchRequest {
     pub search: Search,
-    pub topology: Kind,
+    pub topology: TopologyShape,
     pub spread: u32,
     pub seed: u64,
     pub seeds: u64,
@@ -18,19 +18,23 @@ pub struct Asked {
 
 /// A request.
 #[derive(Clone, Copy)]
-pub enum Request {
+pub enum SimulationRequest {
     /// Play a scenario for so many seeds from the plan's own on.
-    Run { plan: Plan, seeds: u64, json: bool },
+    Run {
+        plan: ScenarioPlan,
+        seeds: u64,
+        json: bool,
+    },
     /// Search for histories.
-    Search(Asked),
+    Search(SearchRequest),
 }
 
-impl Request {
+impl SimulationRequest {
     /// How many external destinations there are.
     pub fn externals(&self) -> u32 {
         match self {
-            Request::Run { plan, .. } => plan.externals,
-            Request::Search(asked) => asked.search.externals,
+            SimulationRequest::Run { plan, .. } => plan.externals,
+            SimulationRequest::Search(asked) => asked.search.externals,
         }
     }
 }
@@ -39,15 +43,15 @@ const MOST: u64 = 4_611_686_018_427_387_903;
 
 // The network that words name.
 #[derive(Clone, Copy)]
-struct Shape {
-    topology: Kind,
+struct NetworkWords {
+    topology: TopologyShape,
     routers: u32,
     externals: u32,
     spread: u32,
 }
 
-fn shape_in(words: &mut Reader<'_, '_>) -> Shape {
-    Shape {
+fn shape_in(words: &mut Reader<'_, '_>) -> NetworkWords {
+    NetworkWords {
         topology: words.topology(),
         routers: words.small("routers", 9, 2, 10_000),
         externals: words.small("externals", 0, 0, 100_000),
@@ -62,11 +66,11 @@ fn seeds_in(words: &mut Reader<'_, '_>) -> (u64, u64) {
     (first, count)
 }
 
-fn run(words: &mut Reader<'_, '_>) -> Request {
+fn run(words: &mut Reader<'_, '_>) -> SimulationRequest {
     let shape = shape_in(words);
     let usual = shape.externals.saturating_add(999) / 1_000;
     let (seed, seeds) = seeds_in(words);
-    let plan = Plan {
+    let plan = ScenarioPlan {
         topology: shape.topology,
         routers: shape.routers,
         externals: shape.externals,
@@ -82,10 +86,10 @@ fn run(words: &mut Reader<'_, '_>) -> Request {
         watches: words.flag("watch"),
     };
     let json = words.flag("json");
-    Request::Run { plan, seeds, json }
+    SimulationRequest::Run { plan, seeds, json }
 }
 
-fn search(words: &mut Reader<'_, '_>) -> Request {
+fn search(words: &mut Reader<'_, '_>) -> SimulationRequest {
     let shape = shape_in(words);
     let (seed, seeds) = seeds_in(words);
     let sought = match words.flag("loops") {
@@ -102,7 +106,7 @@ fn search(words: &mut Reader<'_, '_>) -> Request {
         steps: words.small("steps", 500, 0, 1_000_000),
         calm: words.small("calm", 60, 0, 1_000_000),
     };
-    Request::Search(Asked {
+    SimulationRequest::Search(SearchRequest {
         search,
         topology: shape.topology,
         spread: shape.spread,
@@ -112,7 +116,7 @@ fn search(words: &mut Reader<'_, '_>) -> Request {
 }
 
 // What the command of this name makes of its words.
-fn requested(name: &str, matches: &ArgMatches<'_>) -> Result<Request, Wrong> {
+fn requested(name: &str, matches: &ArgMatches<'_>) -> Result<SimulationRequest, Wrong> {
     let mut words = Reader::new(matches);
     let request = match name {
         "run" => run(&mut words),
@@ -122,14 +126,14 @@ fn requested(name: &str, matches: &ArgMatches<'_>) -> Result<Request, Wrong> {
     words.ends_with(request)
 }
 
-fn asked_for(matches: &ArgMatches<'_>) -> Result<Request, Wrong> {
+fn asked_for(matches: &ArgMatches<'_>) -> Result<SimulationRequest, Wrong> {
     match matches.subcommand() {
         Some((name, words)) => requested(name, words),
         None => Err(Wrong::Command),
     }
 }
 
-fn request_of(alloc: Global, matches: &ArgMatches<'_>) -> Result<Request, Error> {
+fn request_of(alloc: Global, matches: &ArgMatches<'_>) -> Result<SimulationRequest, Error> {
     match asked_for(matches) {
         Ok(request) => Ok(request),
         Err(wrong) => Err(told(alloc, wrong)),
@@ -141,7 +145,7 @@ fn request_of(alloc: Global, matches: &ArgMatches<'_>) -> Result<Request, Error>
 /// # Errors
 /// Where the words are wrong or ask for help, with the text for the user; and where memory is
 /// refused.
-pub fn parse(alloc: Global, words: &[String]) -> Result<Request, Error> {
+pub fn parse(alloc: Global, words: &[String]) -> Result<SimulationRequest, Error> {
     let matches = whole(alloc)?.try_get_matches_from(words)?;
     request_of(alloc, &matches)
 }

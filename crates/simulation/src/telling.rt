@@ -1,8 +1,8 @@
 //! What is printed for people.
 use crate::names::scenario_word;
 use crate::page::Page;
-use simulated_histories::{Act, Look, Outcome, Phase, Plan, Scenario};
-use simulated_networks::{Counts, Seen};
+use simulated_histories::{HistoryStep, Look, Outcome, Phase, Scenario, ScenarioPlan};
+use simulated_networks::{Counts, TableFaults};
 use std::io::Write;
 
 const PHASE: &str = "\
@@ -50,7 +50,7 @@ fn tell_counts<O: Write>(page: &mut Page<O>, counts: &Counts, walks: u64) {
     page.fill(COUNTS, &numbers);
 }
 
-fn tell_seen<O: Write>(page: &mut Page<O>, seen: &Seen) {
+fn tell_seen<O: Write>(page: &mut Page<O>, seen: &TableFaults) {
     let numbers = [
         seen.looping,
         seen.nowhere,
@@ -84,7 +84,7 @@ fn tell_rest<O: Write>(page: &mut Page<O>, outcome: &Outcome) {
 }
 
 /// Tells what came of a plan for one seed.
-pub fn tell_run<O: Write>(page: &mut Page<O>, plan: &Plan, outcome: &Outcome) {
+pub fn tell_run<O: Write>(page: &mut Page<O>, plan: &ScenarioPlan, outcome: &Outcome) {
     let numbers = [
         plan.seed,
         outcome.routers as u64,
@@ -101,30 +101,30 @@ pub fn tell_run<O: Write>(page: &mut Page<O>, plan: &Plan, outcome: &Outcome) {
 }
 
 // The line of an act, and the router, destination, interface or count that it names.
-fn line_of(act: Act) -> (&'static str, [u32; 2]) {
+fn line_of(act: HistoryStep) -> (&'static str, [u32; 2]) {
     match act {
-        Act::Comes => ("  Comes\n", [0, 0]),
-        Act::Lost => ("  Lost\n", [0, 0]),
-        Act::Twice => ("  Twice\n", [0, 0]),
-        Act::Exchanged => ("  Exchanged\n", [0, 0]),
-        Act::Again(back) => ("  Again({})\n", [back, 0]),
-        Act::Tick(place) => ("  Tick({})\n", [place, 0]),
-        Act::Passes => ("  Passes\n", [0, 0]),
-        Act::Announce(place, number) => ("  Announce({}, {})\n", [place, number]),
-        Act::Withdraw(place, number) => ("  Withdraw({}, {})\n", [place, number]),
-        Act::LinkDown(place, interface) => ("  LinkDown({}, {})\n", [place, interface]),
-        Act::Restart(place) => ("  Restart({})\n", [place, 0]),
-        Act::Calm(seconds) => ("  Calm({})\n", [seconds, 0]),
+        HistoryStep::Comes => ("  Comes\n", [0, 0]),
+        HistoryStep::Lost => ("  Lost\n", [0, 0]),
+        HistoryStep::Twice => ("  Twice\n", [0, 0]),
+        HistoryStep::Exchanged => ("  Exchanged\n", [0, 0]),
+        HistoryStep::Again(back) => ("  Again({})\n", [back, 0]),
+        HistoryStep::Tick(place) => ("  Tick({})\n", [place, 0]),
+        HistoryStep::Passes => ("  Passes\n", [0, 0]),
+        HistoryStep::Announce(place, number) => ("  Announce({}, {})\n", [place, number]),
+        HistoryStep::Withdraw(place, number) => ("  Withdraw({}, {})\n", [place, number]),
+        HistoryStep::LinkDown(place, interface) => ("  LinkDown({}, {})\n", [place, interface]),
+        HistoryStep::Restart(place) => ("  Restart({})\n", [place, 0]),
+        HistoryStep::Calm(seconds) => ("  Calm({})\n", [seconds, 0]),
     }
 }
 
-fn tell_act<O: Write>(page: &mut Page<O>, act: Act) {
+fn tell_act<O: Write>(page: &mut Page<O>, act: HistoryStep) {
     let (line, numbers) = line_of(act);
     page.fill(line, &numbers);
 }
 
 /// Tells of a history that was found.
-pub fn tell_history<O: Write>(page: &mut Page<O>, seed: u64, acts: &[Act]) {
+pub fn tell_history<O: Write>(page: &mut Page<O>, seed: u64, acts: &[HistoryStep]) {
     page.fill("seed {}: {} acts\n", &[seed, acts.len() as u64]);
     for act in acts {
         tell_act(page, *act);

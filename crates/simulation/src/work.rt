@@ -5,17 +5,17 @@ ghost use Rattle.simulation.specs.Endings.{IsVerdict};
 use crate::fault::{DONE, FOUND, Fault};
 use crate::json::write_run;
 use crate::page::Page;
-use crate::requests::{Asked, Request, parse};
+use crate::requests::{SearchRequest, SimulationRequest, parse};
 use crate::telling::{tell_history, tell_run};
 use flood::Event;
-use simulated_histories::{Outcome, Plan, Search, Stage, play_scenario};
+use simulated_histories::{HistorySetting, Outcome, ScenarioPlan, Search, play_scenario};
 use simulated_networks::{Fault as NetworkFault, Random, Topology, announcements};
 use std::alloc::{AllocError, Global};
 use std::io::Write;
 use std::sync::Wait;
 
 // Tells what came of the plan.
-fn tell<O: Write>(page: &mut Page<O>, plan: &Plan, outcome: &Outcome, json: bool) {
+fn tell<O: Write>(page: &mut Page<O>, plan: &ScenarioPlan, outcome: &Outcome, json: bool) {
     if json {
         write_run(page, plan, outcome);
     } else {
@@ -26,7 +26,7 @@ fn tell<O: Write>(page: &mut Page<O>, plan: &Plan, outcome: &Outcome, json: bool
 // Plays the plan once, and tells of it. Answers whether all is at rest at the end.
 fn play_one<O: Write>(
     alloc: Global,
-    plan: &Plan,
+    plan: &ScenarioPlan,
     events: &[Event],
     json: bool,
     page: &mut Page<O>,
@@ -39,7 +39,7 @@ fn play_one<O: Write>(
 // Plays the plan for so many seeds from its own on, as long as that can be told.
 fn play_all<O: Write>(
     alloc: Global,
-    first: Plan,
+    first: ScenarioPlan,
     seeds: u64,
     json: bool,
     events: &[Event],
@@ -67,7 +67,7 @@ fn play_all<O: Write>(
 // Searches for the history of this seed, and tells of it. Answers whether it was found.
 fn search_one<O: Write>(
     search: &Search,
-    stage: Stage<'_>,
+    stage: HistorySetting<'_>,
     seed: u64,
     page: &mut Page<O>,
 ) -> Result<bool, NetworkFault> {
@@ -81,7 +81,7 @@ fn search_one<O: Write>(
 // Searches among so many seeds from the first one on, as long as that can be told.
 fn search_all<O: Write>(
     search: &Search,
-    stage: Stage<'_>,
+    stage: HistorySetting<'_>,
     seeds: (u64, u64),
     page: &mut Page<O>,
 ) -> Result<u8, NetworkFault>
@@ -101,7 +101,7 @@ fn search_all<O: Write>(
     Ok(if found == 0 { DONE } else { FOUND })
 }
 
-fn topology_of(alloc: Global, asked: &Asked) -> Result<Topology, AllocError> {
+fn topology_of(alloc: Global, asked: &SearchRequest) -> Result<Topology, AllocError> {
     let (mut random, routers) = (Random::new(1), asked.search.routers as usize);
     Topology::new(alloc, &mut random, asked.topology, routers, asked.spread)
 }
@@ -109,14 +109,14 @@ fn topology_of(alloc: Global, asked: &Asked) -> Result<Topology, AllocError> {
 // Searches in a network of this shape, where these destinations may be announced.
 fn search_in<O: Write>(
     alloc: Global,
-    asked: &Asked,
+    asked: &SearchRequest,
     events: &[Event],
     page: &mut Page<O>,
 ) -> Result<u8, NetworkFault>
     ensures { IfOk result IsVerdict }
 {
     let made = topology_of(alloc, asked)?;
-    let stage = Stage {
+    let stage = HistorySetting {
         alloc,
         topology: &made,
         events,
@@ -126,24 +126,24 @@ fn search_in<O: Write>(
 
 fn play<O: Write>(
     alloc: Global,
-    request: &Request,
+    request: &SimulationRequest,
     events: &[Event],
     page: &mut Page<O>,
 ) -> Result<u8, NetworkFault>
     ensures { IfOk result IsVerdict }
 {
     match request {
-        Request::Run { plan, seeds, json } => {
+        SimulationRequest::Run { plan, seeds, json } => {
             play_all(alloc, *plan, *seeds, *json, events, page)
         }
-        Request::Search(asked) => search_in(alloc, asked, events, page),
+        SimulationRequest::Search(asked) => search_in(alloc, asked, events, page),
     }
 }
 
 // Carries out a request, with the events that announce its destinations.
 fn play_and_tell<O: Write>(
     alloc: Global,
-    request: &Request,
+    request: &SimulationRequest,
     events: &[Event],
     output: &mut O,
 ) -> Result<u8, Fault>
