@@ -1,6 +1,8 @@
 -- The Database summary list is empty after the exchange. The M-bit of the last Database Description
 -- sent says whether it was the last.
-use Rattle.std.proofs.Common.{◌≡◌, ℕ, zero, suc, ◌+◌, ◌≤◌, ◌%◌, ◌^◌, Bool, true, false, cond, not, ◌&&◌, ◌||◌, List, [], ◌∷◌, length, map, drop, Option, None, Some, refl, sym, ap, subst, ◌∙◌, arith}
+use Rattle.std.proofs.Common.{◌≡◌, ℕ, zero, suc, ◌+◌, ◌≤◌, ◌%◌, ◌^◌, Bool, true, false, cond, not}
+use Rattle.std.proofs.Common.{◌&&◌, ◌||◌, List, [], ◌∷◌, length, map, drop, Option, None, Some}
+use Rattle.std.proofs.Common.{refl, sym, ap, subst, ◌∙◌, arith}
 use Rattle.std.specs.Prelude.{◌==◌, nat_lt}
 use Rattle.std.specs.FinMap as finite
 use Rattle.std.specs.FinSet as set
@@ -9,7 +11,8 @@ use Rattle.std.proofs.lemmas.Bool.{ltb-false}
 use Rattle.words.specs.Constants.{most_headers_described}
 use Rattle.words.specs.declared.key.Key.{Key}
 use Rattle.lsa.specs.Reading.{lsa_in}
-use Rattle.lsdb.specs.Copies.{Database, DatabaseCopy, age_out, has_just_aged_out, install_flooded, install_originated, lsa_now}
+use Rattle.lsdb.specs.Copies.{Database, DatabaseCopy, age_out, has_just_aged_out, install_flooded}
+use Rattle.lsdb.specs.Copies.{install_originated, lsa_now}
 use Rattle.lsdb.specs.Headers.{Header, Lsa, key_of, lsa_aged, lsa_key}
 use Rattle.lsdb.specs.Instances.{ListEntry}
 use Rattle.lsdb.specs.Keys.{ByKey, key_cmp}
@@ -21,13 +24,27 @@ use Rattle.adjacency.specs.declared.interface.Interface.{Interface}
 use Rattle.adjacency.specs.declared.state.State.{State}
 use Rattle.adjacency.specs.declared.state.State.TheVariants.{Init, ExStart, Exchange, Loading, Full}
 use Rattle.adjacency.specs.Adjacencies as adjacencies
-use Rattle.adjacency.specs.Adjacencies.{enter_exstart, has_passed, loading_done, loading_done_in, mismatch_step, requests_nothing, two_way_received_in, with_hello_heard}
+use Rattle.adjacency.specs.Adjacencies.{enter_exstart, has_passed, loading_done, loading_done_in}
+use Rattle.adjacency.specs.Adjacencies.{mismatch_step, requests_nothing, two_way_received_in}
+use Rattle.adjacency.specs.Adjacencies.{with_hello_heard}
 use Rattle.adjacency.specs.Contents.{Requests, Step, Updates, no_sends}
-use Rattle.adjacency.specs.Descriptions.{Verdict, accept, act, after_description, announced_more, as_received, changes_options, describe, exchange_done, exchange_over, expected_sequence, in_state, is_duplicate, is_initial_description, is_kept, is_over_for, judge, knows_types, master_goes_on, negotiated_neighbor, repeat, same_flag, slave_replies, with_requests, without_old_description}
-use Rattle.adjacency.specs.Floods.{flooded_in_exchange, flooding, meets, passes, request_of, without_met_request}
+use Rattle.adjacency.specs.Descriptions.{Verdict, accept, act, after_description, announced_more}
+use Rattle.adjacency.specs.Descriptions.{as_received, changes_options, describe, exchange_done}
+use Rattle.adjacency.specs.Descriptions.{exchange_over, expected_sequence, in_state, is_duplicate}
+use Rattle.adjacency.specs.Descriptions.{is_initial_description, is_kept, is_over_for, judge}
+use Rattle.adjacency.specs.Descriptions.{knows_types, master_goes_on, negotiated_neighbor, repeat}
+use Rattle.adjacency.specs.Descriptions.{same_flag, slave_replies, with_requests}
+use Rattle.adjacency.specs.Descriptions.{without_old_description}
+use Rattle.adjacency.specs.Floods.{flooded_in_exchange, flooding, meets, passes, request_of}
+use Rattle.adjacency.specs.Floods.{without_met_request}
 use Rattle.adjacency.specs.Neighbors.{Neighbor, is_exchange_or_later}
-use Rattle.adjacency.specs.Requests.{may_request, next_request, request_next, still_outstanding, without_request}
-use Rattle.adjacency.specs.Retransmissions.{acknowledged_neighbor, add_retransmission, after_acknowledgment, describe_again, is_entry, next_retransmissions, remove_retransmission, repeats_description, request_again, send_again, update_again}
+use Rattle.adjacency.specs.Requests.{may_request, next_request, request_next, still_outstanding}
+use Rattle.adjacency.specs.Requests.{without_request}
+use Rattle.adjacency.specs.Retransmissions.{acknowledged_neighbor, add_retransmission}
+use Rattle.adjacency.specs.Retransmissions.{after_acknowledgment, describe_again, is_entry}
+use Rattle.adjacency.specs.Retransmissions.{next_retransmissions, remove_retransmission}
+use Rattle.adjacency.specs.Retransmissions.{repeats_description, request_again, send_again}
+use Rattle.adjacency.specs.Retransmissions.{update_again}
 use Rattle.adjacency.proofs.Kept.{chosen}
 use Rattle.received.specs.Cases.{Case}
 use Rattle.received.specs.Flooding.{flood, flood_to, is_sender}
@@ -35,7 +52,8 @@ use Rattle.received.specs.Holds.{Holds, HoldsOfEach}
 use Rattle.received.specs.Links.{Link, acknowledge_later, link_at, neighbor_at, neighbor_on}
 use Rattle.received.specs.Outcomes.{Outcome, on_database}
 use Rattle.received.specs.Updates.{after_case, copy_of, install, send_copy}
-use Rattle.received.proofs.Holding.{changed_keeps, each_keeps, each_link_keeps, one_holds, one_keeps}
+use Rattle.received.proofs.Holding.{changed_keeps, each_keeps, each_link_keeps, one_holds}
+use Rattle.received.proofs.Holding.{one_keeps}
 use Rattle.events.specs.declared.model.Config.{Config}
 use Rattle.events.specs.declared.model.Out.{Out}
 use Rattle.events.specs.Commands.{taken_down}
@@ -46,8 +64,10 @@ use Rattle.events.specs.Hellos.{accepts, names}
 use Rattle.events.specs.Originations.{due_keys, new_instance, router_key}
 use Rattle.events.specs.Packets.{hear, heard_on, with_neighbor}
 use Rattle.events.specs.Routers.{Occurrence, Router, fresh_link, unannounced_router}
-use Rattle.events.specs.Ticks.{again, run_out, settled_exchange, with_hello_sent, without_acknowledgments}
-use Rattle.events.proofs.Walk.{Brings, IfRead, Invariant, IsKeptByParts, OfBrought, OfBytes, originate_or_wait_kept}
+use Rattle.events.specs.Ticks.{again, run_out, settled_exchange, with_hello_sent}
+use Rattle.events.specs.Ticks.{without_acknowledgments}
+use Rattle.events.proofs.Walk.{Brings, IfRead, Invariant, IsKeptByParts, OfBrought, OfBytes}
+use Rattle.events.proofs.Walk.{originate_or_wait_kept}
 use Rattle.events.proofs.Walk as walk
 use Rattle.agreement_laws.specs.HeldWasTold.{NothingIsLeftToDescribe, is_exchange_done}
 use Rattle.agreement_laws.proofs.Verdicts.{as_slave_or_master, first_two, mismatch_or_accepted}
@@ -60,10 +80,12 @@ none_left zero (x ∷ xs) most = absurd (omega (arith, most))
 none_left (suc n) [] most = refl
 none_left (suc n) (x ∷ xs) most = none_left n xs (omega (arith, most))
 
-left_empty : (n : ℕ) (m : ByKey ListEntry) → nat_lt n (finite.len m) ≡ false → finite.from_entries {R = key_cmp} (drop n (finite.entries m)) ≡ finite.empty
+left_empty : (n : ℕ) (m : ByKey ListEntry) → nat_lt n (finite.len m) ≡ false
+    → finite.from_entries {R = key_cmp} (drop n (finite.entries m)) ≡ finite.empty
 left_empty n m e =
     ap (λ (es : List (Key × ListEntry)). finite.from_entries {R = key_cmp} es)
-    (none_left n (finite.entries m) (subst (λ k. k ≤ n) (finite.len-entries m) (ltb-false n (finite.len m) e)))
+    (none_left n (finite.entries m) (subst (λ k. k ≤ n) (finite.len-entries m)
+    (ltb-false n (finite.len m) e)))
 
 -- ---- a neighbor
 
@@ -84,31 +106,42 @@ OfStep s = IsDone s.neighbor
 
 -- ---- flooding
 
-flooded : (moment : ℕ) (from : Bool) (lsa : Lsa) (m : Neighbor) → IsDone m → IsDone (flooding moment from lsa m).neighbor
+flooded : (moment : ℕ) (from : Bool) (lsa : Lsa) (m : Neighbor) → IsDone m
+    → IsDone (flooding moment from lsa m).neighbor
 flooded moment from lsa m h =
     let w : Neighbor = without_met_request moment lsa m in
-    let met : IsDone w = chosen IsDone (meets moment lsa (request_of m lsa)) (without_request (lsa_key lsa) m) m (λ e. h) (λ e. h) in
-    let got : Step = record { neighbor = add_retransmission moment lsa.header w; sends = Updates lsa ∷ [] } in
-    chosen OfStep (is_exchange_or_later m.state) (flooded_in_exchange moment from lsa m) (no_sends m)
-    (λ part. chosen OfStep (not from && passes moment lsa (request_of m lsa)) got (no_sends (remove_retransmission (lsa_key lsa) w)) (λ e. met) (λ e. met)) (λ e. h)
+    let met : IsDone w = chosen IsDone (meets moment lsa (request_of m lsa))
+    (without_request (lsa_key lsa) m) m (λ e. h) (λ e. h) in
+    let got : Step = record {
+      neighbor = add_retransmission moment lsa.header w;
+      sends = Updates lsa ∷ [];
+    } in
+    chosen OfStep (is_exchange_or_later m.state) (flooded_in_exchange moment from lsa m)
+    (no_sends m)
+    (λ part. chosen OfStep (not from && passes moment lsa (request_of m lsa)) got
+    (no_sends (remove_retransmission (lsa_key lsa) w)) (λ e. met) (λ e. met)) (λ e. h)
 
 -- ---- attempts and Hellos
 
 mismatched : (moment : ℕ) (m : Neighbor) → IsDone m → IsDone (mismatch_step moment m).neighbor
-mismatched moment m h = chosen OfStep (is_exchange_or_later m.state) (enter_exstart moment m) (no_sends m) (λ e. (refl, refl)) (λ e. h)
+mismatched moment m h = chosen OfStep (is_exchange_or_later m.state) (enter_exstart moment m)
+    (no_sends m) (λ e. (refl, refl)) (λ e. h)
 
-two_way : (s : State) (moment : ℕ) (m : Neighbor) → IsDone m → IsDone (two_way_received_in s moment m).neighbor
+two_way : (s : State) (moment : ℕ) (m : Neighbor) → IsDone m
+    → IsDone (two_way_received_in s moment m).neighbor
 two_way Init moment m h = (refl, refl)
 two_way ExStart moment m h = h
 two_way Exchange moment m h = h
 two_way Loading moment m h = h
 two_way Full moment m h = h
 
-heard : (from moment : ℕ) (o : Option Neighbor) → Holds IsDone o → IsDone (with_hello_heard from moment o)
+heard : (from moment : ℕ) (o : Option Neighbor) → Holds IsDone o
+    → IsDone (with_hello_heard from moment o)
 heard from moment None h = refl
 heard from moment (Some m) h = h
 
-helloed : (moment from : ℕ) (names : Bool) (o : Option Neighbor) → Holds IsDone o → IsDone (adjacencies.after_hello moment from names o).neighbor
+helloed : (moment from : ℕ) (names : Bool) (o : Option Neighbor) → Holds IsDone o
+    → IsDone (adjacencies.after_hello moment from names o).neighbor
 helloed moment from true o h =
     let m : Neighbor = with_hello_heard from moment o in
     two_way m.state moment m (heard from moment o h)
@@ -116,15 +149,19 @@ helloed moment from false o h = refl
 
 -- ---- acknowledgments
 
-acknowledged : (moment : ℕ) (hs : List Header) (m : Neighbor) → IsDone m → IsDone (after_acknowledgment moment hs m)
+acknowledged : (moment : ℕ) (hs : List Header) (m : Neighbor) → IsDone m
+    → IsDone (after_acknowledgment moment hs m)
 acknowledged moment [] m h = h
 acknowledged moment (x ∷ hs) m h =
     acknowledged moment hs (acknowledged_neighbor moment m x)
-    (chosen IsDone (is_entry moment x (finite.get m.retransmissions (key_of x))) (remove_retransmission (key_of x) m) m (λ e. h) (λ e. h))
+    (chosen IsDone (is_entry moment x (finite.get m.retransmissions (key_of x)))
+    (remove_retransmission (key_of x) m) m (λ e. h) (λ e. h))
 
 -- ---- Database Descriptions
 
-repeat_of : (o : Option Description) (moment : ℕ) (m : Neighbor) → IsDone (record m { described = o }) → IsDone (repeat moment (record m { described = o })).neighbor
+repeat_of : (o : Option Description) (moment : ℕ) (m : Neighbor) → IsDone (record m {
+  described = o;
+}) → IsDone (repeat moment (record m { described = o })).neighbor
 repeat_of None moment m h = h
 repeat_of (Some d) moment m h = h
 
@@ -135,10 +172,12 @@ repeated moment m h = repeat_of m.described moment m h
 abbrev Exchanging : Neighbor → Type 0
 Exchanging m = Done Exchange m.described m.exchanged m.summary
 
-described : (moment : ℕ) (m : Neighbor) → m.exchanged ≡ None → Exchanging (describe moment m).neighbor
+described : (moment : ℕ) (m : Neighbor) → m.exchanged ≡ None
+    → Exchanging (describe moment m).neighbor
 described moment m at = (at, λ e. left_empty most_headers_described m.summary e)
 
-over_by : (b : Bool) (d : Option Description) (at : Option ℕ) (s : ByKey ListEntry) → s ≡ finite.empty → Done (cond b Full Loading) d at s
+over_by : (b : Bool) (d : Option Description) (at : Option ℕ) (s : ByKey ListEntry) → s
+    ≡ finite.empty → Done (cond b Full Loading) d at s
 over_by true d at s is = is
 over_by false d at s is = is
 
@@ -146,28 +185,45 @@ first_false : (a b : Bool) → (a || b) ≡ false → a ≡ false
 first_false true b e = absurd cc
 first_false false b e = refl
 
-master : (moment : ℕ) (d : Description) (m : Neighbor) → m.state ≡ Exchange → Exchanging m → IsDone (master_goes_on moment d m).neighbor
+master : (moment : ℕ) (d : Description) (m : Neighbor) → m.state ≡ Exchange → Exchanging m
+    → IsDone (master_goes_on moment d m).neighbor
 master moment d m is h =
-    chosen OfStep (announced_more m.described || d.more) (describe moment (record m { sequence = (m.sequence + 1) % 2 ^ 32 })) (no_sends (exchange_done moment m))
+    chosen OfStep (announced_more m.described || d.more) (describe moment (record m {
+      sequence = (m.sequence + 1) % 2 ^ 32;
+    })) (no_sends (exchange_done moment m))
     (λ e.
     let n : Neighbor = record m { sequence = (m.sequence + 1) % 2 ^ 32 } in
-    subst (λ (s : State). Done s (describe moment n).neighbor.described m.exchanged (describe moment n).neighbor.summary) (sym is) (described moment n h.0))
-    (λ e. over_by (requests_nothing m) m.described (Some moment) m.summary (h.1 (first_false (announced_more m.described) d.more e)))
+    subst (λ (s : State). Done s (describe moment n).neighbor.described m.exchanged
+    (describe moment n).neighbor.summary) (sym is) (described moment n h.0))
+    (λ e. over_by (requests_nothing m) m.described (Some moment) m.summary
+    (h.1 (first_false (announced_more m.described) d.more e)))
 
-slave : (moment : ℕ) (d : Description) (m : Neighbor) → m.state ≡ Exchange → Exchanging m → IsDone (slave_replies moment d m).neighbor
+slave : (moment : ℕ) (d : Description) (m : Neighbor) → m.state ≡ Exchange → Exchanging m
+    → IsDone (slave_replies moment d m).neighbor
 slave moment d m is h =
     let replied : Step = describe moment (record m { sequence = d.sequence }) in
-    let so : Exchanging replied.neighbor = described moment (record m { sequence = d.sequence }) h.0 in
-    chosen OfStep (announced_more replied.neighbor.described || d.more) replied (record replied { neighbor = exchange_done moment replied.neighbor })
-    (λ e. subst (λ (s : State). Done s replied.neighbor.described m.exchanged replied.neighbor.summary) (sym is) so)
-    (λ e. over_by (requests_nothing replied.neighbor) replied.neighbor.described (Some moment) replied.neighbor.summary
+    let so : Exchanging replied.neighbor = described moment (record m {
+      sequence = d.sequence;
+    }) h.0 in
+    chosen OfStep (announced_more replied.neighbor.described || d.more) replied (record replied {
+      neighbor = exchange_done moment replied.neighbor;
+    })
+    (λ e. subst (λ (s : State). Done s replied.neighbor.described m.exchanged
+    replied.neighbor.summary) (sym is) so)
+    (λ e. over_by (requests_nothing replied.neighbor) replied.neighbor.described (Some moment)
+    replied.neighbor.summary
     (so.1 (first_false (announced_more replied.neighbor.described) d.more e)))
 
-accepted : (moment : ℕ) (db : Database) (d : Description) (m : Neighbor) → m.state ≡ Exchange → Exchanging m → IsDone m → IsDone (accept moment db d m).neighbor
+accepted : (moment : ℕ) (db : Database) (d : Description) (m : Neighbor) → m.state ≡ Exchange
+    → Exchanging m → IsDone m → IsDone (accept moment db d m).neighbor
 accepted moment db d m is h whole =
-    let w : Neighbor = with_requests moment db d.headers (record m { received = Some (as_received d) }) in
-    chosen OfStep (knows_types d) (cond w.is_master (master_goes_on moment d w) (slave_replies moment d w)) (mismatch_step moment m)
-    (λ e. chosen OfStep w.is_master (master_goes_on moment d w) (slave_replies moment d w) (λ e. master moment d w is h) (λ e. slave moment d w is h))
+    let w : Neighbor = with_requests moment db d.headers (record m {
+      received = Some (as_received d);
+    }) in
+    chosen OfStep (knows_types d) (cond w.is_master (master_goes_on moment d w)
+    (slave_replies moment d w)) (mismatch_step moment m)
+    (λ e. chosen OfStep w.is_master (master_goes_on moment d w) (slave_replies moment d w)
+    (λ e. master moment d w is h) (λ e. slave moment d w is h))
     (λ e. mismatched moment m whole)
 
 module _ (own moment : ℕ) (db : Database) (d : Description) where
@@ -175,48 +231,66 @@ module _ (own moment : ℕ) (db : Database) (d : Description) where
   Does m v = IsDone (act v moment db d m).neighbor
 
   -- an exchange begins, and the initial Database Description of ExStart had the M-bit set
-  negotiated : (b : Bool) (sequence : ℕ) (m : Neighbor) → (m.exchanged ≡ None) × (announced_more m.described ≡ true)
+  negotiated : (b : Bool) (sequence : ℕ) (m : Neighbor) → (m.exchanged ≡ None)
+      × (announced_more m.described ≡ true)
       → IsDone (accept moment db d (negotiated_neighbor b sequence moment db m)).neighbor
-  negotiated b sequence m h = accepted moment db d (negotiated_neighbor b sequence moment db m) refl (begun h) (begun h)
+  negotiated b sequence m h = accepted moment db d (negotiated_neighbor b sequence moment db m) refl
+      (begun h) (begun h)
     where
-      begun : (m.exchanged ≡ None) × (announced_more m.described ≡ true) → Exchanging (negotiated_neighbor b sequence moment db m)
+      begun : (m.exchanged ≡ None) × (announced_more m.described ≡ true)
+          → Exchanging (negotiated_neighbor b sequence moment db m)
       begun k = (k.0, λ e. absurd (opened e))
         where
           opened : announced_more m.described ≡ false → ⊥
           opened e = let no : true ≡ false = sym k.1 ∙ e in absurd cc
 
-  negotiating_so : (m : Neighbor) → (m.exchanged ≡ None) × (announced_more m.described ≡ true) → IsDone (judge own moment db d (record m { state = ExStart })).neighbor
+  negotiating_so : (m : Neighbor) → (m.exchanged ≡ None) × (announced_more m.described ≡ true)
+      → IsDone (judge own moment db d (record m { state = ExStart })).neighbor
   negotiating_so m h =
       let n : Neighbor = record m { state = ExStart } in
-      as_slave_or_master (Does n) (negotiated false d.sequence n h) (negotiated true n.sequence n h) h
-      (is_initial_description d && nat_lt own m.router) (not d.init && not d.master && d.sequence == m.sequence && nat_lt m.router own)
+      as_slave_or_master (Does n) (negotiated false d.sequence n h) (negotiated true n.sequence n h)
+      h
+      (is_initial_description d && nat_lt own m.router)
+      (not d.init && not d.master && d.sequence == m.sequence && nat_lt m.router own)
 
   over : (m : Neighbor) → IsDone m → IsDone (act (exchange_over m d) moment db d m).neighbor
   over m h =
-      first_two (Does m) (is_duplicate m.received d && m.is_master) (is_duplicate m.received d && is_kept m.described) Verdict.Mismatch
+      first_two (Does m) (is_duplicate m.received d && m.is_master)
+      (is_duplicate m.received d && is_kept m.described) Verdict.Mismatch
       h (repeated moment m h) (mismatched moment m h)
 
-  stated : (s : State) (m : Neighbor) → IsDone (record m { state = s }) → IsDone (in_state s own moment db d (record m { state = s })).neighbor
-  stated Init m h = negotiating_so (enter_exstart moment (record m { state = Init })).neighbor (refl, refl)
+  stated : (s : State) (m : Neighbor) → IsDone (record m {
+    state = s;
+  }) → IsDone (in_state s own moment db d (record m { state = s })).neighbor
+  stated Init m h = negotiating_so (enter_exstart moment (record m {
+    state = Init;
+  })).neighbor (refl, refl)
   stated ExStart m h = negotiating_so (record m { state = ExStart }) h
   stated Exchange m h =
       let n : Neighbor = record m { state = Exchange } in
-      first_two (Does n) (is_duplicate m.received d && m.is_master) (is_duplicate m.received d) _ h (repeated moment n h)
+      first_two (Does n) (is_duplicate m.received d && m.is_master) (is_duplicate m.received d) _ h
+      (repeated moment n h)
       (mismatch_or_accepted (Does n) (mismatched moment n h) (accepted moment db d n refl h h)
-      (same_flag d.master m.is_master) d.init (changes_options m.received d) (not (d.sequence == expected_sequence n)))
+      (same_flag d.master m.is_master) d.init (changes_options m.received d)
+      (not (d.sequence == expected_sequence n)))
   stated Loading m h = over (record m { state = Loading }) h
   stated Full m h = over (record m { state = Full }) h
 
   after : (m : Neighbor) → IsDone m → IsDone (after_description own moment db d m).neighbor
-  after m h = chosen OfStep (nat_lt 8192 d.mtu) (no_sends m) (in_state m.state own moment db d m) (λ e. h) (λ e. stated m.state m h)
+  after m h = chosen OfStep (nat_lt 8192 d.mtu) (no_sends m) (in_state m.state own moment db d m)
+      (λ e. h) (λ e. stated m.state m h)
 
 -- ---- Loading, Link State Requests and a Tick
 
-filled_in : (s : State) (m : Neighbor) → IsDone (record m { state = s }) → IsDone (loading_done_in s (record m { state = s }))
+filled_in : (s : State) (m : Neighbor) → IsDone (record m {
+  state = s;
+}) → IsDone (loading_done_in s (record m { state = s }))
 filled_in Init m h = h
 filled_in ExStart m h = h
 filled_in Exchange m h = h
-filled_in Loading m h = chosen IsDone (requests_nothing m) (record m { state = Full }) (record m { state = Loading }) (λ e. h) (λ e. h)
+filled_in Loading m h = chosen IsDone (requests_nothing m) (record m {
+  state = Full;
+}) (record m { state = Loading }) (λ e. h) (λ e. h)
 filled_in Full m h = h
 
 filled_on : (n : Option Neighbor) → Holds IsDone n → Holds IsDone (loading_done_on n)
@@ -225,88 +299,136 @@ filled_on (Some m) h = filled_in m.state m h
 
 asked : (moment : ℕ) (m : Neighbor) → IsDone m → IsDone (request_next moment m).neighbor
 asked moment m h =
-    chosen OfStep (may_request m) (record { neighbor = record m { outstanding = set.from_list (next_request m); requested_at = moment }; sends = Requests (next_request m) ∷ [] }) (no_sends m) (λ e. h) (λ e. h)
+    chosen OfStep (may_request m) (record {
+      neighbor = record m {
+        outstanding = set.from_list (next_request m);
+        requested_at = moment;
+      };
+      sends = Requests (next_request m) ∷ [];
+    }) (no_sends m) (λ e. h) (λ e. h)
 
-sent_again : (moment interval : ℕ) (db : Database) (m : Neighbor) → IsDone m → IsDone (send_again moment interval db m).neighbor
-sent_again moment interval db m h = updated (request_again moment interval (describe_again moment interval m).neighbor).neighbor (asked_so (describe_again moment interval m).neighbor (described_so m h))
+sent_again : (moment interval : ℕ) (db : Database) (m : Neighbor) → IsDone m
+    → IsDone (send_again moment interval db m).neighbor
+sent_again moment interval db m h =
+    updated (request_again moment interval (describe_again moment interval m).neighbor).neighbor
+    (asked_so (describe_again moment interval m).neighbor (described_so m h))
   where
     described_so : (n : Neighbor) → IsDone n → IsDone (describe_again moment interval n).neighbor
     described_so n k =
-        chosen OfStep (repeats_description n.state n.is_master && has_passed n.described_at interval moment) (repeat moment n) (no_sends n) (λ e. repeated moment n k) (λ e. k)
+        chosen OfStep (repeats_description n.state n.is_master && has_passed n.described_at interval
+        moment) (repeat moment n) (no_sends n) (λ e. repeated moment n k) (λ e. k)
 
     asked_so : (n : Neighbor) → IsDone n → IsDone (request_again moment interval n).neighbor
     asked_so n k =
-        chosen OfStep (not (set.len n.outstanding == 0) && has_passed n.requested_at interval moment)
-        (record { neighbor = record n { requested_at = moment }; sends = Requests (still_outstanding n) ∷ [] }) (no_sends n) (λ e. k) (λ e. k)
+        chosen OfStep (not (set.len n.outstanding == 0) && has_passed n.requested_at interval
+        moment)
+        (record {
+          neighbor = record n {
+            requested_at = moment;
+          };
+          sends = Requests (still_outstanding n) ∷ [];
+        }) (no_sends n)
+        (λ e. k) (λ e. k)
 
     updated : (n : Neighbor) → IsDone n → IsDone (update_again moment interval db n).neighbor
     updated n k =
-        chosen OfStep (not (finite.len n.retransmissions == 0) && has_passed n.retransmitted_at interval moment)
-        (record { neighbor = record n { retransmitted_at = moment }; sends = map Updates (next_retransmissions moment db n) }) (no_sends n) (λ e. k) (λ e. k)
+        chosen OfStep (not (finite.len n.retransmissions == 0) && has_passed n.retransmitted_at
+        interval moment)
+        (record {
+          neighbor = record n {
+            retransmitted_at = moment;
+          };
+          sends = map Updates (next_retransmissions moment db n);
+        }) (no_sends n) (λ e. k) (λ e. k)
 
 -- the last Database Description is discarded only after the exchange was completed
-given_up : (s : State) (moment dead : ℕ) (d : Option Description) (at : Option ℕ) (l : ByKey ListEntry) → is_over_for moment dead at ≡ true → Done s d at l → Done s None at l
+given_up : (s : State) (moment dead : ℕ) (d : Option Description) (at : Option ℕ)
+    (l : ByKey ListEntry) → is_over_for moment dead at ≡ true → Done s d at l → Done s None at l
 given_up Init moment dead d at l e h = h
-given_up ExStart moment dead d at l e h = let no : true ≡ false = sym e ∙ ap (is_over_for moment dead) h.0 in absurd cc
-given_up Exchange moment dead d at l e h = let no : true ≡ false = sym e ∙ ap (is_over_for moment dead) h.0 in absurd cc
+given_up ExStart moment dead d at l e h = let no : true ≡ false = sym e
+    ∙ ap (is_over_for moment dead) h.0 in absurd cc
+given_up Exchange moment dead d at l e h = let no : true ≡ false = sym e
+    ∙ ap (is_over_for moment dead) h.0 in absurd cc
 given_up Loading moment dead d at l e h = h
 given_up Full moment dead d at l e h = h
 
-old_description : (moment dead : ℕ) (m : Neighbor) → IsDone m → IsDone (without_old_description moment dead m)
+old_description : (moment dead : ℕ) (m : Neighbor) → IsDone m
+    → IsDone (without_old_description moment dead m)
 old_description moment dead m h =
-    chosen IsDone (is_over_for moment dead m.exchanged) (record m { described = None }) m (λ e. given_up m.state moment dead m.described m.exchanged m.summary e h) (λ e. h)
+    chosen IsDone (is_over_for moment dead m.exchanged) (record m {
+      described = None;
+    }) m (λ e. given_up m.state moment dead m.described m.exchanged m.summary e
+    h) (λ e. h)
 
-inactive : (moment dead : ℕ) (n : Option Neighbor) → Holds IsDone n → Holds IsDone (settled_exchange moment dead (adjacencies.after_inactivity_timer moment dead n))
+inactive : (moment dead : ℕ) (n : Option Neighbor) → Holds IsDone n
+    → Holds IsDone (settled_exchange moment dead (adjacencies.after_inactivity_timer moment dead n))
 inactive moment dead None h = tt
 inactive moment dead (Some m) h =
-    chosen (λ (o : Option Neighbor). Holds IsDone (settled_exchange moment dead o)) (has_passed m.last_heard dead moment) None (Some m) (λ e. tt) (λ e. old_description moment dead m h)
+    chosen (λ (o : Option Neighbor). Holds IsDone (settled_exchange moment dead o))
+    (has_passed m.last_heard dead moment) None (Some m) (λ e. tt)
+    (λ e. old_description moment dead m h)
 
 -- ---- every neighbor
 
 abbrev OnOutcome : Outcome → Type 0
 OnOutcome o = HoldsOfEach IsDone o.area.links
 
-flood_kept : (moment : ℕ) (sender : Option ℕ) (lsa : Lsa) (o : Outcome) → OnOutcome o → OnOutcome (flood moment sender lsa o)
-flood_kept moment sender lsa o h = each_keeps IsDone moment (flood_to moment sender lsa) (λ number link n at. flooded moment (is_sender sender number) lsa n at) o h
+flood_kept : (moment : ℕ) (sender : Option ℕ) (lsa : Lsa) (o : Outcome) → OnOutcome o
+    → OnOutcome (flood moment sender lsa o)
+flood_kept moment sender lsa o h =
+    each_keeps IsDone moment (flood_to moment sender lsa)
+    (λ number link n at. flooded moment (is_sender sender number) lsa n at) o h
 
-install_kept : (moment number : ℕ) (lsa : Lsa) (o : Outcome) → OnOutcome o → OnOutcome (install moment number lsa o)
+install_kept : (moment number : ℕ) (lsa : Lsa) (o : Outcome) → OnOutcome o
+    → OnOutcome (install moment number lsa o)
 install_kept moment number lsa o h =
     let p : Outcome = on_database (install_flooded moment lsa) o in
-    changed_keeps IsDone number (acknowledge_later lsa.header) (λ link at. at) (flood moment (Some number) lsa p).area.links (flood_kept moment (Some number) lsa p h)
+    changed_keeps IsDone number (acknowledge_later lsa.header) (λ link at. at)
+    (flood moment (Some number) lsa p).area.links (flood_kept moment (Some number) lsa p h)
 
-copy_kept : (moment number : ℕ) (c : Option DatabaseCopy) (o : Outcome) → OnOutcome o → OnOutcome (send_copy moment number c o)
+copy_kept : (moment number : ℕ) (c : Option DatabaseCopy) (o : Outcome) → OnOutcome o
+    → OnOutcome (send_copy moment number c o)
 copy_kept moment number None o h = h
 copy_kept moment number (Some c) o h = h
 
-case_kept : (case : Case) (moment number : ℕ) (lsa : Lsa) (o : Outcome) → OnOutcome o → OnOutcome (after_case case moment number lsa o)
+case_kept : (case : Case) (moment number : ℕ) (lsa : Lsa) (o : Outcome) → OnOutcome o
+    → OnOutcome (after_case case moment number lsa o)
 case_kept Case.Unreadable moment number lsa o h = h
 case_kept Case.NothingToFlush moment number lsa o h = h
 case_kept Case.TooSoon moment number lsa o h = h
 case_kept Case.Newer moment number lsa o h = install_kept moment number lsa o h
-case_kept Case.BadRequest moment number lsa o h = one_keeps IsDone moment number (mismatch_step moment) (mismatched moment) o h
-case_kept Case.ImpliedAcknowledgment moment number lsa o h = one_keeps IsDone moment number (λ n. no_sends (remove_retransmission (lsa_key lsa) n)) (λ n at. at) o h
+case_kept Case.BadRequest moment number lsa o h =
+    one_keeps IsDone moment number (mismatch_step moment) (mismatched moment) o h
+case_kept Case.ImpliedAcknowledgment moment number lsa o h =
+    one_keeps IsDone moment number (λ n. no_sends (remove_retransmission (lsa_key lsa) n))
+    (λ n at. at) o h
 case_kept Case.Duplicate moment number lsa o h = h
 case_kept Case.SequenceWraps moment number lsa o h = h
 case_kept Case.SentJustNow moment number lsa o h = h
 case_kept Case.Older moment number lsa o h = copy_kept moment number (copy_of lsa o.area) o h
 
-ages_kept : (before moment : ℕ) (es : List (Key × DatabaseCopy)) (o : Outcome) → OnOutcome o → OnOutcome (fold (with_age before moment) o es)
+ages_kept : (before moment : ℕ) (es : List (Key × DatabaseCopy)) (o : Outcome) → OnOutcome o
+    → OnOutcome (fold (with_age before moment) o es)
 ages_kept before moment [] o h = h
 ages_kept before moment (e ∷ es) o h =
     ages_kept before moment es (with_age before moment o e)
-    (chosen OnOutcome (has_just_aged_out before moment e.1) (flood_from_nobody moment (lsa_now moment e.1) o) o (λ is. flood_kept moment None (lsa_now moment e.1) o h) (λ is. h))
+    (chosen OnOutcome (has_just_aged_out before moment e.1)
+    (flood_from_nobody moment (lsa_now moment e.1) o) o
+    (λ is. flood_kept moment None (lsa_now moment e.1) o h) (λ is. h))
 
 keys_any : (keys : List Key) → AllByRecursion (λ key. Unit {0}) keys
 keys_any [] = tt
 keys_any (key ∷ keys) = (tt, keys_any keys)
 
-hello_heard : (own moment number from : ℕ) (hello : Hello) (link : Option Link) (o : Outcome) → Holds IsDone (neighbor_on link) → OnOutcome o
+hello_heard : (own moment number from : ℕ) (hello : Hello) (link : Option Link) (o : Outcome)
+    → Holds IsDone (neighbor_on link) → OnOutcome o
     → OnOutcome (heard_on own moment number from hello link o)
 hello_heard own moment number from hello None o here h = h
 hello_heard own moment number from hello (Some link) o here h =
     let s : Step = adjacencies.after_hello moment from (names own hello) link.neighbor in
     chosen OnOutcome (accepts own from hello link) (hear moment number s o) o
-    (λ is. changed_keeps IsDone number (with_neighbor s.neighbor) (λ l at. helloed moment from (names own hello) link.neighbor here) o.area.links h) (λ is. h)
+    (λ is. changed_keeps IsDone number (with_neighbor s.neighbor)
+    (λ l at. helloed moment from (names own hello) link.neighbor here) o.area.links h) (λ is. h)
 
 abbrev on_neighbors : Invariant
 on_neighbors = record {
@@ -320,29 +442,42 @@ on_neighbors = record {
 parts_keep : IsKeptByParts on_neighbors
 parts_keep = record {
   ages = λ before moment o h. ages_kept before moment (finite.entries o.area.database) o h;
-  flushes = λ moment key c o is young h. flood_kept moment None (lsa_aged 3600 c.lsa) (on_database (age_out moment key) o) h;
+  flushes = λ moment key c o is young h. flood_kept moment None (lsa_aged 3600 c.lsa)
+      (on_database (age_out moment key) o) h;
   originates = λ moment key says p own goes wants grows h.
       let lsa : Lsa = new_instance key (finite.get p.router.area.database key) says in
-      flood_kept moment None lsa (on_database (install_originated moment lsa) (walk.outcome p)) h.area;
+      flood_kept moment None lsa (on_database (install_originated moment lsa) (walk.outcome p))
+      h.area;
   own_router = λ r own. tt;
   case = λ case moment number lsa so o h. case_kept case moment number lsa o h;
   own_received = λ r lsa so is own. tt;
-  hello = λ own moment number from hello o h. hello_heard own moment number from hello (link_at number o.area.links) o (one_holds IsDone number o.area.links h) h;
-  description = λ own moment number d o h. one_keeps IsDone moment number (after_description own moment o.area.database d) (after own moment o.area.database d) o h;
+  hello = λ own moment number from hello o h. hello_heard own moment number from hello
+      (link_at number o.area.links) o (one_holds IsDone number o.area.links h) h;
+  description = λ own moment number d o h. one_keeps IsDone moment number
+      (after_description own moment o.area.database d) (after own moment o.area.database d) o h;
   requested = λ moment number keys o h. h;
-  mismatch = λ moment number o h. one_keeps IsDone moment number (mismatch_step moment) (mismatched moment) o h;
-  acknowledgment = λ moment number headers o h. one_keeps IsDone moment number (λ n. no_sends (after_acknowledgment moment headers n)) (acknowledged moment headers) o h;
+  mismatch = λ moment number o h. one_keeps IsDone moment number (mismatch_step moment)
+      (mismatched moment) o h;
+  acknowledgment = λ moment number headers o h. one_keeps IsDone moment number
+      (λ n. no_sends (after_acknowledgment moment headers n)) (acknowledged moment headers) o h;
   due = λ moment r own. keys_any (due_keys moment r);
-  inactive = λ moment o h. each_link_keeps IsDone (run_out moment) (λ link at. inactive moment link.interface.dead_interval link.neighbor at) o.area.links h;
+  inactive = λ moment o h. each_link_keeps IsDone (run_out moment)
+      (λ link at. inactive moment link.interface.dead_interval link.neighbor at) o.area.links h;
   again = λ moment o h.
-      each_keeps IsDone moment (again moment o) (λ number link n at. sent_again moment link.interface.retransmit_interval o.area.database n at) o h;
-  acknowledges = λ moment o h. each_link_keeps IsDone without_acknowledgments (λ link at. at) o.area.links h;
-  hellos = λ moment o h. each_link_keeps IsDone (with_hello_sent moment) (λ link at. at) o.area.links h;
+      each_keeps IsDone moment (again moment o)
+      (λ number link n at. sent_again moment link.interface.retransmit_interval o.area.database
+      n at) o h;
+  acknowledges = λ moment o h. each_link_keeps IsDone without_acknowledgments (λ link at. at)
+      o.area.links h;
+  hellos = λ moment o h. each_link_keeps IsDone (with_hello_sent moment) (λ link at. at)
+      o.area.links h;
   announces = λ r e own h. tt;
   unannounces = λ r key h. tt;
   link_down = λ number o h. changed_keeps IsDone number taken_down (λ link at. tt) o.area.links h;
-  loaded = λ o h. each_link_keeps IsDone link_loading_done (λ link at. filled_on link.neighbor at) o.area.links h;
-  requests = λ moment o h. each_keeps IsDone moment (λ number link n. request_next moment n) (λ number link n at. asked moment n at) o h;
+  loaded = λ o h. each_link_keeps IsDone link_loading_done (λ link at. filled_on link.neighbor at)
+      o.area.links h;
+  requests = λ moment o h. each_keeps IsDone moment (λ number link n. request_next moment n)
+      (λ number link n at. asked moment n at) o h;
   removes = λ moment o h. h;
 }
 
@@ -362,13 +497,18 @@ brought_any (body.Update lsas) = texts_any lsas
 brought_any (body.Acknowledgment headers) = tt
 
 brings : (old : Router) (event : Occurrence) → Brings on_neighbors old event
-brings old event = record { packet = λ number bytes packet is text. brought_any packet.body; key = λ tagged tag priced price is. (tt, tt) }
+brings old event = record {
+  packet = λ number bytes packet is text. brought_any packet.body;
+  key = λ tagged tag priced price is. (tt, tt);
+}
 
-event_kept : (old : Router) (moment : ℕ) (event : Occurrence) (outs : List Out) (new : Router) → Happens old moment event outs new
-    → HoldsOfEach IsDone old.area.links → HoldsOfEach IsDone new.area.links
+event_kept : (old : Router) (moment : ℕ) (event : Occurrence) (outs : List Out) (new : Router)
+    → Happens old moment event outs new → HoldsOfEach IsDone old.area.links
+    → HoldsOfEach IsDone new.area.links
 event_kept old moment event outs new happens h =
     subst (λ (r : Router). HoldsOfEach IsDone r.area.links) (sym happens.router)
-    (walk.event_kept on_neighbors parts_keep old moment event happens.after (brings old event) happens.own (record { area = h; announced = tt })).area
+    (walk.event_kept on_neighbors parts_keep old moment event happens.after (brings old event)
+    happens.own (record { area = h; announced = tt })).area
 
 -- ---- runs
 
@@ -378,18 +518,27 @@ fresh_so (i ∷ is) = (tt, fresh_so is)
 
 first_so : (c : Config) → HoldsOfEach IsDone (initial c).area.links
 first_so c =
-    (originate_or_wait_kept on_neighbors parts_keep c.start (router_key c.router) (record { router = unannounced_router c; sends = [] }) tt
+    (originate_or_wait_kept on_neighbors parts_keep c.start (router_key c.router) (record {
+      router = unannounced_router c;
+      sends = [];
+    }) tt
     (record { area = fresh_so c.interfaces; announced = tt })).area
 
-run_kept : (steps : List RunStep) (old new : Router) → Run old steps new → HoldsOfEach IsDone old.area.links → HoldsOfEach IsDone new.area.links
+run_kept : (steps : List RunStep) (old new : Router) → Run old steps new
+    → HoldsOfEach IsDone old.area.links → HoldsOfEach IsDone new.area.links
 run_kept [] old new same h = subst (λ (r : Router). HoldsOfEach IsDone r.area.links) (sym same) h
-run_kept (s ∷ steps) old new run h = run_kept steps run.0 new run.2 (event_kept old s.moment s.event s.outs run.0 run.1 h)
+run_kept (s ∷ steps) old new run h =
+    run_kept steps run.0 new run.2 (event_kept old s.moment s.event s.outs run.0 run.1 h)
 
 -- so for the neighbor at an interface, after every run from the start
-pub always_done : (c : Config) (steps : List RunStep) (r : Router) → Run (initial c) steps r → (number : ℕ) (n : Neighbor) → neighbor_at number r.area.links ≡ Some n → IsDone n
-always_done c steps r run number n at = subst (Holds IsDone) at (one_holds IsDone number r.area.links (run_kept steps (initial c) r run (first_so c)))
+pub always_done : (c : Config) (steps : List RunStep) (r : Router) → Run (initial c) steps r
+    → (number : ℕ) (n : Neighbor) → neighbor_at number r.area.links ≡ Some n → IsDone n
+always_done c steps r run number n at =
+    subst (Holds IsDone) at (one_holds IsDone number r.area.links
+    (run_kept steps (initial c) r run (first_so c)))
 
-emptied : (s : State) (d : Option Description) (at : Option ℕ) (l : ByKey ListEntry) → is_exchange_done s ≡ true → Done s d at l → l ≡ finite.empty
+emptied : (s : State) (d : Option Description) (at : Option ℕ) (l : ByKey ListEntry)
+    → is_exchange_done s ≡ true → Done s d at l → l ≡ finite.empty
 emptied Init d at l is h = absurd cc
 emptied ExStart d at l is h = absurd cc
 emptied Exchange d at l is h = absurd cc
@@ -397,4 +546,5 @@ emptied Loading d at l is h = h
 emptied Full d at l is h = h
 
 pub nothing_is_left : NothingIsLeftToDescribe
-nothing_is_left c steps r run number n at done = emptied n.state n.described n.exchanged n.summary done (always_done c steps r run number n at)
+nothing_is_left c steps r run number n at done =
+    emptied n.state n.described n.exchanged n.summary done (always_done c steps r run number n at)

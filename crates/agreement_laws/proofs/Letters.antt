@@ -1,9 +1,11 @@
 -- What a router says in the packets that it sends at an interface: the bytes of each encode one
 -- packet, whose LSAs were sent there in Link State Updates, and whose acknowledged headers were
 -- acknowledged there.
-use Rattle.std.proofs.Common.{◌≡◌, ℕ, ◌+◌, Bool, true, false, cond, ◌⊎◌, inl, inr, List, [], ◌∷◌, map, Option, None, Some, refl, sym, ap, subst, ◌∙◌}
+use Rattle.std.proofs.Common.{◌≡◌, ℕ, ◌+◌, Bool, true, false, cond, ◌⊎◌, inl, inr, List, [], ◌∷◌}
+use Rattle.std.proofs.Common.{map, Option, None, Some, refl, sym, ap, subst, ◌∙◌}
 use Rattle.std.specs.Prelude.{◌==◌}
-use Rattle.std.specs.List.{AllByRecursion, Contains, cons_option, enumerate_from, filter_map, flat_map}
+use Rattle.std.specs.List.{AllByRecursion, Contains, cons_option, enumerate_from, filter_map}
+use Rattle.std.specs.List.{flat_map}
 use Rattle.std.proofs.lemmas.Bool.{eqb-true}
 use Rattle.words.specs.declared.key.Key.{Key}
 use Rattle.lsa.specs.Headers.{header_at}
@@ -21,8 +23,12 @@ use Rattle.adjacency.specs.Contents.{Content}
 use Rattle.received.specs.Links.{Link}
 use Rattle.received.specs.Outcomes.{Send}
 use Rattle.events.specs.declared.model.Out.{Out}
-use Rattle.events.specs.LsaInstances.{LsaInstance, instance_of_header, instance_of_lsa, instances_in_update}
-use Rattle.events.specs.Packing.{acknowledgments, at_interface, bodies, descriptions, first_key, header_size, hellos, in_key_order, lsa_size, out_of, outs_at, outs_of, packed_groups, packet_of, requests, sent_lsa, update_of, updates}
+use Rattle.events.specs.LsaInstances.{LsaInstance, instance_of_header, instance_of_lsa}
+use Rattle.events.specs.LsaInstances.{instances_in_update}
+use Rattle.events.specs.Packing.{acknowledgments, at_interface, bodies, descriptions, first_key}
+use Rattle.events.specs.Packing.{header_size, hellos, in_key_order, lsa_size, out_of, outs_at}
+use Rattle.events.specs.Packing.{outs_of, packed_groups, packet_of, requests, sent_lsa, update_of}
+use Rattle.events.specs.Packing.{updates}
 use Rattle.events.proofs.Rooms.{both, mapped_all, order_all, packed_all}
 use Rattle.flood_laws.specs.Keeping.{AreTexts, AreTextsAt, IsInstance, IsText}
 use Rattle.flood_laws.proofs.Known.{of_member}
@@ -35,20 +41,25 @@ use Rattle.agreement_laws.proofs.ReadNames.{name_read}
 -- ---- lists
 
 -- what is chosen from each content
-chosen_of : {Y : Type 0} (f : Content → Option Y) (R : Content → Type 0) (P : Y → Type 0) → ((c : Content) → R c → AllByRecursion P (cons_option (f c) []))
-    → (cs : List Content) → AllByRecursion R cs → AllByRecursion P (filter_map f cs)
+chosen_of : {Y : Type 0} (f : Content → Option Y) (R : Content → Type 0) (P : Y → Type 0)
+    → ((c : Content) → R c → AllByRecursion P (cons_option (f c) [])) → (cs : List Content)
+    → AllByRecursion R cs → AllByRecursion P (filter_map f cs)
 chosen_of {Y = Y} f R P each [] p = tt
-chosen_of {Y = Y} f R P each (c ∷ cs) p = in_front (f c) (each c p.0) (filter_map f cs) (chosen_of f R P each cs p.1)
+chosen_of {Y = Y} f R P each (c ∷ cs) p =
+    in_front (f c) (each c p.0) (filter_map f cs) (chosen_of f R P each cs p.1)
   where
-    in_front : (o : Option Y) → AllByRecursion P (cons_option o []) → (ys : List Y) → AllByRecursion P ys → AllByRecursion P (cons_option o ys)
+    in_front : (o : Option Y) → AllByRecursion P (cons_option o []) → (ys : List Y)
+        → AllByRecursion P ys → AllByRecursion P (cons_option o ys)
     in_front None q ys r = r
     in_front (Some y) q ys r = (q.0, r)
 
-given_all : {X : Type 0} (A : Type 0) (P : X → Type 0) (xs : List X) → (A → AllByRecursion P xs) → AllByRecursion (λ (x : X). A → P x) xs
+given_all : {X : Type 0} (A : Type 0) (P : X → Type 0) (xs : List X) → (A → AllByRecursion P xs)
+    → AllByRecursion (λ (x : X). A → P x) xs
 given_all A P [] f = tt
 given_all A P (x ∷ xs) f = ((λ a. (f a).0), given_all A P xs (λ a. (f a).1))
 
-paired : {X : Type 0} (P R : X → Type 0) (xs : List X) → AllByRecursion P xs → AllByRecursion R xs → AllByRecursion (λ (x : X). P x × R x) xs
+paired : {X : Type 0} (P R : X → Type 0) (xs : List X) → AllByRecursion P xs → AllByRecursion R xs
+    → AllByRecursion (λ (x : X). P x × R x) xs
 paired P R [] p r = tt
 paired P R (x ∷ xs) p r = ((p.0, r.0), paired P R xs p.1 r.1)
 
@@ -57,14 +68,16 @@ paired P R (x ∷ xs) p r = ((p.0, r.0), paired P R xs p.1 r.1)
 -- at an interface, if R holds of what is sent there
 module _ (R : Content → Type 0) where
   abbrev pub IsTextOfSent : ℕ → List ℕ → Type 0
-  IsTextOfSent delay bytes = (lsa : Lsa) × (bytes ≡ text (sent_lsa delay lsa)) × R (Content.Updates lsa)
+  IsTextOfSent delay bytes = (lsa : Lsa) × (bytes ≡ text (sent_lsa delay lsa))
+      × R (Content.Updates lsa)
 
   abbrev pub BearsSent : ℕ → Body → Type 0
   BearsSent delay (body.Hello h) = Unit {0}
   BearsSent delay (body.Description d) = R (Content.Describes d)
   BearsSent delay (body.Request keys) = Unit {0}
   BearsSent delay (body.Update lsas) = AllByRecursion (IsTextOfSent delay) lsas
-  BearsSent delay (body.Acknowledgment headers) = AllByRecursion (λ h. R (Content.Acknowledges h)) headers
+  BearsSent delay (body.Acknowledgment headers) =
+      AllByRecursion (λ h. R (Content.Acknowledges h)) headers
 
   abbrev OfLsa : Lsa → Type 0
   OfLsa l = R (Content.Updates l)
@@ -80,7 +93,8 @@ module _ (R : Content → Type 0) where
     hello_bears (Content.Updates lsa) so = tt
     hello_bears (Content.Acknowledges h) so = tt
 
-    description_bears : (c : Content) → R c → AllByRecursion (BearsSent delay) (cons_option (descriptions c) [])
+    description_bears : (c : Content) → R c
+        → AllByRecursion (BearsSent delay) (cons_option (descriptions c) [])
     description_bears (Content.SendsHello h) so = tt
     description_bears (Content.Describes d) so = (so, tt)
     description_bears (Content.Requests keys) so = tt
@@ -98,125 +112,181 @@ module _ (R : Content → Type 0) where
     of_update (Content.Updates lsa) so = (so, tt)
     of_update (Content.Acknowledges h) so = tt
 
-    of_acknowledgment : (c : Content) → R c → AllByRecursion OfHeader (cons_option (acknowledgments c) [])
+    of_acknowledgment : (c : Content) → R c
+        → AllByRecursion OfHeader (cons_option (acknowledgments c) [])
     of_acknowledgment (Content.SendsHello h) so = tt
     of_acknowledgment (Content.Describes d) so = tt
     of_acknowledgment (Content.Requests keys) so = tt
     of_acknowledgment (Content.Updates lsa) so = tt
     of_acknowledgment (Content.Acknowledges h) so = (so, tt)
 
-    texts_bear : (lsas : List Lsa) → AllByRecursion OfLsa lsas → BearsSent delay (update_of delay lsas)
-    texts_bear lsas so = mapped_all (λ (l : Lsa). text (sent_lsa delay l)) OfLsa (IsTextOfSent delay) (λ l k. (l, refl, k)) lsas so
+    texts_bear : (lsas : List Lsa) → AllByRecursion OfLsa lsas
+        → BearsSent delay (update_of delay lsas)
+    texts_bear lsas so = mapped_all (λ (l : Lsa). text (sent_lsa delay l)) OfLsa
+        (IsTextOfSent delay) (λ l k. (l, refl, k)) lsas so
 
-    bodies_bear : (cs : List Content) → AllByRecursion R cs → AllByRecursion (BearsSent delay) (bodies delay cs)
+    bodies_bear : (cs : List Content) → AllByRecursion R cs
+        → AllByRecursion (BearsSent delay) (bodies delay cs)
     bodies_bear cs so =
         let lsas : List Lsa = in_key_order lsa_key (filter_map updates cs) in
         let headers : List Header = in_key_order key_of (filter_map acknowledgments cs) in
         both (BearsSent delay) _ (map body.Acknowledgment (packed_groups header_size 24 headers))
         (both (BearsSent delay) _ (map (update_of delay) (packed_groups lsa_size 28 lsas))
-        (both (BearsSent delay) _ (map body.Request (in_key_order first_key (filter_map requests cs)))
-        (both (BearsSent delay) (filter_map hellos cs) (filter_map descriptions cs) (chosen_of hellos R (BearsSent delay) hello_bears cs so)
+        (both (BearsSent delay) _ (map body.Request
+        (in_key_order first_key (filter_map requests cs)))
+        (both (BearsSent delay) (filter_map hellos cs) (filter_map descriptions cs)
+        (chosen_of hellos R (BearsSent delay) hello_bears cs so)
         (chosen_of descriptions R (BearsSent delay) description_bears cs so))
         (requests_bear (in_key_order first_key (filter_map requests cs))))
-        (mapped_all (update_of delay) (λ p. AllByRecursion OfLsa p) (BearsSent delay) texts_bear (packed_groups lsa_size 28 lsas)
-        (packed_all lsa_size 28 OfLsa lsas (order_all lsa_key OfLsa (filter_map updates cs) (chosen_of updates R OfLsa of_update cs so)))))
-        (mapped_all body.Acknowledgment (λ p. AllByRecursion OfHeader p) (BearsSent delay) (λ p each. each) (packed_groups header_size 24 headers)
-        (packed_all header_size 24 OfHeader headers (order_all key_of OfHeader (filter_map acknowledgments cs) (chosen_of acknowledgments R OfHeader of_acknowledgment cs so))))
+        (mapped_all (update_of delay) (λ p. AllByRecursion OfLsa p) (BearsSent delay) texts_bear
+        (packed_groups lsa_size 28 lsas)
+        (packed_all lsa_size 28 OfLsa lsas
+        (order_all lsa_key OfLsa (filter_map updates cs)
+        (chosen_of updates R OfLsa of_update cs so)))))
+        (mapped_all body.Acknowledgment (λ p. AllByRecursion OfHeader p) (BearsSent delay)
+        (λ p each. each) (packed_groups header_size 24 headers)
+        (packed_all header_size 24 OfHeader headers
+        (order_all key_of OfHeader (filter_map acknowledgments cs)
+        (chosen_of acknowledgments R OfHeader of_acknowledgment cs so))))
 
   -- ---- what is sent at the interface
 
-  module _ (number : ℕ) (own : ℕ) (sends : List Send) (so : AllByRecursion (λ (s : Send). s.number ≡ number → R s.content) sends) where
-    at_number : (n : ℕ) → n ≡ number → (xs : List Send) → AllByRecursion (λ (s : Send). s.number ≡ number → R s.content) xs → AllByRecursion R (filter_map (at_interface n) xs)
+  module _ (number : ℕ) (own : ℕ) (sends : List Send)
+      (so : AllByRecursion (λ (s : Send). s.number ≡ number → R s.content) sends) where
+    at_number : (n : ℕ) → n ≡ number → (xs : List Send)
+        → AllByRecursion (λ (s : Send). s.number ≡ number → R s.content) xs
+        → AllByRecursion R (filter_map (at_interface n) xs)
     at_number n same [] h = tt
     at_number n same (s ∷ xs) h = by_number (s.number == n) refl (at_number n same xs h.1)
       where
-        by_number : (b : Bool) → (s.number == n) ≡ b → AllByRecursion R (filter_map (at_interface n) xs) → AllByRecursion R (cons_option (cond b (Some s.content) None) (filter_map (at_interface n) xs))
+        by_number : (b : Bool) → (s.number == n) ≡ b
+            → AllByRecursion R (filter_map (at_interface n) xs)
+            → AllByRecursion R (cons_option (cond b (Some s.content) None)
+            (filter_map (at_interface n) xs))
         by_number true e rest = (h.0 (eqb-true s.number n e ∙ same), rest)
         by_number false e rest = rest
 
     -- bytes of a packet from this router with contents that were sent
     abbrev pub IsLetter : List ℕ → Type 0
-    IsLetter bytes = (delay : ℕ) × (b : Body) × BearsSent delay b × (bytes ≡ canonical (packet_of own b)) × IsText own b
+    IsLetter bytes = (delay : ℕ) × (b : Body) × BearsSent delay b
+        × (bytes ≡ canonical (packet_of own b)) × IsText own b
 
     abbrev OfOut : Out → Type 0
     OfOut out = out.interface ≡ number → IsLetter out.bytes
 
-    outs_so : (n : ℕ) (links : List Link) → AllByRecursion (λ (e : ℕ × Link). AreTextsAt own sends e.0 e.1) (enumerate_from n links)
-        → AllByRecursion OfOut (flat_map (λ (e : ℕ × Link). outs_at own sends e.0 e.1) (enumerate_from n links))
+    outs_so : (n : ℕ) (links : List Link)
+        → AllByRecursion (λ (e : ℕ × Link). AreTextsAt own sends e.0 e.1) (enumerate_from n links)
+        → AllByRecursion OfOut (flat_map (λ (e : ℕ × Link). outs_at own sends e.0 e.1)
+        (enumerate_from n links))
     outs_so n [] texts = tt
     outs_so n (link ∷ links) texts =
         let bs : List Body = bodies link.interface.delay (filter_map (at_interface n) sends) in
-        both OfOut (outs_at own sends n link) (flat_map (λ (e : ℕ × Link). outs_at own sends e.0 e.1) (enumerate_from (n + 1) links))
-        (mapped_all (out_of own n) (λ b. (n ≡ number → BearsSent link.interface.delay b) × IsText own b) OfOut
+        both OfOut (outs_at own sends n link)
+        (flat_map (λ (e : ℕ × Link). outs_at own sends e.0 e.1) (enumerate_from (n + 1) links))
+        (mapped_all (out_of own n) (λ b. (n ≡ number → BearsSent link.interface.delay b)
+        × IsText own b) OfOut
         (λ b k same. (link.interface.delay, b, k.0 same, refl, k.1)) bs
         (paired (λ b. n ≡ number → BearsSent link.interface.delay b) (IsText own) bs
-        (given_all (n ≡ number) (BearsSent link.interface.delay) bs (λ same. bodies_bear link.interface.delay (filter_map (at_interface n) sends) (at_number n same sends so))) texts.0))
+        (given_all (n ≡ number) (BearsSent link.interface.delay) bs
+        (λ same. bodies_bear link.interface.delay (filter_map (at_interface n) sends)
+        (at_number n same sends so))) texts.0))
         (outs_so (n + 1) links texts.1)
 
-    those_at : (outs : List Out) → AllByRecursion OfOut outs → AllByRecursion IsLetter (filter_map (text_at number) outs)
+    those_at : (outs : List Out) → AllByRecursion OfOut outs
+        → AllByRecursion IsLetter (filter_map (text_at number) outs)
     those_at [] h = tt
     those_at (out ∷ outs) h = by_number (out.interface == number) refl (those_at outs h.1)
       where
-        by_number : (b : Bool) → (out.interface == number) ≡ b → AllByRecursion IsLetter (filter_map (text_at number) outs)
-            → AllByRecursion IsLetter (cons_option (cond b (Some out.bytes) None) (filter_map (text_at number) outs))
+        by_number : (b : Bool) → (out.interface == number) ≡ b
+            → AllByRecursion IsLetter (filter_map (text_at number) outs)
+            → AllByRecursion IsLetter (cons_option (cond b (Some out.bytes) None)
+            (filter_map (text_at number) outs))
         by_number true e rest = (h.0 (eqb-true out.interface number e), rest)
         by_number false e rest = rest
 
-    pub letters : (links : List Link) → AreTexts own links sends → AllByRecursion IsLetter (filter_map (text_at number) (outs_of own links sends))
+    pub letters : (links : List Link) → AreTexts own links sends
+        → AllByRecursion IsLetter (filter_map (text_at number) (outs_of own links sends))
     letters links texts = those_at (outs_of own links sends) (outs_so 1 links texts)
 
 -- ---- what the bytes say
 
-module _ (R : Content → Type 0) (ranged : (lsa : Lsa) → R (Content.Updates lsa) → IsInstance (instance_of_lsa lsa)) where
+module _ (R : Content → Type 0) (ranged : (lsa : Lsa) → R (Content.Updates lsa)
+    → IsInstance (instance_of_lsa lsa)) where
   -- an LSA that was sent, or a header that was acknowledged
   pub data IsOfSent (b : Body) (name : LsaInstance) : Type 0 where
     OfUpdate : (lsa : Lsa) → R (Content.Updates lsa) → instance_of_lsa lsa ≡ name → IsOfSent b name
-    OfDescription : (d : Description) (header : Header) → Contains d.headers header → R (Content.Describes d) → instance_of_header header ≡ name → IsOfSent b name
-    OfAcknowledgment : (headers : List Header) (header : Header) → b ≡ body.Acknowledgment headers → Contains headers header → R (Content.Acknowledges header) → instance_of_header header ≡ name
-        → IsOfSent b name
+    OfDescription : (d : Description) (header : Header) → Contains d.headers header
+        → R (Content.Describes d) → instance_of_header header ≡ name → IsOfSent b name
+    OfAcknowledgment : (headers : List Header) (header : Header) → b ≡ body.Acknowledgment headers
+        → Contains headers header → R (Content.Acknowledges header) → instance_of_header header
+        ≡ name → IsOfSent b name
 
   abbrev read_unless : List ℕ → Option Fault → Option Lsa
   read_unless bytes None = Some (lsa_of bytes)
   read_unless bytes (Some f) = None
 
-  in_update : (b : Body) (delay : ℕ) (lsas : List (List ℕ)) (name : LsaInstance) → AllByRecursion (IsTextOfSent R delay) lsas → Contains (instances_in_update lsas) name → IsOfSent b name
+  in_update : (b : Body) (delay : ℕ) (lsas : List (List ℕ)) (name : LsaInstance)
+      → AllByRecursion (IsTextOfSent R delay) lsas → Contains (instances_in_update lsas) name
+      → IsOfSent b name
   in_update b delay [] name h c = absurd (of_empty name c)
-  in_update b delay (bytes ∷ rest) name h c = by_fault (fault_of bytes) (λ k. in_update b delay rest name h.1 k) c
+  in_update b delay (bytes ∷ rest) name h c =
+      by_fault (fault_of bytes) (λ k. in_update b delay rest name h.1 k) c
     where
       same : instance_of_lsa h.0.0 ≡ instance_of_lsa (lsa_of bytes)
-      same = sym (ap (λ bs. instance_of_header (header_at bs 0)) h.0.1 ∙ name_read (sent_lsa delay h.0.0) (ranged h.0.0 h.0.2))
+      same = sym (ap (λ bs. instance_of_header (header_at bs 0)) h.0.1
+          ∙ name_read (sent_lsa delay h.0.0) (ranged h.0.0 h.0.2))
 
-      by_fault : (o : Option Fault) → (Contains (instances_in_update rest) name → IsOfSent b name) → Contains (map instance_of_lsa (cons_option (read_unless bytes o) (filter_map lsa_in rest))) name → IsOfSent b name
-      by_fault None others k = by_place (of_cons (instance_of_lsa (lsa_of bytes)) (instances_in_update rest) name k)
+      by_fault : (o : Option Fault) → (Contains (instances_in_update rest) name → IsOfSent b name)
+          → Contains (map instance_of_lsa
+          (cons_option (read_unless bytes o) (filter_map lsa_in rest))) name → IsOfSent b name
+      by_fault None others k = by_place
+          (of_cons (instance_of_lsa (lsa_of bytes)) (instances_in_update rest) name k)
         where
-          by_place : (instance_of_lsa (lsa_of bytes) ≡ name) ⊎ Contains (instances_in_update rest) name → IsOfSent b name
+          by_place : (instance_of_lsa (lsa_of bytes) ≡ name)
+              ⊎ Contains (instances_in_update rest) name → IsOfSent b name
           by_place (inl is) = IsOfSent.OfUpdate h.0.0 h.0.2 (same ∙ is)
           by_place (inr more) = others more
       by_fault (Some f) others k = others k
 
-  header_of : (headers : List Header) (name : LsaInstance) → Contains (map instance_of_header headers) name → (h : Header) × Contains headers h × (instance_of_header h ≡ name)
+  header_of : (headers : List Header) (name : LsaInstance)
+      → Contains (map instance_of_header headers) name → (h : Header) × Contains headers h
+      × (instance_of_header h ≡ name)
   header_of [] name c = absurd (of_empty name c)
-  header_of (header ∷ headers) name c = by_place (λ k. header_of headers name k) (of_cons (instance_of_header header) (map instance_of_header headers) name c)
+  header_of (header ∷ headers) name c =
+      by_place (λ k. header_of headers name k)
+      (of_cons (instance_of_header header) (map instance_of_header headers) name c)
     where
-      by_place : (Contains (map instance_of_header headers) name → (h : Header) × Contains headers h × (instance_of_header h ≡ name))
-          → (instance_of_header header ≡ name) ⊎ Contains (map instance_of_header headers) name → (h : Header) × Contains (header ∷ headers) h × (instance_of_header h ≡ name)
+      by_place : (Contains (map instance_of_header headers) name → (h : Header) × Contains headers h
+          × (instance_of_header h ≡ name)) → (instance_of_header header ≡ name)
+          ⊎ Contains (map instance_of_header headers) name → (h : Header)
+          × Contains (header ∷ headers) h × (instance_of_header h ≡ name)
       by_place others (inl is) = (header, named_first header headers header refl, is)
       by_place others (inr k) = let it = others k in (it.0, later_is header headers it.0 it.1, it.2)
 
-  in_body : (delay : ℕ) (b : Body) (name : LsaInstance) → BearsSent R delay b → Contains (instances_told b) name → IsOfSent b name
+  in_body : (delay : ℕ) (b : Body) (name : LsaInstance) → BearsSent R delay b
+      → Contains (instances_told b) name → IsOfSent b name
   in_body delay (body.Hello h) name bears c = absurd (of_empty name c)
-  in_body delay (body.Description d) name bears c = let it = header_of d.headers name c in IsOfSent.OfDescription d it.0 it.1 bears it.2
+  in_body delay (body.Description d) name bears c = let it = header_of d.headers name c in
+      IsOfSent.OfDescription d it.0 it.1 bears it.2
   in_body delay (body.Request keys) name bears c = absurd (of_empty name c)
-  in_body delay (body.Update lsas) name bears c = in_update (body.Update lsas) delay lsas name bears c
+  in_body delay (body.Update lsas) name bears c =
+      in_update (body.Update lsas) delay lsas name bears c
   in_body delay (body.Acknowledgment headers) name bears c =
       let it = header_of headers name c in
-      IsOfSent.OfAcknowledgment headers it.0 refl it.1 (of_member (λ h. R (Content.Acknowledges h)) headers bears it.0 it.1) it.2
+      IsOfSent.OfAcknowledgment headers it.0 refl it.1
+      (of_member (λ h. R (Content.Acknowledges h)) headers bears it.0 it.1) it.2
 
   -- the bytes encode no other packet
-  pub told_in : (number own : ℕ) (sends : List Send) (so : AllByRecursion (λ (s : Send). s.number ≡ number → R s.content) sends) (bytes : List ℕ) → IsLetter R number own sends so bytes → (packet : Packet)
-      → PacketText bytes packet → (name : LsaInstance) → Contains (instances_told packet.body) name → IsOfSent packet.body name
+  pub told_in : (number own : ℕ) (sends : List Send)
+      (so : AllByRecursion (λ (s : Send). s.number ≡ number → R s.content) sends) (bytes : List ℕ)
+      → IsLetter R number own sends so bytes → (packet : Packet) → PacketText bytes packet
+      → (name : LsaInstance) → Contains (instances_told packet.body) name
+      → IsOfSent packet.body name
   told_in number own sends so bytes letter packet text name c =
       let b : Body = letter.1 in
-      let same : packet_of own b ≡ packet = one_packet bytes (packet_of own b) packet (subst (λ bs. PacketText bs (packet_of own b)) (sym letter.3) letter.4) text in
+      let same : packet_of own b ≡ packet =
+      one_packet bytes (packet_of own b) packet
+      (subst (λ bs. PacketText bs (packet_of own b)) (sym letter.3) letter.4) text in
       subst (λ (p : Packet). IsOfSent p.body name) same
-      (in_body letter.0 b name letter.2 (subst (λ (p : Packet). Contains (instances_told p.body) name) (sym same) c))
+      (in_body letter.0 b name letter.2
+      (subst (λ (p : Packet). Contains (instances_told p.body) name) (sym same) c))

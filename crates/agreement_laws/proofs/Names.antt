@@ -12,7 +12,9 @@ use Rattle.agreement_laws.specs.Ranks.{compare_ranks, is_at_least}
 use Rattle.agreement_laws.specs.SaidIsHeld.{young}
 use Rattle.agreement_laws.proofs.Ranks.{at_least_on, equal_parts, follow}
 
-without_flags : (r s : Ordering) (p q : Bool) → is_ge (ordering_then r (ordering_then s (bool_cmp p q))) ≡ true → is_ge (ordering_then r (ordering_then s (bool_cmp false false))) ≡ true
+without_flags : (r s : Ordering) (p q : Bool)
+    → is_ge (ordering_then r (ordering_then s (bool_cmp p q))) ≡ true
+    → is_ge (ordering_then r (ordering_then s (bool_cmp false false))) ≡ true
 without_flags Less s p q e = absurd cc
 without_flags Greater s p q e = refl
 without_flags Equal Less p q e = absurd cc
@@ -20,18 +22,25 @@ without_flags Equal Greater p q e = refl
 without_flags Equal Equal p q e = refl
 
 -- what is at least as new is so whatever the ages
-pub at_any_age : (a b : Instance) → is_at_least a b ≡ true → is_at_least (record a { age = 0 }) (record b { age = 0 }) ≡ true
-at_any_age a b e = without_flags (int_cmp a.sequence b.sequence) (nat_cmp a.checksum b.checksum) (is_max_age a.age) (is_max_age b.age) e
+pub at_any_age : (a b : Instance) → is_at_least a b ≡ true → is_at_least (record a {
+  age = 0;
+}) (record b { age = 0 }) ≡ true
+at_any_age a b e = without_flags (int_cmp a.sequence b.sequence) (nat_cmp a.checksum b.checksum)
+    (is_max_age a.age) (is_max_age b.age) e
 
-pub as_new_on : (a b c : LsaInstance) → is_as_new a b ≡ true → is_as_new b c ≡ true → is_as_new a c ≡ true
+pub as_new_on : (a b c : LsaInstance) → is_as_new a b ≡ true → is_as_new b c ≡ true → is_as_new a c
+    ≡ true
 as_new_on a b c more less = at_least_on (young a) (young b) (young c) more less
 
 -- two with one key that are each at least as new as the other are the same
-pub same_instance : (a b : LsaInstance) → a.key ≡ b.key → is_as_new a b ≡ true → is_as_new b a ≡ true → a ≡ b
+pub same_instance : (a b : LsaInstance) → a.key ≡ b.key → is_as_new a b ≡ true → is_as_new b a
+    ≡ true → a ≡ b
 same_instance a b key there back =
     let equal : compare_ranks (young a) (young b) ≡ Equal =
-    both_ways (compare_ranks (young a) (young b)) there (sym (ap (λ (o : Ordering). is_ge o) (follow.total.antisymm (young b) (young a))) ∙ back) in
-    let parts = equal_parts (int_cmp a.sequence b.sequence) (nat_cmp a.checksum b.checksum) (bool_cmp false false) equal in
+    both_ways (compare_ranks (young a) (young b)) there
+    (sym (ap (λ (o : Ordering). is_ge o) (follow.total.antisymm (young b) (young a))) ∙ back) in
+    let parts = equal_parts (int_cmp a.sequence b.sequence) (nat_cmp a.checksum b.checksum)
+    (bool_cmp false false) equal in
     let sequences = int_cmp-IsAntisymmetric a.sequence b.sequence parts.0 in
     let checksums = nat_cmp-IsAntisymmetric a.checksum b.checksum parts.1 in
     (λ i. record { key = key i; sequence = sequences i; checksum = checksums i })

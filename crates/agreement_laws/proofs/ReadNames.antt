@@ -28,7 +28,8 @@ two_bytes n =
 cut_text : (h : Header) → header_text (cut h) ≡ header_text h
 cut_text h = λ i.
     two_bytes h.age i ++ one_byte h.options i
-    ++ fields ((1, h.ls_type) ∷ (4, h.link_state_id) ∷ (4, h.advertising_router) ∷ (4, cast_unsigned w32 h.sequence) ∷ (2, h.checksum) ∷ []) ++ two_bytes h.length i
+    ++ fields ((1, h.ls_type) ∷ (4, h.link_state_id) ∷ (4, h.advertising_router)
+    ∷ (4, cast_unsigned w32 h.sequence) ∷ (2, h.checksum) ∷ []) ++ two_bytes h.length i
 
 cut_is : (h : Header) → IsInstance (instance_of_header h) → IsHeader (cut h)
 cut_is h is = record {
@@ -42,8 +43,11 @@ cut_is h is = record {
   length = omega arith;
 }
 
-pub name_read : (l : Lsa) → IsInstance (instance_of_lsa l) → instance_of_header (header_at (text l) 0) ≡ instance_of_lsa l
+pub name_read : (l : Lsa) → IsInstance (instance_of_lsa l)
+    → instance_of_header (header_at (text l) 0) ≡ instance_of_lsa l
 name_read l is =
-    let same : header_text (cut l.header) ++ body_text l.body ≡ text l = ap (λ t. t ++ body_text l.body) (cut_text l.header) in
+    let same : header_text (cut l.header) ++ body_text l.body ≡ text l =
+    ap (λ t. t ++ body_text l.body) (cut_text l.header) in
     ap (λ bytes. instance_of_header (header_at bytes 0)) (sym same)
-    ∙ ap (λ (h : Header). instance_of_header h) (header-reads_back (cut l.header) [] (body_text l.body) (cut_is l.header is))
+    ∙ ap (λ (h : Header). instance_of_header h)
+    (header-reads_back (cut l.header) [] (body_text l.body) (cut_is l.header is))

@@ -12,35 +12,62 @@ use Rattle.agreement_laws.specs.CopiesClimb.{BecameOf, HasHad, IsOfInstance}
 use Rattle.agreement_laws.specs.Ranks.{is_at_least}
 use Rattle.agreement_laws.specs.WorkedCopies.{Holds, HoldsAtMaxAge, WorkedCopies}
 
-module _ (old : Router) (moment : ℕ) (event : Occurrence) (instance : Instance) (key : Key) (new : Router) (others : key.advertising_router ≡ old.id → ⊥) where
+module _ (old : Router) (moment : ℕ) (event : Occurrence) (instance : Instance) (key : Key)
+    (new : Router) (others : key.advertising_router ≡ old.id → ⊥) where
   -- nothing of the key was there
-  nothing : finite.get old.area.database key ≡ None → ((lsa : Lsa) → BringsLsa event lsa → lsa_key lsa ≡ key → ⊥) → (last : Instance) → HasHad old event key last → ⊥
-  nothing none brings last (HasHad.Before c at is) = let no : None ≡ Some c = sym none ∙ at in absurd cc
+  nothing : finite.get old.area.database key ≡ None
+      → ((lsa : Lsa) → BringsLsa event lsa → lsa_key lsa ≡ key → ⊥) → (last : Instance)
+      → HasHad old event key last → ⊥
+  nothing none brings last (HasHad.Before c at is) = let no : None ≡ Some c = sym none ∙ at in
+      absurd cc
   nothing none brings last (HasHad.Brought lsa brought its_key is) = brings lsa brought its_key
   nothing none brings last (HasHad.Own own) = others own
 
-  absent : finite.get old.area.database key ≡ None → ((lsa : Lsa) → BringsLsa event lsa → lsa_key lsa ≡ key → ⊥) → BecameOf old moment event instance key new → Holds new key
+  absent : finite.get old.area.database key ≡ None
+      → ((lsa : Lsa) → BringsLsa event lsa → lsa_key lsa ≡ key → ⊥)
+      → BecameOf old moment event instance key new → Holds new key
   absent none brings (BecameOf.IsHeld c at as_new) = record { copy = c; there = at }
-  absent none brings (BecameOf.IsGone last had as_new aged gone off) = absurd (nothing none brings last had)
+  absent none brings (BecameOf.IsGone last had as_new aged gone off) =
+      absurd (nothing none brings last had)
 
   -- the copy, at MaxAge, is the last instance
-  left : (last : Instance) → HasHad old event key last → ((lsa : Lsa) → BringsLsa event lsa → ⊥) → is_at_least last instance ≡ true → is_max_age last.age ≡ true → HoldsAtMaxAge old key instance
+  left : (last : Instance) → HasHad old event key last → ((lsa : Lsa) → BringsLsa event lsa → ⊥)
+      → is_at_least last instance ≡ true → is_max_age last.age ≡ true
+      → HoldsAtMaxAge old key instance
   left last (HasHad.Before c at is) brings as_new aged =
-      let same : last ≡ record { sequence = c.lsa.header.sequence; checksum = c.lsa.header.checksum; age = 3600 } =
-      (λ i. record { sequence = (sym is.sequence) i; checksum = (sym is.checksum) i; age = eqb-true last.age 3600 aged i }) in
-      record { copy = c; there = at; as_new = subst (λ (x : Instance). is_at_least x instance ≡ true) same as_new }
+      let same : last ≡ record {
+        sequence = c.lsa.header.sequence;
+        checksum = c.lsa.header.checksum;
+        age = 3600;
+      } =
+      (λ i. record {
+        sequence = (sym is.sequence) i;
+        checksum = (sym is.checksum) i;
+        age = eqb-true last.age 3600 aged i;
+      }) in
+      record {
+        copy = c;
+        there = at;
+        as_new = subst (λ (x : Instance). is_at_least x instance ≡ true)
+            same as_new;
+      }
   left last (HasHad.Brought lsa brought its_key is) brings as_new aged = absurd (brings lsa brought)
   left last (HasHad.Own own) brings as_new aged = absurd (others own)
 
-  on_tick : ((lsa : Lsa) → BringsLsa event lsa → ⊥) → BecameOf old moment event instance key new → Holds new key ⊎ HoldsAtMaxAge old key instance
+  on_tick : ((lsa : Lsa) → BringsLsa event lsa → ⊥) → BecameOf old moment event instance key new
+      → Holds new key ⊎ HoldsAtMaxAge old key instance
   on_tick brings (BecameOf.IsHeld c at as_new) = inl (record { copy = c; there = at })
-  on_tick brings (BecameOf.IsGone last had as_new aged gone off) = inr (left last had brings as_new aged)
+  on_tick brings (BecameOf.IsGone last had as_new aged gone off) =
+      inr (left last had brings as_new aged)
 
 no_packet : (lsa : Lsa) → BringsLsa Occurrence.Tick lsa → ⊥
-no_packet lsa brought = let no : Occurrence.Tick ≡ Occurrence.Packet brought.number brought.bytes = brought.is in absurd cc
+no_packet lsa brought = let no : Occurrence.Tick ≡ Occurrence.Packet brought.number brought.bytes =
+    brought.is in absurd cc
 
 pub worked : WorkedCopies
 worked = record {
-  absent = λ old moment event instance key new none others brings became. absent old moment event instance key new others none brings became;
-  tick = λ old moment instance key new others became. on_tick old moment Occurrence.Tick instance key new others no_packet became;
+  absent = λ old moment event instance key new none others brings became. absent old moment event
+      instance key new others none brings became;
+  tick = λ old moment instance key new others became. on_tick old moment Occurrence.Tick instance
+      key new others no_packet became;
 }

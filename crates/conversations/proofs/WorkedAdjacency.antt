@@ -1,5 +1,6 @@
 -- An adjacency is formed, a Database Description is repeated, and the adjacency starts over.
-use Rattle.std.proofs.Common.{◌≡◌, ℕ, ◌%◌, ◌^◌, ◌==◌, true, false, cond, not, ◌&&◌, ◌||◌, List, [], ◌∷◌, None, Some, refl, ap, ◌∙◌}
+use Rattle.std.proofs.Common.{◌≡◌, ℕ, ◌%◌, ◌^◌, ◌==◌, true, false, cond, not, ◌&&◌, ◌||◌, List, []}
+use Rattle.std.proofs.Common.{◌∷◌, None, Some, refl, ap, ◌∙◌}
 use Rattle.std.specs.FinSet as set
 use Rattle.packet.specs.declared.model.Body.TheVariants as body
 use Rattle.packet.specs.declared.model.Description.{Description}
@@ -7,7 +8,8 @@ use Rattle.packet.specs.declared.model.Hello.{Hello}
 use Rattle.packet.specs.declared.model.Packet.{Packet}
 use Rattle.packet.proofs.Whole.{one_packet}
 use Rattle.adjacency.specs.Adjacencies as adjacencies
-use Rattle.adjacency.specs.Adjacencies.{next_dd_sequence_start, initial_description, requests_nothing, enter_exstart}
+use Rattle.adjacency.specs.Adjacencies.{next_dd_sequence_start, initial_description}
+use Rattle.adjacency.specs.Adjacencies.{requests_nothing, enter_exstart}
 use Rattle.adjacency.specs.Contents.{Step, no_sends}
 use Rattle.adjacency.specs.Contents as contents
 use Rattle.adjacency.specs.Descriptions.{Verdict, act, judge, repeat}
@@ -17,44 +19,58 @@ use Rattle.adjacency.specs.declared.state.State.TheVariants.{ExStart, Full, Load
 use Rattle.received.specs.Links.{Link, neighbor_at}
 use Rattle.received.specs.Outcomes.{one_neighbor}
 use Rattle.events.specs.declared.model.Out.{Out}
-use Rattle.events.specs.Endings.{start_event, describe_router, describe_router_later, loading_done, end_event, remove_aged}
+use Rattle.events.specs.Endings.{start_event, describe_router, describe_router_later, loading_done}
+use Rattle.events.specs.Endings.{end_event, remove_aged}
 use Rattle.events.specs.Events.{Happens}
 use Rattle.events.specs.Packets.{after_hello, after_packet, describe_to, hear}
 use Rattle.events.specs.Packing.{outs_of}
 use Rattle.events.specs.EventState.{EventState, on_area, on_router}
 use Rattle.events.specs.Routers.{Occurrence, Router, shown_at}
-use Rattle.conversations.specs.WorkedAdjacency.{AnAdjacencyBegins, IsDescription, IsNamingHello, NothingAges, describes, lonely}
+use Rattle.conversations.specs.WorkedAdjacency.{AnAdjacencyBegins, IsDescription, IsNamingHello}
+use Rattle.conversations.specs.WorkedAdjacency.{NothingAges, describes, lonely}
 use Rattle.conversations.specs.WorkedOwn.{beside, loading}
-use Rattle.conversations.proofs.WorkedEnds.{begins, describes_not, describes_not_later, differ_not, ended, ends_by, last}
+use Rattle.conversations.proofs.WorkedEnds.{begins, describes_not, describes_not_later, differ_not}
+use Rattle.conversations.proofs.WorkedEnds.{ended, ends_by, last}
 use Rattle.conversations.proofs.WorkedUpdates.{itself, start}
 
 -- ---- a Hello that lists this router
 
 abbrev pub last_heard : Router → Link → ℕ → ℕ → EventState
 last_heard r link moment from =
-    record (start (beside r link (enter_exstart moment (fresh from None moment)).neighbor)) { sends = describes (initial_description (moment % 2 ^ 32)) }
+    record (start (beside r link (enter_exstart moment (fresh from None moment)).neighbor))
+    { sends = describes (initial_description (moment % 2 ^ 32)) }
 
-pub hello_ends : (r new : Router) (link : Link) (moment from : ℕ) (bytes : List ℕ) (h : Hello) (outs : List Out)
-    → NothingAges r moment → IsNamingHello r link bytes from h → (event : Happens (lonely r link) moment (Occurrence.Packet 1 bytes) outs new)
-    → end_event (lonely r link) moment event.after ≡ ended moment (last_heard r link moment from)
+pub hello_ends : (r new : Router) (link : Link) (moment from : ℕ) (bytes : List ℕ) (h : Hello)
+    (outs : List Out) → NothingAges r moment → IsNamingHello r link bytes from h
+    → (event : Happens (lonely r link) moment (Occurrence.Packet 1 bytes) outs new)
+    → end_event (lonely r link) moment event.after
+    ≡ ended moment (last_heard r link moment from)
 hello_ends r new link moment from bytes h outs nothing hello event =
     let old : Router = lonely r link in
     let packet : Packet = record { router = from; body = body.Hello h } in
     let p : EventState = last_heard r link moment from in
     let own : event.after ≡ p =
     event.own.2
-    ∙ ap (λ q. after_packet moment 1 q (start_event moment old)) (one_packet bytes event.own.0 packet event.own.1 hello.is_text)
+    ∙ ap (λ q. after_packet moment 1 q (start_event moment old))
+    (one_packet bytes event.own.0 packet event.own.1 hello.is_text)
     ∙ ap (after_packet moment 1 packet) (begins moment old nothing)
-    ∙ (λ i. cond (hello.is_other i && (true || false)) (on_area (after_hello r.id moment 1 from h) (start old)) (start old))
-    ∙ (λ i. on_area (λ o. cond (hello.is_accepted i) (hear moment 1 (adjacencies.after_hello moment from (hello.is_naming i) None) o) o) (start old)) in
+    ∙ (λ i. cond (hello.is_other i && (true || false))
+    (on_area (after_hello r.id moment 1 from h) (start old)) (start old))
+    ∙ (λ i. on_area (λ o. cond (hello.is_accepted i)
+    (hear moment 1 (adjacencies.after_hello moment from (hello.is_naming i) None) o) o)
+    (start old)) in
     ap (end_event old moment) own ∙ ends_by old moment p refl refl
 
-pub opens_it : (r new : Router) (link : Link) (moment from : ℕ) (bytes : List ℕ) (h : Hello) (outs : List Out)
-    → NothingAges r moment → IsNamingHello r link bytes from h → Happens (lonely r link) moment (Occurrence.Packet 1 bytes) outs new
-    → (shown_at new 1 ≡ Some (from, ExStart)) × (outs ≡ outs_of r.id (lonely r link).area.links (describes (initial_description (moment % 2 ^ 32))))
+pub opens_it : (r new : Router) (link : Link) (moment from : ℕ) (bytes : List ℕ) (h : Hello)
+    (outs : List Out) → NothingAges r moment → IsNamingHello r link bytes from h
+    → Happens (lonely r link) moment (Occurrence.Packet 1 bytes) outs new
+    → (shown_at new 1 ≡ Some (from, ExStart))
+    × (outs ≡ outs_of r.id (lonely r link).area.links
+    (describes (initial_description (moment % 2 ^ 32))))
 opens_it r new link moment from bytes h outs nothing hello event =
     let old : Router = lonely r link in
-    let end : end_event old moment event.after ≡ ended moment (last_heard r link moment from) = hello_ends r new link moment from bytes h outs nothing hello event in (
+    let end : end_event old moment event.after ≡ ended moment (last_heard r link moment from) =
+    hello_ends r new link moment from bytes h outs nothing hello event in (
       ap (λ s. shown_at s 1) (event.router ∙ ap (λ (q : EventState). q.router) end),
       event.sent ∙ ap (λ (q : EventState). outs_of r.id old.area.links q.sends) end,
     )
@@ -63,31 +79,44 @@ opens_it r new link moment from bytes h outs nothing hello event =
 
 -- the neighbor's step
 abbrev stepping : Router → Link → Neighbor → ℕ → Step → EventState
-stepping r link n moment s = on_area (λ o. one_neighbor moment 1 (λ m. s) o) (start (beside r link (loading n)))
+stepping r link n moment s = on_area (λ o. one_neighbor moment 1 (λ m. s) o)
+    (start (beside r link (loading n)))
 
-judged : (r new : Router) (link : Link) (n : Neighbor) (moment : ℕ) (bytes : List ℕ) (d : Description) (v : Verdict) (outs : List Out)
-    → NothingAges r moment → IsDescription r n bytes d v → (event : Happens (beside r link (loading n)) moment (Occurrence.Packet 1 bytes) outs new)
-    → event.after ≡ stepping r link n moment (act v moment r.area.database d (loading n))
+judged : (r new : Router) (link : Link) (n : Neighbor) (moment : ℕ) (bytes : List ℕ)
+    (d : Description) (v : Verdict) (outs : List Out) → NothingAges r moment
+    → IsDescription r n bytes d v →
+    (event : Happens (beside r link (loading n)) moment (Occurrence.Packet 1 bytes) outs
+    new) → event.after ≡ stepping r link n moment
+    (act v moment r.area.database d (loading n))
 judged r new link n moment bytes d v outs nothing said event =
     let old : Router = beside r link (loading n) in
     let packet : Packet = record { router = n.router; body = body.Description d } in
     event.own.2
-    ∙ ap (λ q. after_packet moment 1 q (start_event moment old)) (one_packet bytes event.own.0 packet event.own.1 said.is_text)
+    ∙ ap (λ q. after_packet moment 1 q (start_event moment old))
+    (one_packet bytes event.own.0 packet event.own.1 said.is_text)
     ∙ ap (after_packet moment 1 packet) (begins moment old nothing)
-    ∙ (λ i. cond (said.is_other i && (false || itself n.router i)) (on_area (describe_to r.id moment 1 d) (start old)) (start old))
-    ∙ (λ i. stepping r link n moment (cond (said.fits i) (no_sends (loading n)) (judge r.id moment r.area.database d (loading n))))
+    ∙ (λ i. cond (said.is_other i && (false || itself n.router i))
+    (on_area (describe_to r.id moment 1 d) (start old)) (start old))
+    ∙ (λ i. stepping r link n moment (cond (said.fits i) (no_sends (loading n))
+    (judge r.id moment r.area.database d (loading n))))
     ∙ (λ i. stepping r link n moment (act (said.is_judged i) moment r.area.database d (loading n)))
 
-begins_it_again : (r new : Router) (link : Link) (n : Neighbor) (moment : ℕ) (bytes : List ℕ) (d : Description) (outs : List Out)
-    → NothingAges r moment → IsDescription r n bytes d Verdict.Mismatch → Happens (beside r link (loading n)) moment (Occurrence.Packet 1 bytes) outs new
+begins_it_again : (r new : Router) (link : Link) (n : Neighbor) (moment : ℕ) (bytes : List ℕ)
+    (d : Description) (outs : List Out) → NothingAges r moment
+    → IsDescription r n bytes d Verdict.Mismatch
+    → Happens (beside r link (loading n)) moment (Occurrence.Packet 1 bytes) outs new
     → (neighbor_at 1 new.area.links ≡ Some (enter_exstart moment (loading n)).neighbor)
-    × (outs ≡ outs_of r.id (beside r link (loading n)).area.links (describes (initial_description (next_dd_sequence_start moment n.dd_sequence_start))))
+    × (outs ≡ outs_of r.id (beside r link (loading n)).area.links
+    (describes (initial_description
+    (next_dd_sequence_start moment n.dd_sequence_start))))
 begins_it_again r new link n moment bytes d outs nothing said event =
     let old : Router = beside r link (loading n) in
     let p : EventState = stepping r link n moment (enter_exstart moment (loading n)) in
     let end : end_event old moment event.after ≡ ended moment p =
-    ap (end_event old moment) (judged r new link n moment bytes d Verdict.Mismatch outs nothing said event) ∙ ends_by old moment p refl refl in (
-      ap (λ (s : Router). neighbor_at 1 s.area.links) (event.router ∙ ap (λ (q : EventState). q.router) end),
+    ap (end_event old moment) (judged r new link n moment bytes d Verdict.Mismatch outs nothing said
+    event) ∙ ends_by old moment p refl refl in (
+      ap (λ (s : Router). neighbor_at 1 s.area.links)
+          (event.router ∙ ap (λ (q : EventState). q.router) end),
       event.sent ∙ ap (λ (q : EventState). outs_of r.id old.area.links q.sends) end,
     )
 
@@ -97,27 +126,41 @@ answered r link moment last_one m = record (start (beside r link m)) { sends = d
 abbrev pub at_moment : ℕ → EventState → EventState
 at_moment moment p = on_router (λ (s : Router). record s { moment = moment }) p
 
-repeats_it : (r new : Router) (link : Link) (n : Neighbor) (moment : ℕ) (bytes : List ℕ) (d last_one : Description) (outs : List Out)
-    → NothingAges r moment → IsDescription r n bytes d Verdict.Repeated → n.described ≡ Some last_one → requests_nothing n ≡ false → (set.len n.outstanding == 0) ≡ false
+repeats_it : (r new : Router) (link : Link) (n : Neighbor) (moment : ℕ) (bytes : List ℕ)
+    (d last_one : Description) (outs : List Out) → NothingAges r moment
+    → IsDescription r n bytes d Verdict.Repeated → n.described ≡ Some last_one
+    → requests_nothing n ≡ false → (set.len n.outstanding == 0) ≡ false
     → Happens (beside r link (loading n)) moment (Occurrence.Packet 1 bytes) outs new
-    → (shown_at new 1 ≡ Some (n.router, Loading)) × (outs ≡ outs_of r.id (beside r link (loading n)).area.links (describes last_one))
+    → (shown_at new 1 ≡ Some (n.router, Loading))
+    × (outs ≡ outs_of r.id (beside r link (loading n)).area.links
+    (describes last_one))
 repeats_it r new link n moment bytes d last_one outs nothing said kept busy asked event =
     let old : Router = beside r link (loading n) in
     let m : Neighbor = record (loading n) { described = Some last_one; described_at = moment } in
     let put : Neighbor → EventState = answered r link moment last_one in
     let p : EventState = put m in
-    let later : EventState → EventState = λ q. last moment (describe_router_later q.router.area.links (loading_done q)) in
+    let later : EventState → EventState =
+    λ q. last moment (describe_router_later q.router.area.links (loading_done q)) in
     let own : event.after ≡ p =
     judged r new link n moment bytes d Verdict.Repeated outs nothing said event
     ∙ (λ i. stepping r link n moment (repeat moment (record (loading n) { described = kept i }))) in
     let full : loading_done p ≡ p = ap (λ b. put (cond b (record m { state = Full }) m)) busy in
-    let request : Step = record { neighbor = record m { outstanding = set.from_list (next_request m); requested_at = moment }; sends = contents.Requests (next_request m) ∷ [] } in
+    let request : Step = record {
+      neighbor = record m {
+        outstanding = set.from_list (next_request m);
+        requested_at = moment;
+      };
+      sends = contents.Requests (next_request m) ∷ [];
+    } in
     let no_request : last moment p ≡ at_moment moment p =
-    λ i. at_moment moment (on_area (λ o. remove_aged moment (one_neighbor moment 1 (λ k. cond (true && not (busy i) && asked i) request (no_sends m)) o)) p) in
+    λ i. at_moment moment (on_area (λ o. remove_aged moment
+    (one_neighbor moment 1 (λ k. cond (true && not (busy i) && asked i) request (no_sends m))
+    o)) p) in
     let end : end_event old moment event.after ≡ at_moment moment p =
     ap (end_event old moment) own
     ∙ ap (λ q. later (describe_router old.area.links moment q)) full
-    ∙ ap later (describes_not old.area.links moment p (differ_not old.area.links p.router.area.links refl))
+    ∙ ap later (describes_not old.area.links moment p
+    (differ_not old.area.links p.router.area.links refl))
     ∙ ap (λ q. last moment (describe_router_later p.router.area.links q)) full
     ∙ ap (last moment) (describes_not_later p)
     ∙ no_request in (

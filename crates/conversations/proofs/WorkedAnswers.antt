@@ -17,17 +17,22 @@ use Rattle.conversations.proofs.WorkedUpdates.{start}
 -- ---- what stays the same
 
 kept : (r : Router) (moment : ℕ) (sends : List Send) (answers : List (Route × ℕ))
-    → KeepsTheYoung r moment (ended moment (record { router = record r { answers = answers }; sends = sends })).router
+    → KeepsTheYoung r moment (ended moment (record {
+      router = record r { answers = answers };
+      sends = sends;
+    })).router
 kept r moment sends answers =
     let o : Outcome = record { area = r.area; sends = sends } in
     record {
       young = λ key c there young.
           got moment o key
-          ∙ ap (λ x. cond (stays_as moment (any_has_retransmission key r.area.links) x) x None) there
+          ∙ ap (λ x. cond (stays_as moment (any_has_retransmission key r.area.links) x) x None)
+          there
           ∙ ap (λ b. cond (not b || any_has_retransmission key r.area.links) (Some c) None) young;
       none = λ key none.
           got moment o key
-          ∙ ap (λ x. cond (stays_as moment (any_has_retransmission key r.area.links) x) x None) none;
+          ∙ ap (λ x. cond (stays_as moment (any_has_retransmission key r.area.links) x) x None)
+          none;
     }
 
 -- ---- answers
@@ -35,15 +40,22 @@ kept r moment sends answers =
 pub answers_change_no_database : AnswersChangeNoDatabase
 answers_change_no_database old new moment answers outs rest event =
     let said : EventState = after_install answers (start old) in
-    let own : event.after ≡ said = event.own ∙ ap (after_install answers) (begins moment old rest.nothing_ages) in
-    let end : end_event old moment event.after ≡ ended moment said = ap (end_event old moment) own ∙ ends old moment said refl rest.nobody in
-    let router : new ≡ (ended moment said).router = event.router ∙ ap (λ (q : EventState). q.router) end in
-    let keeps : KeepsTheYoung old moment (ended moment said).router = kept old moment [] answers in (
-      event.sent ∙ ap (λ (q : EventState). outs_of old.id old.area.links q.sends) end ∙ no_outs_from old.id 1 old.area.links,
+    let own : event.after ≡ said = event.own
+    ∙ ap (after_install answers) (begins moment old rest.nothing_ages) in
+    let end : end_event old moment event.after ≡ ended moment said = ap (end_event old moment) own
+    ∙ ends old moment said refl rest.nobody in
+    let router : new ≡ (ended moment said).router = event.router
+    ∙ ap (λ (q : EventState). q.router) end in
+    let keeps : KeepsTheYoung old moment (ended moment said).router =
+    kept old moment [] answers in (
+      event.sent ∙ ap (λ (q : EventState). outs_of old.id old.area.links q.sends) end
+          ∙ no_outs_from old.id 1 old.area.links,
       ap (λ (r : Router). r.answers) router,
       ap (λ (r : Router). r.area.links) router,
       record {
-        young = λ key c there young. ap (λ (r : Router). finite.get r.area.database key) router ∙ keeps.young key c there young;
-        none = λ key none. ap (λ (r : Router). finite.get r.area.database key) router ∙ keeps.none key none;
+        young = λ key c there young. ap (λ (r : Router). finite.get r.area.database key) router
+            ∙ keeps.young key c there young;
+        none = λ key none. ap (λ (r : Router). finite.get r.area.database key) router
+            ∙ keeps.none key none;
       },
     )

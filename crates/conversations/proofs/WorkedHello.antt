@@ -1,5 +1,7 @@
 -- A Hello from a new neighbor starts an adjacency, at any of the interfaces.
-use Rattle.std.proofs.Common.{◌≡◌, ℕ, zero, suc, ◌+◌, ◌%◌, ◌^◌, ◌==◌, Bool, true, false, cond, ◌&&◌, ◌||◌, List, [], ◌∷◌, ◌++◌, map, None, Some, refl, sym, ap, subst, ◌∙◌, arith, slice_get}
+use Rattle.std.proofs.Common.{◌≡◌, ℕ, zero, suc, ◌+◌, ◌%◌, ◌^◌, ◌==◌, Bool, true, false, cond, ◌&&◌}
+use Rattle.std.proofs.Common.{◌||◌, List, [], ◌∷◌, ◌++◌, map, None, Some, refl, sym, ap, subst, ◌∙◌}
+use Rattle.std.proofs.Common.{arith, slice_get}
 use Rattle.std.specs.List.{enumerate_from, flat_map}
 use Rattle.std.proofs.lemmas.Bool.{eqb-true}
 use Rattle.lsa.specs.declared.body.Body.TheVariants as lsa
@@ -12,7 +14,8 @@ use Rattle.adjacency.specs.Adjacencies as adjacencies
 use Rattle.adjacency.specs.Adjacencies.{initial_description, enter_exstart}
 use Rattle.adjacency.specs.Contents.{Content}
 use Rattle.adjacency.specs.Neighbors.{Neighbor, fresh, is_full, is_exchange_or_loading}
-use Rattle.received.specs.Links.{Link, any_exchange_or_loading, change_link, link_at, neighbor_at, neighbor_on, neighbor_is_exchange_or_loading}
+use Rattle.received.specs.Links.{Link, any_exchange_or_loading, change_link, link_at, neighbor_at}
+use Rattle.received.specs.Links.{neighbor_on, neighbor_is_exchange_or_loading}
 use Rattle.events.specs.Endings.{start_event, end_event}
 use Rattle.events.specs.Originations.{links_of, point_to_point, router_body, stub}
 use Rattle.events.specs.Packets.{after_hello, after_packet, hear, heard_on, is_from, with_neighbor}
@@ -25,13 +28,15 @@ use Rattle.conversations.proofs.WorkedLinks.{link_changed}
 use Rattle.conversations.proofs.WorkedUpdates.{itself, start}
 
 -- a neighbor that is neither Full nor in Exchange or Loading appears on a link without a neighbor
-module _ (number : ℕ) (n : Neighbor) (not_full : is_full n.state ≡ false) (not_busy : is_exchange_or_loading n.state ≡ false) where
+module _ (number : ℕ) (n : Neighbor) (not_full : is_full n.state ≡ false)
+    (not_busy : is_exchange_or_loading n.state ≡ false) where
   abbrev changed : (ℕ × Link) → Link
   changed e = cond (e.0 == number) (with_neighbor n e.1) e.1
 
   -- the link with this number has no neighbor
   IsFree : ℕ → List Link → Type 0
-  IsFree k xs = (i : ℕ) (x : Link) → slice_get xs i ≡ Some x → (k + i == number) ≡ true → x.neighbor ≡ None
+  IsFree k xs = (i : ℕ) (x : Link) → slice_get xs i ≡ Some x → (k + i == number) ≡ true → x.neighbor
+      ≡ None
 
   free_on : (k : ℕ) (x : Link) (xs : List Link) → IsFree k (x ∷ xs) → IsFree (k + 1) xs
   unfolding IsFree
@@ -39,35 +44,52 @@ module _ (number : ℕ) (n : Neighbor) (not_full : is_full n.state ≡ false) (n
       let place : k + 1 + i ≡ k + suc i = omega arith in
       free (suc i) y e (subst (λ j. (j == number) ≡ true) place is)
 
-  free_here : (k : ℕ) (x : Link) (xs : List Link) → IsFree k (x ∷ xs) → (k == number) ≡ true → x.neighbor ≡ None
+  free_here : (k : ℕ) (x : Link) (xs : List Link) → IsFree k (x ∷ xs) → (k == number) ≡ true
+      → x.neighbor ≡ None
   unfolding IsFree
   free_here k x xs free is =
       let place : k ≡ k + 0 = omega arith in
       free zero x refl (subst (λ j. (j == number) ≡ true) place is)
 
-  same_links : (b : Bool) (x : Link) → (b ≡ true → x.neighbor ≡ None) → links_of (cond b (with_neighbor n x) x) ≡ links_of x
+  same_links : (b : Bool) (x : Link) → (b ≡ true → x.neighbor ≡ None)
+      → links_of (cond b (with_neighbor n x) x) ≡ links_of x
   same_links true x none =
-      let told : List RouterLink = record { link_id = n.router; link_data = x.interface.address; kind = PointToPoint; metric = x.interface.cost; tos = [] } ∷ [] in
-      ap (λ b. cond b told [] ++ stub x.interface ∷ []) not_full ∙ ap (λ o. point_to_point x.interface o ++ stub x.interface ∷ []) (sym (none refl))
+      let told : List RouterLink = record {
+        link_id = n.router;
+        link_data = x.interface.address;
+        kind = PointToPoint;
+        metric = x.interface.cost;
+        tos = [];
+      } ∷ [] in
+      ap (λ b. cond b told [] ++ stub x.interface ∷ []) not_full
+      ∙ ap (λ o. point_to_point x.interface o ++ stub x.interface ∷ []) (sym (none refl))
   same_links false x none = refl
 
-  same_busy : (b : Bool) (x : Link) → (b ≡ true → x.neighbor ≡ None) → neighbor_is_exchange_or_loading (cond b (with_neighbor n x) x).neighbor ≡ neighbor_is_exchange_or_loading x.neighbor
+  same_busy : (b : Bool) (x : Link) → (b ≡ true → x.neighbor ≡ None)
+      → neighbor_is_exchange_or_loading (cond b (with_neighbor n x) x).neighbor
+      ≡ neighbor_is_exchange_or_loading x.neighbor
   same_busy true x none = not_busy ∙ ap neighbor_is_exchange_or_loading (sym (none refl))
   same_busy false x none = refl
 
-  all_links : (k : ℕ) (xs : List Link) → IsFree k xs → flat_map links_of (map changed (enumerate_from k xs)) ≡ flat_map links_of xs
+  all_links : (k : ℕ) (xs : List Link) → IsFree k xs
+      → flat_map links_of (map changed (enumerate_from k xs)) ≡ flat_map links_of xs
   all_links k [] free = refl
-  all_links k (x ∷ xs) free = λ i. same_links (k == number) x (free_here k x xs free) i ++ all_links (k + 1) xs (free_on k x xs free) i
+  all_links k (x ∷ xs) free = λ i. same_links (k == number) x (free_here k x xs free) i
+      ++ all_links (k + 1) xs (free_on k x xs free) i
 
-  all_busy : (k : ℕ) (xs : List Link) → IsFree k xs → any_exchange_or_loading (map changed (enumerate_from k xs)) ≡ any_exchange_or_loading xs
+  all_busy : (k : ℕ) (xs : List Link) → IsFree k xs
+      → any_exchange_or_loading (map changed (enumerate_from k xs)) ≡ any_exchange_or_loading xs
   all_busy k [] free = refl
-  all_busy k (x ∷ xs) free = λ i. same_busy (k == number) x (free_here k x xs free) i || all_busy (k + 1) xs (free_on k x xs free) i
+  all_busy k (x ∷ xs) free = λ i. same_busy (k == number) x (free_here k x xs free) i || all_busy
+      (k + 1) xs (free_on k x xs free) i
 
-  free_from : (xs : List Link) (link : Link) → link_at number xs ≡ Some link → link.neighbor ≡ None → IsFree 1 xs
+  free_from : (xs : List Link) (link : Link) → link_at number xs ≡ Some link → link.neighbor ≡ None
+      → IsFree 1 xs
   unfolding IsFree
   free_from xs link there none i x e is =
       let place : number ≡ suc i = omega (arith, eqb-true (1 + i) number is) in
-      let found : link_at (suc i) xs ≡ Some link = subst (λ j. link_at j xs ≡ Some link) place there in
+      let found : link_at (suc i) xs ≡ Some link =
+      subst (λ j. link_at j xs ≡ Some link) place there in
       let same : Some x ≡ Some link = sym e ∙ found in
       ap neighbor_on same ∙ none
 
@@ -81,23 +103,43 @@ is_heard_of old new number link moment from bytes h outs rest there none hello e
     let xs : List Link = change_link number (with_neighbor n) old.area.links in
     let p : EventState = record {
       router = record old { area = record old.area { links = xs } };
-      sends = record { number = number; content = Content.Describes (initial_description (moment % 2 ^ 32)) } ∷ [];
+      sends = record {
+        number = number;
+        content = Content.Describes (initial_description (moment % 2 ^ 32));
+      }
+          ∷ [];
     } in
     let own : event.after ≡ p =
     event.own.2
-    ∙ ap (λ q. after_packet moment number q (start_event moment old)) (one_packet bytes event.own.0 packet event.own.1 hello.is_text)
+    ∙ ap (λ q. after_packet moment number q (start_event moment old))
+    (one_packet bytes event.own.0 packet event.own.1 hello.is_text)
     ∙ ap (after_packet moment number packet) (begins moment old rest.nothing_ages)
-    ∙ (λ i. cond (hello.is_other i && (true || is_from from (neighbor_at number old.area.links))) (on_area (after_hello old.id moment number from h) (start old)) (start old))
+    ∙ (λ i. cond (hello.is_other i && (true || is_from from (neighbor_at number old.area.links)))
+    (on_area (after_hello old.id moment number from h) (start old)) (start old))
     ∙ ap (λ o. on_area (heard_on old.id moment number from h o) (start old)) there
-    ∙ (λ i. on_area (heard_on old.id moment number from h (Some (record link { neighbor = none i }))) (start old))
-    ∙ (λ i. on_area (λ o. cond (hello.is_accepted i) (hear moment number (adjacencies.after_hello moment from (hello.is_naming i) None) o) o) (start old)) in
-    let free : IsFree number n refl refl 1 old.area.links = free_from number n refl refl old.area.links link there none in
-    let links : flat_map links_of old.area.links ≡ flat_map links_of xs = sym (all_links number n refl refl 1 old.area.links free) in
-    let body_same : router_body old.area.links ≡ router_body xs = λ i. lsa.Router (record { flags = 2; links = links i }) in
-    let still : any_exchange_or_loading xs ≡ false = all_busy number n refl refl 1 old.area.links free ∙ rest.nobody in
-    let end : end_event old moment event.after ≡ ended moment p = ap (end_event old moment) own ∙ ends_by old moment p body_same still in
+    ∙ (λ i. on_area (heard_on old.id moment number from h (Some (record link {
+      neighbor = none i;
+    }))) (start old))
+    ∙ (λ i. on_area (λ o. cond (hello.is_accepted i)
+    (hear moment number (adjacencies.after_hello moment from (hello.is_naming i) None) o) o)
+    (start old)) in
+    let free : IsFree number n refl refl 1 old.area.links =
+    free_from number n refl refl old.area.links link there none in
+    let links : flat_map links_of old.area.links ≡ flat_map links_of xs =
+    sym (all_links number n refl refl 1 old.area.links free) in
+    let body_same : router_body old.area.links ≡ router_body xs = λ i. lsa.Router (record {
+      flags = 2;
+      links = links i;
+    }) in
+    let still : any_exchange_or_loading xs ≡ false =
+    all_busy number n refl refl 1 old.area.links free ∙ rest.nobody in
+    let end : end_event old moment event.after ≡ ended moment p = ap (end_event old moment) own
+    ∙ ends_by old moment p body_same still in
     let here : link_at number xs ≡ Some (cond (number == number) (with_neighbor n link) link) =
-    link_changed (λ (e : ℕ × Link). cond (e.0 == number) (with_neighbor n e.1) e.1) number old.area.links link there in (
-      ap (λ s. shown_at s number) (event.router ∙ ap (λ (q : EventState). q.router) end) ∙ ap (λ o. id_and_state (neighbor_on o)) here ∙ (λ i. id_and_state (cond (itself number i) (with_neighbor n link) link).neighbor),
+    link_changed (λ (e : ℕ × Link). cond (e.0 == number) (with_neighbor n e.1) e.1) number
+    old.area.links link there in (
+      ap (λ s. shown_at s number) (event.router ∙ ap (λ (q : EventState). q.router) end)
+          ∙ ap (λ o. id_and_state (neighbor_on o)) here
+          ∙ (λ i. id_and_state (cond (itself number i) (with_neighbor n link) link).neighbor),
       event.sent ∙ ap (λ (q : EventState). outs_of old.id old.area.links q.sends) end,
     )

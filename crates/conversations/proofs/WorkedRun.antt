@@ -28,16 +28,30 @@ abbrev greeted_by : Router → Link → ℕ → ℕ → Router
 greeted_by r link moment from = (ended moment (last_heard r link moment from)).router
 
 pub is_negotiated : AnAdjacencyIsNegotiated
-is_negotiated r new link moment later from sequence hello_bytes bytes h outs answers nothing hello larger text run still =
+is_negotiated r new link moment later from sequence hello_bytes bytes h outs answers nothing hello
+    larger text run still =
     let first = opens_it r run.0 link moment from hello_bytes h outs nothing hello run.1 in
     let q : Router = greeted_by r link moment from in
     let n : Neighbor = opener moment from in
-    let none : (finite.len n.requests == 0) ≡ true = ap (λ k. k == 0) (finite.len-empty key_cmp ListEntry) in
-    let judged : IsJudged q (in_ex_start n) bytes (initial_description sequence) Verdict.NegotiatedAsSlave =
-    record { is_text = text; is_other = hello.is_other; fits = refl; is_judged = ap (λ b. cond b Verdict.NegotiatedAsSlave Verdict.Discarded) larger } in
-    let is : q ≡ run.0 = sym (run.1.router ∙ ap (λ (p : EventState). p.router) (hello_ends r run.0 link moment from hello_bytes h outs nothing hello run.1)) in
+    let none : (finite.len n.requests == 0) ≡ true =
+    ap (λ k. k == 0) (finite.len-empty key_cmp ListEntry) in
+    let judged : IsJudged q (in_ex_start n) bytes (initial_description sequence)
+    Verdict.NegotiatedAsSlave =
+    record {
+      is_text = text;
+      is_other = hello.is_other;
+      fits = refl;
+      is_judged = ap (λ b. cond b Verdict.NegotiatedAsSlave Verdict.Discarded) larger;
+    } in
+    let is : q ≡ run.0 = sym (run.1.router
+    ∙ ap (λ (p : EventState). p.router)
+    (hello_ends r run.0 link moment from hello_bytes h outs nothing hello run.1)) in
     let second = subst
-    (λ (s : Router). NothingAges s later → Happens s later (Occurrence.Packet 1 bytes) answers run.2.0
-    → (shown_at run.2.0 1 ≡ Some (from, Exchange)) × (answers ≡ outs_of r.id s.area.links (describes (reply later sequence (young_copies later s.area.database)))))
-    is (λ no_sends happens. negotiates_it q run.2.0 link n later sequence bytes answers no_sends judged none happens) still run.2.1 in
+    (λ (s : Router). NothingAges s later
+    → Happens s later (Occurrence.Packet 1 bytes) answers run.2.0
+    → (shown_at run.2.0 1 ≡ Some (from, Exchange))
+    × (answers ≡ outs_of r.id s.area.links
+    (describes (reply later sequence (young_copies later s.area.database)))))
+    is (λ no_sends happens. negotiates_it q run.2.0 link n later sequence bytes answers no_sends
+    judged none happens) still run.2.1 in
     (first.1, first.0, ap (λ s. shown_at s 1) run.2.2 ∙ second.0, second.1)

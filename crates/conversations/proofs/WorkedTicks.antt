@@ -1,5 +1,6 @@
 -- A Tick that originates the router-LSA and sends delayed acknowledgments.
-use Rattle.std.proofs.Common.{◌≡◌, ℕ, ◌==◌, Bool, true, false, cond, not, ◌&&◌, List, [], ◌∷◌, ◌++◌, map, Option, None, Some, refl, sym, ap, ◌∙◌, append_assoc, append-nil}
+use Rattle.std.proofs.Common.{◌≡◌, ℕ, ◌==◌, Bool, true, false, cond, not, ◌&&◌, List, [], ◌∷◌, ◌++◌}
+use Rattle.std.proofs.Common.{map, Option, None, Some, refl, sym, ap, ◌∙◌, append_assoc, append-nil}
 use Rattle.std.specs.List.{filter}
 use Rattle.std.specs.FinMap as finite
 use Rattle.std.specs.FinSet as set
@@ -15,20 +16,27 @@ use Rattle.adjacency.specs.Contents as contents
 use Rattle.adjacency.specs.Descriptions.{is_over_for}
 use Rattle.adjacency.specs.Neighbors.{Neighbor}
 use Rattle.adjacency.specs.Requests.{still_outstanding}
-use Rattle.adjacency.specs.Retransmissions.{next_retransmissions, add_retransmission, request_again, send_again, update_again}
+use Rattle.adjacency.specs.Retransmissions.{next_retransmissions, add_retransmission, request_again}
+use Rattle.adjacency.specs.Retransmissions.{send_again, update_again}
 use Rattle.received.specs.Links.{Link}
 use Rattle.received.specs.Outcomes.{Outcome, Send, on_links, stepping_sends}
 use Rattle.events.specs.declared.model.Out.{Out}
 use Rattle.events.specs.Endings.{end_event}
 use Rattle.events.specs.Events.{Happens}
-use Rattle.events.specs.Originations.{as_originated, due_keys, flush, forget_originations, has_max_sequence, has_room, install_and_flood, interval_is_over, is_due, is_recent, may_originate, new_instance, originate_body, originate_due, originate_or_wait, router_body, router_key, wait}
+use Rattle.events.specs.Originations.{as_originated, due_keys, flush, forget_originations}
+use Rattle.events.specs.Originations.{has_max_sequence, has_room, install_and_flood}
+use Rattle.events.specs.Originations.{interval_is_over, is_due, is_recent, may_originate}
+use Rattle.events.specs.Originations.{new_instance, originate_body, originate_due}
+use Rattle.events.specs.Originations.{originate_or_wait, router_body, router_key, wait}
 use Rattle.events.specs.Packing.{outs_of}
 use Rattle.events.specs.EventState.{EventState, on_area, on_router}
 use Rattle.events.specs.Routers.{Occurrence, Router}
-use Rattle.events.specs.Ticks.{acknowledge_all, after_tick, again, send_hellos, hello_sent_on, run_out, send_all_again, sends_of, settled_exchange}
+use Rattle.events.specs.Ticks.{acknowledge_all, after_tick, again, send_hellos, hello_sent_on}
+use Rattle.events.specs.Ticks.{run_out, send_all_again, sends_of, settled_exchange}
 use Rattle.conversations.specs.WorkedFlush.{full}
 use Rattle.conversations.specs.WorkedOwn.{beside}
-use Rattle.conversations.specs.WorkedTicks.{ATickOriginates, IsDueAtTick, IsNothingDue, originated_lsa, waiting_acknowledgments}
+use Rattle.conversations.specs.WorkedTicks.{ATickOriginates, IsDueAtTick, IsNothingDue}
+use Rattle.conversations.specs.WorkedTicks.{originated_lsa, waiting_acknowledgments}
 use Rattle.conversations.proofs.WorkedEnds.{begins, ended, ends}
 use Rattle.conversations.proofs.WorkedLinks.{chosen_step, who}
 use Rattle.conversations.proofs.WorkedOwn.{wanted}
@@ -42,74 +50,120 @@ both_full false m n = refl
 
 -- the last Database Description may be discarded
 abbrev settled : Link → Neighbor → ℕ → Neighbor
-settled link n moment = cond (is_over_for moment link.interface.dead_interval n.exchanged) (record n { described = None }) n
+settled link n moment = cond (is_over_for moment link.interface.dead_interval n.exchanged)
+    (record n { described = None }) n
 
 abbrev resting : Router → Link → Neighbor → ℕ → EventState
-resting r link n moment = on_router (forget_originations moment) (start (beside r link (full (settled link n moment))))
+resting r link n moment = on_router (forget_originations moment)
+    (start (beside r link (full (settled link n moment))))
 
-rests : (r : Router) (link : Link) (n : Neighbor) (moment : ℕ) → has_passed n.last_heard link.interface.dead_interval moment ≡ false
-    → on_router (forget_originations moment) (on_area (on_links (map (run_out moment))) (start (beside r link (full n)))) ≡ resting r link n moment
+rests : (r : Router) (link : Link) (n : Neighbor) (moment : ℕ)
+    → has_passed n.last_heard link.interface.dead_interval moment ≡ false
+    → on_router (forget_originations moment)
+    (on_area (on_links (map (run_out moment))) (start (beside r link (full n))))
+    ≡ resting r link n moment
 rests r link n moment last_heard =
-    let put : Option Neighbor → EventState = λ o. on_router (forget_originations moment) (start (record r { area = record r.area { links = record link { neighbor = o } ∷ [] } })) in
-    ap (λ b. put (settled_exchange moment link.interface.dead_interval (cond b None (Some (full n))))) last_heard
-    ∙ ap (λ m. put (Some m)) (both_full (is_over_for moment link.interface.dead_interval n.exchanged) (record n { described = None }) n)
+    let put : Option Neighbor → EventState =
+    λ o. on_router (forget_originations moment) (start (record r {
+      area = record r.area { links = record link { neighbor = o } ∷ [] };
+    })) in
+    ap (λ b. put (settled_exchange moment link.interface.dead_interval
+    (cond b None (Some (full n))))) last_heard
+    ∙ ap (λ m. put (Some m)) (both_full
+    (is_over_for moment link.interface.dead_interval n.exchanged) (record n {
+      described = None;
+    }) n)
 
-over_or_none : (moment : ℕ) (o : Option ℕ) (b : Bool) → interval_is_over moment o ≡ true → b ≡ is_recent moment o → interval_is_over moment (cond b o None) ≡ true
+over_or_none : (moment : ℕ) (o : Option ℕ) (b : Bool) → interval_is_over moment o ≡ true → b
+    ≡ is_recent moment o → interval_is_over moment (cond b o None) ≡ true
 over_or_none moment o true over is = over
 over_or_none moment o false over is = refl
 
-still_over : (moment : ℕ) (r : Router) (key : Key) → interval_is_over moment (finite.get r.originated key) ≡ true → may_originate moment key (forget_originations moment r) ≡ true
+still_over : (moment : ℕ) (r : Router) (key : Key)
+    → interval_is_over moment (finite.get r.originated key) ≡ true
+    → may_originate moment key (forget_originations moment r) ≡ true
 still_over moment r key over =
     let recent : Key → Bool = λ k. is_recent moment (finite.get r.originated k) in
-    ap (interval_is_over moment) (finite.get-retain_keys r.originated recent key (λ x e. ap recent (sym (keys_exact key x e))))
+    ap (interval_is_over moment) (finite.get-retain_keys r.originated recent key
+    (λ x e. ap recent (sym (keys_exact key x e))))
     ∙ over_or_none moment (finite.get r.originated key) (recent key) over refl
 
 -- ---- the origination
 
 abbrev told : ℕ → Option DatabaseCopy → EventState → EventState
-told moment copy p = on_router (as_originated moment (router_key p.router.id)) (on_area (install_and_flood moment (new_instance (router_key p.router.id) copy (router_body p.router.area.links))) p)
+told moment copy p = on_router (as_originated moment (router_key p.router.id))
+    (on_area (install_and_flood moment
+    (new_instance (router_key p.router.id) copy (router_body p.router.area.links))) p)
 
-originates : (moment : ℕ) (copy : Option DatabaseCopy) (p : EventState) → finite.get p.router.area.database (router_key p.router.id) ≡ copy → has_max_sequence copy ≡ false
-    → has_room (router_key p.router.id) p.router ≡ true → may_originate moment (router_key p.router.id) p.router ≡ true
+originates : (moment : ℕ) (copy : Option DatabaseCopy) (p : EventState)
+    → finite.get p.router.area.database (router_key p.router.id) ≡ copy → has_max_sequence copy
+    ≡ false → has_room (router_key p.router.id) p.router ≡ true
+    → may_originate moment (router_key p.router.id) p.router ≡ true
     → originate_or_wait moment (router_key p.router.id) p ≡ told moment copy p
 originates moment copy p there counts room may =
     let key : Key = router_key p.router.id in
     let says : Body = router_body p.router.area.links in
     (λ i. originate_body (room i) moment key (wanted p.router i) p)
     ∙ (λ i. cond (has_max_sequence (there i)) (flush moment key p)
-    (cond (true && may i) (on_router (as_originated moment key) (on_area (install_and_flood moment (new_instance key (there i) says)) p)) (on_router (wait key) p)))
+    (cond (true && may i) (on_router (as_originated moment key)
+    (on_area (install_and_flood moment (new_instance key (there i) says)) p))
+    (on_router (wait key) p)))
     ∙ (λ i. cond (counts i) (flush moment key p) (told moment copy p))
 
-alone_due : (r : Router) (moment : ℕ) → finite.keys r.announced ≡ [] → is_due moment r (router_key r.id) ≡ true → due_keys moment r ≡ router_key r.id ∷ []
+alone_due : (r : Router) (moment : ℕ) → finite.keys r.announced ≡ []
+    → is_due moment r (router_key r.id) ≡ true → due_keys moment r ≡ router_key r.id ∷ []
 alone_due r moment none due =
-    (λ i. filter (is_due moment r) (router_key r.id ∷ none i)) ∙ (λ i. cond (due i) (router_key r.id ∷ []) [])
+    (λ i. filter (is_due moment r) (router_key r.id ∷ none i))
+    ∙ (λ i. cond (due i) (router_key r.id ∷ []) [])
 
 -- ---- what is retransmitted doesn't change the neighbor's state
 
-request_keeps : (moment interval : ℕ) (n : Neighbor) → who (request_again moment interval n).neighbor ≡ who n
+request_keeps : (moment interval : ℕ) (n : Neighbor)
+    → who (request_again moment interval n).neighbor ≡ who n
 request_keeps moment interval n =
     chosen_step (not (set.len n.outstanding == 0) && has_passed n.requested_at interval moment)
-    (record { neighbor = record n { requested_at = moment }; sends = contents.Requests (still_outstanding n) ∷ [] }) (no_sends n) (who n) refl refl
+    (record {
+      neighbor = record n {
+        requested_at = moment;
+      };
+      sends = contents.Requests (still_outstanding n) ∷ [];
+    })
+    (no_sends n) (who n) refl refl
 
-update_keeps : (moment interval : ℕ) (db : Database) (n : Neighbor) → who (update_again moment interval db n).neighbor ≡ who n
+update_keeps : (moment interval : ℕ) (db : Database) (n : Neighbor)
+    → who (update_again moment interval db n).neighbor ≡ who n
 update_keeps moment interval db n =
-    chosen_step (not (finite.len n.retransmissions == 0) && has_passed n.retransmitted_at interval moment)
-    (record { neighbor = record n { retransmitted_at = moment }; sends = map contents.Updates (next_retransmissions moment db n) }) (no_sends n) (who n) refl refl
+    chosen_step (not (finite.len n.retransmissions == 0) && has_passed n.retransmitted_at interval
+    moment)
+    (record {
+      neighbor = record n {
+        retransmitted_at = moment;
+      };
+      sends = map contents.Updates (next_retransmissions moment db n);
+    }) (no_sends n) (who n) refl
+    refl
 
-again_keeps : (moment interval : ℕ) (db : Database) (n : Neighbor) → who (send_again moment interval db (full n)).neighbor ≡ who (full n)
+again_keeps : (moment interval : ℕ) (db : Database) (n : Neighbor)
+    → who (send_again moment interval db (full n)).neighbor ≡ who (full n)
 again_keeps moment interval db n =
-    update_keeps moment interval db (request_again moment interval (full n)).neighbor ∙ request_keeps moment interval (full n)
+    update_keeps moment interval db (request_again moment interval (full n)).neighbor
+    ∙ request_keeps moment interval (full n)
 
 -- ---- the complete event
 
 abbrev rest_of_tick : ℕ → EventState → EventState
-rest_of_tick moment p = on_area (λ o. send_hellos moment (acknowledge_all moment (send_all_again moment o))) p
+rest_of_tick moment p = on_area (λ o. send_hellos moment
+    (acknowledge_all moment (send_all_again moment o))) p
 
-tick_sends : (r new : Router) (link : Link) (n : Neighbor) (moment : ℕ) (copy : Option DatabaseCopy) (outs : List Out)
-    → IsDueAtTick r link n moment copy → Happens (beside r link (full n)) moment Occurrence.Tick outs new
-    → (again more : List Send)
-    × (outs ≡ outs_of r.id (beside r link (full n)).area.links
-    (record { number = 1; content = Content.Updates (originated_lsa r link n copy) } ∷ (again ++ (waiting_acknowledgments link ++ more))))
+tick_sends : (r new : Router) (link : Link) (n : Neighbor) (moment : ℕ) (copy : Option DatabaseCopy)
+    (outs : List Out) → IsDueAtTick r link n moment copy
+    → Happens (beside r link (full n)) moment Occurrence.Tick outs new
+    → (again more : List Send) × (outs ≡ outs_of r.id (beside r link (full n)).area.links
+    (record {
+      number = 1;
+      content = Content.Updates (originated_lsa r link n copy);
+    }
+    ∷ (again ++ (waiting_acknowledgments link ++ more))))
 tick_sends r new link n moment copy outs due event =
     let old : Router = beside r link (full n) in
     let key : Key = router_key r.id in
@@ -123,40 +177,63 @@ tick_sends r new link n moment copy outs due event =
     let y : Outcome = acknowledge_all moment x in
     let resent : List Send = stepping_sends (again moment o) o.area.links in
     let hellos : List Send = sends_of (hello_sent_on moment) y.area.links in
-    let same_router : m.router ≡ n.router = by_case (is_over_for moment link.interface.dead_interval n.exchanged) in
-    let one_due : due_keys moment q.router ≡ key ∷ [] = alone_due q.router moment due.nothing_announced due.is_due_now in
+    let same_router : m.router ≡ n.router =
+    by_case (is_over_for moment link.interface.dead_interval n.exchanged) in
+    let one_due : due_keys moment q.router ≡ key ∷ [] =
+    alone_due q.router moment due.nothing_announced due.is_due_now in
     let begun_so : event.after ≡ after =
     event.own
     ∙ ap (after_tick moment) (begins moment old due.nothing_ages)
-    ∙ ap (λ z. rest_of_tick moment (originate_due moment (due_keys moment z.router) z)) (rests r link n moment due.is_heard)
+    ∙ ap (λ z. rest_of_tick moment (originate_due moment (due_keys moment z.router) z))
+    (rests r link n moment due.is_heard)
     ∙ ap (λ keys. rest_of_tick moment (originate_due moment keys q)) one_due
-    ∙ ap (rest_of_tick moment) (originates moment copy q due.copy_there due.counts_on due.room (still_over moment (beside r link (full m)) key due.is_over)) in
+    ∙ ap (rest_of_tick moment) (originates moment copy q due.copy_there due.counts_on due.room
+    (still_over moment (beside r link (full m)) key due.is_over)) in
     let newly : Lsa = new_instance key copy (router_body q.router.area.links) in
-    let seen_same : who (send_again moment link.interface.retransmit_interval o.area.database (full (add_retransmission moment newly.header m))).neighbor ≡ who (full n) =
-    again_keeps moment link.interface.retransmit_interval o.area.database (add_retransmission moment newly.header m) ∙ (λ i. (same_router i, (full n).state)) in
-    let end : end_event old moment event.after ≡ ended moment after = ap (end_event old moment) begun_so ∙ ends old moment after (λ i. (link.interface, Some (seen_same i)) ∷ []) refl in
-    let content : List Send → List Send = λ rest. record { number = 1; content = Content.Updates newly } ∷ rest in
-    let in_order : (resent ++ (waiting_acknowledgments link ++ [])) ++ hellos ≡ resent ++ (waiting_acknowledgments link ++ hellos) =
-    ap (λ a. (resent ++ a) ++ hellos) (append-nil (waiting_acknowledgments link)) ∙ append_assoc resent (waiting_acknowledgments link) hellos in
-    let as_told : newly ≡ lsa = ap (λ id. new_instance key copy (router_body (record link { neighbor = Some (full (record n { router = id })) } ∷ []))) same_router in (
+    let seen_same : who (send_again moment link.interface.retransmit_interval o.area.database
+    (full (add_retransmission moment newly.header m))).neighbor ≡ who (full n) =
+    again_keeps moment link.interface.retransmit_interval o.area.database
+    (add_retransmission moment newly.header m) ∙ (λ i. (same_router i, (full n).state)) in
+    let end : end_event old moment event.after ≡ ended moment after =
+    ap (end_event old moment) begun_so
+    ∙ ends old moment after (λ i. (link.interface, Some (seen_same i)) ∷ []) refl in
+    let content : List Send → List Send = λ rest. record {
+      number = 1;
+      content = Content.Updates newly;
+    } ∷ rest in
+    let in_order : (resent ++ (waiting_acknowledgments link ++ [])) ++ hellos ≡ resent
+    ++ (waiting_acknowledgments link ++ hellos) =
+    ap (λ a. (resent ++ a) ++ hellos) (append-nil (waiting_acknowledgments link))
+    ∙ append_assoc resent (waiting_acknowledgments link) hellos in
+    let as_told : newly ≡ lsa = ap (λ id. new_instance key copy (router_body (record link {
+      neighbor = Some (full (record n { router = id }));
+    } ∷ []))) same_router in (
       resent,
       hellos,
       event.sent ∙ ap (λ (z : EventState). outs_of r.id old.area.links z.sends) end
           ∙ ap (λ rest. outs_of r.id old.area.links (content rest)) in_order
-          ∙ ap (λ l. outs_of r.id old.area.links (record { number = 1; content = Content.Updates l } ∷ (resent ++ (waiting_acknowledgments link ++ hellos)))) as_told,
+          ∙ ap (λ l. outs_of r.id old.area.links (record {
+            number = 1;
+            content = Content.Updates l;
+          }
+          ∷ (resent ++ (waiting_acknowledgments link ++ hellos)))) as_told,
     )
   where
     by_case : (b : Bool) → (cond b (record n { described = None }) n).router ≡ n.router
     by_case true = refl
     by_case false = refl
 
-none_due : (r : Router) (moment : ℕ) → finite.keys r.announced ≡ [] → is_due moment r (router_key r.id) ≡ false → due_keys moment r ≡ []
+none_due : (r : Router) (moment : ℕ) → finite.keys r.announced ≡ []
+    → is_due moment r (router_key r.id) ≡ false → due_keys moment r ≡ []
 none_due r moment none due =
-    (λ i. filter (is_due moment r) (router_key r.id ∷ none i)) ∙ (λ i. cond (due i) (router_key r.id ∷ []) [])
+    (λ i. filter (is_due moment r) (router_key r.id ∷ none i))
+    ∙ (λ i. cond (due i) (router_key r.id ∷ []) [])
 
 tick_acknowledges : (r new : Router) (link : Link) (n : Neighbor) (moment : ℕ) (outs : List Out)
-    → IsNothingDue r link n moment → Happens (beside r link (full n)) moment Occurrence.Tick outs new
-    → (again more : List Send) × (outs ≡ outs_of r.id (beside r link (full n)).area.links (again ++ (waiting_acknowledgments link ++ more)))
+    → IsNothingDue r link n moment → Happens (beside r link (full n)) moment Occurrence.Tick outs
+    new → (again more : List Send) ×
+    (outs ≡ outs_of r.id (beside r link (full n)).area.links
+    (again ++ (waiting_acknowledgments link ++ more)))
 tick_acknowledges r new link n moment outs idle event =
     let old : Router = beside r link (full n) in
     let m : Neighbor = settled link n moment in
@@ -166,18 +243,31 @@ tick_acknowledges r new link n moment outs idle event =
     let y : Outcome = acknowledge_all moment (send_all_again moment o) in
     let resent : List Send = stepping_sends (again moment o) o.area.links in
     let hellos : List Send = sends_of (hello_sent_on moment) y.area.links in
-    let same_router : m.router ≡ n.router = by_case (is_over_for moment link.interface.dead_interval n.exchanged) in
+    let same_router : m.router ≡ n.router =
+    by_case (is_over_for moment link.interface.dead_interval n.exchanged) in
     let begun_so : event.after ≡ after =
     event.own
     ∙ ap (after_tick moment) (begins moment old idle.nothing_ages)
-    ∙ ap (λ z. rest_of_tick moment (originate_due moment (due_keys moment z.router) z)) (rests r link n moment idle.is_heard)
-    ∙ ap (λ keys. rest_of_tick moment (originate_due moment keys q)) (none_due q.router moment idle.nothing_announced idle.not_due) in
-    let seen_same : who (send_again moment link.interface.retransmit_interval o.area.database (full m)).neighbor ≡ who (full n) =
-    again_keeps moment link.interface.retransmit_interval o.area.database m ∙ (λ i. (same_router i, (full n).state)) in
-    let end : end_event old moment event.after ≡ ended moment after = ap (end_event old moment) begun_so ∙ ends old moment after (λ i. (link.interface, Some (seen_same i)) ∷ []) refl in
-    let in_order : (resent ++ (waiting_acknowledgments link ++ [])) ++ hellos ≡ resent ++ (waiting_acknowledgments link ++ hellos) =
-    ap (λ a. (resent ++ a) ++ hellos) (append-nil (waiting_acknowledgments link)) ∙ append_assoc resent (waiting_acknowledgments link) hellos in
-    (resent, hellos, event.sent ∙ ap (λ (z : EventState). outs_of r.id old.area.links z.sends) end ∙ ap (outs_of r.id old.area.links) in_order)
+    ∙ ap (λ z. rest_of_tick moment (originate_due moment (due_keys moment z.router) z))
+    (rests r link n moment idle.is_heard)
+    ∙ ap (λ keys. rest_of_tick moment (originate_due moment keys q))
+    (none_due q.router moment idle.nothing_announced idle.not_due) in
+    let seen_same : who (send_again moment link.interface.retransmit_interval o.area.database
+    (full m)).neighbor ≡ who (full n) =
+    again_keeps moment link.interface.retransmit_interval o.area.database m
+    ∙ (λ i. (same_router i, (full n).state)) in
+    let end : end_event old moment event.after ≡ ended moment after =
+    ap (end_event old moment) begun_so
+    ∙ ends old moment after (λ i. (link.interface, Some (seen_same i)) ∷ []) refl in
+    let in_order : (resent ++ (waiting_acknowledgments link ++ [])) ++ hellos ≡ resent
+    ++ (waiting_acknowledgments link ++ hellos) =
+    ap (λ a. (resent ++ a) ++ hellos) (append-nil (waiting_acknowledgments link))
+    ∙ append_assoc resent (waiting_acknowledgments link) hellos in (
+      resent,
+      hellos,
+      event.sent ∙ ap (λ (z : EventState). outs_of r.id old.area.links z.sends) end
+          ∙ ap (outs_of r.id old.area.links) in_order,
+    )
   where
     by_case : (b : Bool) → (cond b (record n { described = None }) n).router ≡ n.router
     by_case true = refl

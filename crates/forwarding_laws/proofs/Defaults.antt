@@ -31,8 +31,9 @@ IsTheDefault k (body.NetworkSummary s) = Unit {0}
 IsTheDefault k (body.RouterSummary s) = Unit {0}
 IsTheDefault k (body.External lsa) = (k ≡ external_key 0 middle_id) × (lsa ≡ default_lsa)
 
-the_default : (k : Key) (lsa : ExternalLsa) → Says (says_of default_left.router) k (body.External lsa)
-    → (k ≡ external_key 0 middle_id) × (lsa ≡ default_lsa)
+the_default : (k : Key) (lsa : ExternalLsa)
+    → Says (says_of default_left.router) k (body.External lsa) → (k ≡ external_key 0 middle_id)
+    × (lsa ≡ default_lsa)
 the_default k lsa its =
     each_of (λ (s : Key × Body). IsTheDefault s.0 s.1) (sayings with_default_lsa)
     (tt, (tt, (tt, ((refl, refl), tt)))) (k, body.External lsa)
@@ -68,13 +69,16 @@ not_the_middle a =
   where
     by_order : 0 ≡ a.prefix.length → ComesBefore a.prefix (narrow 10 4) → ⊥
     by_order size (inl less) = (let low : 24 < a.prefix.length = less in omega (arith, low, size))
-    by_order size (inr same) = (let long : 24 ≡ a.prefix.length = same.0 in omega (arith, long, size))
+    by_order size (inr same) = (let long : 24 ≡ a.prefix.length = same.0 in
+        omega (arith, long, size))
 
 no_end : (place : ℕ) → place ≢ 2 → IsAnnouncedAt around_a_default address place → ⊥
 no_end place other x =
-    three_places (λ at f. at ≢ 2 → Announces f address → ⊥) default_left default_middle default_right
+    three_places (λ at f. at ≢ 2 → Announces f address → ⊥) default_left default_middle
+    default_right
     (λ _ a.
-    let e : left_id ≡ middle_id = ap (λ (k : Key). k.advertising_router) (the_default _ a.tells.lsa a.tells.its).0 in
+    let e : left_id ≡ middle_id = ap (λ (k : Key). k.advertising_router)
+    (the_default _ a.tells.lsa a.tells.its).0 in
     omega (arith, e))
     (λ _ a. not_the_middle a)
     (λ same. absurd (same refl)) place x.forwarder x.stands other x.announces

@@ -1,6 +1,7 @@
 -- Intra-area routes among those that may lead to a forwarding address, and as candidates: if
 -- nothing is offered between areas, they are the same.
-use Rattle.std.proofs.Common.{◌≡◌, ℕ, ◌<◌, ◌≤◌, ◌⊎◌, inl, inr, List, [], ◌∷◌, arith, refl, sym, ◌∙◌, ap, subst}
+use Rattle.std.proofs.Common.{◌≡◌, ℕ, ◌<◌, ◌≤◌, ◌⊎◌, inl, inr, List, [], ◌∷◌, arith, refl, sym, ◌∙◌}
+use Rattle.std.proofs.Common.{ap, subst}
 use Rattle.std.specs.List.{Contains}
 use Rattle.std.proofs.lemmas.Bool.{cases_eq, cases_lt}
 use Rattle.words.specs.Prefixes.{IsUnder, Network, network_address}
@@ -33,7 +34,8 @@ rank_low a b (ByKind p) = omega (arith, p)
 rank_low a b (ByCost p q) = omega (arith, p)
 rank_low a b (ByDistance p q r) = omega (arith, p)
 
-external_rank : (t : ExternalType) (prefix : Network) (lsa : ExternalLsa) (by : ℕ) (way : Way) → 0 < rank (external_offer t prefix lsa by way).kind
+external_rank : (t : ExternalType) (prefix : Network) (lsa : ExternalLsa) (by : ℕ) (way : Way)
+    → 0 < rank (external_offer t prefix lsa by way).kind
 external_rank Type1 prefix lsa by way = omega arith
 external_rank Type2 prefix lsa by way = omega arith
 
@@ -50,26 +52,40 @@ module _ (said : Said) (root : Root) (none : (o : Offer) → OffersBetween said 
   inside_rank o (inr x) = absurd (none o x)
 
   outside_rank : (o : Offer) → OffersExternal said root o → 0 < rank o.kind
-  outside_rank o x = let P : Offer → Type 0 = λ y. 0 < rank y.kind in subst P (sym x.is) (external_rank x.lsa.kind x.prefix x.lsa x.originator x.way)
+  outside_rank o x = let P : Offer → Type 0 = λ y. 0 < rank y.kind in
+      subst P (sym x.is) (external_rank x.lsa.kind x.prefix x.lsa x.originator x.way)
 
   lowered : (o : Offer) → Offers said root o → rank o.kind ≡ 0 → Inside o
   lowered o (Within x) e = inl x
   lowered o (Between x) e = inr x
   lowered o (External x) e = absurd (let away = outside_rank o x in omega (arith, away, e))
 
-  best_of_all : (prefix : Network) (o : Offer) → IsBestAmong Inside prefix o → IsBest said root prefix o
-  best_of_all prefix o k = record { offered = lifted o k.offered; is_for = k.is_for; best = λ other given e. against other given e }
+  best_of_all : (prefix : Network) (o : Offer) → IsBestAmong Inside prefix o
+      → IsBest said root prefix o
+  best_of_all prefix o k = record {
+    offered = lifted o k.offered;
+    is_for = k.is_for;
+    best = λ other given e. against other given e;
+  }
     where
       against : (other : Offer) → Offers said root other → other.prefix ≡ prefix → IsNoWorse o other
       against other (Within x) e = k.best other (inl x) e
       against other (Between x) e = k.best other (inr x) e
-      against other (External x) e = ByKind (let away = outside_rank other x in let here = inside_rank o k.offered in omega (arith, away, here))
+      against other (External x) e = ByKind
+          (let away = outside_rank other x in let here = inside_rank o k.offered in
+          omega (arith, away, here))
 
-  best_inside : (prefix : Network) (o : Offer) → IsBest said root prefix o → rank o.kind ≡ 0 → IsBestAmong Inside prefix o
-  best_inside prefix o k e = record { offered = lowered o k.offered e; is_for = k.is_for; best = λ other given same. k.best other (lifted other given) same }
+  best_inside : (prefix : Network) (o : Offer) → IsBest said root prefix o → rank o.kind ≡ 0
+      → IsBestAmong Inside prefix o
+  best_inside prefix o k e = record {
+    offered = lowered o k.offered e;
+    is_for = k.is_for;
+    best = λ other given same. k.best other (lifted other given) same;
+  }
 
   -- each best offer has the same kind
-  also_inside : (prefix : Network) (first other : Offer) → IsBest said root prefix first → rank first.kind ≡ 0 → IsBest said root prefix other → IsBestAmong Inside prefix other
+  also_inside : (prefix : Network) (first other : Offer) → IsBest said root prefix first
+      → rank first.kind ≡ 0 → IsBest said root prefix other → IsBestAmong Inside prefix other
   also_inside prefix first other k e best =
       let low = rank_low other first (best.best first k.offered k.is_for) in
       best_inside prefix other best (omega (arith, low, e))
@@ -95,7 +111,8 @@ module _ (said : Said) (root : Root) (none : (o : Offer) → OffersBetween said 
         );
       }
 
-  pub from_candidate : (r : Route) → IsCandidate said root r → r.kind ≡ Intra → IsRouteAmong Inside r
+  pub from_candidate : (r : Route) → IsCandidate said root r → r.kind ≡ Intra
+      → IsRouteAmong Inside r
   from_candidate r k intra =
       let e : rank k.first.kind ≡ 0 = ap rank (sym k.kind ∙ intra) in
       record {
@@ -107,7 +124,8 @@ module _ (said : Said) (root : Root) (none : (o : Offer) → OffersBetween said 
         distance = k.distance;
         tag = k.tag;
         hops = λ i. (
-          (λ t. let h = (k.hops i).0 t in (h.0, also_inside r.prefix k.first h.0 k.is_best e h.1, h.2)),
+          (λ t. let h = (k.hops i).0 t in
+              (h.0, also_inside r.prefix k.first h.0 k.is_best e h.1, h.2)),
           (λ h. (k.hops i).1 (h.0, best_of_all r.prefix h.0 h.1, h.2)),
         );
       }
@@ -135,16 +153,19 @@ pub record LongestInside (routes : List Route) (address : ℕ) : Type 0 where
   pub route : Route
   pub among : Contains routes route
   pub leads : LeadsThere address route
-  pub longest : (other : Route) → Contains routes other → LeadsThere address other → other.prefix.length ≤ route.prefix.length
+  pub longest : (other : Route) → Contains routes other → LeadsThere address other
+      → other.prefix.length ≤ route.prefix.length
 
-search_for : (routes : List Route) (address : ℕ) → LongestInside routes address ⊎ ((r : Route) → Contains routes r → LeadsThere address r → ⊥)
+search_for : (routes : List Route) (address : ℕ) → LongestInside routes address
+    ⊎ ((r : Route) → Contains routes r → LeadsThere address r → ⊥)
 search_for [] address = inr (λ r t l. of_empty r t)
 search_for (r ∷ routes) address =
     elim (leads_or_not address r) [
       | inr never ↦
           elim (search_for routes address) [
             | inr none ↦ inr (λ other t l. elim (of_cons r routes other t) [
-              | inl e ↦ (let P : Route → Type 0 = λ x. LeadsThere address x in never (subst P (sym e) l))
+              | inl e ↦ (let P : Route → Type 0 = λ x. LeadsThere address x in
+                  never (subst P (sym e) l))
               | inr later ↦ none other later l
             ])
             | inl found ↦ inl (record {
@@ -152,7 +173,8 @@ search_for (r ∷ routes) address =
               among = later_is r routes found.route found.among;
               leads = found.leads;
               longest = λ other t l. elim (of_cons r routes other t) [
-                | inl e ↦ absurd (let P : Route → Type 0 = λ x. LeadsThere address x in never (subst P (sym e) l))
+                | inl e ↦ absurd (let P : Route → Type 0 = λ x. LeadsThere address x in
+                    never (subst P (sym e) l))
                 | inr later ↦ found.longest other later l
               ];
             })
@@ -172,7 +194,8 @@ search_for (r ∷ routes) address =
           ]
     ]
   where
-    longer : LeadsThere address r → LongestInside routes address → LongestInside (r ∷ routes) address
+    longer : LeadsThere address r → LongestInside routes address
+        → LongestInside (r ∷ routes) address
     longer here found =
         elim (cases_lt found.route.prefix.length r.prefix.length) [
           | inl less ↦ record {
@@ -181,7 +204,8 @@ search_for (r ∷ routes) address =
             leads = here;
             longest = λ other t l. elim (of_cons r routes other t) [
               | inl e ↦ omega (arith, ap (λ (x : Route). x.prefix.length) e)
-              | inr later ↦ (let low : other.prefix.length ≤ found.route.prefix.length = found.longest other later l in omega (arith, low, less))
+              | inr later ↦ (let low : other.prefix.length ≤ found.route.prefix.length =
+                  found.longest other later l in omega (arith, low, less))
             ];
           }
           | inr more ↦ record {
@@ -195,7 +219,8 @@ search_for (r ∷ routes) address =
           }
         ]
 
-pub longest_inside : (routes : List Route) (address : ℕ) (one : Route) → Contains routes one → LeadsThere address one → LongestInside routes address
+pub longest_inside : (routes : List Route) (address : ℕ) (one : Route) → Contains routes one
+    → LeadsThere address one → LongestInside routes address
 longest_inside routes address one t l =
     elim (search_for routes address) [
       | inl found ↦ found

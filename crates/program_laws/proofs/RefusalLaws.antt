@@ -1,5 +1,7 @@
 -- Refusals of small programs.
-use Rattle.std.proofs.Common.{◌≡◌, ℕ, zero, suc, ◌+◌, ◌<◌, Bool, true, false, cond, List, [], ◌∷◌, Some, None, IsSome, inl, inr, ⊎_elim, refl, sym, subst, eqb-true, arith}
+use Rattle.std.proofs.Common.{◌≡◌, ℕ, zero, suc, ◌+◌, ◌<◌, Bool, true, false, cond, List, [], ◌∷◌}
+use Rattle.std.proofs.Common.{Some, None, IsSome, inl, inr, ⊎_elim, refl, sym, subst, eqb-true}
+use Rattle.std.proofs.Common.{arith}
 use Rattle.std.specs.Prelude.{◌==◌, ℤ, pos}
 use Rattle.isa.specs.declared.code.Slot.{Slot}
 use Rattle.isa.specs.declared.code.Slot.TheVariants.{Start}
@@ -14,10 +16,14 @@ use Rattle.transfer.specs.declared.rule.Rule.TheVariants as rules
 use Rattle.kinds.specs.Stated.{any_number}
 use Rattle.segments.specs.Places.{goes_on}
 use Rattle.segments.specs.Stated.{statement_at}
-use Rattle.segments.specs.Refusals.{FallsOff, IsBadTarget, IsFirst, IsStray, IsUnreached, IsUnstated, IsWellMade, JumpsNowhere, LacksHelperAt, MayRefuse}
+use Rattle.segments.specs.Refusals.{FallsOff, IsBadTarget, IsFirst, IsStray, IsUnreached}
+use Rattle.segments.specs.Refusals.{IsUnstated, IsWellMade, JumpsNowhere, LacksHelperAt, MayRefuse}
 use Rattle.segments.proofs.Plain.{never}
 use Rattle.verifier.specs.Examples.{then_exit, says, seven, test_on}
-use Rattle.program_laws.specs.Refusals.{HelpersAndBoundAreNamedAptly, IsOfSound, LaterRulesDontCount, RulesCountInTheirOrder, SoundCodeIsNotNamed, astray_code, cut_code, jumping_code, jumping_statements, open_code, test_by, unstated_code}
+use Rattle.program_laws.specs.Refusals.{HelpersAndBoundAreNamedAptly, IsOfSound}
+use Rattle.program_laws.specs.Refusals.{LaterRulesDontCount, RulesCountInTheirOrder}
+use Rattle.program_laws.specs.Refusals.{SoundCodeIsNotNamed, astray_code, cut_code, jumping_code}
+use Rattle.program_laws.specs.Refusals.{jumping_statements, open_code, test_by, unstated_code}
 
 none_is_some : {A : Type 0} {x : A} → None ≡ Some x → ⊥
 none_is_some is = cc
@@ -31,23 +37,28 @@ started i j is = cc
 -- ---- `r0 = 7; exit`
 
 -- a property of its two instructions is one of each instruction that begins at a slot
-each : (P : ℕ → Instruction → Type 0) → P 0 seven → P 1 Exit → (slot : ℕ) (i : Instruction) → BeginsAt i (then_exit seven) slot → P slot i
+each : (P : ℕ → Instruction → Type 0) → P 0 seven → P 1 Exit → (slot : ℕ) (i : Instruction)
+    → BeginsAt i (then_exit seven) slot → P slot i
 each P first second zero i at = subst (λ k. P 0 k) (started seven i at) first
 each P first second (suc zero) i at = subst (λ k. P 1 k) (started Exit i at) second
 each P first second (suc (suc slot)) i at = absurd (none_is_some at)
 
-jumps_not : (slot : ℕ) (i : Instruction) → BeginsAt i (then_exit seven) slot → (to : ℕ) → jump_target slot i ≡ Some to → ⊥
-jumps_not = each (λ slot i. (to : ℕ) → jump_target slot i ≡ Some to → ⊥) (λ to is. none_is_some is) (λ to is. none_is_some is)
+jumps_not : (slot : ℕ) (i : Instruction) → BeginsAt i (then_exit seven) slot → (to : ℕ)
+    → jump_target slot i ≡ Some to → ⊥
+jumps_not = each (λ slot i. (to : ℕ) → jump_target slot i ≡ Some to → ⊥) (λ to is. none_is_some is)
+    (λ to is. none_is_some is)
 
 target_is_well : (slot : ℕ) → IsBadTarget (then_exit seven) [] slot → ⊥
 target_is_well slot =
     ⊎_elim
-    (λ (jump : JumpsNowhere (then_exit seven) slot). jumps_not slot jump.instruction jump.at jump.to jump.jumps)
+    (λ (jump : JumpsNowhere (then_exit seven) slot). jumps_not slot jump.instruction jump.at jump.to
+    jump.jumps)
     (λ (stray : IsStray (then_exit seven) [] slot). never stray.stated)
 
 end_is_well : (slot : ℕ) → FallsOff (then_exit seven) slot → ⊥
 end_is_well slot off =
-    each (λ at i. slot_after at i ≡ 2 → goes_on i ≡ true → ⊥) (λ last on. omega (arith, last)) (λ last on. never on) slot off.instruction off.at off.last off.on
+    each (λ at i. slot_after at i ≡ 2 → goes_on i ≡ true → ⊥) (λ last on. omega (arith, last))
+    (λ last on. never on) slot off.instruction off.at off.last off.on
 
 third_is_none : Begins (then_exit seven) 2 → ⊥
 third_is_none begins = none_is_some begins.1
@@ -55,30 +66,37 @@ third_is_none begins = none_is_some begins.1
 reached_is_well : (slot : ℕ) → IsUnreached (then_exit seven) [] slot → ⊥
 reached_is_well slot unreached =
     let cut = unreached.cut_off in
-    each (λ before i. (to : ℕ) → slot_after before i ≡ to → goes_on i ≡ false → Begins (then_exit seven) to → ⊥)
+    each (λ before i. (to : ℕ) → slot_after before i ≡ to → goes_on i ≡ false
+    → Begins (then_exit seven) to → ⊥)
     (λ to behind leaves begins. never (sym leaves))
-    (λ to behind leaves begins. third_is_none (subst (λ n. Begins (then_exit seven) n) (sym behind) begins))
+    (λ to behind leaves begins. third_is_none
+    (subst (λ n. Begins (then_exit seven) n) (sym behind) begins))
     cut.before cut.instruction cut.at slot cut.behind cut.leaves unreached.begins
 
-calls_not : (slot : ℕ) (i : Instruction) → BeginsAt i (then_exit seven) slot → (number : ℤ) → i ≡ Call number → ⊥
+calls_not : (slot : ℕ) (i : Instruction) → BeginsAt i (then_exit seven) slot → (number : ℤ) → i
+    ≡ Call number → ⊥
 calls_not = each (λ slot i. (number : ℤ) → i ≡ Call number → ⊥) (λ number is. cc) (λ number is. cc)
 
-writes_not : (slot : ℕ) (i : Instruction) → BeginsAt i (then_exit seven) slot → writes_frame i ≡ true → ⊥
+writes_not : (slot : ℕ) (i : Instruction) → BeginsAt i (then_exit seven) slot → writes_frame i
+    ≡ true → ⊥
 writes_not = each (λ slot i. writes_frame i ≡ true → ⊥) (λ is. never is) (λ is. never is)
 
 within_code : (slot : ℕ) (i : Instruction) → BeginsAt i (then_exit seven) slot → slot < 2
 within_code = each (λ slot i. slot < 2) (omega arith) (omega arith)
 
-named_of_straight : (hook : Hook) (slot : ℕ) (rule : Rule) → MayRefuse hook (then_exit seven) 0 [] slot rule → IsOfSound 2 slot rule
+named_of_straight : (hook : Hook) (slot : ℕ) (rule : Rule)
+    → MayRefuse hook (then_exit seven) 0 [] slot rule → IsOfSound 2 slot rule
 named_of_straight hook slot rules.Target may = target_is_well slot may
 named_of_straight hook slot rules.FallsOff may = end_is_well slot may
 named_of_straight hook slot rules.Unreached may = reached_is_well slot may
-named_of_straight hook slot rules.Unstated may = jumps_not slot may.instruction may.at may.to may.jumps
+named_of_straight hook slot rules.Unstated may =
+    jumps_not slot may.instruction may.at may.to may.jumps
 named_of_straight hook slot rules.Empty may = within_code slot may.0 may.1
 named_of_straight hook slot rules.Kind may = within_code slot may.0 may.1
 named_of_straight hook slot rules.Bounds may = within_code slot may.0 may.1
 named_of_straight hook slot rules.Align may = within_code slot may.0 may.1
-named_of_straight hook slot rules.Helper may = calls_not slot (Call may.number) may.at may.number refl
+named_of_straight hook slot rules.Helper may =
+    calls_not slot (Call may.number) may.at may.number refl
 named_of_straight hook slot rules.Argument may = within_code slot may.0 may.1
 named_of_straight hook slot rules.NotWithin may = within_code slot may.0 may.1
 named_of_straight hook slot rules.Rank may = within_code slot may.0 may.1
@@ -89,16 +107,22 @@ named_of_straight hook slot rules.Memory may = may
 
 -- ---- `r0 = 7; if r0 == 0 goto L; exit; L: exit`, with a statement at L
 
-of_jumping : (P : ℕ → Instruction → Type 0) → P 0 seven → P 1 (test_by 1) → P 2 Exit → P 3 Exit → (slot : ℕ) (i : Instruction) → BeginsAt i jumping_code slot → P slot i
+of_jumping : (P : ℕ → Instruction → Type 0) → P 0 seven → P 1 (test_by 1) → P 2 Exit → P 3 Exit
+    → (slot : ℕ) (i : Instruction) → BeginsAt i jumping_code slot → P slot i
 of_jumping P first second third fourth zero i at = subst (λ k. P 0 k) (started seven i at) first
-of_jumping P first second third fourth (suc zero) i at = subst (λ k. P 1 k) (started (test_by 1) i at) second
-of_jumping P first second third fourth (suc (suc zero)) i at = subst (λ k. P 2 k) (started Exit i at) third
-of_jumping P first second third fourth (suc (suc (suc zero))) i at = subst (λ k. P 3 k) (started Exit i at) fourth
+of_jumping P first second third fourth (suc zero) i at =
+    subst (λ k. P 1 k) (started (test_by 1) i at) second
+of_jumping P first second third fourth (suc (suc zero)) i at =
+    subst (λ k. P 2 k) (started Exit i at) third
+of_jumping P first second third fourth (suc (suc (suc zero))) i at =
+    subst (λ k. P 3 k) (started Exit i at) fourth
 of_jumping P first second third fourth (suc (suc (suc (suc slot)))) i at = absurd (none_is_some at)
 
-jumps_to_third : (slot : ℕ) (i : Instruction) → BeginsAt i jumping_code slot → (to : ℕ) → jump_target slot i ≡ Some to → to ≡ 3
+jumps_to_third : (slot : ℕ) (i : Instruction) → BeginsAt i jumping_code slot → (to : ℕ)
+    → jump_target slot i ≡ Some to → to ≡ 3
 jumps_to_third = of_jumping (λ slot i. (to : ℕ) → jump_target slot i ≡ Some to → to ≡ 3)
-    (λ to is. absurd (none_is_some is)) (λ to is. sym (some_is_one is)) (λ to is. absurd (none_is_some is)) (λ to is. absurd (none_is_some is))
+    (λ to is. absurd (none_is_some is)) (λ to is. sym (some_is_one is))
+    (λ to is. absurd (none_is_some is)) (λ to is. absurd (none_is_some is))
 
 fourth_begins : Begins jumping_code 3
 fourth_begins = (Exit, refl)
@@ -108,7 +132,8 @@ only_where true stated = refl
 only_where false stated = never stated
 
 -- there is a statement only at slot 3
-stray_not : (slot : ℕ) → IsSome (statement_at jumping_statements slot) → (Begins jumping_code slot → ⊥) → ⊥
+stray_not : (slot : ℕ) → IsSome (statement_at jumping_statements slot)
+    → (Begins jumping_code slot → ⊥) → ⊥
 stray_not slot stated nowhere =
     let same : 3 ≡ slot = eqb-true 3 slot (only_where (3 == slot) stated) in
     nowhere (subst (λ n. Begins jumping_code n) same fourth_begins)
@@ -117,13 +142,16 @@ jumping_targets : (slot : ℕ) → IsBadTarget jumping_code jumping_statements s
 jumping_targets slot =
     ⊎_elim
     (λ (jump : JumpsNowhere jumping_code slot).
-    jump.nowhere (subst (λ n. Begins jumping_code n) (sym (jumps_to_third slot jump.instruction jump.at jump.to jump.jumps)) fourth_begins))
-    (λ (stray : IsStray jumping_code jumping_statements slot). stray_not slot stray.stated stray.nowhere)
+    jump.nowhere (subst (λ n. Begins jumping_code n)
+    (sym (jumps_to_third slot jump.instruction jump.at jump.to jump.jumps)) fourth_begins))
+    (λ (stray : IsStray jumping_code jumping_statements slot). stray_not slot stray.stated
+    stray.nowhere)
 
 jumping_ends : (slot : ℕ) → FallsOff jumping_code slot → ⊥
 jumping_ends slot off =
     of_jumping (λ at i. slot_after at i ≡ 4 → goes_on i ≡ true → ⊥)
-    (λ last on. omega (arith, last)) (λ last on. omega (arith, last)) (λ last on. never on) (λ last on. never on)
+    (λ last on. omega (arith, last)) (λ last on. omega (arith, last)) (λ last on. never on)
+    (λ last on. never on)
     slot off.instruction off.at off.last off.on
 
 some_is_no_none : {A : Type 0} {x : A} → Some x ≡ None → ⊥
@@ -138,28 +166,40 @@ third_is_stated none = some_is_no_none none
 jumping_reached : (slot : ℕ) → IsUnreached jumping_code jumping_statements slot → ⊥
 jumping_reached slot unreached =
     let cut = unreached.cut_off in
-    of_jumping (λ before i. (to : ℕ) → slot_after before i ≡ to → goes_on i ≡ false → Begins jumping_code to → statement_at jumping_statements to ≡ None → ⊥)
-    (λ to behind leaves begins none. never (sym leaves)) (λ to behind leaves begins none. never (sym leaves))
-    (λ to behind leaves begins none. third_is_stated (subst (λ n. statement_at jumping_statements n ≡ None) (sym behind) none))
-    (λ to behind leaves begins none. fifth_is_none (subst (λ n. Begins jumping_code n) (sym behind) begins))
+    of_jumping (λ before i. (to : ℕ) → slot_after before i ≡ to → goes_on i ≡ false
+    → Begins jumping_code to → statement_at jumping_statements to ≡ None → ⊥)
+    (λ to behind leaves begins none. never (sym leaves))
+    (λ to behind leaves begins none. never (sym leaves))
+    (λ to behind leaves begins none. third_is_stated
+    (subst (λ n. statement_at jumping_statements n ≡ None) (sym behind) none))
+    (λ to behind leaves begins none. fifth_is_none
+    (subst (λ n. Begins jumping_code n) (sym behind) begins))
     cut.before cut.instruction cut.at slot cut.behind cut.leaves unreached.begins unreached.unstated
 
 jumping_stated : (slot : ℕ) → IsUnstated jumping_code jumping_statements slot → ⊥
 jumping_stated slot unstated =
     third_is_stated
-    (subst (λ n. statement_at jumping_statements n ≡ None) (jumps_to_third slot unstated.instruction unstated.at unstated.to unstated.jumps) unstated.unstated)
+    (subst (λ n. statement_at jumping_statements n ≡ None)
+    (jumps_to_third slot unstated.instruction unstated.at unstated.to unstated.jumps)
+    unstated.unstated)
 
-jumping_calls : (slot : ℕ) (i : Instruction) → BeginsAt i jumping_code slot → (number : ℤ) → i ≡ Call number → ⊥
+jumping_calls : (slot : ℕ) (i : Instruction) → BeginsAt i jumping_code slot → (number : ℤ) → i
+    ≡ Call number → ⊥
 jumping_calls =
-    of_jumping (λ slot i. (number : ℤ) → i ≡ Call number → ⊥) (λ number is. cc) (λ number is. cc) (λ number is. cc) (λ number is. cc)
+    of_jumping (λ slot i. (number : ℤ) → i ≡ Call number → ⊥) (λ number is. cc) (λ number is. cc)
+    (λ number is. cc) (λ number is. cc)
 
-jumping_writes : (slot : ℕ) (i : Instruction) → BeginsAt i jumping_code slot → writes_frame i ≡ true → ⊥
-jumping_writes = of_jumping (λ slot i. writes_frame i ≡ true → ⊥) (λ is. never is) (λ is. never is) (λ is. never is) (λ is. never is)
+jumping_writes : (slot : ℕ) (i : Instruction) → BeginsAt i jumping_code slot → writes_frame i ≡ true
+    → ⊥
+jumping_writes = of_jumping (λ slot i. writes_frame i ≡ true → ⊥) (λ is. never is) (λ is. never is)
+    (λ is. never is) (λ is. never is)
 
 within_jumping : (slot : ℕ) (i : Instruction) → BeginsAt i jumping_code slot → slot < 4
-within_jumping = of_jumping (λ slot i. slot < 4) (omega arith) (omega arith) (omega arith) (omega arith)
+within_jumping = of_jumping (λ slot i. slot < 4) (omega arith) (omega arith) (omega arith)
+    (omega arith)
 
-named_of_jumping : (hook : Hook) (slot : ℕ) (rule : Rule) → MayRefuse hook jumping_code 0 jumping_statements slot rule → IsOfSound 4 slot rule
+named_of_jumping : (hook : Hook) (slot : ℕ) (rule : Rule)
+    → MayRefuse hook jumping_code 0 jumping_statements slot rule → IsOfSound 4 slot rule
 named_of_jumping hook slot rules.Target may = jumping_targets slot may
 named_of_jumping hook slot rules.FallsOff may = jumping_ends slot may
 named_of_jumping hook slot rules.Unreached may = jumping_reached slot may
@@ -168,7 +208,8 @@ named_of_jumping hook slot rules.Empty may = within_jumping slot may.0 may.1
 named_of_jumping hook slot rules.Kind may = within_jumping slot may.0 may.1
 named_of_jumping hook slot rules.Bounds may = within_jumping slot may.0 may.1
 named_of_jumping hook slot rules.Align may = within_jumping slot may.0 may.1
-named_of_jumping hook slot rules.Helper may = jumping_calls slot (Call may.number) may.at may.number refl
+named_of_jumping hook slot rules.Helper may =
+    jumping_calls slot (Call may.number) may.at may.number refl
 named_of_jumping hook slot rules.Argument may = within_jumping slot may.0 may.1
 named_of_jumping hook slot rules.NotWithin may = within_jumping slot may.0 may.1
 named_of_jumping hook slot rules.Rank may = within_jumping slot may.0 may.1
@@ -182,7 +223,8 @@ named_of_sound = record { straight = named_of_straight; jumping = named_of_jumpi
 
 -- ---- `call 1; exit`, and the bound
 
-of_call : (P : Instruction → Type 0) → P (Call (pos 1)) → P Exit → (slot : ℕ) (i : Instruction) → BeginsAt i (then_exit (Call (pos 1))) slot → P i
+of_call : (P : Instruction → Type 0) → P (Call (pos 1)) → P Exit → (slot : ℕ) (i : Instruction)
+    → BeginsAt i (then_exit (Call (pos 1))) slot → P i
 of_call P first second zero i at = subst P (started (Call (pos 1)) i at) first
 of_call P first second (suc zero) i at = subst P (started Exit i at) second
 of_call P first second (suc (suc slot)) i at = absurd (none_is_some at)
@@ -193,10 +235,12 @@ call_is a b is = cc
 exit_is_no_call : (number : ℤ) → Exit ≡ Call number → ⊥
 exit_is_no_call number is = cc
 
-helper_is_there : (hook : Hook) (slot : ℕ) (lacks : LacksHelperAt (then_exit (Call (pos 1))) hook slot) → ⊥
+helper_is_there : (hook : Hook) (slot : ℕ)
+    (lacks : LacksHelperAt (then_exit (Call (pos 1))) hook slot) → ⊥
 helper_is_there hook slot lacks =
     of_call (λ i. (number : ℤ) → i ≡ Call number → helper_of hook number ≡ None → ⊥)
-    (λ number is none. none_is_some (sym (subst (λ n. helper_of hook n ≡ None) (sym (call_is (pos 1) number is)) none)))
+    (λ number is none. none_is_some (sym
+    (subst (λ n. helper_of hook n ≡ None) (sym (call_is (pos 1) number is)) none)))
     (λ number is none. exit_is_no_call number is)
     slot (Call lacks.number) lacks.at lacks.number refl lacks.none
 
@@ -210,26 +254,31 @@ named_aptly = record {
 
 -- ---- `r0 = 7; if r0 == 0 goto L; L: exit`, without a statement at L
 
-of_three : (P : ℕ → Instruction → Type 0) → P 0 seven → P 1 test_on → P 2 Exit → (slot : ℕ) (i : Instruction) → BeginsAt i unstated_code slot → P slot i
+of_three : (P : ℕ → Instruction → Type 0) → P 0 seven → P 1 test_on → P 2 Exit
+    → (slot : ℕ) (i : Instruction) → BeginsAt i unstated_code slot → P slot i
 of_three P first second third zero i at = subst (λ k. P 0 k) (started seven i at) first
 of_three P first second third (suc zero) i at = subst (λ k. P 1 k) (started test_on i at) second
 of_three P first second third (suc (suc zero)) i at = subst (λ k. P 2 k) (started Exit i at) third
 of_three P first second third (suc (suc (suc slot))) i at = absurd (none_is_some at)
 
-jumps_to : (slot : ℕ) (i : Instruction) → BeginsAt i unstated_code slot → (to : ℕ) → jump_target slot i ≡ Some to → (slot ≡ 1) × (to ≡ 2)
+jumps_to : (slot : ℕ) (i : Instruction) → BeginsAt i unstated_code slot → (to : ℕ)
+    → jump_target slot i ≡ Some to → (slot ≡ 1) × (to ≡ 2)
 jumps_to = of_three (λ slot i. (to : ℕ) → jump_target slot i ≡ Some to → (slot ≡ 1) × (to ≡ 2))
-    (λ to is. absurd (none_is_some is)) (λ to is. (refl, sym (some_is_one is))) (λ to is. absurd (none_is_some is))
+    (λ to is. absurd (none_is_some is)) (λ to is. (refl, sym (some_is_one is)))
+    (λ to is. absurd (none_is_some is))
 
 second_targets : (slot : ℕ) → IsBadTarget unstated_code [] slot → ⊥
 second_targets slot =
     ⊎_elim
     (λ (jump : JumpsNowhere unstated_code slot).
-    jump.nowhere (subst (λ n. Begins unstated_code n) (sym (jumps_to slot jump.instruction jump.at jump.to jump.jumps).1) (Exit, refl)))
+    jump.nowhere (subst (λ n. Begins unstated_code n)
+    (sym (jumps_to slot jump.instruction jump.at jump.to jump.jumps).1) (Exit, refl)))
     (λ (stray : IsStray unstated_code [] slot). never stray.stated)
 
 second_ends : (slot : ℕ) → FallsOff unstated_code slot → ⊥
 second_ends slot off =
-    of_three (λ at i. slot_after at i ≡ 3 → goes_on i ≡ true → ⊥) (λ last on. omega (arith, last)) (λ last on. omega (arith, last)) (λ last on. never on)
+    of_three (λ at i. slot_after at i ≡ 3 → goes_on i ≡ true → ⊥) (λ last on. omega (arith, last))
+    (λ last on. omega (arith, last)) (λ last on. never on)
     slot off.instruction off.at off.last off.on
 
 fourth_is_none : Begins unstated_code 3 → ⊥
@@ -238,9 +287,11 @@ fourth_is_none begins = none_is_some begins.1
 second_reached : (slot : ℕ) → IsUnreached unstated_code [] slot → ⊥
 second_reached slot unreached =
     let cut = unreached.cut_off in
-    of_three (λ before i. (to : ℕ) → slot_after before i ≡ to → goes_on i ≡ false → Begins unstated_code to → ⊥)
+    of_three (λ before i. (to : ℕ) → slot_after before i ≡ to → goes_on i ≡ false
+    → Begins unstated_code to → ⊥)
     (λ to behind leaves begins. never (sym leaves)) (λ to behind leaves begins. never (sym leaves))
-    (λ to behind leaves begins. fourth_is_none (subst (λ n. Begins unstated_code n) (sym behind) begins))
+    (λ to behind leaves begins. fourth_is_none
+    (subst (λ n. Begins unstated_code n) (sym behind) begins))
     cut.before cut.instruction cut.at slot cut.behind cut.leaves unreached.begins
 
 is_unstated : IsUnstated unstated_code [] 1
@@ -251,7 +302,8 @@ first_is_well = record {
   target = second_targets 0;
   ends = second_ends 0;
   reached = second_reached 0;
-  stated = λ unstated. let from = (jumps_to 0 unstated.instruction unstated.at unstated.to unstated.jumps).0 in omega (arith, from);
+  stated = λ unstated. let from = (jumps_to 0 unstated.instruction unstated.at unstated.to
+      unstated.jumps).0 in omega (arith, from);
 }
 
 below_one : (before : ℕ) → before < 1 → IsWellMade unstated_code [] before
@@ -263,7 +315,10 @@ not_made made = made.stated is_unstated
 
 pub later_dont_count : LaterRulesDontCount
 later_dont_count = record {
-  unstated = record { earlier = below_one; here = (second_targets 1, second_ends 1, second_reached 1) };
+  unstated = record {
+    earlier = below_one;
+    here = (second_targets 1, second_ends 1, second_reached 1);
+  };
   kind = λ first. not_made first.here;
   frame = λ first. not_made first.here;
   within = λ first. not_made (first.here (omega arith));
@@ -274,7 +329,13 @@ later_dont_count = record {
 -- ---- a slot that breaks each of the four rules
 
 leads_astray : JumpsNowhere astray_code 1
-leads_astray = record { instruction = test_by 7; at = refl; to = 9; jumps = refl; nowhere = λ begins. none_is_some begins.1 }
+leads_astray = record {
+  instruction = test_by 7;
+  at = refl;
+  to = 9;
+  jumps = refl;
+  nowhere = λ begins. none_is_some begins.1;
+}
 
 astray : IsBadTarget astray_code [] 1
 astray = inl leads_astray

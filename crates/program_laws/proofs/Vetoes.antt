@@ -1,15 +1,19 @@
 -- No part of an event depends on the answers of the last `Install`.
-use Rattle.std.proofs.Common.{◌≡◌, ℕ, Bool, true, false, cond, not, ◌&&◌, List, Option, None, Some, refl, sym, ◌∙◌, ap}
+use Rattle.std.proofs.Common.{◌≡◌, ℕ, Bool, true, false, cond, not, ◌&&◌, List, Option, None, Some}
+use Rattle.std.proofs.Common.{refl, sym, ◌∙◌, ap}
 use Rattle.std.specs.FinMap as finite
 use Rattle.words.specs.Numbers.{Moment}
 use Rattle.words.specs.declared.key.Key.{Key}
 use Rattle.words.specs.declared.route.Route.{Route}
 use Rattle.lsa.specs.declared.body.Body.{Body}
 use Rattle.received.specs.Links.{Link}
-use Rattle.events.specs.Endings.{describe_router, describe_router_later, end_event, is_current, links_differ, loading_done, remove_aged, request_all, start_event}
+use Rattle.events.specs.Endings.{describe_router, describe_router_later, end_event, is_current}
+use Rattle.events.specs.Endings.{links_differ, loading_done, remove_aged, request_all, start_event}
 use Rattle.events.specs.Events.{Happens}
 use Rattle.events.specs.EventState.{EventState, on_area, on_router}
-use Rattle.events.specs.Originations.{flush, has_max_sequence, has_room, may_originate, originate, originate_body, originate_or_wait, router_key, wait, wanted_body}
+use Rattle.events.specs.Originations.{flush, has_max_sequence, has_room, may_originate, originate}
+use Rattle.events.specs.Originations.{originate_body, originate_or_wait, router_key, wait}
+use Rattle.events.specs.Originations.{wanted_body}
 use Rattle.events.specs.Packing.{outs_of}
 use Rattle.events.specs.Routers.{Occurrence, Router}
 use Rattle.events.specs.declared.model.Out.{Out}
@@ -27,14 +31,17 @@ pub one_of : (b : Bool) (x y : EventState) → without (cond b x y) ≡ cond b (
 one_of true x y = refl
 one_of false x y = refl
 
-pub one_of_three : (b c : Bool) (x y z : EventState) → without (cond b x (cond c y z)) ≡ cond b (without x) (cond c (without y) (without z))
+pub one_of_three : (b c : Bool) (x y z : EventState) → without (cond b x (cond c y z))
+    ≡ cond b (without x) (cond c (without y) (without z))
 one_of_three true c x y z = refl
 one_of_three false c x y z = one_of c y z
 
-pub by_body : (may_now : Bool) (moment : Moment) (key : Key) (says : Option Body) → Overlooks (originate_body may_now moment key says)
+pub by_body : (may_now : Bool) (moment : Moment) (key : Key) (says : Option Body)
+    → Overlooks (originate_body may_now moment key says)
 by_body may_now moment key None p = refl
 by_body may_now moment key (Some says) p =
-    one_of_three (has_max_sequence (finite.get p.router.area.database key)) (may_now && may_originate moment key p.router)
+    one_of_three (has_max_sequence (finite.get p.router.area.database key))
+    (may_now && may_originate moment key p.router)
     (flush moment key p) (originate moment key says p) (on_router (wait key) p)
 
 pub described : (before : List Link) (moment : Moment) → Overlooks (describe_router before moment)
@@ -42,7 +49,8 @@ described before moment p =
     let b : Bool = links_differ before p.router.area.links && not (is_current moment p.router) in
     let key : Key = router_key p.router.id in
     one_of b (originate_or_wait moment key p) p
-    ∙ ap (λ (q : EventState). cond b q (without p)) (by_body (has_room key p.router) moment key (wanted_body p.router key) p)
+    ∙ ap (λ (q : EventState). cond b q (without p))
+    (by_body (has_room key p.router) moment key (wanted_body p.router key) p)
 
 -- the end after the router-LSA is originated
 abbrev rest : Moment → EventState → EventState
@@ -55,7 +63,9 @@ rested : (moment : Moment) → Overlooks (rest moment)
 rested moment p =
     let loaded : EventState = loading_done p in
     let b : Bool = links_differ p.router.area.links loaded.router.area.links in
-    let last : EventState → EventState = λ q. on_router (λ (r : Router). record r { moment = moment }) (on_area (λ o. remove_aged moment (request_all moment o)) q) in
+    let last : EventState → EventState = λ q. on_router (λ (r : Router). record r {
+      moment = moment;
+    }) (on_area (λ o. remove_aged moment (request_all moment o)) q) in
     ap last (one_of b (on_router (wait (router_key loaded.router.id)) loaded) loaded)
 
 pub ended : (old : Router) (moment : Moment) → Overlooks (end_event old moment)
@@ -65,13 +75,19 @@ ended old moment p =
 
 -- ---- an `Install`
 
-end_of : (old : Router) (moment : Moment) (answers : List (Route × ℕ)) (outs : List Out) (new : Router) (event : Happens old moment (Occurrence.Install answers) outs new)
-    → without (end_event old moment event.after) ≡ end_event old moment (without (start_event moment old))
-end_of old moment answers outs new event = ended old moment event.after ∙ ap (λ (p : EventState). end_event old moment (without p)) event.own
+end_of : (old : Router) (moment : Moment) (answers : List (Route × ℕ)) (outs : List Out)
+    (new : Router) (event : Happens old moment (Occurrence.Install answers) outs new)
+    → without (end_event old moment event.after)
+    ≡ end_event old moment (without (start_event moment old))
+end_of old moment answers outs new event = ended old moment event.after
+    ∙ ap (λ (p : EventState). end_event old moment (without p)) event.own
 
 pub vetoes_are_not_heard : VetoesAreNotHeard
 vetoes_are_not_heard old moment answers others outs these new next first second =
-    let same = end_of old moment answers outs new first ∙ sym (end_of old moment others these next second) in (
-      first.sent ∙ ap (λ (p : EventState). outs_of old.id old.area.links p.sends) same ∙ sym second.sent,
-      ap without_answers first.router ∙ ap (λ (p : EventState). p.router) same ∙ sym (ap without_answers second.router),
+    let same = end_of old moment answers outs new first
+    ∙ sym (end_of old moment others these next second) in (
+      first.sent ∙ ap (λ (p : EventState). outs_of old.id old.area.links p.sends) same
+          ∙ sym second.sent,
+      ap without_answers first.router ∙ ap (λ (p : EventState). p.router) same
+          ∙ sym (ap without_answers second.router),
     )

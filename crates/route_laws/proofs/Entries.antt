@@ -1,5 +1,6 @@
 -- The LSAs of a database that is given as a list of copies.
-use Rattle.std.proofs.Common.{◌≡◌, ℕ, inl, inr, Bool, true, false, cond, ◌&&◌, List, [], ◌∷◌, ◌++◌, map, filter, Option, None, Some, arith, refl, sym, ◌∙◌, ap, subst}
+use Rattle.std.proofs.Common.{◌≡◌, ℕ, inl, inr, Bool, true, false, cond, ◌&&◌, List, [], ◌∷◌, ◌++◌}
+use Rattle.std.proofs.Common.{map, filter, Option, None, Some, arith, refl, sym, ◌∙◌, ap, subst}
 use Rattle.std.specs.Cmp.{Equal-is}
 use Rattle.std.specs.FinMap as finite
 use Rattle.std.specs.List.{Contains, list_all}
@@ -20,7 +21,8 @@ use Rattle.routes.specs.Said.{said_at, said_by}
 
 -- ---- lists
 
-pub mapped : {X Y : Type 0} (f : X → Y) (xs : List X) (x : X) → Contains xs x → Contains (map f xs) (f x)
+pub mapped : {X Y : Type 0} (f : X → Y) (xs : List X) (x : X) → Contains xs x
+    → Contains (map f xs) (f x)
 mapped f [] x t = absurd (of_empty x t)
 mapped {Y = Y} f (y ∷ xs) x t =
     let P : Y → Type 0 = λ z. Contains (f y ∷ map f xs) z in
@@ -29,7 +31,8 @@ mapped {Y = Y} f (y ∷ xs) x t =
       | inr later ↦ later_is (f y) (map f xs) (f x) (mapped f xs x later)
     ]
 
-pub kept : {X : Type 0} (p : X → Bool) (xs : List X) (x : X) → Contains xs x → p x ≡ true → Contains (filter p xs) x
+pub kept : {X : Type 0} (p : X → Bool) (xs : List X) (x : X) → Contains xs x → p x ≡ true
+    → Contains (filter p xs) x
 kept p [] x t h = t
 kept {X} p (y ∷ xs) x t h =
     elim (of_cons y xs x t) [
@@ -39,14 +42,16 @@ kept {X} p (y ∷ xs) x t h =
           subst Q (sym (ap p e ∙ h)) (subst P e (first_is y (filter p xs)))
       | inr later ↦
           let rest : Contains (filter p xs) x = kept p xs x later h in
-          elim (p y) as (λ b. Contains (cond b (y ∷ filter p xs) (filter p xs)) x) [ true ↦ later_is y (filter p xs) x rest | false ↦ rest ]
+          elim (p y) as (λ b. Contains (cond b (y ∷ filter p xs) (filter p xs)) x)
+          [ true ↦ later_is y (filter p xs) x rest | false ↦ rest ]
     ]
 
 pub both_true : (a b : Bool) → (a && b) ≡ true → (a ≡ true) × (b ≡ true)
 both_true true b e = (refl, e)
 both_true false b e = absurd (cc)
 
-pub all_pass : {X : Type 0} (p : X → Bool) (xs : List X) → list_all p xs ≡ true → (x : X) → Contains xs x → p x ≡ true
+pub all_pass : {X : Type 0} (p : X → Bool) (xs : List X) → list_all p xs ≡ true → (x : X)
+    → Contains xs x → p x ≡ true
 all_pass p [] e x t = absurd (of_empty x t)
 all_pass p (y ∷ xs) e x t =
     let both = both_true (p y) (list_all p xs) e in
@@ -57,10 +62,13 @@ all_pass p (y ∷ xs) e x t =
 
 -- ---- copies
 
-found : (q : Key) (es : Entries) (c : DatabaseCopy) → finite.find key_cmp q es ≡ Some c → Contains es (q, c)
+found : (q : Key) (es : Entries) (c : DatabaseCopy) → finite.find key_cmp q es ≡ Some c
+    → Contains es (q, c)
 found q [] c e = absurd (cc)
 found q (x ∷ es) c e =
-    elim (eq_by_cmp key_cmp q x.0) as (λ b. eq_by_cmp key_cmp q x.0 ≡ b → cond b (Some x.1) (finite.find key_cmp q es) ≡ Some c → Contains (x ∷ es) (q, c)) [
+    elim (eq_by_cmp key_cmp q x.0) as
+    (λ b. eq_by_cmp key_cmp q x.0 ≡ b → cond b (Some x.1) (finite.find key_cmp q es) ≡ Some c
+    → Contains (x ∷ es) (q, c)) [
       | true ↦ λ t h.
           let same : q ≡ x.0 = keys_exact q x.0 ((Equal-is (key_cmp q x.0)).0 t) in
           let copy : x.1 ≡ c = cc in
@@ -81,20 +89,25 @@ pub record IsHeard (moment : ℕ) (o : Option DatabaseCopy) (says : Body) : Type
   pub young : is_aged_out moment copy ≡ false
   pub is_body : copy.lsa.body ≡ says
 
-pub heard : (moment : ℕ) (o : Option DatabaseCopy) (says : Body) → said_by moment o ≡ Some says → IsHeard moment o says
+pub heard : (moment : ℕ) (o : Option DatabaseCopy) (says : Body) → said_by moment o ≡ Some says
+    → IsHeard moment o says
 heard moment None says e = absurd (cc)
 heard moment (Some c) says e = by_age (is_aged_out moment c) refl e
   where
-    by_age : (aged : Bool) → is_aged_out moment c ≡ aged → cond aged None (Some c.lsa.body) ≡ Some says → IsHeard moment (Some c) says
+    by_age : (aged : Bool) → is_aged_out moment c ≡ aged → cond aged None (Some c.lsa.body)
+        ≡ Some says → IsHeard moment (Some c) says
     by_age true is f = absurd (cc)
     by_age false is f = record { copy = c; stands = refl; young = is; is_body = cc }
 
-pub is_said : (moment : ℕ) (es : Entries) (k : Key) (says : Body) → Says (said_at moment (database es)) k says → Contains (sayings es) (k, says)
+pub is_said : (moment : ℕ) (es : Entries) (k : Key) (says : Body)
+    → Says (said_at moment (database es)) k says → Contains (sayings es) (k, says)
 is_said moment es k says e =
     let s = heard moment (finite.get (database es) k) says e in
-    let among : Contains es (k, s.copy) = found k es s.copy (sym (finite.get-from_entries keys_total es k) ∙ s.stands) in
+    let among : Contains es (k, s.copy) =
+    found k es s.copy (sym (finite.get-from_entries keys_total es k) ∙ s.stands) in
     let P : Body → Type 0 = λ b. Contains (sayings es) (k, b) in
-    subst P s.is_body (mapped (λ (e : Key × DatabaseCopy). (e.0, e.1.lsa.body)) es (k, s.copy) among)
+    subst P s.is_body (mapped (λ (e : Key × DatabaseCopy). (e.0, e.1.lsa.body)) es (k, s.copy)
+    among)
 
 -- ---- links
 
@@ -109,18 +122,28 @@ abbrev pub links_of : Sayings → List (ℕ × Link)
 links_of [] = []
 links_of (s ∷ ss) = links_by s.0 s.1 ++ links_of ss
 
-linked : (ss : Sayings) (k : Key) (r : RouterLsa) (l : Link) → Contains ss (k, body.Router r) → Contains r.links l → Contains (links_of ss) (k.link_state_id, l)
+linked : (ss : Sayings) (k : Key) (r : RouterLsa) (l : Link) → Contains ss (k, body.Router r)
+    → Contains r.links l → Contains (links_of ss) (k.link_state_id, l)
 linked [] k r l t among = absurd (of_empty (k, body.Router r) t)
 linked (s ∷ ss) k r l t among =
     elim (of_cons s ss (k, body.Router r) t) [
       | inl e ↦
-          let P : Key × Body → Type 0 = λ x. Contains (links_by x.0 x.1 ++ links_of ss) (k.link_state_id, l) in
-          subst P (sym e) (Contains-append_left (links_by k (body.Router r)) (links_of ss) (k.link_state_id, l) (mapped (λ (x : Link). (k.link_state_id, x)) r.links l among))
-      | inr later ↦ Contains-append_right (links_by s.0 s.1) (links_of ss) (k.link_state_id, l) (linked ss k r l later among)
+          let P : Key × Body → Type 0 = λ x. Contains (links_by x.0 x.1 ++ links_of ss)
+          (k.link_state_id, l) in
+          subst P (sym e) (Contains-append_left (links_by k (body.Router r)) (links_of ss)
+          (k.link_state_id, l) (mapped (λ (x : Link). (k.link_state_id, x)) r.links l among))
+      | inr later ↦ Contains-append_right (links_by s.0 s.1) (links_of ss) (k.link_state_id, l)
+          (linked ss k r l later among)
     ]
 
-pub has_link : (moment : ℕ) (es : Entries) (router : ℕ) (l : Link) → HasLink (said_at moment (database es)) router l → Contains (links_of (sayings es)) (router, l)
-has_link moment es router l h = linked (sayings es) (record { ls_type = 1; link_state_id = router; advertising_router = router }) h.lsa l (is_said moment es _ (body.Router h.lsa) h.its) h.among
+pub has_link : (moment : ℕ) (es : Entries) (router : ℕ) (l : Link)
+    → HasLink (said_at moment (database es)) router l → Contains (links_of (sayings es)) (router, l)
+has_link moment es router l h = linked (sayings es) (record {
+  ls_type = 1;
+  link_state_id = router;
+  advertising_router = router;
+}) h.lsa l
+    (is_said moment es _ (body.Router h.lsa) h.its) h.among
 
 -- no copy is a network-LSA
 abbrev pub is_no_network : Key × Body → Bool

@@ -1,6 +1,8 @@
 -- The worked external destinations: what each AS-external-LSA offers, if anything, and the
 -- candidates.
-use Rattle.std.proofs.Common.{◌≡◌, ◌≢◌, ℕ, ◌<◌, ◌≤◌, ◌⊎◌, inl, inr, Bool, true, false, not, ◌&&◌, nat_eq, eq-eqb, List, [], ◌∷◌, ◌++◌, None, Some, arith, refl, sym, ◌∙◌, ap, subst}
+use Rattle.std.proofs.Common.{◌≡◌, ◌≢◌, ℕ, ◌<◌, ◌≤◌, ◌⊎◌, inl, inr, Bool, true, false, not, ◌&&◌}
+use Rattle.std.proofs.Common.{nat_eq, eq-eqb, List, [], ◌∷◌, ◌++◌, None, Some, arith, refl, sym}
+use Rattle.std.proofs.Common.{◌∙◌, ap, subst}
 use Rattle.std.specs.FinMap as finite
 use Rattle.std.specs.List.{AllByRecursion, AllPairs, Contains}
 use Rattle.words.specs.Prefixes.{IsUnder, Network, mask_of, network_address}
@@ -20,9 +22,13 @@ use Rattle.routes.specs.Offers.{IsPrefix, OffersWithin, ReachesBoundaryRouter}
 use Rattle.routes.specs.declared.offer.Offer.{Offer}
 use Rattle.routes.specs.Routes.IsNoWorse.{ByCost, ByKind}
 use Rattle.routes.specs.Paths.{Way}
-use Rattle.route_laws.specs.Worked.{Entries, database, ipv4, far_links, key, mask_24, near_router, network_24, next_network, own_network, router_lsa}
-use Rattle.route_laws.specs.WorkedExternals.{WorkedExternals, announced_entries, by_next_network, by_own_network, destinations, external, of_first_type, passed_over}
-use Rattle.route_laws.proofs.Alone.{IsAlone, all_candidates, alone, alone_among, each_within, route_of}
+use Rattle.route_laws.specs.Worked.{Entries, database, ipv4, far_links, key, mask_24, near_router}
+use Rattle.route_laws.specs.Worked.{network_24, next_network, own_network, router_lsa}
+use Rattle.route_laws.specs.WorkedExternals.{WorkedExternals, announced_entries, by_next_network}
+use Rattle.route_laws.specs.WorkedExternals.{by_own_network, destinations, external, of_first_type}
+use Rattle.route_laws.specs.WorkedExternals.{passed_over}
+use Rattle.route_laws.proofs.Alone.{IsAlone, all_candidates, alone, alone_among, each_within}
+use Rattle.route_laws.proofs.Alone.{route_of}
 use Rattle.routes.proofs.Prefixes.{one_prefix}
 use Rattle.routes.proofs.Determined.{one_way}
 use Rattle.route_laws.proofs.Entries.{all_pass, is_said, sayings}
@@ -30,7 +36,9 @@ use Rattle.route_laws.proofs.Forwarding.{one_forward}
 use Rattle.route_laws.proofs.Labels.{AreChecked, not_both}
 use Rattle.route_laws.proofs.Made.{says}
 use Rattle.route_laws.proofs.Parts.{apart, in_front, nobody, one_below, one_of}
-use Rattle.route_laws.proofs.TwoRouters.{IsWithin, dearer, distance, far, far_is, far_says, far_way, hops, known, near, next_is_offered, next_offer, other_offer, own_is_offered, own_offer}
+use Rattle.route_laws.proofs.TwoRouters.{IsWithin, dearer, distance, far, far_is, far_says, far_way}
+use Rattle.route_laws.proofs.TwoRouters.{hops, known, near, next_is_offered, next_offer}
+use Rattle.route_laws.proofs.TwoRouters.{other_offer, own_is_offered, own_offer}
 use Rattle.routes.specs.Said.{Said, said_at, said_by}
 use Rattle.routes.specs.Routes.{IsBefore, IsForwarded, IsNoWorse, IsRouteAmong}
 use Rattle.route_laws.proofs.NoSummaries.{is_inside, is_within, nothing_between}
@@ -70,7 +78,8 @@ within o x =
 nearby_inside : (o : Offer) → OffersInside said near_router o → Contains nearby o
 nearby_inside o x = within o (is_within 0 destinations refl near_router o x)
 
-reached_inside : (router : ℕ) (way : Way) → IsBoundaryWay said near_router router way → ReachesBoundaryRouter said near_router router way
+reached_inside : (router : ℕ) (way : Way) → IsBoundaryWay said near_router router way
+    → ReachesBoundaryRouter said near_router router way
 reached_inside = is_inside 0 destinations refl near_router
 
 own_there : OffersWithin said near_router own_offer
@@ -90,8 +99,12 @@ own_way = record { distance = 10; hops = 1 }
 -- every offer within the area has such a prefix
 lengths : (r : Route) → IsRouteAmong (OffersInside said near_router) r → r.prefix.length ≤ 24
 lengths r k =
-    let fits : k.first.prefix.length ≤ 24 = one_of (λ (x : Offer). x.prefix.length ≤ 24) nearby (omega arith, (omega arith, (omega arith, tt))) k.first (nearby_inside k.first k.is_best.offered) in
-    let same : k.first.prefix.length ≡ r.prefix.length = ap (λ (n : Network). n.length) k.is_best.is_for in
+    let fits : k.first.prefix.length ≤ 24 =
+    one_of (λ (x : Offer). x.prefix.length ≤ 24) nearby
+    (omega arith, (omega arith, (omega arith, tt))) k.first
+    (nearby_inside k.first k.is_best.offered) in
+    let same : k.first.prefix.length ≡ r.prefix.length =
+    ap (λ (n : Network). n.length) k.is_best.is_for in
     omega (arith, fits, same)
 
 next_forwarded : IsForwarded (OffersInside said near_router) (ipv4 10 0 2 9) next_way
@@ -99,8 +112,12 @@ next_forwarded = record {
   by = route_of next_offer;
   is_route =
       alone_among (OffersInside said near_router) next_offer (inl next_there) (λ o offered e.
-      one_of (λ (x : Offer). x.prefix ≡ next_net → (x ≡ next_offer) ⊎ (IsNoWorse next_offer x × (IsNoWorse x next_offer → ⊥))) nearby
-      ((λ f. absurd (apart near_net next_net refl f)), ((λ f. absurd (apart near_net next_net refl f)), ((λ f. inl refl), tt))) o (nearby_inside o offered) e);
+      one_of (λ (x : Offer). x.prefix ≡ next_net → (x ≡ next_offer)
+      ⊎ (IsNoWorse next_offer x × (IsNoWorse x next_offer → ⊥))) nearby (
+        (λ f. absurd (apart near_net next_net refl f)),
+        ((λ f. absurd (apart near_net next_net refl f)), ((λ f. inl refl), tt)),
+      ) o
+      (nearby_inside o offered) e);
   under = refl;
   longest = λ r k u. lengths r k;
   is = refl;
@@ -111,21 +128,33 @@ own_forwarded = record {
   by = route_of own_offer;
   is_route =
       alone_among (OffersInside said near_router) own_offer (inl own_there) (λ o offered e.
-      one_of (λ (x : Offer). x.prefix ≡ near_net → (x ≡ own_offer) ⊎ (IsNoWorse own_offer x × (IsNoWorse x own_offer → ⊥))) nearby
-      ((λ f. inl refl), ((λ f. inr (ByCost refl (omega arith), dearer own_offer other_offer refl (omega arith))), ((λ f. absurd (apart next_net near_net refl f)), tt))) o (nearby_inside o offered) e);
+      one_of (λ (x : Offer). x.prefix ≡ near_net → (x ≡ own_offer)
+      ⊎ (IsNoWorse own_offer x × (IsNoWorse x own_offer → ⊥))) nearby (
+        (λ f. inl refl),
+        (
+          (λ f. inr (
+            ByCost refl (omega arith),
+            dearer own_offer other_offer refl (omega arith),
+          )),
+          ((λ f. absurd (apart next_net near_net refl f)), tt),
+        ),
+      ) o (nearby_inside o offered) e);
   under = refl;
   longest = λ r k u. lengths r k;
   is = refl;
 }
 
-not_under : (n : Network) → not (nat_eq (network_address n.length (ipv4 172 16 0 1)) n.address) ≡ true → IsUnder (ipv4 172 16 0 1) n → ⊥
-not_under n other u = not_both (nat_eq (network_address n.length (ipv4 172 16 0 1)) n.address) other (eq-eqb (network_address n.length (ipv4 172 16 0 1)) n.address u)
+not_under : (n : Network) → not (nat_eq (network_address n.length (ipv4 172 16 0 1)) n.address)
+    ≡ true → IsUnder (ipv4 172 16 0 1) n → ⊥
+not_under n other u = not_both (nat_eq (network_address n.length (ipv4 172 16 0 1)) n.address) other
+    (eq-eqb (network_address n.length (ipv4 172 16 0 1)) n.address u)
 
 no_forward : (way : Way) → IsForwarded (OffersInside said near_router) (ipv4 172 16 0 1) way → ⊥
 no_forward way f =
     let k = f.is_route in
     let P : Network → Type 0 = λ n. IsUnder (ipv4 172 16 0 1) n in
-    one_of (λ (x : Offer). IsUnder (ipv4 172 16 0 1) x.prefix → ⊥) nearby (not_under near_net refl, (not_under near_net refl, (not_under next_net refl, tt)))
+    one_of (λ (x : Offer). IsUnder (ipv4 172 16 0 1) x.prefix → ⊥) nearby
+    (not_under near_net refl, (not_under near_net refl, (not_under next_net refl, tt)))
     k.first (nearby_inside k.first k.is_best.offered) (subst P (sym k.is_best.is_for) f.under)
 
 -- ---- what an AS-external-LSA offers
@@ -143,18 +172,26 @@ record Given (id originator : ℕ) (lsa : ExternalLsa) (o : Offer) : Type 0 wher
 abbrev net_of : ℕ → Network
 net_of id = record { address = network_address 24 id; length = 24 }
 
-direct_known : (id : ℕ) (lsa : ExternalLsa) → lsa.mask ≡ mask_24 → lsa.forwarding ≡ 0 → (o : Offer) → Given id far lsa o → external_offer lsa.kind (net_of id) lsa far far_way ≡ o
+direct_known : (id : ℕ) (lsa : ExternalLsa) → lsa.mask ≡ mask_24 → lsa.forwarding ≡ 0 → (o : Offer)
+    → Given id far lsa o → external_offer lsa.kind (net_of id) lsa far far_way ≡ o
 direct_known id lsa mask none o g =
-    let boundary : far_way ≡ g.is_way.boundary = one_way (Leads said near_router) (ARouter near) (ARouter far) far_way g.is_way.boundary (far_is others labels) (reached_inside far g.is_way.boundary g.is_way.reaches).reached in
+    let boundary : far_way ≡ g.is_way.boundary =
+    one_way (Leads said near_router) (ARouter near) (ARouter far) far_way g.is_way.boundary
+    (far_is others labels) (reached_inside far g.is_way.boundary g.is_way.reaches).reached
+    in
     let w : far_way ≡ g.way = boundary ∙ sym (g.is_way.direct none) in
-    let p : net_of id ≡ g.prefix = one_prefix id lsa.mask 24 g.prefix (omega arith) mask g.is_prefix in
+    let p : net_of id ≡ g.prefix = one_prefix id lsa.mask 24 g.prefix (omega arith) mask g.is_prefix
+    in
     (λ i. external_offer lsa.kind (p i) lsa far (w i)) ∙ sym g.is
 
-forward_known : (id : ℕ) (lsa : ExternalLsa) (way : Way) → lsa.mask ≡ mask_24 → lsa.forwarding ≢ 0 → IsForwarded (OffersInside said near_router) lsa.forwarding way → (o : Offer) → Given id far lsa o
-    → external_offer lsa.kind (net_of id) lsa far way ≡ o
+forward_known : (id : ℕ) (lsa : ExternalLsa) (way : Way) → lsa.mask ≡ mask_24 → lsa.forwarding ≢ 0
+    → IsForwarded (OffersInside said near_router) lsa.forwarding way → (o : Offer)
+    → Given id far lsa o → external_offer lsa.kind (net_of id) lsa far way ≡ o
 forward_known id lsa way mask some is o g =
-    let w : way ≡ g.way = one_forward (OffersInside said near_router) lsa.forwarding way g.way is (g.is_way.forwarded some) in
-    let p : net_of id ≡ g.prefix = one_prefix id lsa.mask 24 g.prefix (omega arith) mask g.is_prefix in
+    let w : way ≡ g.way = one_forward (OffersInside said near_router) lsa.forwarding way g.way is
+    (g.is_way.forwarded some) in
+    let p : net_of id ≡ g.prefix = one_prefix id lsa.mask 24 g.prefix (omega arith) mask g.is_prefix
+    in
     (λ i. external_offer lsa.kind (p i) lsa far (w i)) ∙ sym g.is
 
 -- ---- all offers
@@ -184,14 +221,16 @@ abbrev by_own_offer : Offer
 by_own_offer = external_offer Type2 (network_24 192 0 2) own_lsa far own_way
 
 abbrev offers : List Offer
-offers = own_offer ∷ other_offer ∷ next_offer ∷ cheap_offer ∷ first_offer ∷ by_next_offer ∷ by_own_offer ∷ []
+offers = own_offer ∷ other_offer ∷ next_offer ∷ cheap_offer ∷ first_offer ∷ by_next_offer
+    ∷ by_own_offer ∷ []
 
 abbrev IsKnown : Key → Body → Type 0
 IsKnown k (body.Router r) = Unit {0}
 IsKnown k (body.Network n) = Unit {0}
 IsKnown k (body.NetworkSummary s) = Unit {0}
 IsKnown k (body.RouterSummary s) = Unit {0}
-IsKnown k (body.External lsa) = Says said k (body.External lsa) → (o : Offer) → Given k.link_state_id k.advertising_router lsa o → Contains offers o
+IsKnown k (body.External lsa) = Says said k (body.External lsa) → (o : Offer)
+    → Given k.link_state_id k.advertising_router lsa o → Contains offers o
 
 -- ---- those that offer nothing
 
@@ -199,7 +238,8 @@ abbrev lost_lsa : ExternalLsa
 lost_lsa = external Type1 20 (ipv4 172 16 0 1) 0
 
 unforwarded : IsKnown (key 5 (ipv4 198 18 0 0) far) (body.External lost_lsa)
-unforwarded s o g = absurd (no_forward g.way (g.is_way.forwarded (λ e. let z : ipv4 172 16 0 1 ≡ 0 = e in omega (arith, z))))
+unforwarded s o g = absurd (no_forward g.way
+    (g.is_way.forwarded (λ e. let z : ipv4 172 16 0 1 ≡ 0 = e in omega (arith, z))))
 
 unreachable : IsKnown (key 5 (ipv4 198 18 1 0) far) (body.External (external Type1 16777215 0 0))
 unreachable s o g = absurd (let less : 16777215 < 16777215 = g.reachable in omega (arith, less))
@@ -216,24 +256,31 @@ is_of_another s = not (nat_eq s.0.ls_type 1 && nat_eq s.0.link_state_id nobody_i
 by_nobody : IsKnown (key 5 (ipv4 198 18 3 0) nobody_id) (body.External (external Type1 20 0 0))
 by_nobody s o g =
     let reaches = reached_inside nobody_id g.is_way.boundary g.is_way.reaches in
-    absurd (let e : false ≡ true = all_pass is_of_another (sayings destinations) refl (key 1 nobody_id nobody_id, body.Router reaches.lsa) (is_said 0 destinations _ (body.Router reaches.lsa) reaches.its) in cc)
+    absurd (let e : false ≡ true = all_pass is_of_another (sayings destinations) refl
+    (key 1 nobody_id nobody_id, body.Router reaches.lsa)
+    (is_said 0 destinations _ (body.Router reaches.lsa) reaches.its) in cc)
 
 abbrev old_lsa : ExternalLsa
 old_lsa = external Type1 20 0 0
 
 too_old : IsKnown (key 5 (ipv4 198 18 4 0) far) (body.External old_lsa)
 too_old s o g =
-    let e : None ≡ Some (body.External old_lsa) = sym (ap (said_by 0) (finite.get-from_entries keys_total destinations (key 5 (ipv4 198 18 4 0) far))) ∙ s in
+    let e : None ≡ Some (body.External old_lsa) =
+    sym (ap (said_by 0) (finite.get-from_entries keys_total destinations
+    (key 5 (ipv4 198 18 4 0) far))) ∙ s in
     absurd (cc)
 
 abbrev is_no_mask : ℕ → Bool
 is_no_mask n = not (nat_eq (ipv4 255 0 255 0) (mask_of n))
 
-unmasked : IsKnown (key 5 (ipv4 198 18 5 0) far) (body.External (record (external Type1 20 0 0) { mask = ipv4 255 0 255 0 }))
+unmasked : IsKnown (key 5 (ipv4 198 18 5 0) far)
+    (body.External (record (external Type1 20 0 0) { mask = ipv4 255 0 255 0 }))
 unmasked s o g =
     let n : ℕ = g.prefix.length in
     let few : n ≤ 32 = g.is_prefix.0 in
-    absurd (not_both (nat_eq (ipv4 255 0 255 0) (mask_of n)) (one_below is_no_mask 33 refl n (omega (arith, few))) (eq-eqb (ipv4 255 0 255 0) (mask_of n) g.is_prefix.1))
+    absurd (not_both (nat_eq (ipv4 255 0 255 0) (mask_of n))
+    (one_below is_no_mask 33 refl n (omega (arith, few)))
+    (eq-eqb (ipv4 255 0 255 0) (mask_of n) g.is_prefix.1))
 
 -- ---- each of them
 
@@ -244,25 +291,69 @@ first_known : IsKnown (key 5 (ipv4 203 0 113 1) far) (body.External first_lsa)
 first_known s o g = (4, omega arith, direct_known (ipv4 203 0 113 1) first_lsa refl refl o g)
 
 next_known : IsKnown (key 5 (ipv4 198 51 100 0) far) (body.External next_lsa)
-next_known s o g = (5, omega arith, forward_known (ipv4 198 51 100 0) next_lsa next_way refl (λ e. let z : ipv4 10 0 2 9 ≡ 0 = e in omega (arith, z)) next_forwarded o g)
+next_known s o g = (
+  5,
+  omega arith,
+  forward_known (ipv4 198 51 100 0) next_lsa next_way refl
+      (λ e. let z : ipv4 10 0 2 9 ≡ 0 = e in omega (arith, z)) next_forwarded o g,
+)
 
 own_known : IsKnown (key 5 (ipv4 192 0 2 0) far) (body.External own_lsa)
-own_known s o g = (6, omega arith, forward_known (ipv4 192 0 2 0) own_lsa own_way refl (λ e. let z : ipv4 10 0 1 9 ≡ 0 = e in omega (arith, z)) own_forwarded o g)
+own_known s o g = (
+  6,
+  omega arith,
+  forward_known (ipv4 192 0 2 0) own_lsa own_way refl
+      (λ e. let z : ipv4 10 0 1 9 ≡ 0 = e in omega (arith, z)) own_forwarded o g,
+)
 
 all_known : AllByRecursion (λ (s : Key × Body). IsKnown s.0 s.1) (sayings destinations)
-all_known = (tt, (tt, (cheap_known, (first_known, (next_known, (own_known, (unforwarded, (unreachable, (by_itself, (by_nobody, (too_old, (unmasked, tt))))))))))))
+all_known = (
+  tt,
+  (
+    tt,
+    (
+      cheap_known,
+      (
+        first_known,
+        (
+          next_known,
+          (
+            own_known,
+            (unforwarded, (unreachable, (by_itself, (by_nobody, (too_old, (unmasked, tt)))))),
+          ),
+        ),
+      ),
+    ),
+  ),
+)
 
 complete : (o : Offer) → Offers said near_router o → Contains offers o
-complete o (Within x) = one_of (λ (y : Offer). Contains offers y) nearby ((0, omega arith, refl), ((1, omega arith, refl), ((2, omega arith, refl), tt))) o (within o x)
+complete o (Within x) = one_of (λ (y : Offer). Contains offers y) nearby
+    ((0, omega arith, refl), ((1, omega arith, refl), ((2, omega arith, refl), tt))) o (within o x)
 complete o (Between x) = absurd (nothing_between 0 destinations refl near_router o x)
 complete o (External x) =
-    one_of (λ (s : Key × Body). IsKnown s.0 s.1) (sayings destinations) all_known (key 5 x.id x.originator, body.External x.lsa) (is_said 0 destinations _ (body.External x.lsa) x.its) x.its o
-    (record { reachable = x.reachable; of_another = x.of_another; prefix = x.prefix; is_prefix = x.is_prefix; way = x.way; is_way = x.is_way; is = x.is })
+    one_of (λ (s : Key × Body). IsKnown s.0 s.1) (sayings destinations) all_known
+    (key 5 x.id x.originator, body.External x.lsa)
+    (is_said 0 destinations _ (body.External x.lsa) x.its) x.its o
+    (record {
+      reachable = x.reachable;
+      of_another = x.of_another;
+      prefix = x.prefix;
+      is_prefix = x.is_prefix;
+      way = x.way;
+      is_way = x.is_way;
+      is = x.is;
+    })
 
 -- ---- the best ones are offered
 
 reaches_far : ReachesBoundaryRouter said near_router far far_way
-reaches_far = record { lsa = router_lsa far_links; its = far_says others labels; has_e = refl; reached = far_is others labels }
+reaches_far = record {
+  lsa = router_lsa far_links;
+  its = far_says others labels;
+  has_e = refl;
+  reached = far_is others labels;
+}
 
 first_offered : Offers said near_router first_offer
 first_offered = External (record {
@@ -275,7 +366,12 @@ first_offered = External (record {
   prefix = network_24 203 0 113;
   is_prefix = (omega arith, refl, refl);
   way = far_way;
-  is_way = record { boundary = far_way; reaches = Inside reaches_far; direct = λ _. refl; forwarded = λ other. absurd (other refl) };
+  is_way = record {
+    boundary = far_way;
+    reaches = Inside reaches_far;
+    direct = λ _. refl;
+    forwarded = λ other. absurd (other refl);
+  };
   is = refl;
 })
 
@@ -290,7 +386,12 @@ by_next_offered = External (record {
   prefix = network_24 198 51 100;
   is_prefix = (omega arith, refl, refl);
   way = next_way;
-  is_way = record { boundary = far_way; reaches = Inside reaches_far; direct = λ e. absurd (let z : ipv4 10 0 2 9 ≡ 0 = e in omega (arith, z)); forwarded = λ _. next_forwarded };
+  is_way = record {
+    boundary = far_way;
+    reaches = Inside reaches_far;
+    direct = λ e. absurd (let z : ipv4 10 0 2 9 ≡ 0 = e in omega (arith, z));
+    forwarded = λ _. next_forwarded;
+  };
   is = refl;
 })
 
@@ -305,7 +406,12 @@ by_own_offered = External (record {
   prefix = network_24 192 0 2;
   is_prefix = (omega arith, refl, refl);
   way = own_way;
-  is_way = record { boundary = far_way; reaches = Inside reaches_far; direct = λ e. absurd (let z : ipv4 10 0 1 9 ≡ 0 = e in omega (arith, z)); forwarded = λ _. own_forwarded };
+  is_way = record {
+    boundary = far_way;
+    reaches = Inside reaches_far;
+    direct = λ e. absurd (let z : ipv4 10 0 1 9 ≡ 0 = e in omega (arith, z));
+    forwarded = λ _. own_forwarded;
+  };
   is = refl;
 })
 
@@ -481,13 +587,20 @@ Before a b = IsBefore a.prefix b.prefix
 
 ascending : AllPairs Before routes
 ascending =
-    in_front Before own_network (next_network ∷ by_own_network ∷ by_next_network ∷ of_first_type ∷ []) (ByAddress (omega arith), (ByAddress (omega arith), (ByAddress (omega arith), (ByAddress (omega arith), tt))))
-    (in_front Before next_network (by_own_network ∷ by_next_network ∷ of_first_type ∷ []) (ByAddress (omega arith), (ByAddress (omega arith), (ByAddress (omega arith), tt)))
-    (in_front Before by_own_network (by_next_network ∷ of_first_type ∷ []) (ByAddress (omega arith), (ByAddress (omega arith), tt))
+    in_front Before own_network (next_network ∷ by_own_network ∷ by_next_network ∷ of_first_type
+    ∷ []) (
+      ByAddress (omega arith),
+      (ByAddress (omega arith), (ByAddress (omega arith), (ByAddress (omega arith), tt))),
+    )
+    (in_front Before next_network (by_own_network ∷ by_next_network ∷ of_first_type ∷ [])
+    (ByAddress (omega arith), (ByAddress (omega arith), (ByAddress (omega arith), tt)))
+    (in_front Before by_own_network (by_next_network ∷ of_first_type ∷ [])
+    (ByAddress (omega arith), (ByAddress (omega arith), tt))
     (in_front Before by_next_network (of_first_type ∷ []) (ByAddress (omega arith), tt)
     (in_front Before of_first_type [] tt (nobody Before)))))
 
 pub worked : WorkedExternals
 worked =
-    all_candidates said near_router routes (λ r t. one_of (λ (x : Route). IsCandidate said near_router x) routes sound r t)
+    all_candidates said near_router routes
+    (λ r t. one_of (λ (x : Route). IsCandidate said near_router x) routes sound r t)
     (λ o offered. one_of HasRoute offers covered o (complete o offered)) ascending

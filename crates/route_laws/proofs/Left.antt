@@ -1,5 +1,6 @@
 -- Lemmas for the worked examples of unchanged copies.
-use Rattle.std.proofs.Common.{◌≡◌, ◌≢◌, ◌⊎◌, inl, inr, refl, sym, ap, ◌∙◌, ℕ, ◌≤◌, ◌<◌, Bool, true, false, cond, Option, None, Some, eqb-true, arith}
+use Rattle.std.proofs.Common.{◌≡◌, ◌≢◌, ◌⊎◌, inl, inr, refl, sym, ap, ◌∙◌, ℕ, ◌≤◌, ◌<◌, Bool, true}
+use Rattle.std.proofs.Common.{false, cond, Option, None, Some, eqb-true, arith}
 use Rattle.std.specs.Prelude.{◌==◌}
 use mathlib.Core.Bool.{false≢true}
 use Rattle.words.specs.declared.key.Key.{Key}
@@ -12,13 +13,15 @@ use Rattle.route_laws.specs.WorkedCopies.{key, saying}
 -- ---- one LSA
 
 -- a copy that is below MaxAge now
-pub young : (c : DatabaseCopy) → is_aged_out 110 c ≡ false → (n : DatabaseCopy) → Some c ≡ Some n → IsOldCopy 100 110 n
+pub young : (c : DatabaseCopy) → is_aged_out 110 c ≡ false → (n : DatabaseCopy) → Some c ≡ Some n
+    → IsOldCopy 100 110 n
 young c is n same aged =
     let one : c ≡ n = cc in
     absurd (false≢true (sym is ∙ ap (is_aged_out 110) one ∙ aged))
 
 -- one that had MaxAge before
-pub old : (c : DatabaseCopy) → is_aged_out 100 c ≡ true → (n : DatabaseCopy) → Some c ≡ Some n → IsOldCopy 100 110 n
+pub old : (c : DatabaseCopy) → is_aged_out 100 c ≡ true → (n : DatabaseCopy) → Some c ≡ Some n
+    → IsOldCopy 100 110 n
 old c is n same aged =
     let one : c ≡ n = cc in
     sym (ap (is_aged_out 100) one) ∙ is
@@ -34,7 +37,8 @@ nowhere (Some c) is a b = absurd (cc)
 nowhere None (Some c) a b = absurd (cc)
 
 -- one was added
-pub came : (was is : Option DatabaseCopy) (c : DatabaseCopy) → was ≡ None → is ≡ Some c → IsLeft 100 110 was is → ⊥
+pub came : (was is : Option DatabaseCopy) (c : DatabaseCopy) → was ≡ None → is ≡ Some c
+    → IsLeft 100 110 was is → ⊥
 came None (Some d) c a b h = h.same
 came None None c a b h = absurd (cc)
 came (Some d) is c a b h = absurd (cc)

@@ -1,5 +1,6 @@
 -- Links of a database that is given as a list of copies.
-use Rattle.std.proofs.Common.{◌≡◌, ℕ, zero, suc, ◌+◌, ◌<◌, ◌⊎◌, inl, inr, IsTrue, List, Some, slice_get, arith, refl, ◌∙◌, ap}
+use Rattle.std.proofs.Common.{◌≡◌, ℕ, zero, suc, ◌+◌, ◌<◌, ◌⊎◌, inl, inr, IsTrue, List, Some}
+use Rattle.std.proofs.Common.{slice_get, arith, refl, ◌∙◌, ap}
 use Rattle.std.specs.FinMap as finite
 use Rattle.std.specs.Int.{bit_at}
 use Rattle.std.specs.List.{Contains}
@@ -17,14 +18,22 @@ use Rattle.routes.specs.declared.root.Root.{Root}
 use Rattle.routes.proofs.Determined.{bit_of_member}
 use Rattle.routes.specs.Said.{said_at, said_by}
 
-pub says : (es : Entries) (k : Key) (b : Body) → finite.find key_cmp k es ≡ Some (copy_of k b) → Says (said_at 0 (database es)) k b
+pub says : (es : Entries) (k : Key) (b : Body) → finite.find key_cmp k es ≡ Some (copy_of k b)
+    → Says (said_at 0 (database es)) k b
 says es k b e = ap (said_by 0) (finite.get-from_entries keys_total es k ∙ e)
 
-pub linked : (es : Entries) (router : ℕ) (links : List Link) → IsRouterLsa (said_at 0 (database es)) router (router_lsa links) → (l : Link) → Contains links l → HasLink (said_at 0 (database es)) router l
+pub linked : (es : Entries) (router : ℕ) (links : List Link)
+    → IsRouterLsa (said_at 0 (database es)) router (router_lsa links) → (l : Link)
+    → Contains links l → HasLink (said_at 0 (database es)) router l
 linked es router links its l among = record { lsa = router_lsa links; its = its; among = among }
 
 -- the root's link by its n-th interface
-pub from_root : (es : Entries) (root : Root) (links : List Link) → IsRouterLsa (said_at 0 (database es)) root.router (router_lsa links) → (neighbor address cost n : ℕ) → Contains links (point_to_point neighbor address cost) → 0 < cost → slice_get root.addresses n ≡ Some address → Counts (said_at 0 (database es)) root root.router PointToPoint neighbor cost (n + 1)
+pub from_root : (es : Entries) (root : Root) (links : List Link)
+    → IsRouterLsa (said_at 0 (database es)) root.router (router_lsa links)
+    → (neighbor address cost n : ℕ) → Contains links (point_to_point neighbor address cost)
+    → 0 < cost → slice_get root.addresses n ≡ Some address
+    → Counts (said_at 0 (database es)) root root.router PointToPoint neighbor cost
+    (n + 1)
 from_root es root links its neighbor address cost n among not_free at = record {
   link = point_to_point neighbor address cost;
   its = linked es root.router links its (point_to_point neighbor address cost) among;
@@ -36,7 +45,10 @@ from_root es root links its neighbor address cost n among not_free at = record {
   elsewhere = λ other. absurd (other refl);
 }
 
-pub from_other : (es : Entries) (root : Root) (router : ℕ) (links : List Link) → IsRouterLsa (said_at 0 (database es)) router (router_lsa links) → (router ≡ root.router → ⊥) → (neighbor address cost : ℕ) → Contains links (point_to_point neighbor address cost) → 0 < cost → Counts (said_at 0 (database es)) root router PointToPoint neighbor cost 0
+pub from_other : (es : Entries) (root : Root) (router : ℕ) (links : List Link)
+    → IsRouterLsa (said_at 0 (database es)) router (router_lsa links) → (router ≡ root.router → ⊥)
+    → (neighbor address cost : ℕ) → Contains links (point_to_point neighbor address cost)
+    → 0 < cost → Counts (said_at 0 (database es)) root router PointToPoint neighbor cost 0
 from_other es root router links its other neighbor address cost among not_free = record {
   link = point_to_point neighbor address cost;
   its = linked es router links its (point_to_point neighbor address cost) among;
@@ -48,18 +60,30 @@ from_other es root router links its other neighbor address cost among not_free =
   elsewhere = λ _. refl;
 }
 
-pub back : (es : Entries) (router : ℕ) (links : List Link) → IsRouterLsa (said_at 0 (database es)) router (router_lsa links) → (neighbor address cost : ℕ) → Contains links (point_to_point neighbor address cost) → LinksBack (said_at 0 (database es)) router PointToPoint neighbor
-back es router links its neighbor address cost among = (point_to_point neighbor address cost, linked es router links its (point_to_point neighbor address cost) among, refl, refl)
+pub back : (es : Entries) (router : ℕ) (links : List Link)
+    → IsRouterLsa (said_at 0 (database es)) router (router_lsa links) → (neighbor address cost : ℕ)
+    → Contains links (point_to_point neighbor address cost)
+    → LinksBack (said_at 0 (database es)) router PointToPoint neighbor
+back es router links its neighbor address cost among = (
+  point_to_point neighbor address cost,
+  linked es router links its (point_to_point neighbor address cost) among,
+  refl,
+  refl,
+)
 
 -- ---- small sets of interfaces
 
 pub only_one : (i : ℕ) → IsTrue (has_interface 2 i) → i ≡ 1
 only_one zero t = absurd (cc)
 only_one (suc zero) t = refl
-only_one (suc (suc i)) t = absurd (let e : bit_at 2 (suc (suc i)) ≡ 0 = bit_at-suc 2 (suc i) ∙ bit_at-suc 1 i ∙ bit_at-zero i in omega (arith, e, bit_of_member 2 (suc (suc i)) t))
+only_one (suc (suc i)) t = absurd (let e : bit_at 2 (suc (suc i)) ≡ 0 = bit_at-suc 2 (suc i)
+    ∙ bit_at-suc 1 i ∙ bit_at-zero i in omega (arith, e, bit_of_member 2 (suc (suc i)) t))
 
 pub one_or_two : (i : ℕ) → IsTrue (has_interface 6 i) → (i ≡ 1) ⊎ (i ≡ 2)
 one_or_two zero t = absurd (cc)
 one_or_two (suc zero) t = inl refl
 one_or_two (suc (suc zero)) t = inr refl
-one_or_two (suc (suc (suc i))) t = absurd (let e : bit_at 6 (suc (suc (suc i))) ≡ 0 = bit_at-suc 6 (suc (suc i)) ∙ bit_at-suc 3 (suc i) ∙ bit_at-suc 1 i ∙ bit_at-zero i in omega (arith, e, bit_of_member 6 (suc (suc (suc i))) t))
+one_or_two (suc (suc (suc i))) t =
+    absurd (let e : bit_at 6 (suc (suc (suc i))) ≡ 0 = bit_at-suc 6 (suc (suc i))
+    ∙ bit_at-suc 3 (suc i) ∙ bit_at-suc 1 i ∙ bit_at-zero i in
+    omega (arith, e, bit_of_member 6 (suc (suc (suc i))) t))

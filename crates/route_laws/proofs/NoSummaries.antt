@@ -21,21 +21,31 @@ is_no_summary (k, body.NetworkSummary s) = false
 is_no_summary (k, body.RouterSummary s) = false
 is_no_summary (k, body.External e) = true
 
-module _ (moment : ℕ) (es : Entries) (none : list_all is_no_summary (sayings es) ≡ true) (root : Root) where
+module _ (moment : ℕ) (es : Entries) (none : list_all is_no_summary (sayings es) ≡ true)
+    (root : Root) where
   pub nothing_between : (o : Offer) → OffersBetween (said_at moment (database es)) root o → ⊥
   nothing_between o x =
-      let e : false ≡ true = all_pass is_no_summary (sayings es) none (summary_key 3 x.id x.originator, body.NetworkSummary x.lsa) (is_said moment es (summary_key 3 x.id x.originator) (body.NetworkSummary x.lsa) x.its) in
+      let e : false ≡ true = all_pass is_no_summary (sayings es) none
+      (summary_key 3 x.id x.originator, body.NetworkSummary x.lsa)
+      (is_said moment es (summary_key 3 x.id x.originator) (body.NetworkSummary x.lsa)
+      x.its) in
       cc
 
-  pub is_within : (o : Offer) → OffersInside (said_at moment (database es)) root o → OffersWithin (said_at moment (database es)) root o
+  pub is_within : (o : Offer) → OffersInside (said_at moment (database es)) root o
+      → OffersWithin (said_at moment (database es)) root o
   is_within o (inl x) = x
   is_within o (inr x) = absurd (nothing_between o x)
 
-  pub is_inside : (router : ℕ) (way : Way) → IsBoundaryWay (said_at moment (database es)) root router way → ReachesBoundaryRouter (said_at moment (database es)) root router way
+  pub is_inside : (router : ℕ) (way : Way)
+      → IsBoundaryWay (said_at moment (database es)) root router way
+      → ReachesBoundaryRouter (said_at moment (database es)) root router way
   is_inside router way (Inside x) = x
   is_inside router way (Outside no_way x) =
       let t = x.told in
       absurd (
       let e : false ≡ true =
-      all_pass is_no_summary (sayings es) none (summary_key 4 router t.originator, body.RouterSummary t.lsa) (is_said moment es (summary_key 4 router t.originator) (body.RouterSummary t.lsa) t.its) in
+      all_pass is_no_summary (sayings es) none
+      (summary_key 4 router t.originator, body.RouterSummary t.lsa)
+      (is_said moment es (summary_key 4 router t.originator) (body.RouterSummary t.lsa)
+      t.its) in
       cc)

@@ -1,5 +1,6 @@
 -- Lists whose elements are checked one by one.
-use Rattle.std.proofs.Common.{◌≡◌, ℕ, zero, suc, ◌<◌, ◌&&◌, not, inl, inr, Bool, true, nat_eq, eq-eqb, List, [], ◌∷◌, arith, subst}
+use Rattle.std.proofs.Common.{◌≡◌, ℕ, zero, suc, ◌<◌, ◌&&◌, not, inl, inr, Bool, true, nat_eq}
+use Rattle.std.proofs.Common.{eq-eqb, List, [], ◌∷◌, arith, subst}
 use Rattle.std.specs.List.{All, AllByRecursion, AllPairs, Contains}
 use Rattle.std.proofs.lemmas.Bool.{cases_lt}
 use Rattle.std.proofs.lemmas.List.Elements.{All-cons, All-nil}
@@ -9,7 +10,8 @@ use Rattle.route_laws.proofs.Entries.{both_true}
 use Rattle.route_laws.proofs.Labels.{not_both}
 use Rattle.routes.proofs.Lists.{of_cons, of_empty}
 
-pub one_of : {X : Type 0} (P : X → Type 0) (xs : List X) → AllByRecursion P xs → (x : X) → Contains xs x → P x
+pub one_of : {X : Type 0} (P : X → Type 0) (xs : List X) → AllByRecursion P xs → (x : X)
+    → Contains xs x → P x
 one_of P [] all x t = absurd (of_empty x t)
 one_of P (y ∷ ys) all x t =
     elim (of_cons y ys x t) [
@@ -22,7 +24,8 @@ all_of P [] all = All-nil P
 all_of P (x ∷ xs) all = All-cons P x xs all.0 (all_of P xs all.1)
 
 -- the first one is in the relation to each of the others
-pub in_front : {X : Type 0} (R : X → X → Type 0) (x : X) (xs : List X) → AllByRecursion (R x) xs → AllPairs R xs → AllPairs R (x ∷ xs)
+pub in_front : {X : Type 0} (R : X → X → Type 0) (x : X) (xs : List X) → AllByRecursion (R x) xs
+    → AllPairs R xs → AllPairs R (x ∷ xs)
 in_front R x xs first rest = AllPairs-cons R x xs (all_of (R x) xs first) rest
 
 pub nobody : {X : Type 0} (R : X → X → Type 0) → AllPairs R []
@@ -30,7 +33,8 @@ nobody R i j d before within = absurd (omega (arith, before, within))
 
 -- networks with different addresses
 pub apart : (a b : Network) → not (nat_eq a.address b.address) ≡ true → a ≡ b → ⊥
-apart a b other e = not_both (nat_eq a.address b.address) other (eq-eqb a.address b.address (λ i. (e i).address))
+apart a b other e = not_both (nat_eq a.address b.address) other
+    (eq-eqb a.address b.address (λ i. (e i).address))
 
 -- a test of all numbers below a bound
 abbrev pub all_below : (ℕ → Bool) → ℕ → Bool
@@ -43,5 +47,6 @@ one_below p (suc k) e n less =
     let both = both_true (p k) (all_below p k) e in
     elim (cases_lt n k) [
       | inl below ↦ one_below p k both.1 n below
-      | inr more ↦ let same : k ≡ n = omega (arith, less, more) in subst (λ m. p m ≡ true) same both.0
+      | inr more ↦ let same : k ≡ n = omega (arith, less, more) in
+          subst (λ m. p m ≡ true) same both.0
     ]

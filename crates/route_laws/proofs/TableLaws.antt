@@ -3,13 +3,15 @@
 use Rattle.std.proofs.Common.{◌≡◌, List, [], ◌∷◌, refl}
 use Rattle.std.specs.List.{Contains}
 use Rattle.words.specs.declared.route.Route.{Route}
-use Rattle.route_laws.specs.Laws.{AnswersToAllAreNotStale, TablesAreDetermined, TablesArePartsOfCandidates}
+use Rattle.route_laws.specs.Laws.{AnswersToAllAreNotStale, TablesAreDetermined}
+use Rattle.route_laws.specs.Laws.{TablesArePartsOfCandidates}
 use Rattle.routes.proofs.Determined.{same_routes}
 use Rattle.routes.proofs.Lists.{first_is, of_empty}
 
 pub tables : TablesAreDetermined
 tables said root answers left right p q =
-    same_routes left right p.ascending q.ascending (λ r t. (q.each r).1 ((p.each r).0 t)) (λ r t. (p.each r).1 ((q.each r).0 t))
+    same_routes left right p.ascending q.ascending (λ r t. (q.each r).1 ((p.each r).0 t))
+    (λ r t. (p.each r).1 ((q.each r).0 t))
 
 without : (table : List Route) → ((r : Route) → Contains table r → ⊥) → table ≡ []
 without [] none = refl
@@ -25,4 +27,5 @@ parts = record {
 }
 
 pub not_stale : AnswersToAllAreNotStale
-not_stale said root answers routes are all stale = stale.2 (all stale.0 ((are.each stale.0).1 stale.1))
+not_stale said root answers routes are all stale =
+    stale.2 (all stale.0 ((are.each stale.0).1 stale.1))

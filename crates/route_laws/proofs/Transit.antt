@@ -1,5 +1,7 @@
 -- The worked transit network: its ways, the offers, and the candidates.
-use Rattle.std.proofs.Common.{◌≡◌, ◌≢◌, ℕ, ◌≤◌, ◌⊎◌, inl, inr, Bool, true, cond, not, ◌||◌, IsTrue, nat_eq, eqb-true, List, [], ◌∷◌, filter, bit_and, arith, refl, sym, ◌∙◌, ap, subst}
+use Rattle.std.proofs.Common.{◌≡◌, ◌≢◌, ℕ, ◌≤◌, ◌⊎◌, inl, inr, Bool, true, cond, not, ◌||◌, IsTrue}
+use Rattle.std.proofs.Common.{nat_eq, eqb-true, List, [], ◌∷◌, filter, bit_and, arith, refl, sym}
+use Rattle.std.proofs.Common.{◌∙◌, ap, subst}
 use Rattle.std.specs.List.{AllByRecursion, AllPairs, Contains}
 use Rattle.words.specs.Interfaces.{has_interface}
 use Rattle.words.specs.Prefixes.{Network, network_address}
@@ -22,15 +24,20 @@ use Rattle.routes.specs.declared.offer.Offer.{Offer}
 use Rattle.routes.specs.Paths.{IsWay, Step, Way}
 use Rattle.route_laws.specs.Worked.{database, ipv4, key, mask_24, network_24, router_lsa, stub}
 use Rattle.route_laws.specs.WorkedExternals.{external}
-use Rattle.route_laws.specs.WorkedTransit.{WorkedTransit, behind_route, designated_links, inner_lsa, longest_route, network_8, network_lsa, other_links, root_links, shared_route, transit, transit_entries, transit_root, transit_route, wide_route}
-use Rattle.route_laws.proofs.Alone.{IsAlone, all_candidates, alone, alone_among, is_stub, no_worse_itself, route_of}
+use Rattle.route_laws.specs.WorkedTransit.{WorkedTransit, behind_route, designated_links, inner_lsa}
+use Rattle.route_laws.specs.WorkedTransit.{longest_route, network_8, network_lsa, other_links}
+use Rattle.route_laws.specs.WorkedTransit.{root_links, shared_route, transit, transit_entries}
+use Rattle.route_laws.specs.WorkedTransit.{transit_root, transit_route, wide_route}
+use Rattle.route_laws.proofs.Alone.{IsAlone, all_candidates, alone, alone_among, is_stub}
+use Rattle.route_laws.proofs.Alone.{no_worse_itself, route_of}
 use Rattle.routes.proofs.Prefixes.{one_prefix}
 use Rattle.routes.proofs.Determined.{one_way}
 use Rattle.route_laws.proofs.Entries.{all_pass, links_of, is_said, sayings}
 use Rattle.route_laws.proofs.Forwarding.{one_forward}
 use Rattle.route_laws.proofs.Labels.{AreLabels, subset, way_by}
 use Rattle.route_laws.proofs.Made.{back, from_root, linked, one_or_two, only_one, says}
-use Rattle.route_laws.proofs.Networks.{AreRising, IsNetworkKnown, IsStubKnown, at, each_offer, rising, unreached}
+use Rattle.route_laws.proofs.Networks.{AreRising, IsNetworkKnown, IsStubKnown, at, each_offer}
+use Rattle.route_laws.proofs.Networks.{rising, unreached}
 use Rattle.route_laws.proofs.Parts.{apart, in_front, nobody, one_of}
 use Rattle.routes.specs.Said.{Said, said_at}
 use Rattle.routes.specs.Routes.{IsBefore, IsForwarded, IsNoLater, IsNoWorse, IsRouteAmong}
@@ -83,7 +90,8 @@ root_says : IsRouterLsa said root (router_lsa root_links)
 root_says = says transit_entries (key 1 root root) (body.Router (router_lsa root_links)) refl
 
 designated_says : IsRouterLsa said designated (router_lsa designated_links)
-designated_says = says transit_entries (key 1 designated designated) (body.Router (router_lsa designated_links)) refl
+designated_says = says transit_entries (key 1 designated designated)
+    (body.Router (router_lsa designated_links)) refl
 
 other_says : IsRouterLsa said other (router_lsa other_links)
 other_says = says transit_entries (key 1 other other) (body.Router (router_lsa other_links)) refl
@@ -91,8 +99,14 @@ other_says = says transit_entries (key 1 other other) (body.Router (router_lsa o
 inner_says : IsRouterLsa said inner inner_lsa
 inner_says = says transit_entries (key 1 inner inner) (body.Router inner_lsa) refl
 
-lists : (n router : ℕ) → Contains network_lsa.attached router → ListsRouter said network designated router
-lists n router among = record { lsa = network_lsa; its = says transit_entries (key 2 network designated) (body.Network network_lsa) refl; among = among }
+lists : (n router : ℕ) → Contains network_lsa.attached router
+    → ListsRouter said network designated router
+lists n router among = record {
+  lsa = network_lsa;
+  its = says transit_entries (key 2 network designated)
+      (body.Network network_lsa) refl;
+  among = among;
+}
 
 abbrev to_designated : Step Node
 to_designated = record { target = ARouter designated; price = 10; exit = 1 }
@@ -107,10 +121,20 @@ abbrev over_network : ℕ → Step Node
 over_network router = record { target = ARouter router; price = 0; exit = 0 }
 
 first_link : leads (ARouter root) to_designated
-first_link = (from_root transit_entries transit_root root_links root_says designated (ipv4 10 0 1 1) 10 0 (0, omega arith, refl) (omega arith) refl, back transit_entries designated designated_links designated_says root (ipv4 10 0 1 2) 10 (0, omega arith, refl))
+first_link = (
+  from_root transit_entries transit_root root_links root_says designated (ipv4 10 0 1 1)
+      10 0 (0, omega arith, refl) (omega arith) refl,
+  back transit_entries designated designated_links designated_says root (ipv4 10 0 1 2) 10
+      (0, omega arith, refl),
+)
 
 second_link : leads (ARouter root) to_other
-second_link = (from_root transit_entries transit_root root_links root_says other (ipv4 10 0 2 1) 15 1 (1, omega arith, refl) (omega arith) refl, back transit_entries other other_links other_says root (ipv4 10 0 2 2) 15 (0, omega arith, refl))
+second_link = (
+  from_root transit_entries transit_root root_links root_says other (ipv4 10 0 2 1) 15
+      1 (1, omega arith, refl) (omega arith) refl,
+  back transit_entries other other_links other_says root (ipv4 10 0 2 2) 15
+      (0, omega arith, refl),
+)
 
 abbrev designated_link : Link
 designated_link = transit network (ipv4 10 1 0 2) 5
@@ -125,7 +149,8 @@ network_link : leads (ARouter designated) to_network
 network_link = (
   record {
     link = designated_link;
-    its = linked transit_entries designated designated_links designated_says designated_link (1, omega arith, refl);
+    its = linked transit_entries designated designated_links designated_says designated_link
+        (1, omega arith, refl);
     is_kind = refl;
     is_id = refl;
     costs = refl;
@@ -137,32 +162,86 @@ network_link = (
 )
 
 other_member : leads (ANetwork network designated) (over_network other)
-other_member = (lists 1 other (1, omega arith, refl), (other_link, linked transit_entries other other_links other_says other_link (1, omega arith, refl), refl, refl), refl, refl)
+other_member = (
+  lists 1 other (1, omega arith, refl),
+  (
+    other_link,
+    linked transit_entries other other_links other_says other_link
+        (1, omega arith, refl),
+    refl,
+    refl,
+  ),
+  refl,
+  refl,
+)
 
 inner_member : leads (ANetwork network designated) (over_network inner)
-inner_member = (lists 3 inner (3, omega arith, refl), (inner_link, record { lsa = inner_lsa; its = inner_says; among = (0, omega arith, refl) }, refl, refl), refl, refl)
+inner_member = (
+  lists 3 inner (3, omega arith, refl),
+  (
+    inner_link,
+    record {
+      lsa = inner_lsa;
+      its = inner_says;
+      among = (0, omega arith, refl);
+    },
+    refl,
+    refl,
+  ),
+  refl,
+  refl,
+)
 
 -- ---- ways
 
 are : AreLabels leads (ARouter root) (at dr dn) (at hr hn)
 are = rising transit_root 0 transit_entries dr hr dn hn labels
 
-designated_way : IsWay leads (ARouter root) (ARouter designated) (record { distance = 10; hops = 2 })
-designated_way = way_by leads (ARouter root) (at dr dn) (at hr hn) are (ARouter designated) (to_designated ∷ []) (first_link, refl) refl
+designated_way : IsWay leads (ARouter root) (ARouter designated) (record {
+  distance = 10;
+  hops = 2;
+})
+designated_way = way_by leads (ARouter root) (at dr dn) (at hr hn) are (ARouter designated)
+    (to_designated ∷ []) (first_link, refl) refl
     (λ i t. (to_designated, [], (first_link, refl), refl, sym (only_one i t)))
 
-network_way : IsWay leads (ARouter root) (ANetwork network designated) (record { distance = 15; hops = 2 })
-network_way = way_by leads (ARouter root) (at dr dn) (at hr hn) are (ANetwork network designated) (to_designated ∷ to_network ∷ []) (first_link, (network_link, refl)) refl
-    (λ i t. (to_designated, to_network ∷ [], (first_link, (network_link, refl)), refl, sym (only_one i t)))
+network_way : IsWay leads (ARouter root) (ANetwork network designated) (record {
+  distance = 15;
+  hops = 2;
+})
+network_way = way_by leads (ARouter root) (at dr dn) (at hr hn) are (ANetwork network designated)
+    (to_designated ∷ to_network ∷ []) (first_link, (network_link, refl)) refl
+    (λ i t. (
+      to_designated,
+      to_network ∷ [],
+      (first_link, (network_link, refl)),
+      refl,
+      sym (only_one i t),
+    ))
 
 inner_way : IsWay leads (ARouter root) (ARouter inner) (record { distance = 15; hops = 2 })
-inner_way = way_by leads (ARouter root) (at dr dn) (at hr hn) are (ARouter inner) (to_designated ∷ to_network ∷ over_network inner ∷ []) (first_link, (network_link, (inner_member, refl))) refl
-    (λ i t. (to_designated, to_network ∷ over_network inner ∷ [], (first_link, (network_link, (inner_member, refl))), refl, sym (only_one i t)))
+inner_way = way_by leads (ARouter root) (at dr dn) (at hr hn) are (ARouter inner)
+    (to_designated ∷ to_network ∷ over_network inner ∷ [])
+    (first_link, (network_link, (inner_member, refl))) refl
+    (λ i t. (
+      to_designated,
+      to_network ∷ over_network inner ∷ [],
+      (first_link, (network_link, (inner_member, refl))),
+      refl,
+      sym (only_one i t),
+    ))
 
 other_way : IsWay leads (ARouter root) (ARouter other) (record { distance = 15; hops = 6 })
-other_way = way_by leads (ARouter root) (at dr dn) (at hr hn) are (ARouter other) (to_other ∷ []) (second_link, refl) refl
+other_way = way_by leads (ARouter root) (at dr dn) (at hr hn) are (ARouter other) (to_other ∷ [])
+    (second_link, refl) refl
     (λ i t. elim (one_or_two i t) [
-      | inl e ↦ (to_designated, to_network ∷ over_network other ∷ [], (first_link, (network_link, (other_member, refl))), refl, sym e)
+      | inl e ↦ (
+        to_designated,
+        to_network ∷ over_network other ∷ [],
+        (first_link, (network_link, (other_member, refl))),
+        refl,
+        sym e,
+      )
       | inr e ↦ (to_other, [], (second_link, refl), refl, sym e)
     ])
 
@@ -192,23 +271,60 @@ wide_stub = stub (ipv4 10 0 0 0) (ipv4 255 0 0 0) 1
 abbrev behind_stub : Link
 behind_stub = stub (ipv4 192 0 2 0) mask_24 10
 
-stubs_known : AllByRecursion (λ (x : ℕ × Link). IsStubKnown 0 transit_entries transit_root IsNearby x.0 x.1) (filter is_stub (links_of (sayings transit_entries)))
+stubs_known : AllByRecursion (λ (x : ℕ × Link). IsStubKnown 0 transit_entries transit_root IsNearby
+    x.0 x.1) (filter is_stub (links_of (sayings transit_entries)))
 stubs_known = (
-  inr (8, wide_offer, record { way = record { distance = 10; hops = 2 }; reached = designated_way; within = omega arith; mask = refl; hops = 2; by_root = λ e. absurd (omega (arith, e)); by_others = λ _. refl; is = refl }, (0, omega arith, refl)),
+  inr (
+    8,
+    wide_offer,
+    record {
+      way = record {
+        distance = 10;
+        hops = 2;
+      };
+      reached = designated_way;
+      within = omega arith;
+      mask = refl;
+      hops = 2;
+      by_root = λ e. absurd (omega (arith, e));
+      by_others = λ _. refl;
+      is = refl;
+    },
+    (0, omega arith, refl),
+  ),
   (
-    inr (24, behind_offer, record { way = record { distance = 15; hops = 6 }; reached = other_way; within = omega arith; mask = refl; hops = 6; by_root = λ e. absurd (omega (arith, e)); by_others = λ _. refl; is = refl }, (2, omega arith, refl)),
+    inr (
+      24,
+      behind_offer,
+      record {
+        way = record {
+          distance = 15;
+          hops = 6;
+        };
+        reached = other_way;
+        within = omega arith;
+        mask = refl;
+        hops = 6;
+        by_root = λ e. absurd (omega (arith, e));
+        by_others = λ _. refl;
+        is = refl;
+      },
+      (2, omega arith, refl),
+    ),
     (inl never_unlinked, tt),
   ),
 )
 
 abbrev IsSayingKnown : Key → Body → Type 0
 IsSayingKnown k (body.Router r) = Unit {0}
-IsSayingKnown k (body.Network n) = IsNetworkKnown 0 transit_entries transit_root IsNearby k.link_state_id k.advertising_router n
+IsSayingKnown k (body.Network n) =
+    IsNetworkKnown 0 transit_entries transit_root IsNearby k.link_state_id k.advertising_router n
 IsSayingKnown k (body.NetworkSummary s) = Unit {0}
 IsSayingKnown k (body.RouterSummary s) = Unit {0}
 IsSayingKnown k (body.External e) = Unit {0}
 
-networks_known : AllByRecursion (λ (s : Key × Body). IsSayingKnown s.0 s.1) (sayings transit_entries)
+networks_known : AllByRecursion (λ (s : Key × Body). IsSayingKnown s.0 s.1)
+    (sayings transit_entries)
 networks_known = (
   tt,
   (
@@ -220,7 +336,21 @@ networks_known = (
         (
           tt,
           (
-            (24, network_offer, record { way = record { distance = 15; hops = 2 }; reached = network_way; within = omega arith; mask = refl; is = refl }, (1, omega arith, refl)),
+            (
+              24,
+              network_offer,
+              record {
+                way = record {
+                  distance = 15;
+                  hops = 2;
+                };
+                reached = network_way;
+                within = omega arith;
+                mask = refl;
+                is = refl;
+              },
+              (1, omega arith, refl),
+            ),
             (tt, (tt, (tt, (tt, (tt, tt))))),
           ),
         ),
@@ -232,15 +362,31 @@ networks_known = (
 within : (o : Offer) → OffersWithin said transit_root o → Contains nearby o
 within o x =
     each_offer 0 transit_entries transit_root IsNearby
-    (λ router l t. one_of (λ (y : ℕ × Link). IsStubKnown 0 transit_entries transit_root IsNearby y.0 y.1) (filter is_stub (links_of (sayings transit_entries))) stubs_known (router, l) t)
-    (λ id by lsa t. one_of (λ (s : Key × Body). IsSayingKnown s.0 s.1) (sayings transit_entries) networks_known (record { ls_type = 2; link_state_id = id; advertising_router = by }, body.Network lsa) t) o x
+    (λ router l t. one_of (λ (y : ℕ × Link). IsStubKnown 0 transit_entries transit_root IsNearby y.0
+    y.1) (filter is_stub (links_of (sayings transit_entries))) stubs_known (router, l) t)
+    (λ id by lsa t. one_of (λ (s : Key × Body). IsSayingKnown s.0 s.1) (sayings transit_entries)
+    networks_known (
+      record {
+        ls_type = 2;
+        link_state_id = id;
+        advertising_router = by;
+      },
+      body.Network lsa,
+    ) t) o x
 
 wide_there : OffersWithin said transit_root wide_offer
 wide_there = record {
   node = ARouter designated;
   prefix = network_8 10;
   more = 1;
-  attached = (wide_stub, linked transit_entries designated designated_links designated_says wide_stub (2, omega arith, refl), refl, (omega arith, refl, refl), refl);
+  attached = (
+    wide_stub,
+    linked transit_entries designated designated_links designated_says
+        wide_stub (2, omega arith, refl),
+    refl,
+    (omega arith, refl, refl),
+    refl,
+  );
   way = record { distance = 10; hops = 2 };
   reached = designated_way;
   hops = 2;
@@ -254,7 +400,13 @@ network_there = record {
   node = ANetwork network designated;
   prefix = network_24 10 1 0;
   more = 0;
-  attached = (network_lsa, says transit_entries (key 2 network designated) (body.Network network_lsa) refl, (omega arith, refl, refl), refl);
+  attached = (
+    network_lsa,
+    says transit_entries (key 2 network designated)
+        (body.Network network_lsa) refl,
+    (omega arith, refl, refl),
+    refl,
+  );
   way = record { distance = 15; hops = 2 };
   reached = network_way;
   hops = 2;
@@ -268,7 +420,14 @@ behind_there = record {
   node = ARouter other;
   prefix = network_24 192 0 2;
   more = 10;
-  attached = (behind_stub, linked transit_entries other other_links other_says behind_stub (2, omega arith, refl), refl, (omega arith, refl, refl), refl);
+  attached = (
+    behind_stub,
+    linked transit_entries other other_links other_says behind_stub
+        (2, omega arith, refl),
+    refl,
+    (omega arith, refl, refl),
+    refl,
+  );
   way = record { distance = 15; hops = 6 };
   reached = other_way;
   hops = 6;
@@ -280,7 +439,8 @@ behind_there = record {
 nearby_inside : (o : Offer) → OffersInside said transit_root o → Contains nearby o
 nearby_inside o x = within o (is_within 0 transit_entries refl transit_root o x)
 
-reached_inside : (router : ℕ) (way : Way) → IsBoundaryWay said transit_root router way → ReachesBoundaryRouter said transit_root router way
+reached_inside : (router : ℕ) (way : Way) → IsBoundaryWay said transit_root router way
+    → ReachesBoundaryRouter said transit_root router way
 reached_inside = is_inside 0 transit_entries refl transit_root
 
 -- ---- the forwarding address, which is in both of the nearer networks
@@ -297,8 +457,12 @@ network_net = network_24 10 1 0
 -- the offers within the area have such prefixes
 lengths : (r : Route) → IsRouteAmong (OffersInside said transit_root) r → r.prefix.length ≤ 24
 lengths r k =
-    let fits : k.first.prefix.length ≤ 24 = one_of (λ (x : Offer). x.prefix.length ≤ 24) nearby (omega arith, (omega arith, (omega arith, tt))) k.first (nearby_inside k.first k.is_best.offered) in
-    let same : k.first.prefix.length ≡ r.prefix.length = ap (λ (n : Network). n.length) k.is_best.is_for in
+    let fits : k.first.prefix.length ≤ 24 =
+    one_of (λ (x : Offer). x.prefix.length ≤ 24) nearby
+    (omega arith, (omega arith, (omega arith, tt))) k.first
+    (nearby_inside k.first k.is_best.offered) in
+    let same : k.first.prefix.length ≡ r.prefix.length =
+    ap (λ (n : Network). n.length) k.is_best.is_for in
     omega (arith, fits, same)
 
 forwarded_way : IsForwarded (OffersInside said transit_root) forwarding forward_way
@@ -306,8 +470,12 @@ forwarded_way = record {
   by = route_of network_offer;
   is_route =
       alone_among (OffersInside said transit_root) network_offer (inl network_there) (λ o offered e.
-      one_of (λ (x : Offer). x.prefix ≡ network_net → (x ≡ network_offer) ⊎ (IsNoWorse network_offer x × (IsNoWorse x network_offer → ⊥))) nearby
-      ((λ f. absurd (apart (network_8 10) network_net refl f)), ((λ f. inl refl), ((λ f. absurd (apart (network_24 192 0 2) network_net refl f)), tt))) o (nearby_inside o offered) e);
+      one_of (λ (x : Offer). x.prefix ≡ network_net → (x ≡ network_offer)
+      ⊎ (IsNoWorse network_offer x × (IsNoWorse x network_offer → ⊥))) nearby (
+        (λ f. absurd (apart (network_8 10) network_net refl f)),
+        ((λ f. inl refl), ((λ f. absurd (apart (network_24 192 0 2) network_net refl f)), tt)),
+      ) o
+      (nearby_inside o offered) e);
   under = refl;
   longest = λ r k u. lengths r k;
   is = refl;
@@ -325,19 +493,28 @@ record Given (id originator : ℕ) (lsa : ExternalLsa) (o : Offer) : Type 0 wher
 abbrev net_of : ℕ → Network
 net_of id = record { address = network_address 24 id; length = 24 }
 
-direct_known : (id originator : ℕ) (lsa : ExternalLsa) (way : Way) → IsWay leads (ARouter root) (ARouter originator) way → lsa.mask ≡ mask_24 → lsa.forwarding ≡ 0 → (o : Offer) → Given id originator lsa o
+direct_known : (id originator : ℕ) (lsa : ExternalLsa) (way : Way)
+    → IsWay leads (ARouter root) (ARouter originator) way → lsa.mask ≡ mask_24 → lsa.forwarding ≡ 0
+    → (o : Offer) → Given id originator lsa o
     → external_offer lsa.kind (net_of id) lsa originator way ≡ o
 direct_known id originator lsa way is mask none o g =
-    let boundary : way ≡ g.is_way.boundary = one_way leads (ARouter root) (ARouter originator) way g.is_way.boundary is (reached_inside originator g.is_way.boundary g.is_way.reaches).reached in
+    let boundary : way ≡ g.is_way.boundary =
+    one_way leads (ARouter root) (ARouter originator) way g.is_way.boundary is
+    (reached_inside originator g.is_way.boundary g.is_way.reaches).reached in
     let w : way ≡ g.way = boundary ∙ sym (g.is_way.direct none) in
-    let p : net_of id ≡ g.prefix = one_prefix id lsa.mask 24 g.prefix (omega arith) mask g.is_prefix in
+    let p : net_of id ≡ g.prefix = one_prefix id lsa.mask 24 g.prefix (omega arith) mask g.is_prefix
+    in
     (λ i. external_offer lsa.kind (p i) lsa originator (w i)) ∙ sym g.is
 
-forward_known : (id originator : ℕ) (lsa : ExternalLsa) (way : Way) → lsa.mask ≡ mask_24 → lsa.forwarding ≢ 0 → IsForwarded (OffersInside said transit_root) lsa.forwarding way → (o : Offer) → Given id originator lsa o
+forward_known : (id originator : ℕ) (lsa : ExternalLsa) (way : Way) → lsa.mask ≡ mask_24
+    → lsa.forwarding ≢ 0 → IsForwarded (OffersInside said transit_root) lsa.forwarding way
+    → (o : Offer) → Given id originator lsa o
     → external_offer lsa.kind (net_of id) lsa originator way ≡ o
 forward_known id originator lsa way mask some is o g =
-    let w : way ≡ g.way = one_forward (OffersInside said transit_root) lsa.forwarding way g.way is (g.is_way.forwarded some) in
-    let p : net_of id ≡ g.prefix = one_prefix id lsa.mask 24 g.prefix (omega arith) mask g.is_prefix in
+    let w : way ≡ g.way = one_forward (OffersInside said transit_root) lsa.forwarding way g.way is
+    (g.is_way.forwarded some) in
+    let p : net_of id ≡ g.prefix = one_prefix id lsa.mask 24 g.prefix (omega arith) mask g.is_prefix
+    in
     (λ i. external_offer lsa.kind (p i) lsa originator (w i)) ∙ sym g.is
 
 abbrev designated_lsa : ExternalLsa
@@ -356,7 +533,10 @@ abbrev shared_net : Network
 shared_net = network_24 203 0 113
 
 abbrev designated_offer : Offer
-designated_offer = external_offer Type1 shared_net designated_lsa designated (record { distance = 10; hops = 2 })
+designated_offer = external_offer Type1 shared_net designated_lsa designated (record {
+  distance = 10;
+  hops = 2;
+})
 
 abbrev other_offer : Offer
 other_offer = external_offer Type1 shared_net other_lsa other (record { distance = 15; hops = 6 })
@@ -365,26 +545,47 @@ abbrev forwarded_offer : Offer
 forwarded_offer = external_offer Type1 (network_24 203 0 114) forwarded_lsa designated forward_way
 
 abbrev offers : List Offer
-offers = wide_offer ∷ network_offer ∷ behind_offer ∷ designated_offer ∷ other_offer ∷ forwarded_offer ∷ []
+offers = wide_offer ∷ network_offer ∷ behind_offer ∷ designated_offer ∷ other_offer
+    ∷ forwarded_offer ∷ []
 
 abbrev IsKnown : Key → Body → Type 0
 IsKnown k (body.Router r) = Unit {0}
 IsKnown k (body.Network n) = Unit {0}
 IsKnown k (body.NetworkSummary s) = Unit {0}
 IsKnown k (body.RouterSummary s) = Unit {0}
-IsKnown k (body.External lsa) = (o : Offer) → Given k.link_state_id k.advertising_router lsa o → Contains offers o
+IsKnown k (body.External lsa) = (o : Offer) → Given k.link_state_id k.advertising_router lsa o
+    → Contains offers o
 
 designated_known : IsKnown (key 5 (ipv4 203 0 113 0) designated) (body.External designated_lsa)
-designated_known o g = (3, omega arith, direct_known (ipv4 203 0 113 0) designated designated_lsa (record { distance = 10; hops = 2 }) designated_way refl refl o g)
+designated_known o g = (
+  3,
+  omega arith,
+  direct_known (ipv4 203 0 113 0) designated designated_lsa (record {
+    distance = 10;
+    hops = 2;
+  }) designated_way refl refl o g,
+)
 
 other_known : IsKnown (key 5 (ipv4 203 0 113 0) other) (body.External other_lsa)
-other_known o g = (4, omega arith, direct_known (ipv4 203 0 113 0) other other_lsa (record { distance = 15; hops = 6 }) other_way refl refl o g)
+other_known o g = (
+  4,
+  omega arith,
+  direct_known (ipv4 203 0 113 0) other other_lsa (record {
+    distance = 15;
+    hops = 6;
+  }) other_way refl refl o g,
+)
 
 is_forwarded : forwarding ≡ 0 → ⊥
 is_forwarded e = omega (arith, e)
 
 forwarded_known : IsKnown (key 5 (ipv4 203 0 114 0) designated) (body.External forwarded_lsa)
-forwarded_known o g = (5, omega arith, forward_known (ipv4 203 0 114 0) designated forwarded_lsa forward_way refl is_forwarded forwarded_way o g)
+forwarded_known o g = (
+  5,
+  omega arith,
+  forward_known (ipv4 203 0 114 0) designated forwarded_lsa forward_way refl is_forwarded
+      forwarded_way o g,
+)
 
 -- the router-LSA of the inner router doesn't have flag E
 abbrev has_no_e : Body → Bool
@@ -402,23 +603,49 @@ by_inner o g =
     let reaches = reached_inside inner g.is_way.boundary g.is_way.reaches in
     let lsa = reaches.lsa in
     let t = is_said 0 transit_entries (key 1 inner inner) (body.Router lsa) reaches.its in
-    let e : has_no_e (body.Router lsa) ≡ true = all_pass is_plain (sayings transit_entries) refl (key 1 inner inner, body.Router lsa) t in
+    let e : has_no_e (body.Router lsa) ≡ true =
+    all_pass is_plain (sayings transit_entries) refl (key 1 inner inner, body.Router lsa) t in
     let without : bit_and lsa.flags 2 ≡ 0 = eqb-true (bit_and lsa.flags 2) 0 e in
     let with : bit_and lsa.flags 2 ≡ 2 = reaches.has_e in
     absurd (omega (arith, without, with))
 
 by_unlinked : IsKnown (key 5 (ipv4 203 0 116 0) unlinked) (body.External plain_lsa)
-by_unlinked o g = absurd (never_unlinked g.is_way.boundary (reached_inside unlinked g.is_way.boundary g.is_way.reaches).reached)
+by_unlinked o g = absurd (never_unlinked g.is_way.boundary
+    (reached_inside unlinked g.is_way.boundary g.is_way.reaches).reached)
 
 all_known : AllByRecursion (λ (s : Key × Body). IsKnown s.0 s.1) (sayings transit_entries)
-all_known = (tt, (tt, (tt, (tt, (tt, (tt, (designated_known, (other_known, (forwarded_known, (by_inner, (by_unlinked, tt)))))))))))
+all_known = (
+  tt,
+  (
+    tt,
+    (
+      tt,
+      (
+        tt,
+        (
+          tt,
+          (tt, (designated_known, (other_known, (forwarded_known, (by_inner, (by_unlinked, tt)))))),
+        ),
+      ),
+    ),
+  ),
+)
 
 complete : (o : Offer) → Offers said transit_root o → Contains offers o
-complete o (Within x) = one_of (λ (y : Offer). Contains offers y) nearby ((0, omega arith, refl), ((1, omega arith, refl), ((2, omega arith, refl), tt))) o (within o x)
+complete o (Within x) = one_of (λ (y : Offer). Contains offers y) nearby
+    ((0, omega arith, refl), ((1, omega arith, refl), ((2, omega arith, refl), tt))) o (within o x)
 complete o (Between x) = absurd (nothing_between 0 transit_entries refl transit_root o x)
 complete o (External x) =
-    one_of (λ (s : Key × Body). IsKnown s.0 s.1) (sayings transit_entries) all_known (key 5 x.id x.originator, body.External x.lsa) (is_said 0 transit_entries _ (body.External x.lsa) x.its) o
-    (record { prefix = x.prefix; is_prefix = x.is_prefix; way = x.way; is_way = x.is_way; is = x.is })
+    one_of (λ (s : Key × Body). IsKnown s.0 s.1) (sayings transit_entries) all_known
+    (key 5 x.id x.originator, body.External x.lsa)
+    (is_said 0 transit_entries _ (body.External x.lsa) x.its) o
+    (record {
+      prefix = x.prefix;
+      is_prefix = x.is_prefix;
+      way = x.way;
+      is_way = x.is_way;
+      is = x.is;
+    })
 
 -- ---- the external destinations are offered
 
@@ -427,7 +654,8 @@ designated_offered = External (record {
   id = ipv4 203 0 113 0;
   originator = designated;
   lsa = designated_lsa;
-  its = says transit_entries (key 5 (ipv4 203 0 113 0) designated) (body.External designated_lsa) refl;
+  its = says transit_entries (key 5 (ipv4 203 0 113 0) designated) (body.External designated_lsa)
+      refl;
   reachable = omega arith;
   of_another = λ e. omega (arith, e);
   prefix = shared_net;
@@ -435,7 +663,12 @@ designated_offered = External (record {
   way = record { distance = 10; hops = 2 };
   is_way = record {
     boundary = record { distance = 10; hops = 2 };
-    reaches = Inside (record { lsa = router_lsa designated_links; its = designated_says; has_e = refl; reached = designated_way });
+    reaches = Inside (record {
+      lsa = router_lsa designated_links;
+      its = designated_says;
+      has_e = refl;
+      reached = designated_way;
+    });
     direct = λ _. refl;
     forwarded = λ some. absurd (some refl);
   };
@@ -455,7 +688,12 @@ other_offered = External (record {
   way = record { distance = 15; hops = 6 };
   is_way = record {
     boundary = record { distance = 15; hops = 6 };
-    reaches = Inside (record { lsa = router_lsa other_links; its = other_says; has_e = refl; reached = other_way });
+    reaches = Inside (record {
+      lsa = router_lsa other_links;
+      its = other_says;
+      has_e = refl;
+      reached = other_way;
+    });
     direct = λ _. refl;
     forwarded = λ some. absurd (some refl);
   };
@@ -467,7 +705,8 @@ forwarded_offered = External (record {
   id = ipv4 203 0 114 0;
   originator = designated;
   lsa = forwarded_lsa;
-  its = says transit_entries (key 5 (ipv4 203 0 114 0) designated) (body.External forwarded_lsa) refl;
+  its = says transit_entries (key 5 (ipv4 203 0 114 0) designated) (body.External forwarded_lsa)
+      refl;
   reachable = omega arith;
   of_another = λ e. omega (arith, e);
   prefix = network_24 203 0 114;
@@ -475,7 +714,12 @@ forwarded_offered = External (record {
   way = forward_way;
   is_way = record {
     boundary = record { distance = 10; hops = 2 };
-    reaches = Inside (record { lsa = router_lsa designated_links; its = designated_says; has_e = refl; reached = designated_way });
+    reaches = Inside (record {
+      lsa = router_lsa designated_links;
+      its = designated_says;
+      has_e = refl;
+      reached = designated_way;
+    });
     direct = λ e. absurd (is_forwarded e);
     forwarded = λ _. forwarded_way;
   };
@@ -497,16 +741,73 @@ beaten : (c : Offer) → AllByRecursion (IsBeaten c) offers → IsAlone said tra
 beaten c all o offered e = one_of (IsBeaten c) offers all o (complete o offered) e
 
 wide_alone : IsAlone said transit_root wide_offer
-wide_alone = beaten wide_offer (itself wide_offer, (elsewhere wide_offer network_offer refl, (elsewhere wide_offer behind_offer refl, (elsewhere wide_offer designated_offer refl, (elsewhere wide_offer other_offer refl, (elsewhere wide_offer forwarded_offer refl, tt))))))
+wide_alone = beaten wide_offer (
+  itself wide_offer,
+  (
+    elsewhere wide_offer network_offer refl,
+    (
+      elsewhere wide_offer behind_offer refl,
+      (
+        elsewhere wide_offer designated_offer refl,
+        (
+          elsewhere wide_offer other_offer refl,
+          (elsewhere wide_offer forwarded_offer refl, tt),
+        ),
+      ),
+    ),
+  ),
+)
 
 network_alone : IsAlone said transit_root network_offer
-network_alone = beaten network_offer (elsewhere network_offer wide_offer refl, (itself network_offer, (elsewhere network_offer behind_offer refl, (elsewhere network_offer designated_offer refl, (elsewhere network_offer other_offer refl, (elsewhere network_offer forwarded_offer refl, tt))))))
+network_alone = beaten network_offer (
+  elsewhere network_offer wide_offer refl,
+  (
+    itself network_offer,
+    (
+      elsewhere network_offer behind_offer refl,
+      (
+        elsewhere network_offer designated_offer refl,
+        (
+          elsewhere network_offer other_offer refl,
+          (elsewhere network_offer forwarded_offer refl, tt),
+        ),
+      ),
+    ),
+  ),
+)
 
 behind_alone : IsAlone said transit_root behind_offer
-behind_alone = beaten behind_offer (elsewhere behind_offer wide_offer refl, (elsewhere behind_offer network_offer refl, (itself behind_offer, (elsewhere behind_offer designated_offer refl, (elsewhere behind_offer other_offer refl, (elsewhere behind_offer forwarded_offer refl, tt))))))
+behind_alone = beaten behind_offer (
+  elsewhere behind_offer wide_offer refl,
+  (
+    elsewhere behind_offer network_offer refl,
+    (
+      itself behind_offer,
+      (
+        elsewhere behind_offer designated_offer refl,
+        (
+          elsewhere behind_offer other_offer refl,
+          (elsewhere behind_offer forwarded_offer refl, tt),
+        ),
+      ),
+    ),
+  ),
+)
 
 forwarded_alone : IsAlone said transit_root forwarded_offer
-forwarded_alone = beaten forwarded_offer (elsewhere forwarded_offer wide_offer refl, (elsewhere forwarded_offer network_offer refl, (elsewhere forwarded_offer behind_offer refl, (elsewhere forwarded_offer designated_offer refl, (elsewhere forwarded_offer other_offer refl, (itself forwarded_offer, tt))))))
+forwarded_alone = beaten forwarded_offer (
+  elsewhere forwarded_offer wide_offer refl,
+  (
+    elsewhere forwarded_offer network_offer refl,
+    (
+      elsewhere forwarded_offer behind_offer refl,
+      (
+        elsewhere forwarded_offer designated_offer refl,
+        (elsewhere forwarded_offer other_offer refl, (itself forwarded_offer, tt)),
+      ),
+    ),
+  ),
+)
 
 -- the two offers for the shared network, which are equally good
 abbrev IsShared : Offer → Type 0
@@ -520,32 +821,55 @@ shared o t e =
         (λ f. absurd (apart network_net shared_net refl f)),
         (
           (λ f. absurd (apart (network_24 192 0 2) shared_net refl f)),
-          ((λ f. inl refl), ((λ f. inr refl), ((λ f. absurd (apart (network_24 203 0 114) shared_net refl f)), tt))),
+          (
+            (λ f. inl refl),
+            (
+              (λ f. inr refl),
+              ((λ f. absurd (apart (network_24 203 0 114) shared_net refl f)), tt),
+            ),
+          ),
         ),
       ),
     ) o t e
 
 alike_first : (o : Offer) → IsShared o → IsNoWorse designated_offer o
-alike_first o (inl e) = let P : Offer → Type 0 = λ x. IsNoWorse designated_offer x in subst P e (no_worse_itself designated_offer)
-alike_first o (inr e) = let P : Offer → Type 0 = λ x. IsNoWorse designated_offer x in subst P e (IsNoWorse.ByDistance refl refl (omega arith))
+alike_first o (inl e) = let P : Offer → Type 0 = λ x. IsNoWorse designated_offer x in
+    subst P e (no_worse_itself designated_offer)
+alike_first o (inr e) = let P : Offer → Type 0 = λ x. IsNoWorse designated_offer x in
+    subst P e (IsNoWorse.ByDistance refl refl (omega arith))
 
 alike_second : (o : Offer) → IsShared o → IsNoWorse other_offer o
-alike_second o (inl e) = let P : Offer → Type 0 = λ x. IsNoWorse other_offer x in subst P e (IsNoWorse.ByDistance refl refl (omega arith))
-alike_second o (inr e) = let P : Offer → Type 0 = λ x. IsNoWorse other_offer x in subst P e (no_worse_itself other_offer)
+alike_second o (inl e) = let P : Offer → Type 0 = λ x. IsNoWorse other_offer x in
+    subst P e (IsNoWorse.ByDistance refl refl (omega arith))
+alike_second o (inr e) = let P : Offer → Type 0 = λ x. IsNoWorse other_offer x in
+    subst P e (no_worse_itself other_offer)
 
 designated_best : IsBest said transit_root shared_net designated_offer
-designated_best = record { offered = designated_offered; is_for = refl; best = λ o offered e. alike_first o (shared o (complete o offered) e) }
+designated_best = record {
+  offered = designated_offered;
+  is_for = refl;
+  best = λ o offered e. alike_first o (shared o (complete o offered) e);
+}
 
 other_best : IsBest said transit_root shared_net other_offer
-other_best = record { offered = other_offered; is_for = refl; best = λ o offered e. alike_second o (shared o (complete o offered) e) }
+other_best = record {
+  offered = other_offered;
+  is_for = refl;
+  best = λ o offered e. alike_second o (shared o (complete o offered) e);
+}
 
 earliest : (o : Offer) → IsShared o → IsNoLater designated_offer o
-earliest o (inl e) = let P : Offer → Type 0 = λ x. IsNoLater designated_offer x in subst P e (ByTag refl (omega arith))
-earliest o (inr e) = let P : Offer → Type 0 = λ x. IsNoLater designated_offer x in subst P e (ByOriginator (omega arith))
+earliest o (inl e) = let P : Offer → Type 0 = λ x. IsNoLater designated_offer x in
+    subst P e (ByTag refl (omega arith))
+earliest o (inr e) = let P : Offer → Type 0 = λ x. IsNoLater designated_offer x in
+    subst P e (ByOriginator (omega arith))
 
-joined : (o : Offer) → IsShared o → (i : ℕ) → IsTrue (has_interface o.hops i) → IsTrue (has_interface 6 i)
-joined o (inl e) i t = subset 2 6 i refl (let P : Offer → Type 0 = λ x. IsTrue (has_interface x.hops i) in subst P (sym e) t)
-joined o (inr e) i t = let P : Offer → Type 0 = λ x. IsTrue (has_interface x.hops i) in subst P (sym e) t
+joined : (o : Offer) → IsShared o → (i : ℕ) → IsTrue (has_interface o.hops i)
+    → IsTrue (has_interface 6 i)
+joined o (inl e) i t = subset 2 6 i refl
+    (let P : Offer → Type 0 = λ x. IsTrue (has_interface x.hops i) in subst P (sym e) t)
+joined o (inr e) i t = let P : Offer → Type 0 = λ x. IsTrue (has_interface x.hops i) in
+    subst P (sym e) t
 
 shared_candidate : IsCandidate said transit_root shared_route
 shared_candidate = record {
@@ -556,7 +880,10 @@ shared_candidate = record {
   cost = refl;
   distance = refl;
   tag = refl;
-  hops = λ i. ((λ t. (other_offer, other_best, t)), (λ h. joined h.0 (shared h.0 (complete h.0 h.1.offered) h.1.is_for) i h.2));
+  hops = λ i. (
+    (λ t. (other_offer, other_best, t)),
+    (λ h. joined h.0 (shared h.0 (complete h.0 h.1.offered) h.1.is_for) i h.2),
+  );
 }
 
 abbrev routes : List Route
@@ -569,7 +896,13 @@ sound = (
     alone said transit_root network_offer (Within network_there) network_alone,
     (
       alone said transit_root behind_offer (Within behind_there) behind_alone,
-      (shared_candidate, (alone said transit_root forwarded_offer forwarded_offered forwarded_alone, tt)),
+      (
+        shared_candidate,
+        (
+          alone said transit_root forwarded_offer forwarded_offered forwarded_alone,
+          tt,
+        ),
+      ),
     ),
   ),
 )
@@ -584,7 +917,13 @@ covered = (
     (transit_route, (1, omega arith, refl), refl),
     (
       (behind_route, (2, omega arith, refl), refl),
-      ((shared_route, (3, omega arith, refl), refl), ((shared_route, (3, omega arith, refl), refl), ((longest_route, (4, omega arith, refl), refl), tt))),
+      (
+        (shared_route, (3, omega arith, refl), refl),
+        (
+          (shared_route, (3, omega arith, refl), refl),
+          ((longest_route, (4, omega arith, refl), refl), tt),
+        ),
+      ),
     ),
   ),
 )
@@ -594,12 +933,22 @@ Before a b = IsBefore a.prefix b.prefix
 
 ascending : AllPairs Before routes
 ascending =
-    in_front Before wide_route (transit_route ∷ behind_route ∷ shared_route ∷ longest_route ∷ []) (ByAddress (omega arith), (ByAddress (omega arith), (ByAddress (omega arith), (ByAddress (omega arith), tt))))
-    (in_front Before transit_route (behind_route ∷ shared_route ∷ longest_route ∷ []) (ByAddress (omega arith), (ByAddress (omega arith), (ByAddress (omega arith), tt)))
-    (in_front Before behind_route (shared_route ∷ longest_route ∷ []) (ByAddress (omega arith), (ByAddress (omega arith), tt))
-    (in_front Before shared_route (longest_route ∷ []) (ByAddress (omega arith), tt) (in_front Before longest_route [] tt (nobody Before)))))
+    in_front Before wide_route (transit_route ∷ behind_route ∷ shared_route ∷ longest_route ∷ []) (
+      ByAddress (omega arith),
+      (
+        ByAddress (omega arith),
+        (ByAddress (omega arith), (ByAddress (omega arith), tt)),
+      ),
+    )
+    (in_front Before transit_route (behind_route ∷ shared_route ∷ longest_route ∷ [])
+    (ByAddress (omega arith), (ByAddress (omega arith), (ByAddress (omega arith), tt)))
+    (in_front Before behind_route (shared_route ∷ longest_route ∷ [])
+    (ByAddress (omega arith), (ByAddress (omega arith), tt))
+    (in_front Before shared_route (longest_route ∷ []) (ByAddress (omega arith), tt)
+    (in_front Before longest_route [] tt (nobody Before)))))
 
 pub worked : WorkedTransit
 worked =
-    all_candidates said transit_root routes (λ r t. one_of (λ (x : Route). IsCandidate said transit_root x) routes sound r t)
+    all_candidates said transit_root routes
+    (λ r t. one_of (λ (x : Route). IsCandidate said transit_root x) routes sound r t)
     (λ o offered. one_of HasRoute offers covered o (complete o offered)) ascending

@@ -1,6 +1,8 @@
 -- The worked links that don't count: no walk leads from the router and its neighbor to another
 -- router.
-use Rattle.std.proofs.Common.{◌≡◌, ℕ, zero, suc, inl, inr, Bool, true, false, cond, ◌&&◌, ◌||◌, not, nat_eq, eq-eqb, eqb-true, List, [], ◌∷◌, filter, Some, slice_get, arith, refl, sym, ◌∙◌, ap, subst}
+use Rattle.std.proofs.Common.{◌≡◌, ℕ, zero, suc, inl, inr, Bool, true, false, cond, ◌&&◌, ◌||◌, not}
+use Rattle.std.proofs.Common.{nat_eq, eq-eqb, eqb-true, List, [], ◌∷◌, filter, Some, slice_get}
+use Rattle.std.proofs.Common.{arith, refl, sym, ◌∙◌, ap, subst}
 use Rattle.std.specs.List.{AllByRecursion, list_all}
 use Rattle.words.specs.declared.key.Key.{Key}
 use Rattle.words.specs.declared.route.Route.{Route}
@@ -16,11 +18,14 @@ use Rattle.routes.specs.declared.node.Node.TheVariants.{ANetwork, ARouter}
 use Rattle.routes.specs.Offers.{OffersWithin, intra}
 use Rattle.routes.specs.declared.offer.Offer.{Offer}
 use Rattle.routes.specs.Paths.{IsWalk, IsWay, Step, Way}
-use Rattle.route_laws.specs.Worked.{Entries, database, ipv4, key, mask_24, near_router, network_24, router_lsa, stub}
-use Rattle.route_laws.specs.WorkedUncounted.{WorkedUncounted, counting_links, neighbor_links, neighbor_route, uncounted_entries}
+use Rattle.route_laws.specs.Worked.{Entries, database, ipv4, key, mask_24, near_router, network_24}
+use Rattle.route_laws.specs.Worked.{router_lsa, stub}
+use Rattle.route_laws.specs.WorkedUncounted.{WorkedUncounted, counting_links, neighbor_links}
+use Rattle.route_laws.specs.WorkedUncounted.{neighbor_route, uncounted_entries}
 use Rattle.routes.specs.declared.root.Root.{Root}
 use Rattle.route_laws.proofs.Alone.{all_candidates, alone, is_stub}
-use Rattle.route_laws.proofs.Entries.{all_pass, both_true, has_link, is_no_network, links_of, is_said, sayings}
+use Rattle.route_laws.proofs.Entries.{all_pass, both_true, has_link, is_no_network, links_of}
+use Rattle.route_laws.proofs.Entries.{is_said, sayings}
 use Rattle.route_laws.proofs.Labels.{AreLabels, either_true, is_point, not_both, way_by}
 use Rattle.routes.proofs.Lists.{first_is}
 use Rattle.route_laws.proofs.Made.{back, from_root, linked, only_one, says}
@@ -36,75 +41,117 @@ abbrev has_no_exit : List ℕ → ℕ → Bool
 has_no_exit [] address = true
 has_no_exit (a ∷ addresses) address = not (nat_eq a address) && has_no_exit addresses address
 
-no_exit : (addresses : List ℕ) (address n : ℕ) → has_no_exit addresses address ≡ true → slice_get addresses n ≡ Some address → ⊥
+no_exit : (addresses : List ℕ) (address n : ℕ) → has_no_exit addresses address ≡ true
+    → slice_get addresses n ≡ Some address → ⊥
 no_exit [] address n e p = cc
 no_exit (a ∷ addresses) address zero e p =
     let same : a ≡ address = cc in
-    not_both (nat_eq a address) (both_true (not (nat_eq a address)) (has_no_exit addresses address) e).0 (eq-eqb a address same)
-no_exit (a ∷ addresses) address (suc n) e p = no_exit addresses address n (both_true (not (nat_eq a address)) (has_no_exit addresses address) e).1 p
+    not_both (nat_eq a address) (both_true (not (nat_eq a address)) (has_no_exit addresses address)
+    e).0 (eq-eqb a address same)
+no_exit (a ∷ addresses) address (suc n) e p =
+    no_exit addresses address n (both_true (not (nat_eq a address)) (has_no_exit addresses address)
+    e).1 p
 
 -- a point-to-point link of a router inside leads inside, has no link back, has metric 0, or is one
 -- of the root by an address that isn't its own
 abbrev has_no_back : List (ℕ × Link) → ℕ → ℕ → Bool
-has_no_back links from to = list_all (λ (y : ℕ × Link). not (nat_eq y.0 to) || (not (is_point y.1.kind) || not (nat_eq y.1.link_id from))) links
+has_no_back links from to = list_all
+    (λ (y : ℕ × Link). not (nat_eq y.0 to) ||
+    (not (is_point y.1.kind) || not (nat_eq y.1.link_id from))) links
 
 abbrev stays_by : Root → (ℕ → Bool) → List (ℕ × Link) → ℕ × Link → Bool
 stays_by root inside links x =
-    inside x.1.link_id || (nat_eq x.1.metric 0 || (has_no_back links x.0 x.1.link_id || (nat_eq x.0 root.router && has_no_exit root.addresses x.1.link_data)))
+    inside x.1.link_id || (nat_eq x.1.metric 0 ||
+    (has_no_back links x.0 x.1.link_id ||
+    (nat_eq x.0 root.router && has_no_exit root.addresses x.1.link_data)))
 
 abbrev stays_in : Root → (ℕ → Bool) → List (ℕ × Link) → ℕ × Link → Bool
-stays_in root inside links x = not (inside x.0) || (not (is_point x.1.kind) || stays_by root inside links x)
+stays_in root inside links x = not (inside x.0) ||
+    (not (is_point x.1.kind) || stays_by root inside links x)
 
 abbrev is_inside : (ℕ → Bool) → Node → Bool
 is_inside inside (ARouter router) = inside router
 is_inside inside (ANetwork id by) = false
 
-module _ (root : Root) (es : Entries) (inside : ℕ → Bool) (routers : list_all is_no_network (sayings es) ≡ true)
-    (stay : list_all (stays_in root inside (links_of (sayings es))) (links_of (sayings es)) ≡ true) where
-  no_back : (a b : ℕ) → has_no_back (links_of (sayings es)) a b ≡ true → LinksBack (said_at 0 (database es)) b PointToPoint a → ⊥
-  no_back a b e l =
-      let first = all_pass (λ (y : ℕ × Link). not (nat_eq y.0 b) || (not (is_point y.1.kind) || not (nat_eq y.1.link_id a))) (links_of (sayings es)) e (b, l.0) (has_link 0 es b l.0 l.1) in
-      let second = pass (nat_eq b b) (not (is_point l.0.kind) || not (nat_eq l.0.link_id a)) first (eq-eqb b b refl) in
-      let third = pass (is_point l.0.kind) (not (nat_eq l.0.link_id a)) second (ap is_point l.2) in
-      not_both (nat_eq l.0.link_id a) third (eq-eqb l.0.link_id a l.3)
+module _ (root : Root) (es : Entries) (inside : ℕ → Bool)
+    (routers : list_all is_no_network (sayings es) ≡ true)
+    (stay : list_all (stays_in root inside (links_of (sayings es))) (links_of (sayings es)) ≡ true)
+  where
+    no_back : (a b : ℕ) → has_no_back (links_of (sayings es)) a b ≡ true
+        → LinksBack (said_at 0 (database es)) b PointToPoint a → ⊥
+    no_back a b e l =
+        let first = all_pass (λ (y : ℕ × Link). not (nat_eq y.0 b) ||
+        (not (is_point y.1.kind) || not (nat_eq y.1.link_id a))) (links_of (sayings es)) e
+        (b, l.0) (has_link 0 es b l.0 l.1) in
+        let second = pass (nat_eq b b) (not (is_point l.0.kind) || not (nat_eq l.0.link_id a)) first
+        (eq-eqb b b refl) in
+        let third = pass (is_point l.0.kind) (not (nat_eq l.0.link_id a)) second (ap is_point l.2)
+        in
+        not_both (nat_eq l.0.link_id a) third (eq-eqb l.0.link_id a l.3)
 
-  leads_inside : (v w : Node) (price exit : ℕ) → LeadsTo (said_at 0 (database es)) root v w price exit → is_inside inside v ≡ true → is_inside inside w ≡ true
-  leads_inside (ARouter a) (ARouter b) price exit l t =
-      let k = l.0 in
-      let x : ℕ × Link = (a, k.link) in
-      let links : List (ℕ × Link) = links_of (sayings es) in
-      let first = all_pass (stays_in root inside links) links stay x (has_link 0 es a k.link k.its) in
-      let second = pass (inside a) (not (is_point k.link.kind) || stays_by root inside links x) first t in
-      let third = pass (is_point k.link.kind) (stays_by root inside links x) second (ap is_point k.is_kind) in
-      let last : Bool = nat_eq a root.router && has_no_exit root.addresses k.link.link_data in
-      elim (either_true (inside k.link.link_id) (nat_eq k.link.metric 0 || (has_no_back links a k.link.link_id || last)) third) [
-        | inl here ↦ subst (λ n. inside n ≡ true) k.is_id here
-        | inr fourth ↦
-            elim (either_true (nat_eq k.link.metric 0) (has_no_back links a k.link.link_id || last) fourth) [
-              | inl free ↦ let none : k.link.metric ≡ 0 = eqb-true k.link.metric 0 free in absurd (omega (arith, none, k.costs, k.not_free))
-              | inr fifth ↦
-                  elim (either_true (has_no_back links a k.link.link_id) last fifth) [
-                    | inl none ↦ absurd (no_back a b (subst (λ n. has_no_back links a n ≡ true) k.is_id none) l.1)
-                    | inr by ↦
-                        let both = both_true (nat_eq a root.router) (has_no_exit root.addresses k.link.link_data) by in
-                        let exits = k.by_interface (eqb-true a root.router both.0) in
-                        absurd (no_exit root.addresses k.link.link_data exits.0 both.1 exits.2)
-                  ]
-            ]
-      ]
-  leads_inside (ARouter a) (ANetwork id by) price exit l t =
-      absurd (let e : false ≡ true = all_pass is_no_network (sayings es) routers (record { ls_type = 2; link_state_id = id; advertising_router = by }, body.Network l.1.lsa) (is_said 0 es _ (body.Network l.1.lsa) l.1.its) in cc)
-  leads_inside (ANetwork id by) w price exit l t = absurd (cc)
+    leads_inside : (v w : Node) (price exit : ℕ)
+        → LeadsTo (said_at 0 (database es)) root v w price exit → is_inside inside v ≡ true
+        → is_inside inside w ≡ true
+    leads_inside (ARouter a) (ARouter b) price exit l t =
+        let k = l.0 in
+        let x : ℕ × Link = (a, k.link) in
+        let links : List (ℕ × Link) = links_of (sayings es) in
+        let first = all_pass (stays_in root inside links) links stay x
+        (has_link 0 es a k.link k.its)
+        in
+        let second = pass (inside a) (not (is_point k.link.kind) || stays_by root inside links x)
+        first t in
+        let third = pass (is_point k.link.kind) (stays_by root inside links x) second
+        (ap is_point k.is_kind) in
+        let last : Bool = nat_eq a root.router && has_no_exit root.addresses k.link.link_data in
+        elim (either_true (inside k.link.link_id)
+        (nat_eq k.link.metric 0 || (has_no_back links a k.link.link_id || last)) third) [
+          | inl here ↦ subst (λ n. inside n ≡ true) k.is_id here
+          | inr fourth ↦
+              elim (either_true (nat_eq k.link.metric 0)
+              (has_no_back links a k.link.link_id || last)
+              fourth) [
+                | inl free ↦ let none : k.link.metric ≡ 0 = eqb-true k.link.metric 0 free in
+                    absurd (omega (arith, none, k.costs, k.not_free))
+                | inr fifth ↦
+                    elim (either_true (has_no_back links a k.link.link_id) last fifth) [
+                      | inl none ↦ absurd (no_back a b
+                          (subst (λ n. has_no_back links a n ≡ true) k.is_id none) l.1)
+                      | inr by ↦
+                          let both = both_true (nat_eq a root.router)
+                          (has_no_exit root.addresses k.link.link_data) by in
+                          let exits = k.by_interface (eqb-true a root.router both.0) in
+                          absurd (no_exit root.addresses k.link.link_data exits.0 both.1 exits.2)
+                    ]
+              ]
+        ]
+    leads_inside (ARouter a) (ANetwork id by) price exit l t =
+        absurd (let e : false ≡ true = all_pass is_no_network (sayings es) routers (
+          record {
+            ls_type = 2;
+            link_state_id = id;
+            advertising_router = by;
+          },
+          body.Network l.1.lsa,
+        )
+        (is_said 0 es _ (body.Network l.1.lsa) l.1.its) in cc)
+    leads_inside (ANetwork id by) w price exit l t = absurd (cc)
 
-  walks_inside : (v : Node) (walk : List (Step Node)) (w : Node) → IsWalk (Leads (said_at 0 (database es)) root) v walk w → is_inside inside v ≡ true → is_inside inside w ≡ true
-  walks_inside v [] w p t = subst (λ n. is_inside inside n ≡ true) p t
-  walks_inside v (s ∷ walk) w p t = walks_inside s.target walk w p.1 (leads_inside v s.target s.price s.exit p.0 t)
+    walks_inside : (v : Node) (walk : List (Step Node)) (w : Node)
+        → IsWalk (Leads (said_at 0 (database es)) root) v walk w → is_inside inside v ≡ true
+        → is_inside inside w ≡ true
+    walks_inside v [] w p t = subst (λ n. is_inside inside n ≡ true) p t
+    walks_inside v (s ∷ walk) w p t =
+        walks_inside s.target walk w p.1 (leads_inside v s.target s.price s.exit p.0 t)
 
-  outside : inside root.router ≡ true → (router : ℕ) → inside router ≡ false → (way : Way) → IsWay (Leads (said_at 0 (database es)) root) (ARouter root.router) (ARouter router) way → ⊥
-  outside start router e way is =
-      let t : inside router ≡ true = walks_inside (ARouter root.router) is.distance.0 (ARouter router) is.distance.1.is_walk start in
-      let f : false ≡ true = sym e ∙ t in
-      cc
+    outside : inside root.router ≡ true → (router : ℕ) → inside router ≡ false → (way : Way)
+        → IsWay (Leads (said_at 0 (database es)) root) (ARouter root.router) (ARouter router) way
+        → ⊥
+    outside start router e way is =
+        let t : inside router ≡ true = walks_inside (ARouter root.router) is.distance.0
+        (ARouter router) is.distance.1.is_walk start in
+        let f : false ≡ true = sym e ∙ t in
+        cc
 
 -- ---- the way to the neighbor
 
@@ -137,24 +184,33 @@ near_says : IsRouterLsa said near (router_lsa counting_links)
 near_says = says uncounted_entries (key 1 near near) (body.Router (router_lsa counting_links)) refl
 
 neighbor_says : IsRouterLsa said neighbor (router_lsa neighbor_links)
-neighbor_says = says uncounted_entries (key 1 neighbor neighbor) (body.Router (router_lsa neighbor_links)) refl
+neighbor_says = says uncounted_entries (key 1 neighbor neighbor)
+    (body.Router (router_lsa neighbor_links)) refl
 
 abbrev to_neighbor : Step Node
 to_neighbor = record { target = ARouter neighbor; price = 10; exit = 1 }
 
 link : leads (ARouter near) to_neighbor
-link = (from_root uncounted_entries near_router counting_links near_says neighbor (ipv4 10 0 1 1) 10 0 (0, omega arith, refl) (omega arith) refl, back uncounted_entries neighbor neighbor_links neighbor_says near (ipv4 10 0 1 2) 10 (0, omega arith, refl))
+link = (
+  from_root uncounted_entries near_router counting_links near_says neighbor (ipv4 10 0 1 1) 10
+      0 (0, omega arith, refl) (omega arith) refl,
+  back uncounted_entries neighbor neighbor_links neighbor_says near (ipv4 10 0 1 2) 10
+      (0, omega arith, refl),
+)
 
 are : AreLabels leads (ARouter near) (at dr none_of) (at hr none_of)
 are = rising near_router 0 uncounted_entries dr hr none_of none_of labels
 
 neighbor_way : IsWay leads (ARouter near) (ARouter neighbor) (record { distance = 10; hops = 2 })
-neighbor_way = way_by leads (ARouter near) (at dr none_of) (at hr none_of) are (ARouter neighbor) (to_neighbor ∷ []) (link, refl) refl (λ i t. (to_neighbor, [], (link, refl), refl, sym (only_one i t)))
+neighbor_way = way_by leads (ARouter near) (at dr none_of) (at hr none_of) are (ARouter neighbor)
+    (to_neighbor ∷ []) (link, refl) refl
+    (λ i t. (to_neighbor, [], (link, refl), refl, sym (only_one i t)))
 
 abbrev is_counted : ℕ → Bool
 is_counted r = nat_eq r near || nat_eq r neighbor
 
-never : (router : ℕ) → is_counted router ≡ false → (way : Way) → IsWay leads (ARouter near) (ARouter router) way → ⊥
+never : (router : ℕ) → is_counted router ≡ false → (way : Way)
+    → IsWay leads (ARouter near) (ARouter router) way → ⊥
 never router e = outside near_router uncounted_entries is_counted refl refl refl router e
 
 -- ---- the one offer
@@ -173,15 +229,48 @@ IsKnown x = IsStubKnown 0 uncounted_entries near_router IsOffer x.0 x.1
 
 stubs_known : AllByRecursion IsKnown (filter is_stub (links_of (sayings uncounted_entries)))
 stubs_known = (
-  inr (24, offer, record { way = record { distance = 10; hops = 2 }; reached = neighbor_way; within = omega arith; mask = refl; hops = 2; by_root = λ e. absurd (omega (arith, e)); by_others = λ _. refl; is = refl }, refl),
-  (inl (never (ipv4 3 3 3 3) refl), (inl (never (ipv4 4 4 4 4) refl), (inl (never (ipv4 5 5 5 5) refl), (inl (never (ipv4 6 6 6 6) refl), tt)))),
+  inr (
+    24,
+    offer,
+    record {
+      way = record {
+        distance = 10;
+        hops = 2;
+      };
+      reached = neighbor_way;
+      within = omega arith;
+      mask = refl;
+      hops = 2;
+      by_root = λ e. absurd (omega (arith, e));
+      by_others = λ _. refl;
+      is = refl;
+    },
+    refl,
+  ),
+  (
+    inl (never (ipv4 3 3 3 3) refl),
+    (
+      inl (never (ipv4 4 4 4 4) refl),
+      (inl (never (ipv4 5 5 5 5) refl), (inl (never (ipv4 6 6 6 6) refl), tt)),
+    ),
+  ),
 )
 
 within : (o : Offer) → OffersWithin said near_router o → offer ≡ o
 within o x =
     each_offer 0 uncounted_entries near_router IsOffer
-    (λ router l t. one_of IsKnown (filter is_stub (links_of (sayings uncounted_entries))) stubs_known (router, l) t)
-    (λ id by lsa t. absurd (let e : false ≡ true = all_pass is_no_network (sayings uncounted_entries) refl (record { ls_type = 2; link_state_id = id; advertising_router = by }, body.Network lsa) t in cc)) o x
+    (λ router l t. one_of IsKnown (filter is_stub (links_of (sayings uncounted_entries)))
+    stubs_known (router, l) t)
+    (λ id by lsa t. absurd (let e : false ≡ true =
+    all_pass is_no_network (sayings uncounted_entries) refl (
+      record {
+        ls_type = 2;
+        link_state_id = id;
+        advertising_router = by;
+      },
+      body.Network lsa,
+    ) t in cc))
+    o x
 
 abbrev is_router : Key × Body → Bool
 is_router (k, body.Router r) = true
@@ -193,14 +282,24 @@ is_router (k, body.External e) = false
 only_offer : (o : Offer) → Offers said near_router o → offer ≡ o
 only_offer o (Within x) = within o x
 only_offer o (Between x) = absurd (nothing_between 0 uncounted_entries refl near_router o x)
-only_offer o (External x) = absurd (let e : false ≡ true = all_pass is_router (sayings uncounted_entries) refl (key 5 x.id x.originator, body.External x.lsa) (is_said 0 uncounted_entries _ (body.External x.lsa) x.its) in cc)
+only_offer o (External x) = absurd
+    (let e : false ≡ true = all_pass is_router (sayings uncounted_entries) refl
+    (key 5 x.id x.originator, body.External x.lsa)
+    (is_said 0 uncounted_entries _ (body.External x.lsa) x.its) in cc)
 
 offered : Offers said near_router offer
 offered = Within (record {
   node = ARouter neighbor;
   prefix = network_24 192 0 2;
   more = 1;
-  attached = (neighbor_stub, linked uncounted_entries neighbor neighbor_links neighbor_says neighbor_stub (4, omega arith, refl), refl, (omega arith, refl, refl), refl);
+  attached = (
+    neighbor_stub,
+    linked uncounted_entries neighbor neighbor_links neighbor_says
+        neighbor_stub (4, omega arith, refl),
+    refl,
+    (omega arith, refl, refl),
+    refl,
+  );
   way = record { distance = 10; hops = 2 };
   reached = neighbor_way;
   hops = 2;
@@ -217,5 +316,12 @@ Before a b = IsBefore a.prefix b.prefix
 
 pub worked : WorkedUncounted
 worked =
-    all_candidates said near_router (neighbor_route ∷ []) (λ r t. one_of (λ (x : Route). IsCandidate said near_router x) (neighbor_route ∷ []) (candidate, tt) r t)
-    (λ o given. (neighbor_route, first_is neighbor_route [], ap (λ (x : Offer). x.prefix) (only_offer o given))) (in_front Before neighbor_route [] tt (nobody Before))
+    all_candidates said near_router (neighbor_route ∷ [])
+    (λ r t. one_of (λ (x : Route). IsCandidate said near_router x) (neighbor_route ∷ [])
+    (candidate, tt) r t)
+    (λ o given. (
+      neighbor_route,
+      first_is neighbor_route [],
+      ap (λ (x : Offer). x.prefix) (only_offer o given),
+    ))
+    (in_front Before neighbor_route [] tt (nobody Before))

@@ -15,7 +15,8 @@ use Rattle.events.specs.Originations.{router_key}
 use Rattle.events.specs.Routers.{Occurrence}
 use Rattle.flood_laws.proofs.Taken.{named_first}
 use Rattle.flood_laws.proofs.Lists.{later_is}
-use Rattle.agreement_laws.specs.NeighborHistories.{Doing, Ends, HasBegun, IsHistory, Pair, Party, Side, TakesEvent, Turn}
+use Rattle.agreement_laws.specs.NeighborHistories.{Doing, Ends, HasBegun, IsHistory, Pair, Party}
+use Rattle.agreement_laws.specs.NeighborHistories.{Side, TakesEvent, Turn}
 use Rattle.worked_histories.specs.WorkedHistory.{AHistoryMeetsThePremises}
 use Rattle.worked_histories.proofs.Start.{begins_so, begun, config, copy, found}
 use Rattle.worked_histories.proofs.Left as left
@@ -28,13 +29,19 @@ abbrev first : ℕ → ℕ → Party
 first id address = record { router = begun id address; sent = []; began = 0 }
 
 has_begun : (id address : ℕ) → HasBegun (first id address)
-has_begun id address = record { config = config id address; router = sym (begins_so id address); sent = refl; began = refl }
+has_begun id address = record {
+  config = config id address;
+  router = sym (begins_so id address);
+  sent = refl;
+  began = refl;
+}
 
 abbrev ends : Ends
 ends = record { left = 1; right = 1 }
 
 -- the bytes that are received encode this packet of the other router
-only : (heard : List (List ℕ)) (p : Packet) → Contains heard (canonical p) → (bytes : List ℕ) → Occurrence.Packet 1 (canonical p) ≡ Occurrence.Packet 1 bytes → Contains heard bytes
+only : (heard : List (List ℕ)) (p : Packet) → Contains heard (canonical p) → (bytes : List ℕ)
+    → Occurrence.Packet 1 (canonical p) ≡ Occurrence.Packet 1 bytes → Contains heard bytes
 only heard p among bytes is = subst (λ (x : List ℕ). Contains heard x) same among
   where
     same : canonical p ≡ bytes
@@ -74,47 +81,66 @@ requests = record { router = 2; body = body.Request (key_of (aged_header 0 left.
 
 right_greets : TakesEvent 1 (first 1 a).sent (first 2 b) right_1
 right_greets =
-    taken (first 1 a).sent (first 2 b) 0 Occurrence.Tick right.greets_first right.greets_first right.greets right.greets_end (omega arith) (λ bytes is. absurd (no_packet bytes is)) tt
+    taken (first 1 a).sent (first 2 b) 0 Occurrence.Tick right.greets_first right.greets_first
+    right.greets right.greets_end (omega arith) (λ bytes is. absurd (no_packet bytes is)) tt
     ((packets.first_hello, tt), tt)
 
 left_hears : TakesEvent 1 right_1.sent (first 1 a) left_2
 left_hears =
-    taken right_1.sent (first 1 a) 0 (Occurrence.Packet 1 (canonical left.its_hello)) left.heard left.heard (left.its_hello, packets.first_hello, left.hears) left.hears_end (omega arith)
-    (only right_1.sent left.its_hello (named_first (canonical left.its_hello) [] (canonical left.its_hello) refl)) tt (tt, tt)
+    taken right_1.sent (first 1 a) 0 (Occurrence.Packet 1 (canonical left.its_hello)) left.heard
+    left.heard (left.its_hello, packets.first_hello, left.hears) left.hears_end (omega arith)
+    (only right_1.sent left.its_hello
+    (named_first (canonical left.its_hello) [] (canonical left.its_hello) refl)) tt (tt, tt)
 
 left_greets : TakesEvent 1 right_1.sent left_2 left_3
 left_greets =
-    taken right_1.sent left_2 0 Occurrence.Tick left.greets_with left.greets_with left.greets left.greets_end (omega arith) (λ bytes is. absurd (no_packet bytes is)) tt
+    taken right_1.sent left_2 0 Occurrence.Tick left.greets_with left.greets_with left.greets
+    left.greets_end (omega arith) (λ bytes is. absurd (no_packet bytes is)) tt
     ((packets.second_hello, tt), tt)
 
 right_opens : TakesEvent 1 left_3.sent right_1 right_4
 right_opens =
-    taken left_3.sent right_1 3600 (Occurrence.Packet 1 (canonical right.its_hello)) right.opened right.opened_at_end (right.its_hello, packets.second_hello, right.opens) right.opens_end (omega arith)
-    (only left_3.sent right.its_hello (named_first (canonical right.its_hello) [] (canonical right.its_hello) refl)) tt ((packets.opening, tt), tt)
+    taken left_3.sent right_1 3600 (Occurrence.Packet 1 (canonical right.its_hello)) right.opened
+    right.opened_at_end (right.its_hello, packets.second_hello, right.opens) right.opens_end
+    (omega arith)
+    (only left_3.sent right.its_hello
+    (named_first (canonical right.its_hello) [] (canonical right.its_hello) refl)) tt
+    ((packets.opening, tt), tt)
 
 left_replies : TakesEvent 1 right_4.sent left_3 left_5
 left_replies =
-    taken right_4.sent left_3 0 (Occurrence.Packet 1 (canonical left.opens)) left.replied left.replied (left.opens, packets.opening, left.replies) left.replies_end (omega arith)
+    taken right_4.sent left_3 0 (Occurrence.Packet 1 (canonical left.opens)) left.replied
+    left.replied (left.opens, packets.opening, left.replies) left.replies_end (omega arith)
     (only right_4.sent left.opens
-    (later_is (canonical left.its_hello) (canonical left.opens ∷ []) (canonical left.opens) (named_first (canonical left.opens) [] (canonical left.opens) refl))) tt
+    (later_is (canonical left.its_hello) (canonical left.opens ∷ []) (canonical left.opens)
+    (named_first (canonical left.opens) [] (canonical left.opens) refl))) tt
     ((packets.own_opening, (packets.replying, tt)), tt)
 
 right_leads : TakesEvent 1 left_5.sent right_4 right_6
 right_leads =
-    taken left_5.sent right_4 3600 (Occurrence.Packet 1 (canonical right.reply_packet)) right.leads right.led (right.reply_packet, packets.replying, right.leads_on) right.leads_end (omega arith)
+    taken left_5.sent right_4 3600 (Occurrence.Packet 1 (canonical right.reply_packet)) right.leads
+    right.led (right.reply_packet, packets.replying, right.leads_on) right.leads_end
+    (omega arith)
     (only left_5.sent right.reply_packet
-    (later_is (canonical right.its_hello) (canonical own_opening ∷ canonical right.reply_packet ∷ []) (canonical right.reply_packet)
-    (later_is (canonical own_opening) (canonical right.reply_packet ∷ []) (canonical right.reply_packet)
+    (later_is (canonical right.its_hello)
+    (canonical own_opening ∷ canonical right.reply_packet ∷ []) (canonical right.reply_packet)
+    (later_is (canonical own_opening) (canonical right.reply_packet ∷ [])
+    (canonical right.reply_packet)
     (named_first (canonical right.reply_packet) [] (canonical right.reply_packet) refl)))) tt
     ((packets.ending, (packets.requesting, tt)), tt)
 
 left_finishes : TakesEvent 1 right_6.sent left_5 left_7
 left_finishes =
-    taken right_6.sent left_5 0 (Occurrence.Packet 1 (canonical left.ends_it)) left.finished left.at_rest (left.ends_it, packets.ending, left.finishes) left.finishes_end (omega arith)
+    taken right_6.sent left_5 0 (Occurrence.Packet 1 (canonical left.ends_it)) left.finished
+    left.at_rest (left.ends_it, packets.ending, left.finishes) left.finishes_end (omega arith)
     (only right_6.sent left.ends_it
-    (later_is (canonical left.its_hello) (canonical left.opens ∷ canonical left.ends_it ∷ canonical requests ∷ []) (canonical left.ends_it)
-    (later_is (canonical left.opens) (canonical left.ends_it ∷ canonical requests ∷ []) (canonical left.ends_it)
-    (named_first (canonical left.ends_it) (canonical requests ∷ []) (canonical left.ends_it) refl)))) tt
+    (later_is (canonical left.its_hello)
+    (canonical left.opens ∷ canonical left.ends_it ∷ canonical requests ∷ [])
+    (canonical left.ends_it)
+    (later_is (canonical left.opens) (canonical left.ends_it ∷ canonical requests ∷ [])
+    (canonical left.ends_it)
+    (named_first (canonical left.ends_it) (canonical requests ∷ []) (canonical left.ends_it)
+    refl)))) tt
     ((packets.answering, tt), tt)
 
 -- ---- in pairs
@@ -122,15 +148,18 @@ left_finishes =
 abbrev pair : Party → Party → Pair
 pair l r = record { left = l; right = r }
 
-of_left : (before after other : Party) → TakesEvent 1 other.sent before after → Turn ends (pair before other) (pair after other)
+of_left : (before after other : Party) → TakesEvent 1 other.sent before after
+    → Turn ends (pair before other) (pair after other)
 of_left before after other t = record { side = Side.Left; does = Doing.Event t; other = refl }
 
-of_right : (before after other : Party) → TakesEvent 1 other.sent before after → Turn ends (pair other before) (pair other after)
+of_right : (before after other : Party) → TakesEvent 1 other.sent before after
+    → Turn ends (pair other before) (pair other after)
 of_right before after other t = record { side = Side.Right; does = Doing.Event t; other = refl }
 
 abbrev before_all : List Pair
 before_all =
-    pair left_5 right_6 ∷ pair left_5 right_4 ∷ pair left_3 right_4 ∷ pair left_3 right_1 ∷ pair left_2 right_1 ∷ pair (first 1 a) right_1 ∷ pair (first 1 a) (first 2 b) ∷ []
+    pair left_5 right_6 ∷ pair left_5 right_4 ∷ pair left_3 right_4 ∷ pair left_3 right_1
+    ∷ pair left_2 right_1 ∷ pair (first 1 a) right_1 ∷ pair (first 1 a) (first 2 b) ∷ []
 
 whole : IsHistory ends (pair left_7 right_6) before_all
 whole = (
@@ -156,8 +185,11 @@ whole = (
   ),
 )
 
-nothing_held : (c : DatabaseCopy) (lsa : Lsa) → finite.get (finite.empty {X = DatabaseCopy} {R = key_cmp}) (instance_of_lsa lsa).key ≡ Some c → ⊥
-nothing_held c lsa is = let no : None ≡ Some c = sym (finite.get-empty {X = DatabaseCopy} key_cmp (instance_of_lsa lsa).key) ∙ is in absurd cc
+nothing_held : (c : DatabaseCopy) (lsa : Lsa)
+    → finite.get (finite.empty {X = DatabaseCopy} {R = key_cmp}) (instance_of_lsa lsa).key ≡ Some c
+    → ⊥
+nothing_held c lsa is = let no : None ≡ Some c =
+    sym (finite.get-empty {X = DatabaseCopy} key_cmp (instance_of_lsa lsa).key) ∙ is in absurd cc
 
 pub met : AHistoryMeetsThePremises
 met = record {
@@ -167,7 +199,12 @@ met = record {
   history = whole;
   side = Side.Left;
   key = router_key 1;
-  at_rest = record { neighbor = left.full; there = refl; full = refl; acknowledged = left.owes_nothing };
+  at_rest = record {
+    neighbor = left.full;
+    there = refl;
+    full = refl;
+    acknowledged = left.owes_nothing;
+  };
   copy = copy 1 a;
   there = found 1 a;
   lacks = λ held. nothing_held held.copy (copy 1 a).lsa held.there;

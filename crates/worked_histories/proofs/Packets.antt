@@ -16,7 +16,14 @@ unfolding canonical
 first_hello = record {
   is_packet = record {
     router = omega arith;
-    body = record { mask = omega arith; hello_interval = omega arith; options = omega arith; priority = omega arith; dead_interval = omega arith; neighbors = tt };
+    body = record {
+      mask = omega arith;
+      hello_interval = omega arith;
+      options = omega arith;
+      priority = omega arith;
+      dead_interval = omega arith;
+      neighbors = tt;
+    };
   };
   size = omega arith;
   filler = closed_fields;
@@ -31,7 +38,14 @@ unfolding canonical
 second_hello = record {
   is_packet = record {
     router = omega arith;
-    body = record { mask = omega arith; hello_interval = omega arith; options = omega arith; priority = omega arith; dead_interval = omega arith; neighbors = (omega arith, tt) };
+    body = record {
+      mask = omega arith;
+      hello_interval = omega arith;
+      options = omega arith;
+      priority = omega arith;
+      dead_interval = omega arith;
+      neighbors = (omega arith, tt);
+    };
   };
   size = omega arith;
   filler = closed_fields;
@@ -44,7 +58,15 @@ second_hello = record {
 pub opening : IsText 2 (body.Description (initial_description 3600))
 unfolding canonical
 opening = record {
-  is_packet = record { router = omega arith; body = record { mtu = omega arith; options = omega arith; sequence = omega arith; headers = tt } };
+  is_packet = record {
+    router = omega arith;
+    body = record {
+      mtu = omega arith;
+      options = omega arith;
+      sequence = omega arith;
+      headers = tt;
+    };
+  };
   size = omega arith;
   filler = closed_fields;
   authentication = omega arith;
@@ -56,7 +78,15 @@ opening = record {
 pub own_opening : IsText 1 (body.Description (initial_description 0))
 unfolding canonical
 own_opening = record {
-  is_packet = record { router = omega arith; body = record { mtu = omega arith; options = omega arith; sequence = omega arith; headers = tt } };
+  is_packet = record {
+    router = omega arith;
+    body = record {
+      mtu = omega arith;
+      options = omega arith;
+      sequence = omega arith;
+      headers = tt;
+    };
+  };
   size = omega arith;
   filler = closed_fields;
   authentication = omega arith;
@@ -100,7 +130,15 @@ replying = record {
 pub ending : IsText 2 (body.Description last_one)
 unfolding canonical
 ending = record {
-  is_packet = record { router = omega arith; body = record { mtu = omega arith; options = omega arith; sequence = omega arith; headers = tt } };
+  is_packet = record {
+    router = omega arith;
+    body = record {
+      mtu = omega arith;
+      options = omega arith;
+      sequence = omega arith;
+      headers = tt;
+    };
+  };
   size = omega arith;
   filler = closed_fields;
   authentication = omega arith;
@@ -112,7 +150,17 @@ ending = record {
 pub requesting : IsText 2 (body.Request (key_of (aged_header 0 listed) ∷ []))
 unfolding canonical sealed_lsa
 requesting = record {
-  is_packet = record { router = omega arith; body = (record { ls_type = omega arith; link_state_id = omega arith; advertising_router = omega arith }, tt) };
+  is_packet = record {
+    router = omega arith;
+    body = (
+      record {
+        ls_type = omega arith;
+        link_state_id = omega arith;
+        advertising_router = omega arith;
+      },
+      tt,
+    );
+  };
   size = omega arith;
   filler = closed_fields;
   authentication = omega arith;
@@ -124,7 +172,15 @@ requesting = record {
 pub answering : IsText 1 (body.Description answer)
 unfolding canonical
 answering = record {
-  is_packet = record { router = omega arith; body = record { mtu = omega arith; options = omega arith; sequence = omega arith; headers = tt } };
+  is_packet = record {
+    router = omega arith;
+    body = record {
+      mtu = omega arith;
+      options = omega arith;
+      sequence = omega arith;
+      headers = tt;
+    };
+  };
   size = omega arith;
   filler = closed_fields;
   authentication = omega arith;

@@ -13,14 +13,18 @@ use Rattle.agreement_laws.specs.NeighborHistories.{Party, TakesEvent, text_at}
 abbrev pub next : Party → EventState → Party
 next before x = record {
   router = x.router;
-  sent = before.sent ++ filter_map (text_at 1) (outs_of before.router.id before.router.area.links x.sends);
+  sent = before.sent ++ filter_map (text_at 1)
+      (outs_of before.router.id before.router.area.links x.sends);
   began = before.began;
 }
 
-pub taken : (heard : List (List ℕ)) (before : Party) (moment : ℕ) (event : Occurrence) (p x : EventState)
-    → OwnPart moment event (start_event moment before.router) p → end_event before.router moment p ≡ x → before.router.moment ≤ moment
+pub taken : (heard : List (List ℕ)) (before : Party) (moment : ℕ) (event : Occurrence)
+    (p x : EventState) → OwnPart moment event (start_event moment before.router) p
+    → end_event before.router moment p ≡ x → before.router.moment ≤ moment
     → ((bytes : List ℕ) → event ≡ Occurrence.Packet 1 bytes → Contains heard bytes)
-    → AllByRecursion IsInstance (instances_in_sends x.sends) → AreTexts before.router.id before.router.area.links x.sends → TakesEvent 1 heard before (next before x)
+    → AllByRecursion IsInstance (instances_in_sends x.sends)
+    → AreTexts before.router.id before.router.area.links x.sends
+    → TakesEvent 1 heard before (next before x)
 taken heard before moment event p x own is later not_forged in_range texts = record {
   moment = moment;
   event = event;
@@ -29,12 +33,15 @@ taken heard before moment event p x own is later not_forged in_range texts = rec
     after = p;
     own = own;
     router = ap (λ (q : EventState). q.router) (sym is);
-    sent = ap (λ (q : EventState). outs_of before.router.id before.router.area.links q.sends) (sym is);
+    sent = ap (λ (q : EventState). outs_of before.router.id before.router.area.links q.sends)
+        (sym is);
   };
   clock = later;
   not_forged = not_forged;
   sent = refl;
   began = refl;
-  in_range = subst (λ (q : EventState). AllByRecursion IsInstance (instances_in_sends q.sends)) (sym is) in_range;
-  texts = subst (λ (q : EventState). AreTexts before.router.id before.router.area.links q.sends) (sym is) texts;
+  in_range = subst (λ (q : EventState). AllByRecursion IsInstance (instances_in_sends q.sends))
+      (sym is) in_range;
+  texts = subst (λ (q : EventState). AreTexts before.router.id before.router.area.links q.sends)
+      (sym is) texts;
 }

@@ -1,48 +1,64 @@
 -- What was done in rounds, put one after the other.
-use Rattle.std.proofs.Common.{◌≡◌, inl, inr, ℕ, zero, suc, List, [], ◌∷◌, ◌++◌, map, Option, Some, None, refl, sym, subst, ap, ◌∙◌}
+use Rattle.std.proofs.Common.{◌≡◌, inl, inr, ℕ, zero, suc, List, [], ◌∷◌, ◌++◌, map, Option, Some}
+use Rattle.std.proofs.Common.{None, refl, sym, subst, ap, ◌∙◌}
 use Rattle.std.proofs.lemmas.List.{append-nil, append_assoc, map-append}
 use Rattle.worker.specs.Work.TheVariants.{Datagram, Tick}
 use Rattle.worker.specs.Lives.{IsHeard, Listens, Lives, Senses, Standing, Ticks}
-use Rattle.worker_laws.specs.Deeds.{Deed, DoesEach, EachMayFollow, HasDone, LivesAreDeedsInOrder, MayFollow, given, given_by, heard, heard_by, last_tick, tick_after}
+use Rattle.worker_laws.specs.Deeds.{Deed, DoesEach, EachMayFollow, HasDone, LivesAreDeedsInOrder}
+use Rattle.worker_laws.specs.Deeds.{MayFollow, given, given_by, heard, heard_by, last_tick}
+use Rattle.worker_laws.specs.Deeds.{tick_after}
 
 -- ---- one list after another
 
-then_each : {Link Clock : Type 0} (senses : Senses Link Clock) (a b c : Standing Link Clock) (xs ys : List Deed)
-    → DoesEach senses a xs b → DoesEach senses b ys c → DoesEach senses a (xs ++ ys) c
+then_each : {Link Clock : Type 0} (senses : Senses Link Clock) (a b c : Standing Link Clock)
+    (xs ys : List Deed) → DoesEach senses a xs b → DoesEach senses b ys c
+    → DoesEach senses a (xs ++ ys) c
 then_each senses a b c [] ys same h = subst (λ s. DoesEach senses s ys c) same h
-then_each senses a b c (x ∷ xs) ys (between, does, rest) h = (between, does, then_each senses between b c xs ys rest h)
+then_each senses a b c (x ∷ xs) ys (between, does, rest) h =
+    (between, does, then_each senses between b c xs ys rest h)
 
-last_append : (before : Option ℕ) (xs ys : List Deed) → last_tick before (xs ++ ys) ≡ last_tick (last_tick before xs) ys
+last_append : (before : Option ℕ) (xs ys : List Deed) → last_tick before (xs ++ ys)
+    ≡ last_tick (last_tick before xs) ys
 last_append before [] ys = refl
 last_append before (x ∷ xs) ys = last_append (tick_after before x) xs ys
 
 heard_append : (xs ys : List Deed) → heard (xs ++ ys) ≡ heard xs ++ heard ys
 heard_append [] ys = refl
-heard_append (x ∷ xs) ys = ap (λ l. heard_by x ++ l) (heard_append xs ys) ∙ sym (append_assoc (heard_by x) (heard xs) (heard ys))
+heard_append (x ∷ xs) ys = ap (λ l. heard_by x ++ l) (heard_append xs ys)
+    ∙ sym (append_assoc (heard_by x) (heard xs) (heard ys))
 
 given_append : (xs ys : List Deed) → given (xs ++ ys) ≡ given xs ++ given ys
 given_append [] ys = refl
-given_append (x ∷ xs) ys = ap (λ l. given_by x ++ l) (given_append xs ys) ∙ sym (append_assoc (given_by x) (given xs) (given ys))
+given_append (x ∷ xs) ys = ap (λ l. given_by x ++ l) (given_append xs ys)
+    ∙ sym (append_assoc (given_by x) (given xs) (given ys))
 
-follow_append : (earlier xs ys : List Deed) → EachMayFollow earlier xs → EachMayFollow (earlier ++ xs) ys → EachMayFollow earlier (xs ++ ys)
+follow_append : (earlier xs ys : List Deed) → EachMayFollow earlier xs
+    → EachMayFollow (earlier ++ xs) ys → EachMayFollow earlier (xs ++ ys)
 follow_append earlier [] ys h k = subst (λ l. EachMayFollow l ys) (append-nil earlier) k
-follow_append earlier (x ∷ xs) ys (first, rest) k =
-    (first, follow_append (earlier ++ x ∷ []) xs ys rest (subst (λ l. EachMayFollow l ys) (sym (append_assoc earlier (x ∷ []) xs)) k))
+follow_append earlier (x ∷ xs) ys (first, rest) k = (
+  first,
+  follow_append (earlier ++ x ∷ []) xs ys rest
+      (subst (λ l. EachMayFollow l ys) (sym (append_assoc earlier (x ∷ []) xs)) k),
+)
 
 -- ---- what was done so far, and the moment of the last Tick
 
 module _ {Link Clock : Type 0} (senses : Senses Link Clock) where
-  record Done (start : Standing Link Clock) (ticked : Option ℕ) (now : Standing Link Clock) : Type 0 where
-    pub deeds : List Deed
-    pub does : DoesEach senses start deeds now
-    pub follows : EachMayFollow [] deeds
-    pub works : given deeds ≡ map (λ bytes. Datagram senses.number bytes) (heard deeds)
-    pub last : last_tick None deeds ≡ ticked
+  record Done (start : Standing Link Clock) (ticked : Option ℕ) (now : Standing Link Clock) : Type 0
+    where
+      pub deeds : List Deed
+      pub does : DoesEach senses start deeds now
+      pub follows : EachMayFollow [] deeds
+      pub works : given deeds ≡ map (λ bytes. Datagram senses.number bytes) (heard deeds)
+      pub last : last_tick None deeds ≡ ticked
 
   -- more of it
-  abbrev done_more : (start : Standing Link Clock) (ticked : Option ℕ) (before : Standing Link Clock) (next : Option ℕ) (after : Standing Link Clock)
-      (d : Done start ticked before) (more : List Deed) → DoesEach senses before more after → EachMayFollow d.deeds more
-      → given more ≡ map (λ bytes. Datagram senses.number bytes) (heard more) → last_tick ticked more ≡ next → Done start next after
+  abbrev done_more : (start : Standing Link Clock) (ticked : Option ℕ)
+      (before : Standing Link Clock) (next : Option ℕ) (after : Standing Link Clock)
+      (d : Done start ticked before) (more : List Deed) → DoesEach senses before more after
+      → EachMayFollow d.deeds more → given more
+      ≡ map (λ bytes. Datagram senses.number bytes) (heard more) → last_tick ticked more
+      ≡ next → Done start next after
   done_more start ticked before next after d more does follows works last = record {
     deeds = d.deeds ++ more;
     does = then_each senses start before after d.deeds more d.does does;
@@ -55,58 +71,127 @@ module _ {Link Clock : Type 0} (senses : Senses Link Clock) where
   }
 
   -- whether the clock was looked at alone, or a Tick came of it, whoever listens now may
-  record Looked (start : Standing Link Clock) (ticked : Option ℕ) (now : Standing Link Clock) : Type 0 where
+  record Looked (start : Standing Link Clock) (ticked : Option ℕ) (now : Standing Link Clock) : Type
+      0 where
     pub so_far : Done start ticked now
     pub listens : (heard : Option (List ℕ)) → MayFollow so_far.deeds (Deed.Listens heard)
 
-  ticked_now : (start : Standing Link Clock) (ticked : Option ℕ) (before : Standing Link Clock) (next : Option ℕ) (after : Standing Link Clock)
-      → Done start ticked before → Ticks senses ticked before next after → Looked start next after
+  ticked_now : (start : Standing Link Clock) (ticked : Option ℕ) (before : Standing Link Clock)
+      (next : Option ℕ) (after : Standing Link Clock) → Done start ticked before
+      → Ticks senses ticked before next after → Looked start next after
   ticked_now start ticked before next after d t = elim t.turn as (λ _. Looked start next after) [
     | inl (same, keeps, is_after) ↦
         record {
-          so_far = done_more start ticked before next after d (Deed.Looks t.moment ∷ [])
-              (record before { clock = t.shown }, (t.shown, t.is_shown, refl), is_after) (tt, tt) refl (sym keeps);
-          listens = λ heard. inr (t.moment, (d.deeds, refl), last_append None d.deeds (Deed.Looks t.moment ∷ []) ∙ d.last ∙ same);
+          so_far = done_more start ticked before next after d (Deed.Looks t.moment ∷ []) (
+            record before {
+              clock = t.shown;
+            },
+            (t.shown, t.is_shown, refl),
+            is_after,
+          ) (tt, tt) refl
+              (sym keeps);
+          listens = λ heard. inr (
+            t.moment,
+            (d.deeds, refl),
+            last_append None d.deeds (Deed.Looks t.moment ∷ []) ∙ d.last ∙ same,
+          );
         }
     | inr (other, (ended, is_next, serves)) ↦
         record {
-          so_far = done_more start ticked before next after d (Deed.Looks t.moment ∷ Deed.Gives t.moment Tick ended ∷ [])
-              (record before { clock = t.shown }, (t.shown, t.is_shown, refl), (after, serves, refl))
-              (tt, (((d.deeds, refl), λ e. other (sym d.last ∙ sym (last_append None d.deeds (Deed.Looks t.moment ∷ [])) ∙ e)), tt))
+          so_far = done_more start ticked before next after d
+              (Deed.Looks t.moment ∷ Deed.Gives t.moment Tick ended ∷ []) (
+                record before {
+                  clock = t.shown;
+                },
+                (t.shown, t.is_shown, refl),
+                (after, serves, refl),
+              ) (
+                tt,
+                (
+                  (
+                    (d.deeds, refl),
+                    λ e. other
+                        (sym d.last ∙ sym (last_append None d.deeds (Deed.Looks t.moment ∷ []))
+                        ∙ e),
+                  ),
+                  tt,
+                ),
+              )
               refl (sym is_next);
           listens = λ heard. inl (
             t.moment,
             ended,
-            (d.deeds ++ Deed.Looks t.moment ∷ [], sym (append_assoc d.deeds (Deed.Looks t.moment ∷ []) (Deed.Gives t.moment Tick ended ∷ []))),
+            (
+              d.deeds ++ Deed.Looks t.moment ∷ [],
+              sym (append_assoc d.deeds (Deed.Looks t.moment ∷ [])
+                  (Deed.Gives t.moment Tick ended ∷ [])),
+            ),
           );
         }
   ]
 
-  heard_now : (start : Standing Link Clock) (ticked : Option ℕ) (before : Standing Link Clock) (heard : Option (List ℕ)) (between : Link) (after : Standing Link Clock)
-      → Looked start ticked before → senses.hears before.link heard between → IsHeard senses heard (record before { link = between }) after
+  heard_now : (start : Standing Link Clock) (ticked : Option ℕ) (before : Standing Link Clock)
+      (heard : Option (List ℕ)) (between : Link) (after : Standing Link Clock)
+      → Looked start ticked before → senses.hears before.link heard between
+      → IsHeard senses heard (record before { link = between }) after
       → Done start ticked after
   heard_now start ticked before None between after l is_heard turn =
-      done_more start ticked before ticked after l.so_far (Deed.Listens None ∷ [])
-      (record before { link = between }, (between, is_heard, refl), turn) (l.listens None, tt) refl refl
-  heard_now start ticked before (Some bytes) between after l is_heard (moment, shown, ended, is_shown, serves) =
+      done_more start ticked before ticked after l.so_far (Deed.Listens None ∷ []) (
+        record before {
+          link = between;
+        },
+        (between, is_heard, refl),
+        turn,
+      ) (l.listens None, tt) refl refl
+  heard_now start ticked before (Some bytes) between after l is_heard
+      (moment, shown, ended, is_shown, serves) =
       let hearing = Deed.Listens (Some bytes) in
       let looking = Deed.Looks moment in
-      done_more start ticked before ticked after l.so_far (hearing ∷ looking ∷ Deed.Gives moment (Datagram senses.number bytes) ended ∷ []) (
+      done_more start ticked before ticked after l.so_far
+      (hearing ∷ looking ∷ Deed.Gives moment (Datagram senses.number bytes) ended ∷ []) (
         record before { link = between },
         (between, is_heard, refl),
-        (record before { link = between; clock = shown }, (shown, is_shown, refl), (after, serves, refl)),
-      )
-      (l.listens (Some bytes), (tt, ((l.so_far.deeds, append_assoc l.so_far.deeds (hearing ∷ []) (looking ∷ [])), tt))) refl refl
+        (
+          record before {
+            link = between;
+            clock = shown;
+          },
+          (shown, is_shown, refl),
+          (after, serves, refl),
+        ),
+      ) (
+        l.listens (Some bytes),
+        (
+          tt,
+          (
+            (
+              l.so_far.deeds,
+              append_assoc l.so_far.deeds (hearing ∷ []) (looking ∷ []),
+            ),
+            tt,
+          ),
+        ),
+      ) refl refl
 
-  listened_now : (start : Standing Link Clock) (ticked : Option ℕ) (before after : Standing Link Clock)
-      → Looked start ticked before → Listens senses before after → Done start ticked after
-  listened_now start ticked before after l h = heard_now start ticked before h.heard h.between after l h.is_heard h.turn
+  listened_now : (start : Standing Link Clock) (ticked : Option ℕ)
+      (before after : Standing Link Clock) → Looked start ticked before
+      → Listens senses before after → Done start ticked after
+  listened_now start ticked before after l h =
+      heard_now start ticked before h.heard h.between after l h.is_heard h.turn
 
-  so_many : (start : Standing Link Clock) (rounds : ℕ) (ticked : Option ℕ) (now : Standing Link Clock)
-      → Lives senses start rounds ticked now → Done start ticked now
-  so_many start zero ticked now (none, same) = record { deeds = []; does = same; follows = tt; works = refl; last = sym none }
+  so_many : (start : Standing Link Clock) (rounds : ℕ) (ticked : Option ℕ)
+      (now : Standing Link Clock) → Lives senses start rounds ticked now → Done start ticked now
+  so_many start zero ticked now (none, same) = record {
+    deeds = [];
+    does = same;
+    follows = tt;
+    works = refl;
+    last = sym none;
+  }
   so_many start (suc rounds) ticked now (earlier, then, lives, (between, ticks, listens)) =
-      listened_now start ticked between now (ticked_now start earlier then ticked between (so_many start rounds earlier then lives) ticks) listens
+      listened_now start ticked between now
+      (ticked_now start earlier then ticked between (so_many start rounds earlier then lives)
+      ticks) listens
 
 pub in_order : {Link Clock : Type 0} (senses : Senses Link Clock) → LivesAreDeedsInOrder senses
 in_order senses start now (rounds, ticked, lives) =

@@ -14,14 +14,18 @@ returns c = record {
   leaves = λ b h. some_none b (h (key 2) (omega arith));
   same = λ b k low. refl;
   comes_before = λ b was is comes h.
-      came (finite.get was (key 1)) (finite.get is (key 1)) (copy b (pos 4) 10 105) (comes.before (key 1)) comes.here
+      came (finite.get was (key 1)) (finite.get is (key 1)) (copy b (pos 4) 10 105)
+      (comes.before (key 1)) comes.here
       (h (key 1) (omega arith));
   comes_last = λ b was is comes h.
-      came (finite.get was (key 2)) (finite.get is (key 2)) (copy b (pos 4) 10 105) (comes.before (key 2)) comes.here
+      came (finite.get was (key 2)) (finite.get is (key 2)) (copy b (pos 4) 10 105)
+      (comes.before (key 2)) comes.here
       (h (key 2) (omega arith));
   comes_behind = λ b was is comes k low.
-      nowhere (finite.get was k) (finite.get is k) (comes.before k) (comes.elsewhere k (before 3 2 k low (omega arith)));
+      nowhere (finite.get was k) (finite.get is k) (comes.before k)
+      (comes.elsewhere k (before 3 2 k low (omega arith)));
   comes_anywhere = λ b was is comes h.
-      came (finite.get was (key 5)) (finite.get is (key 5)) (copy b (pos 4) 10 105) (comes.before (key 5)) comes.here
+      came (finite.get was (key 5)) (finite.get is (key 5)) (copy b (pos 4) 10 105)
+      (comes.before (key 5)) comes.here
       (h (key 5) tt);
 }
