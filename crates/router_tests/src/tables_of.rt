@@ -1,24 +1,75 @@
 //! Tables of candidates and answers.
-use crate::area::{OF_TYPE_2, SQUARE, TWO, routes_of};
 use std::alloc::{AllocError, Global};
 use std::process::Abort;
 use std::test::Fail;
-use tables::{is_stale, rows_of, table};
-use words::Route;
+use tables::{is_stale, table};
+use words::{Address, Hops, Prefix, Route, RouteKind};
 
 // An answer: the index of the candidate that it is for, the answer, and by how much the cost
 // differed.
 type Answer = (usize, u64, u32);
 
-// A name; whether it is about the square, or about two routers with a type 2 external destination;
-// the answers; which of the candidates are in the table; whether that is stale.
+// A name; how many candidates there are; the answers; which of the candidates are in the table;
+// whether that is stale.
 type Case = (
     &'static str,
-    bool,
+    usize,
     &'static [Answer],
     &'static [usize],
     bool,
 );
+
+const CASES: &[Case] = &[
+    ("without candidates", 0, &[], &[], false),
+    ("an answer of 0", 1, &[(0, 0, 0)], &[0], false),
+    ("a veto", 1, &[(0, 1, 0)], &[], false),
+    ("no answer", 1, &[], &[], true),
+    ("0 before 1", 1, &[(0, 0, 0), (0, 1, 0)], &[0], false),
+    ("1 before 0", 1, &[(0, 1, 0), (0, 0, 0)], &[0], false),
+    ("an answer for another cost", 1, &[(0, 0, 1)], &[], true),
+    (
+        "all",
+        3,
+        &[(0, 0, 0), (1, 0, 0), (2, 0, 0)],
+        &[0, 1, 2],
+        false,
+    ),
+    (
+        "in another order",
+        3,
+        &[(2, 0, 0), (1, 0, 0), (0, 0, 0)],
+        &[0, 1, 2],
+        false,
+    ),
+    (
+        "without the least",
+        3,
+        &[(2, 0, 0), (1, 0, 0)],
+        &[1, 2],
+        true,
+    ),
+];
+
+fn route(bits: u32, kind: RouteKind, cost: u32) -> Option<Route> {
+    let prefix = Prefix::new(Address::new(bits), 24)?;
+    Some(Route {
+        prefix,
+        kind,
+        cost,
+        distance: 0,
+        hops: Hops::only(1),
+        tag: 0,
+    })
+}
+
+// What an area of two routers offers the first.
+fn offered() -> Option<[Route; 3]> {
+    Some([
+        route(0x0a00_0100, RouteKind::Intra, 10)?,
+        route(0x0a00_0200, RouteKind::Intra, 15)?,
+        route(0xcb00_7100, RouteKind::External2, 20)?,
+    ])
+}
 
 fn answered(
     alloc: Global,
@@ -49,65 +100,21 @@ fn is_table(table: &[Route], routes: &[Route], places: &[usize]) -> bool {
 }
 
 // Whether the case has the expected result for these candidates.
-fn comes_out(alloc: Global, routes: &[Route], case: &Case) -> Result<bool, Fail> {
-    let (_name, _is_square, answers, places, wanted_stale) = *case;
+fn comes_out(alloc: Global, routes: &[Route], case: &Case) -> Result<bool, AllocError> {
+    let (_name, _count, answers, places, wanted_stale) = *case;
     let answers = answered(alloc, routes, answers)?;
     let stale = is_stale(alloc, routes, &answers)?;
     let table = table(alloc, routes, &answers)?;
     Ok(stale == wanted_stale && is_table(&table, routes, places))
 }
 
-const CASES: &[Case] = &[
-    ("an answer of 0", true, &[(0, 0, 0)], &[0], false),
-    ("a veto", true, &[(0, 1, 0)], &[], false),
-    ("no answer", true, &[], &[], true),
-    ("0 before 1", true, &[(0, 0, 0), (0, 1, 0)], &[0], false),
-    ("1 before 0", true, &[(0, 1, 0), (0, 0, 0)], &[0], false),
-    ("an answer for another cost", true, &[(0, 0, 1)], &[], true),
-    (
-        "all",
-        false,
-        &[(0, 0, 0), (1, 0, 0), (2, 0, 0)],
-        &[0, 1, 2],
-        false,
-    ),
-    (
-        "in another order",
-        false,
-        &[(2, 0, 0), (1, 0, 0), (0, 0, 0)],
-        &[0, 1, 2],
-        false,
-    ),
-    (
-        "without the least",
-        false,
-        &[(2, 0, 0), (1, 0, 0)],
-        &[1, 2],
-        true,
-    ),
-];
-
 #[test]
 fn answers_let_candidates_in(rt: HostRuntime) -> Result<(), Fail> {
-    assert!(rt; !is_stale(rt.alloc(), &[], &[])?, "without candidates");
-    let square = routes_of(rt.alloc(), SQUARE, &[])?;
-    let two = routes_of(rt.alloc(), TWO, &[OF_TYPE_2])?;
+    let offered = offered().ok_or("lengths of 24")?;
+    let routes: &[Route] = &offered;
     for case in CASES {
-        let routes = if case.1 { &square } else { &two };
-        assert!(rt; comes_out(rt.alloc(), routes, case)?, "{}", case.0);
+        let of_case = routes.get(..case.1).ok_or("at most three")?;
+        assert!(rt; comes_out(rt.alloc(), of_case, case)?, "{}", case.0);
     }
-    Ok(())
-}
-
-// For the type 2 external destination only the metric.
-const ROWS: &str =
-    "[TableRow { prefix: Prefix { bits: 167772416, length: 24 }, cost: 10 }, TableRow { prefix: Prefix { bits: 167772672, length: 24 }, cost: 15 }, TableRow { prefix: Prefix { bits: 3405803776, length: 24 }, cost: 20 }]";
-
-#[test]
-fn rows_have_the_prefix_and_the_cost(rt: HostRuntime) -> Result<(), Fail> {
-    let routes = routes_of(rt.alloc(), TWO, &[OF_TYPE_2])?;
-    let rows = rows_of(rt.alloc(), &routes)?;
-    let found = format!(in rt.alloc(); "{rows:?}")?;
-    assert!(rt; found.as_str() == ROWS, "{found}");
     Ok(())
 }

@@ -1,10 +1,5 @@
-//! Values as bytes and as text: `words`, LSAs and packets (`lsa`, `packet`), and the texts of
-//! `console`.
+//! Values as text: commands, what bytes say by their fields, and what is printed.
 
-mod answers;
 mod commands;
-mod configurations;
-mod lsas;
-mod names;
-mod orders;
-mod packets;
+mod fields;
+mod printed;
