@@ -1,3 +1,4 @@
 pub mod Lines
 pub mod Statuses
+pub mod Sums
 pub mod Talks

@@ -12,6 +12,7 @@ use Rattle.daemon.specs.declared.error.RouteError.{RouteError}
 use Rattle.daemon.specs.declared.error.RouteError.TheVariants.{Configuration, Bind, Socket, Hooks}
 use Rattle.daemon.specs.declared.error.RouteError.TheVariants.{Output, Memory}
 use Rattle.daemon.specs.declared.ran.Ran.{Ran}
+use Rattle.daemon.specs.Talks.{is_deaf}
 
 -- 1 refused, 3 a socket or a stream, 4 memory
 abbrev pub status_of : RouteError → ℕ
@@ -30,7 +31,7 @@ any_failed ends = list_any (λ end. has_failed end) ends
 -- 3 where the link of a worker or of the console failed, or the input couldn't be read, else 0
 abbrev pub status_of_ran : Ran → ℕ
 status_of_ran ran =
-    if any_failed ran.workers.items || has_failed ran.console || ran.is_deaf then 3 else 0
+    if any_failed ran.workers.items || has_failed ran.console || is_deaf ran.parted then 3 else 0
 
 -- ---- which router ran
 

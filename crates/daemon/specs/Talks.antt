@@ -1,13 +1,123 @@
--- What the console answers.
-use Rattle.std.specs.Prelude.{◌≡◌, ◌⊎◌, ℕ, ◌<◌, List, Option, Some}
+-- What is said at the console, from its first line to its end.
+use Rattle.std.specs.Prelude.{◌≡◌, ◌⊎◌, ℕ, ◌<◌, Bool, true, false, List, [], ◌∷◌, ◌++◌}
+use Rattle.std.specs.Prelude.{Option, None, Some, Result, Ok, Err, string_bytes}
 use Rattle.std.specs.Io.KnownBytes.{Appends}
+use mathlib.Core.List.{IsPrefix}
+use Rattle.maps.specs.Words.{SeatView}
+use Rattle.hooks.specs.declared.operation.Operation.{Operation}
 use Rattle.worker.specs.TurnError.{TurnError}
 use Rattle.worker.specs.Turns.{Offers, Refuses, Took}
 use Rattle.worker.specs.Work.TheVariants.{Tick}
-use Rattle.operator.specs.Answers.{Change, IsDone, IsObeyed, IsRefusedOnce, Sources}
+use Rattle.operator.specs.Answers.{IsDone, IsMadeUp, IsObeyed, IsRefusedOnce, Sources, change}
 use Rattle.operator.specs.Texts.{told_text}
 use Rattle.operator.specs.declared.told.Told.{Told}
 use Rattle.operator.specs.declared.told.Told.TheVariants as told
+use Rattle.daemon.specs.Lines.{Fails, Gives, IsGiven}
+use Rattle.daemon.specs.declared.lines.Given.{Given}
+use Rattle.daemon.specs.declared.lines.Given.TheVariants as given
+use Rattle.daemon.specs.declared.talk.Parted.{Parted}
+use Rattle.daemon.specs.declared.talk.Parting.{Parting}
+use Rattle.daemon.specs.declared.talk.Parting.TheVariants.{Done, Deaf, Mute}
+
+-- Where a conversation stands: the input, the operations that the loader has published and those
+-- that the port knows, whether a refresh is due, how many events count, and the port's seat.
+pub record Place (Input : Type 0) : Type 0 where
+  pub input : Input
+  pub operations : List Operation
+  pub known : List Operation
+  pub due : Bool
+  pub events : ℕ
+  pub seat : SeatView
+
+abbrev pub place : {Input : Type 0} → Input → (operations known : List Operation) → (due : Bool)
+    → (events : ℕ) → SeatView → Place Input
+place input operations known due events seat = record {
+  input = input;
+  operations = operations;
+  known = known;
+  due = due;
+  events = events;
+  seat = seat;
+}
+
+-- ---- one line
+
+-- what the operator's desk answers to a line: a refresh that is due is tried before
+abbrev pub IsObeyedFrom : {Input : Type 0} → Sources → (interfaces : ℕ) → (before : Place Input)
+    → (line : List ℕ) → Option Told → (after : Place Input) → Type 0
+IsObeyedFrom s interfaces before line answer after =
+    (still : Bool) × (counted : ℕ) × (seat : SeatView)
+    × IsMadeUp s.offers s.took before.due still before.events counted before.seat seat
+    × IsObeyed s interfaces
+    (change before.operations after.operations after.known after.due counted after.events seat
+    after.seat) line answer
+
+-- nothing changed but the input
+abbrev pub HasRead : {Input : Type 0} → (before after : Place Input) → Type 0
+HasRead before after = after ≡ record before { input = after.input }
+
+-- the console is done where a line has no answer
+abbrev pub reply_of : Option Told → Result Told Parting
+reply_of None = Err Done
+reply_of (Some answer) = Ok answer
+
+-- What was given is answered so: a line as the desk does, or that there was no memory for it; at
+-- the end the console is done, and where the input can't be read it is deaf.
+abbrev pub IsReply : {Input : Type 0} → Sources → (interfaces : ℕ) → Given
+    → (before : Place Input) → Result Told Parting → (after : Place Input) → Type 0
+IsReply s interfaces (given.Line line) before reply after =
+    (answer : Option Told) × IsObeyedFrom s interfaces before (string_bytes line) answer after
+    × (reply ≡ reply_of answer)
+IsReply s interfaces given.Memory before reply after =
+    (reply ≡ Ok told.Memory) × HasRead before after
+IsReply s interfaces given.End before reply after = (reply ≡ Err Done) × HasRead before after
+IsReply s interfaces given.Failed before reply after = (reply ≡ Err Deaf) × HasRead before after
+
+-- the input gave something, and that is answered so
+pub record IsReplied {Input : Type 0} (gives : Gives Input) (fails : Fails Input) (s : Sources)
+    (interfaces : ℕ) (before : Place Input) (reply : Result Told Parting) (after : Place Input)
+    : Type 0 where
+  pub gave : Given
+  pub is_given : IsGiven gives fails before.input gave after.input
+  pub is_reply : IsReply s interfaces gave before reply after
+
+-- ---- line by line
+
+-- these are the answers to all that the input gave meanwhile, the latest first
+abbrev pub HasAnswered : {Input : Type 0} → Gives Input → Fails Input → Sources → (interfaces : ℕ)
+    → (start : Place Input) → List Told → (now : Place Input) → Type 0
+HasAnswered gives fails s interfaces start [] now = now ≡ start
+HasAnswered {Input = Input} gives fails s interfaces start (answer ∷ earlier) now =
+    (between : Place Input) × HasAnswered gives fails s interfaces start earlier between
+    × IsReplied gives fails s interfaces between (Ok answer) now
+
+-- their texts, the latest last
+abbrev pub texts_of : List Told → List ℕ
+texts_of [] = []
+texts_of (answer ∷ earlier) = texts_of earlier ++ told_text answer
+
+-- the console ends: nothing is printed any more, since there is no answer; or an answer couldn't be
+-- printed, and then it is mute
+pub record IsOver {Input : Type 0} (gives : Gives Input) (fails : Fails Input) (s : Sources)
+    (interfaces : ℕ) (before : Place Input) (old : Option (List ℕ)) (parting : Parting)
+    (after : Place Input) (new : Option (List ℕ)) : Type 0 where
+  pub how : (IsReplied gives fails s interfaces before (Err parting) after × (new ≡ old))
+      ⊎ ((parting ≡ Mute)
+      × ((answer : Told) × IsReplied gives fails s interfaces before (Ok answer) after))
+
+-- All that the input gave was answered in its order, until the console ended so. The output, where
+-- its bytes are known, grew by the answers' texts, in their order, and by nothing else.
+pub record HasTalked {Input : Type 0} (gives : Gives Input) (fails : Fails Input) (s : Sources)
+    (interfaces : ℕ) (start : Place Input) (old : Option (List ℕ)) (parting : Parting)
+    (now : Place Input) (new : Option (List ℕ)) : Type 0 where
+  pub answers : List Told
+  pub between : Place Input
+  pub printed : Option (List ℕ)
+  pub answered : HasAnswered gives fails s interfaces start answers between
+  pub grown : Appends old printed (texts_of answers)
+  pub over : IsOver gives fails s interfaces between printed parting now new
+
+-- ---- from the start
 
 -- the router took a Tick, or a turn for one was refused, and no event counts
 abbrev pub IsTicked : Offers → Took → Refuses → (counted counts : ℕ) → Type 0
@@ -15,13 +125,32 @@ IsTicked offers took refuses counted counts =
     ((counted < counts) × IsDone offers took Tick)
     ⊎ ((counts ≡ counted) × ((error : TurnError) × IsRefusedOnce offers refuses Tick error))
 
--- a line is answered so, or memory was refused
-abbrev pub IsAnswered : Sources → (interfaces : ℕ) → Told → Type 0
-IsAnswered s interfaces answer =
-    (answer ≡ told.Memory)
-    ⊎ ((line : List ℕ) × (c : Change) × IsObeyed s interfaces c line (Some answer))
+-- the first is a Tick's turn, and then line follows line
+pub record Converses {Input : Type 0} (gives : Gives Input) (fails : Fails Input) (s : Sources)
+    (interfaces : ℕ) (begun : Place Input) (old : Option (List ℕ)) (parting : Parting)
+    (now : Place Input) (new : Option (List ℕ)) : Type 0 where
+  pub known : List Operation
+  pub events : ℕ
+  pub seat : SeatView
+  pub learnt : IsPrefix begun.known known
+  pub ticked : IsTicked s.offers s.took s.refuses begun.events events
+  pub talked : HasTalked gives fails s interfaces
+      (record begun { known = known; events = events; seat = seat }) old parting now new
 
--- the output, where its bytes are known, grew by the text of such an answer
-abbrev pub IsPrinted : Sources → (interfaces : ℕ) → (old new : Option (List ℕ)) → Type 0
-IsPrinted s interfaces old new =
-    (answer : Told) × IsAnswered s interfaces answer × Appends old new (told_text answer)
+-- ---- how it ended
+
+abbrev pub was_deaf : Parting → Bool
+was_deaf Deaf = true
+was_deaf Done = false
+was_deaf Mute = false
+
+abbrev pub was_mute : Parting → Bool
+was_mute Mute = true
+was_mute Done = false
+was_mute Deaf = false
+
+abbrev pub is_deaf : Parted → Bool
+is_deaf parted = was_deaf parted.parting
+
+abbrev pub is_mute : Parted → Bool
+is_mute parted = was_mute parted.parting

@@ -5,13 +5,14 @@ ghost use Rattle.maps.specs.Words.{IsOf};
 ghost use Rattle.worker.specs.Opening.{IsSetUpFor};
 
 use crate::labor::{Workers, work};
+use crate::lines::ReadsBytes;
 use crate::pairs::next_pair;
-use crate::talk::{Console, talk};
+use crate::talk::{Console, Parted, talk};
 use log::Log;
 use operator::Desk;
 use sockets::{LinkEnd, Sockets, SystemSeconds};
 use std::alloc::{AllocError, Global};
-use std::io::{BufRead, Write};
+use std::io::Write;
 use std::rt::Files;
 use std::sync::Wait;
 use std::sync::atomic::Ordering;
@@ -24,7 +25,8 @@ use worker::{Book, Closed, Core, Hub, Port, Setup, Site, close_hub, open_hub};
 /// 0, until the operator is done. Every thread is joined before it answers, whatever it answers.
 /// There is a link for each port but the operator's: port n's receives at interface n. The book
 /// took just as many events as all shares count; the shared words come back with all their seats,
-/// as [`Shared::close`](maps::Shared::close) asks for them. Beside that stands how each link ended.
+/// as [`Shared::close`](maps::Shared::close) asks for them. Beside that stands how each link ended,
+/// and the conversation.
 ///
 /// `AllocError` comes where an allocation was refused, or where a thread couldn't be started.
 pub fn side_by_side<
@@ -32,7 +34,7 @@ pub fn side_by_side<
     R: Threads + Wait + Clock + Log + Sync,
     S: Wait + Clock + Files + AllocGlobal,
     Q: Wait + Drop,
-    I: BufRead,
+    I: ReadsBytes,
     O: Write,
 >(
     rt: &R,
@@ -43,7 +45,7 @@ pub fn side_by_side<
     links: Vec<Sockets<'_>>,
     desk: &mut Desk<L, Q, Sockets<'_>, SystemSeconds<'_, S>>,
     console: &mut Console<'_, S, I, O>,
-) -> Result<(Closed<L>, Vec<LinkEnd>), AllocError>
+) -> Result<(Closed<L>, Vec<LinkEnd>, Parted), AllocError>
     requires setup { IsSetUpFor L.name L.parts L.words L.history setup }
     requires origin { core ≡ L.origin }
     requires links { vec_len setup.seats ≡ vec_len links + 1 }
@@ -56,9 +58,9 @@ pub fn side_by_side<
 {
     let (hub, ports, rest) = open_hub::<L>(alloc, setup, core)?;
     match in_scope(rt, &hub, ports, workers, links, desk, console) {
-        Ok((back, ends)) => {
+        Ok((back, ends, parted)) => {
             let closed = close_hub(alloc, hub, rest, Ok(back))?;
-            Ok((closed, ends))
+            Ok((closed, ends, parted))
         }
         Err(error) => {
             let _none = close_hub(alloc, hub, rest, Err(error));
@@ -73,7 +75,7 @@ fn in_scope<
     R: Threads + Wait + Clock + Log + Sync,
     S: Wait + Clock + Files + AllocGlobal,
     Q: Wait + Drop,
-    I: BufRead,
+    I: ReadsBytes,
     O: Write,
 >(
     rt: &R,
@@ -83,7 +85,7 @@ fn in_scope<
     links: Vec<Sockets<'_>>,
     desk: &mut Desk<L, Q, Sockets<'_>, SystemSeconds<'_, S>>,
     console: &mut Console<'_, S, I, O>,
-) -> Result<(Vec<Port<L>>, Vec<LinkEnd>), AllocError>
+) -> Result<(Vec<Port<L>>, Vec<LinkEnd>, Parted), AllocError>
     requires links { vec_len ports ≡ vec_len links + 1 }
     requires numbers { CountDownTo 0 (map (λ p. p.number) ports.items) }
     requires interfaces { CountDownTo 1 (map (λ l. l.own) links.items) }
@@ -93,7 +95,7 @@ fn in_scope<
     thread::scope(
         thread::scope_env(),
         rt,
-        |scope| -> Result<(Vec<Port<L>>, Vec<LinkEnd>), AllocError>
+        |scope| -> Result<(Vec<Port<L>>, Vec<LinkEnd>, Parted), AllocError>
             requires links { vec_len ports ≡ vec_len links + 1 }
             requires numbers { CountDownTo 0 (map (λ p. p.number) ports.items) }
             requires interfaces { CountDownTo 1 (map (λ l. l.own) links.items) }
@@ -111,7 +113,7 @@ fn crew<
     R: Threads + Wait + Clock + Log + Sync,
     S: Wait + Clock + Files + AllocGlobal,
     Q: Wait + Drop,
-    I: BufRead,
+    I: ReadsBytes,
     O: Write,
 >(
     scope: &Scope<'s, E>,
@@ -122,7 +124,7 @@ fn crew<
     desk: &mut Desk<L, Q, Sockets<'_>, SystemSeconds<'_, S>>,
     console: &mut Console<'_, S, I, O>,
     ports: Vec<Port<L>>,
-) -> Result<(Vec<Port<L>>, Vec<LinkEnd>), AllocError>
+) -> Result<(Vec<Port<L>>, Vec<LinkEnd>, Parted), AllocError>
     requires links { vec_len ports ≡ vec_len links + 1 }
     requires numbers { CountDownTo 0 (map (λ p. p.number) ports.items) }
     requires interfaces { CountDownTo 1 (map (λ l. l.own) links.items) }
@@ -136,9 +138,10 @@ fn crew<
         unreachable!()
     };
     let running = started(scope, hub, workers, links, ports)?;
-    let first = talk(hub, first, desk, console);
+    let (first, parted) = talk(hub, first, desk, console);
     workers.quit.store(true, Ordering::SeqCst);
-    joined(rt, running, first, back, ends)
+    let (back, ends) = joined(rt, running, first, back, ends)?;
+    Ok((back, ends, parted))
 }
 
 // A thread for each port, each with the link that receives at the interface of its number. Where

@@ -14,6 +14,7 @@ mod pairs;
 mod ran;
 mod running;
 mod talk;
+mod totals;
 
 pub use error::RouteError;
 pub use ran::Ran;

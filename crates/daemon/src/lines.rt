@@ -1,12 +1,71 @@
 //! The lines of the console's input.
-ghost use Rattle.std.specs.Prelude.{◌≤◌, vec_len};
-ghost use Rattle.daemon.specs.Lines.{IsShort};
+ghost use Rattle.std.specs.Prelude.{◌≡◌, ℕ, ◌<◌, ◌++◌, ◌∷◌, [], List, Option, IfOk, IsTrue};
+ghost use Rattle.std.specs.Prelude.{MatchOption, OnErr, slice_index};
+ghost use Rattle.daemon.specs.Lines.{IsGiven, IsKeptOf, IsLast, IsNext, IsWhole};
 
 use std::alloc::Global;
-use std::io::{BufRead, ErrorKind, Read};
+use std::io::{BufRead, ErrorKind};
+use std::sync::Wait;
 
 /// A line of more bytes than this is no command, and isn't kept.
 const MOST_BYTES: usize = 4_096;
+
+/// The input can't be read.
+#[derive(Clone, Copy)]
+pub struct Unreadable {}
+
+/// Input, byte by byte.
+///
+/// What is so of input that gave a byte, that gave none at its end, or that couldn't be read, is
+/// left open here: who reads any input can say it only by the call itself.
+pub trait ReadsBytes {
+    ghost gives: { Self → Option ℕ → Self → Type 0 };
+
+    ghost fails: { Self → Self → Type 0 };
+
+    /// The next byte, or None at the end.
+    fn next_byte(&mut self) -> Result<Option<u8>, Unreadable>
+        ensures given { IfOk result (λ byte. gives self.old byte self.new) }
+        ensures failed { OnErr result (fails self.old self.new) };
+}
+
+/// Of a reader whose bytes are known that is the first that is left, or none is.
+impl<I: BufRead> ReadsBytes for I {
+    ghost gives = { λ before byte after. IsNext (I.remaining before) byte (I.remaining after) };
+
+    ghost fails = { λ before after. Unit {0} };
+
+    fn next_byte(&mut self) -> Result<Option<u8>, Unreadable> {
+        read_byte(self)
+    }
+}
+
+// The first of so many bytes.
+fn first(bytes: &[u8; 1], count: usize) -> Option<u8>
+    ensures { MatchOption result (count ≡ 0)
+        (λ byte. (0 < count) × (byte ≡ slice_index bytes.now 0)) }
+{
+    if count == 0 { None } else { Some(bytes[0]) }
+}
+
+// The next byte, which is read again where a signal interrupts that.
+#[tactic(auto, using(crate::proofs::Reading::keeps_self, crate::proofs::Reading::keeps_still, crate::proofs::Reading::next_read))]
+fn read_byte<I: BufRead>(input: &mut I) -> Result<Option<u8>, Unreadable>
+    ensures { IfOk result (λ byte.
+        IsNext (I.remaining input.old) byte (I.remaining input.new)) }
+{
+    let mut one = [0u8; 1];
+    for _tries in 0..u64::MAX {
+        match input.read(&mut one) {
+            Ok(count) => return Ok(first(&one, count)),
+            Err(error) => match error.kind() {
+                ErrorKind::Interrupted => {}
+                _ => return Err(Unreadable {}),
+            },
+        }
+    }
+    Err(Unreadable {})
+}
 
 /// What the input gave.
 #[derive(Drop)]
@@ -22,65 +81,66 @@ pub enum Given {
     Failed,
 }
 
-// What is left of a line is passed over.
-fn pass_over<I: BufRead>(input: &mut I, given: Given) -> Given
-    requires { IsShort given }
-    ensures { IsShort result }
+// Keeps one more byte of a line, unless more than 4,096 are kept. Tells whether there was memory.
+#[tactic(auto, using(crate::proofs::Reading::kept_all, crate::proofs::Reading::kept_enough))]
+fn keep(bytes: &mut Vec<u8>, byte: u8) -> bool
+    ensures { IsTrue result → (line : List ℕ) → IsKeptOf bytes.old.items line
+        → IsKeptOf bytes.new.items (line ++ byte ∷ []) }
 {
-    match input.skip_until(b'\n') {
-        Ok(_) => given,
-        Err(_) => Given::Failed,
+    if bytes.len() > MOST_BYTES {
+        return true;
     }
+    bytes.push(byte).is_ok()
 }
 
-// The line of these bytes.
-fn line_of(alloc: Global, bytes: Vec<u8>) -> Given
-    requires { vec_len bytes ≤ 4096 }
-    ensures { IsShort result }
+// The line of which these bytes are kept, where there was memory for each of them.
+#[tactic(auto, using(crate::proofs::Reading::text_same, crate::proofs::Reading::text_long, crate::proofs::Reading::text_unread))]
+fn whole(alloc: Global, bytes: Vec<u8>, is_lost: bool) -> Given
+    ensures { IsWhole bytes.items is_lost result }
 {
+    if is_lost {
+        return Given::Memory;
+    }
+    if bytes.len() > MOST_BYTES {
+        return Given::Line(String::new(alloc));
+    }
     match String::from_utf8(bytes) {
         Ok(line) => Given::Line(line),
         Err(_) => Given::Line(String::new(alloc)),
     }
 }
 
-// Takes the line feed at the end off, if one is there, and tells whether it was.
-fn take_line_feed(bytes: &mut Vec<u8>) -> bool
-    ensures { vec_len bytes.new ≤ vec_len bytes.old }
+// The same where the input ends after them: then there is no line where there are none.
+fn last(alloc: Global, bytes: Vec<u8>, is_lost: bool) -> Given
+    ensures { IsLast bytes.items is_lost result }
 {
-    match bytes.last() {
-        Some(b'\n') => {
-            bytes.pop();
-            true
-        }
-        _ => false,
+    if !is_lost && bytes.is_empty() {
+        return Given::End;
     }
+    whole(alloc, bytes, is_lost)
 }
 
-/// The next line. Of one that is longer than 4,096 bytes what is beyond them is passed over.
-pub fn next_line<I: BufRead>(alloc: Global, input: &mut I) -> Given
-    ensures { IsShort result }
+/// The next line. Of one that is longer than 4,096 bytes, or for which there is no memory, all is
+/// passed over.
+#[tactic(auto, using(crate::proofs::Reading::not_begun, crate::proofs::Reading::given_failed))]
+pub fn next_line<I: ReadsBytes, R: Wait>(rt: &R, alloc: Global, input: &mut I) -> Given
+    ensures { IsGiven I.gives I.fails input.old result input.new }
 {
     let mut bytes = Vec::new(alloc);
-    let read = input
-        .take(MOST_BYTES as u64 + 1)
-        .read_until(b'\n', &mut bytes);
-    match read {
-        Ok(0) => return Given::End,
-        Ok(_) => {}
-        Err(error) => {
-            return match error.kind() {
-                ErrorKind::OutOfMemory => pass_over(input, Given::Memory),
-                _ => Given::Failed,
-            };
+    let mut is_lost = false;
+    for _ in rt.forever() {
+        match input.next_byte() {
+            Ok(Some(byte)) => {
+                if byte == b'\n' {
+                    return whole(alloc, bytes, is_lost);
+                }
+                if !keep(&mut bytes, byte) {
+                    is_lost = true;
+                }
+            }
+            Ok(None) => return last(alloc, bytes, is_lost),
+            Err(_) => return Given::Failed,
         }
     }
-    let is_whole = take_line_feed(&mut bytes);
-    if bytes.len() <= MOST_BYTES {
-        return line_of(alloc, bytes);
-    }
-    if is_whole {
-        return Given::Line(String::new(alloc));
-    }
-    pass_over(input, Given::Line(String::new(alloc)))
+    unreachable!()
 }

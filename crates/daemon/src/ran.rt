@@ -2,18 +2,22 @@
 ghost use Rattle.std.specs.Prelude.{◌≡◌};
 ghost use Rattle.daemon.specs.Statuses.{any_failed, status_of_ran};
 
+use crate::talk::Parted;
+use crate::totals::Printed;
 use sockets::LinkEnd;
 use std::snapshot::Snapshot;
 use worker::Core;
 
 /// How a router ran: as which it began (of which nothing is kept when it runs), how the link of
-/// each worker ended, and that of the console, and whether the input couldn't be read.
+/// each worker ended, and that of the console, and the conversation; and that the exact counters
+/// were printed then.
 #[derive(Drop)]
 pub struct Ran {
     pub(crate) origin: Snapshot<Core>,
     pub(crate) workers: Vec<LinkEnd>,
     pub(crate) console: LinkEnd,
-    pub(crate) is_deaf: bool,
+    pub(crate) parted: Parted,
+    pub(crate) printed: Printed,
 }
 
 // Whether one of these links failed.
@@ -29,7 +33,7 @@ impl Ran {
     pub fn status(&self) -> u8
         ensures { result ≡ status_of_ran self.now }
     {
-        if is_any_failed(&self.workers) || self.console.has_failed() || self.is_deaf {
+        if is_any_failed(&self.workers) || self.console.has_failed() || self.parted.is_deaf() {
             3
         } else {
             0

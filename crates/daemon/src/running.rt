@@ -1,23 +1,21 @@
 //! A router from its configuration to its end.
-ghost use Rattle.std.specs.Prelude.{◌≡◌, ◌≤◌, ◌+◌, IfOk, OnOk, length, map, nat_lt};
-ghost use Rattle.std.specs.Prelude.{vec_len};
-ghost use Rattle.std.specs.Io.KnownBytes.{Appends};
-ghost use Rattle.console.specs.Answers.{counter_lines};
+ghost use Rattle.std.specs.Prelude.{◌≡◌, ◌≤◌, ◌+◌, IfOk, false, length, map, nat_lt, vec_len};
 ghost use Rattle.links.specs.Descending.{CountDownTo};
 ghost use Rattle.hooks.specs.Known.{history_of};
 ghost use Rattle.sockets.specs.Ends.{has_failed};
 ghost use Rattle.worker.specs.events.Events.{initial};
 ghost use Rattle.worker.specs.Opening.{IsSetUpFor};
 ghost use Rattle.daemon.specs.Statuses.{HasRan, HasRanFor, HasRanOver, IsConfigOf};
+ghost use Rattle.daemon.specs.Talks.{is_mute};
 
 use crate::crew::side_by_side;
 use crate::error::RouteError;
 use crate::labor::Workers;
+use crate::lines::ReadsBytes;
 use crate::ran::Ran;
-use crate::talk::Console;
-use console::{
-    Config, Configured, ConfiguredInterface, Interface, read_configuration, totals_text,
-};
+use crate::talk::{Console, Parted};
+use crate::totals::{Printed, print_totals};
+use console::{Config, Configured, ConfiguredInterface, Interface, read_configuration};
 use hooks::Loader;
 use links::Seconds;
 use log::Log;
@@ -79,32 +77,13 @@ fn core_of(alloc: Global, config: &Config) -> Result<Core, RouteError>
     }
 }
 
-// Prints the exact counters.
-fn print_totals<S, I, O: Write>(
-    alloc: Global,
-    sums: &[u64],
-    console: &mut Console<'_, S, I, O>,
-) -> Result<(), RouteError>
-    ensures { OnOk result (Appends (O.contents console.old.output.now)
-        (O.contents console.new.output.now) (counter_lines 0 sums.now)) }
-{
-    let text = totals_text(alloc, sums)?;
-    if console.mute {
-        return Err(RouteError::Output);
-    }
-    match console.output.write_all(text.as_bytes()) {
-        Ok(()) => Ok(()),
-        Err(_) => Err(RouteError::Output),
-    }
-}
-
 // Runs the workers and the console over a setup, and prints the exact counters. Tells how the
-// workers' links ended.
+// workers' links ended, and the conversation.
 fn run_crew<
     L: Site + Send + Sync,
     R: Threads + Wait + Clock + Log + Files + AllocGlobal + Sync,
     Q: Wait + Drop,
-    I: BufRead,
+    I: ReadsBytes,
     O: Write,
 >(
     rt: &R,
@@ -114,25 +93,30 @@ fn run_crew<
     links: Vec<Sockets<'_>>,
     desk: &mut Desk<L, Q, Sockets<'_>, SystemSeconds<'_, R>>,
     console: &mut Console<'_, R, I, O>,
-) -> Result<Vec<LinkEnd>, RouteError>
+) -> Result<(Vec<LinkEnd>, Parted, Printed), RouteError>
     requires setup { IsSetUpFor L.name L.parts L.words L.history setup }
     requires origin { core ≡ L.origin }
     requires links { vec_len setup.seats ≡ vec_len links + 1 }
     requires interfaces { CountDownTo 1 (map (λ l. l.own) links.items) }
     requires told { desk.old.interfaces ≡ vec_len links }
-    ensures { IfOk result (λ ends. vec_len ends + 1 ≡ vec_len setup.seats) }
+    ensures ends { IfOk result (λ r. vec_len r.0 + 1 ≡ vec_len setup.seats) }
+    ensures heard { IfOk result (λ r. is_mute r.1 ≡ false) }
 {
     let alloc = workers.alloc;
-    let (closed, ends) = side_by_side(rt, alloc, setup, core, workers, links, desk, console)?;
+    let (closed, ends, parted) = side_by_side(
+        rt, alloc, setup, core, workers, links, desk, console,
+    )?;
     let Closed {
         taken: _,
         share: _,
         shared,
         seats,
     } = closed;
-    let totals = shared.close(seats);
-    print_totals(alloc, &totals.sums, console)?;
-    Ok(ends)
+    if parted.is_mute() {
+        return Err(RouteError::Output);
+    }
+    let printed = print_totals(alloc, shared, seats, console.output)?;
+    Ok((ends, parted, printed))
 }
 
 // How a router ran, once the operator's things are let go.
@@ -140,12 +124,13 @@ fn ran<L: Site, Q: Wait + Drop, C: Seconds + Drop>(
     origin: Snapshot<Core>,
     workers: Vec<LinkEnd>,
     desk: Desk<L, Q, Sockets<'_>, C>,
-    is_deaf: bool,
+    parted: Parted,
+    printed: Printed,
 ) -> Ran
     ensures origin { result.origin.value ≡ origin.value }
     ensures workers { result.workers ≡ workers }
     ensures many { vec_len result.workers ≡ vec_len workers }
-    ensures deaf { result.is_deaf ≡ is_deaf }
+    ensures parted { result.parted ≡ parted }
     ensures console { has_failed result.console ≡ nat_lt 0 desk.entry.outlet.link.faults }
 {
     let Desk {
@@ -165,7 +150,8 @@ fn ran<L: Site, Q: Wait + Drop, C: Seconds + Drop>(
         origin,
         workers,
         console: link.end(),
-        is_deaf,
+        parted,
+        printed,
     }
 }
 
@@ -176,7 +162,7 @@ fn run_all<
     L: Site + Send + Sync,
     R: Threads + Wait + Clock + Log + Files + AllocGlobal + Sync + Drop,
     Q: Wait + Drop,
-    I: BufRead,
+    I: ReadsBytes,
     O: Write,
 >(
     rt: &'x R,
@@ -218,16 +204,18 @@ fn run_all<
         unrefreshed: false,
         of: PhantomData::<L>,
     };
-    let mut console = Console {
-        rt,
-        input,
-        output,
-        mute: false,
-        deaf: false,
-    };
+    let mut console = Console { rt, input, output };
     let origin = Snapshot::of(&core);
-    let ends = run_crew(rt, setup, core, &workers, links, &mut desk, &mut console)?;
-    Ok(ran(origin, ends, desk, console.deaf))
+    let (ends, parted, printed) = run_crew(
+        rt,
+        setup,
+        core,
+        &workers,
+        links,
+        &mut desk,
+        &mut console,
+    )?;
+    Ok(ran(origin, ends, desk, parted, printed))
 }
 
 /// Runs this router over these links, one for each interface and that of the first one last, and

@@ -1,13 +1,28 @@
 //! The console: lines in, lines out, at port 0.
-ghost use Rattle.std.specs.Prelude.{◌≡◌, ℕ, IfSome, IsTrue};
+ghost use Rattle.std.specs.Prelude.{◌≡◌, IfErr, OnOk};
+ghost use Rattle.std.specs.Io.KnownBytes.{Appends};
+ghost use mathlib.Core.List.{IsPrefix};
+ghost use Rattle.hooks.specs.Known.{known_to, operations_of};
 ghost use Rattle.worker.specs.Turns.{IsListed};
 ghost use Rattle.operator.specs.Answers.{IsAnyFile, IsAnyPath, sources};
-ghost use Rattle.daemon.specs.Talks.{IsAnswered, IsPrinted, IsTicked};
+ghost use Rattle.operator.specs.Texts.{told_text};
+ghost use Rattle.operator.specs.declared.told.Told.{Told as Answer};
+ghost use Rattle.daemon.specs.Talks.{
+  Converses,
+  HasTalked,
+  IsOver,
+  IsReplied,
+  IsTicked,
+  is_deaf,
+  is_mute,
+  place,
+  reply_of,
+};
 
-use crate::lines::{Given, next_line};
+use crate::lines::{Given, ReadsBytes, next_line};
 use links::{Link, Seconds};
 use operator::{Desk, Outlet, Told};
-use std::io::{BufRead, Write};
+use std::io::Write;
 use std::rt::Files;
 use std::sync::Wait;
 use worker::{Hub, Port, Site, Taker, Work};
@@ -18,10 +33,39 @@ pub struct Console<'a, S, I, O> {
     pub rt: &'a S,
     pub input: &'a mut I,
     pub output: &'a mut O,
-    /// The output can't be written: the console ends.
-    pub mute: bool,
-    /// The input can't be read: the console ends.
-    pub deaf: bool,
+}
+
+/// How a conversation ends.
+#[derive(Clone, Copy)]
+pub enum Parting {
+    /// By `quit`, or at the end of the input.
+    Done,
+    /// The input can't be read.
+    Deaf,
+    /// The output can't be written.
+    Mute,
+}
+
+/// How a conversation ended. Only [`talk`] makes one, so whoever has it has talked.
+#[derive(Clone, Copy)]
+pub struct Parted {
+    parting: Parting,
+}
+
+impl Parted {
+    /// The input couldn't be read.
+    pub fn is_deaf(&self) -> bool
+        ensures { result ≡ is_deaf self.now }
+    {
+        matches!(self.parting, Parting::Deaf)
+    }
+
+    /// The output couldn't be written.
+    pub fn is_mute(&self) -> bool
+        ensures { result ≡ is_mute self.now }
+    {
+        matches!(self.parting, Parting::Mute)
+    }
 }
 
 // Before the first line: a Tick's turn.
@@ -31,8 +75,9 @@ fn tick<L: Site, B: Taker<L>, R: Wait, K: Link + Drop, C: Seconds + Drop>(
     port: &mut Port<L>,
     outlet: &mut Outlet<K, C>,
 )
-    ensures { IsTicked B.offers B.took B.refuses
+    ensures ticked { IsTicked B.offers B.took B.refuses
         port.old.share.amount port.new.share.amount }
+    ensures known { IsPrefix (known_to port.old.asker) (known_to port.new.asker) }
 {
     match outlet.take(rt, hub, port, &Work::Tick) {
         Ok(()) => {}
@@ -40,8 +85,18 @@ fn tick<L: Site, B: Taker<L>, R: Wait, K: Link + Drop, C: Seconds + Drop>(
     }
 }
 
-// Reads a line and does what it asks for. None where there is no more to come.
-#[tactic(auto, using(crate::proofs::Talked::answered))]
+// The console is done where a line has no answer.
+fn reply_of(answer: Option<Told>) -> Result<Told, Parting>
+    ensures { result ≡ reply_of answer }
+{
+    match answer {
+        Some(told) => Ok(told),
+        None => Err(Parting::Done),
+    }
+}
+
+// Reads a line and does what it asks for.
+#[tactic(auto, using(crate::proofs::Talked::replied))]
 fn answer_next<
     L: Site,
     B: Taker<L>,
@@ -49,32 +104,34 @@ fn answer_next<
     Q: Wait + Drop,
     K: Link + Drop,
     C: Seconds + Drop,
-    I: BufRead,
+    I: ReadsBytes,
     O: Write,
 >(
     hub: &Hub<L, B>,
     port: &mut Port<L>,
     desk: &mut Desk<L, Q, K, C>,
     console: &mut Console<'_, S, I, O>,
-) -> Option<Told>
-    ensures answered { IfSome result (IsAnswered
+) -> Result<Told, Parting>
+    ensures replied { IsReplied I.gives I.fails
         (sources B.offers B.took B.refuses B.wanted (IsListed B.own B.neighbor_at)
-        IsAnyFile IsAnyPath) desk.old.interfaces) }
+        IsAnyFile IsAnyPath) desk.old.interfaces
+        (place console.old.input.now (operations_of desk.old.loader) (known_to port.old.asker)
+        desk.old.unrefreshed port.old.share.amount port.old.seat) result
+        (place console.new.input.now (operations_of desk.new.loader) (known_to port.new.asker)
+        desk.new.unrefreshed port.new.share.amount port.new.seat) }
     ensures interfaces { desk.new.interfaces ≡ desk.old.interfaces }
     ensures output { console.new.output.now ≡ console.old.output.now }
 {
-    match next_line(desk.alloc, console.input) {
-        Given::Line(line) => desk.obey(console.rt, hub, port, line.as_str()),
-        Given::Memory => Some(Told::Memory),
-        Given::End => None,
-        Given::Failed => {
-            console.deaf = true;
-            None
-        }
+    match next_line(console.rt, desk.alloc, console.input) {
+        Given::Line(line) => reply_of(desk.obey(console.rt, hub, port, line.as_str())),
+        Given::Memory => Ok(Told::Memory),
+        Given::End => Err(Parting::Done),
+        Given::Failed => Err(Parting::Deaf),
     }
 }
 
-// Reads a line, does what it asks for, and answers. Tells whether there is more to come.
+// Reads a line, does what it asks for, and answers. An error tells how the console ends.
+#[tactic(auto, using(crate::proofs::Talked::over_unread, crate::proofs::Talked::over_unprinted))]
 fn obey_next<
     L: Site,
     B: Taker<L>,
@@ -82,30 +139,78 @@ fn obey_next<
     Q: Wait + Drop,
     K: Link + Drop,
     C: Seconds + Drop,
-    I: BufRead,
+    I: ReadsBytes,
     O: Write,
 >(
     hub: &Hub<L, B>,
     port: &mut Port<L>,
     desk: &mut Desk<L, Q, K, C>,
     console: &mut Console<'_, S, I, O>,
-) -> bool
-    ensures printed { IsTrue result → IsPrinted
+) -> Result<(), Parting>
+    ensures answered { OnOk result ((answer : Answer) × IsReplied I.gives I.fails
         (sources B.offers B.took B.refuses B.wanted (IsListed B.own B.neighbor_at)
         IsAnyFile IsAnyPath) desk.old.interfaces
-        (O.contents console.old.output.now) (O.contents console.new.output.now) }
+        (place console.old.input.now (operations_of desk.old.loader) (known_to port.old.asker)
+        desk.old.unrefreshed port.old.share.amount port.old.seat) (Ok answer)
+        (place console.new.input.now (operations_of desk.new.loader) (known_to port.new.asker)
+        desk.new.unrefreshed port.new.share.amount port.new.seat)
+        × Appends (O.contents console.old.output.now) (O.contents console.new.output.now)
+        (told_text answer)) }
+    ensures over { IfErr result (λ parting. IsOver I.gives I.fails
+        (sources B.offers B.took B.refuses B.wanted (IsListed B.own B.neighbor_at)
+        IsAnyFile IsAnyPath) desk.old.interfaces
+        (place console.old.input.now (operations_of desk.old.loader) (known_to port.old.asker)
+        desk.old.unrefreshed port.old.share.amount port.old.seat)
+        (O.contents console.old.output.now) parting
+        (place console.new.input.now (operations_of desk.new.loader) (known_to port.new.asker)
+        desk.new.unrefreshed port.new.share.amount port.new.seat)
+        (O.contents console.new.output.now)) }
     ensures interfaces { desk.new.interfaces ≡ desk.old.interfaces }
 {
-    let Some(told) = answer_next(hub, port, desk, console) else {
-        return false;
-    };
-    match told.print(console.output) {
-        Ok(()) => true,
-        Err(_) => {
-            console.mute = true;
-            false
+    match answer_next(hub, port, desk, console) {
+        Ok(told) => match told.print(console.output) {
+            Ok(()) => Ok(()),
+            Err(_) => Err(Parting::Mute),
+        },
+        Err(parting) => Err(parting),
+    }
+}
+
+// Line by line, until the console ends.
+#[tactic(auto, using(crate::proofs::Talked::not_talked))]
+fn answer_all<
+    L: Site,
+    B: Taker<L>,
+    S: Wait + Files + AllocGlobal,
+    Q: Wait + Drop,
+    K: Link + Drop,
+    C: Seconds + Drop,
+    I: ReadsBytes,
+    O: Write,
+>(
+    hub: &Hub<L, B>,
+    port: &mut Port<L>,
+    desk: &mut Desk<L, Q, K, C>,
+    console: &mut Console<'_, S, I, O>,
+) -> Parting
+    ensures { HasTalked I.gives I.fails
+        (sources B.offers B.took B.refuses B.wanted (IsListed B.own B.neighbor_at)
+        IsAnyFile IsAnyPath) desk.old.interfaces
+        (place console.old.input.now (operations_of desk.old.loader) (known_to port.old.asker)
+        desk.old.unrefreshed port.old.share.amount port.old.seat)
+        (O.contents console.old.output.now) result
+        (place console.new.input.now (operations_of desk.new.loader) (known_to port.new.asker)
+        desk.new.unrefreshed port.new.share.amount port.new.seat)
+        (O.contents console.new.output.now) }
+{
+    let rt = console.rt;
+    for _ in rt.forever() {
+        match obey_next(hub, port, desk, console) {
+            Ok(()) => {}
+            Err(parting) => return parting,
         }
     }
+    unreachable!()
 }
 
 /// What is done at port 0 until the console is done: a Tick's turn, and then line by line.
@@ -116,22 +221,26 @@ pub fn talk<
     Q: Wait + Drop,
     K: Link + Drop,
     C: Seconds + Drop,
-    I: BufRead,
+    I: ReadsBytes,
     O: Write,
 >(
     hub: &Hub<L, B>,
     port: Port<L>,
     desk: &mut Desk<L, Q, K, C>,
     console: &mut Console<'_, S, I, O>,
-) -> Port<L>
-    ensures ticked { (counts : ℕ) × IsTicked B.offers B.took B.refuses port.share.amount counts }
+) -> (Port<L>, Parted)
+    ensures { Converses I.gives I.fails
+        (sources B.offers B.took B.refuses B.wanted (IsListed B.own B.neighbor_at)
+        IsAnyFile IsAnyPath) desk.old.interfaces
+        (place console.old.input.now (operations_of desk.old.loader) (known_to port.asker)
+        desk.old.unrefreshed port.share.amount port.seat)
+        (O.contents console.old.output.now) result.1.parting
+        (place console.new.input.now (operations_of desk.new.loader) (known_to result.0.asker)
+        desk.new.unrefreshed result.0.share.amount result.0.seat)
+        (O.contents console.new.output.now) }
 {
     let mut port = port;
     tick(console.rt, hub, &mut port, &mut desk.outlet);
-    for _line in 0..u64::MAX {
-        if !obey_next(hub, &mut port, desk, console) {
-            break;
-        }
-    }
-    port
+    let parting = answer_all(hub, &mut port, desk, console);
+    (port, Parted { parting })
 }

@@ -1,0 +1,25 @@
+use Rattle.std.specs.Prelude.{◌≡◌}
+use Rattle.hooks.specs.Known.{known_to, operations_of}
+use Rattle.worker.specs.Turns.{IsListed}
+use Rattle.operator.specs.Answers.{IsAnyFile, IsAnyPath, sources}
+use Rattle.daemon.specs.Talks.{place}
+use Rattle.daemon.proofs.Talked.{Talking}
+use Rattle.daemon.proofs.talk.answer_all.Given as goal
+
+abbrev pub invariant-loop : goal.invariant-loop
+invariant-loop g l = record {
+  interfaces : l.desk.interfaces ≡ l.initial.desk.interfaces;
+  talking : Talking g.I.ReadsBytes.gives g.I.ReadsBytes.fails
+      (sources g.B.Taker.offers g.B.Taker.took g.B.Taker.refuses g.B.Taker.wanted
+      (IsListed g.B.Taker.own g.B.Taker.neighbor_at)
+      IsAnyFile IsAnyPath)
+      l.initial.desk.interfaces
+      (place l.initial.console.input.now (operations_of l.initial.desk.loader)
+      (known_to l.initial.port.asker)
+      l.initial.desk.unrefreshed l.initial.port.share.amount l.initial.port.seat)
+      (g.O.Write.contents l.initial.console.output.now)
+      (place l.console.input.now (operations_of l.desk.loader) (known_to l.port.asker)
+      l.desk.unrefreshed l.port.share.amount
+      l.port.seat)
+      (g.O.Write.contents l.console.output.now);
+}
