@@ -15,10 +15,16 @@ import sys
 import tempfile
 import time
 from collections.abc import Callable, Iterable
+from contextlib import closing
 from dataclasses import dataclass, field
 from datetime import datetime
 from ipaddress import IPv4Address, IPv4Interface
 from pathlib import Path
+
+from leafrunt_host.client import Client
+from leafrunt_host.kernel import Json
+from leafrunt_host.listing import box_status
+from leafrunt_host.statuses import Stopped
 
 HOST = Path(__file__).resolve().parent.parent
 FRR_DAEMONS = Path("/usr/lib/frr")
@@ -698,9 +704,28 @@ class Box:
         """The console's answer to a line."""
         return self.command("console", lines=line + "\n").splitlines()
 
+    def says(self, line: str) -> list[str]:
+        """The same, asked for by this process: what is looked at again and again would cost a fifth of
+        a second of processor each time by a `leafrunt` of its own, and keep the box from its work."""
+        try:
+            client = Client(self.network.work / "run", self.name)
+            with closing(client):
+                return client.ask(line, seconds=TOTAL_SECONDS)
+        except Stopped:
+            return []
+
+    def reported(self) -> Json:
+        """Its status as `leafrunt status --json` has it; without interfaces while it doesn't answer."""
+        try:
+            client = Client(self.network.work / "run", self.name)
+            with closing(client):
+                return box_status(client)
+        except Stopped:
+            return {"interfaces": []}
+
     def neighbors(self) -> dict[str, str]:
         """The states of its neighbors by Router ID."""
-        lines = (line.split() for line in self.ask("neighbors"))
+        lines = (line.split() for line in self.says("neighbors"))
         return {
             words[2]: words[3] for words in lines if len(words) == 4 and words[0] == "neighbor"
         }
@@ -714,7 +739,7 @@ class Box:
     def database(self) -> set[Lsa]:
         """The LSAs of `leafrunt database`."""
         found = set()
-        for line in self.command("database").splitlines():
+        for line in self.says("database"):
             words = line.split()
             kind = LSA_TITLES.get(words[0]) if words else None
             if kind and len(words) == 6:
@@ -782,8 +807,8 @@ def is_full(router: Box | Bird | Frr, *neighbors: str) -> bool:
 
 
 def is_said(box: Box, *texts: str) -> bool:
-    """Whether `leafrunt status` says all of that."""
-    status = box.status()
+    """Whether the box's status says all of that."""
+    status = "\n".join(box.says("status"))
     return all(each in status for each in texts)
 
 

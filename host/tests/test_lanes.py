@@ -126,13 +126,14 @@ class Lanes(unittest.TestCase):
         def interrupted(*_: object) -> None:
             raise KeyboardInterrupt
 
+        of_terminal = signal.getsignal(signal.SIGINT)
         before = signal.signal(signal.SIGALRM, interrupted)
         self.addCleanup(signal.signal, signal.SIGALRM, before)
         signal.setitimer(signal.ITIMER_REAL, 1.5)
         with self.assertRaises(KeyboardInterrupt):
             self.played(["endless", "a"], 2)
         self.assertTrue((self.folder / "endless.removed").exists())
-        self.assertIs(signal.getsignal(signal.SIGINT), signal.default_int_handler)
+        self.assertIs(signal.getsignal(signal.SIGINT), of_terminal)
 
     def test_this_program_is_killed(self) -> None:
         words = [sys.executable, "-c", ALONE, str(self.folder), PART]

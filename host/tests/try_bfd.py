@@ -2,7 +2,6 @@
 killed. See `try-network`."""
 from __future__ import annotations
 
-import json
 import math
 import os
 import re
@@ -205,7 +204,7 @@ class Watched:
     def sessions(self) -> list[str]:
         """The states of 1.1.1.1's sessions."""
         if isinstance(self.tried, Box):
-            interfaces = json.loads(self.tried.command("status", "--json") or "{}")["interfaces"]
+            interfaces = self.tried.reported()["interfaces"]
             return [each["bfd"]["state"] for each in interfaces if each["bfd"]]
         if isinstance(self.tried, Bird):
             lines = self.tried.says("show", "bfd", "sessions").splitlines()
@@ -223,7 +222,7 @@ class Watched:
         probe.stdout.readline()
         (fail or (lambda: self.network.silence(self.bridges[0])))()
         began = time.monotonic()
-        moment = float(probe.communicate()[0])
+        moment = float(probe.communicate()[0].split()[1])
         return moment - began if moment else math.inf
 
     def box_log(self) -> list[str]:
@@ -481,7 +480,7 @@ class Between:
             each.start()
 
     def reports(self) -> list[dict[str, object]]:
-        interfaces = json.loads(self.box.command("status", "--json") or "{}")["interfaces"]
+        interfaces = self.box.reported()["interfaces"]
         return [each["bfd"] for each in interfaces if each["bfd"]]
 
     def is_up(self) -> bool:

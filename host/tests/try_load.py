@@ -2,6 +2,7 @@
 a link fails, beside BIRD. See `try-network`."""
 from __future__ import annotations
 
+import math
 import statistics
 import struct
 import subprocess
@@ -33,9 +34,11 @@ from tests.test_topology import lsa
 COUNT, TIMES = 10_000, 3
 PROBE = """
 import socket, sys, time
-away, targets = {}, sys.argv[2:]
+away, targets, lost = {}, sys.argv[2:], 0.0
 print("ready", flush=True)
 while time.monotonic() < float(sys.argv[1]) and len(away) < len(targets):
+    if not lost and open("/sys/class/net/eth1/operstate").read() != "up\\n":
+        lost = time.monotonic()
     for each in targets:
         with socket.socket(socket.AF_INET, socket.SOCK_DGRAM) as one:
             try:
@@ -46,9 +49,11 @@ while time.monotonic() < float(sys.argv[1]) and len(away) < len(targets):
         if by == "10.0.2.1":
             away.setdefault(each, time.monotonic())
     time.sleep(0.001)
-print(*(f"{away.get(each, 0.0):.4f}" for each in targets))
+print(f"{lost:.4f}", *(f"{away.get(each, 0.0):.4f}" for each in targets))
 """
-"""By when the kernel sends packets to each target from 10.0.2.1, the second link's address."""
+"""When the kernel tells that the first link has no carrier (which it does once a second at most,
+for all namespaces together: Linux, net/core/link_watch.c), and by when it sends packets to each
+target from 10.0.2.1, the second link's address."""
 
 
 class Slowness:
@@ -138,8 +143,8 @@ class Two:
         return sum(int((each / "schedstat").read_text().split()[0]) for each in tasks.iterdir()) / 1e6
 
     def outage(self) -> float:
-        """Seconds from the loss of the first link's carrier until packets go by the second, the
-        median of first, middle and last destination."""
+        """Seconds from the kernel's word that the first link has lost its carrier until packets go by
+        the second, the median of first, middle and last destination."""
         targets = [self.target(at) for at in (0, COUNT // 2, -1)]
         words = ["ip", "netns", "exec", self.own, sys.executable, "-c", PROBE]
         words += [f"{time.monotonic() + 20}", *targets]
@@ -150,10 +155,9 @@ class Two:
         assert probe.stdout
         probe.stdout.readline()
         time.sleep(1)
-        began = time.monotonic()
         cut.communicate("link set eth1 down\n")
-        said = probe.communicate()[0].split()
-        return statistics.median(float(each) for each in said) - began
+        lost, *away = (float(each) for each in probe.communicate()[0].split())
+        return statistics.median(away) - lost if lost and all(away) else math.inf
 
     def close(self) -> None:
         self.tried.stop()
