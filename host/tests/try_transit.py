@@ -569,10 +569,13 @@ def hindered(it: Transit, given: Try) -> None:
         before = set(started_below(box.folder.parent / "run" / box.name))
         thread = begin(40 + int(seconds))
         time.sleep(seconds)
-        new = set(started_below(box.folder.parent / "run" / box.name)) - before
-        found = [each for each in new if age_of(each) < TAKES_OVER]
-        for each in found:
-            os.kill(int(each), signal.SIGKILL)
+        found = []
+        for each in set(started_below(box.folder.parent / "run" / box.name)) - before:
+            # (its age is looked at while it stands still: else it might take over meanwhile)
+            os.kill(int(each), signal.SIGSTOP)
+            is_young = age_of(each) < TAKES_OVER
+            os.kill(int(each), signal.SIGKILL if is_young else signal.SIGCONT)
+            found += [each] if is_young else []
         thread.join()
         return bool(found)
 
