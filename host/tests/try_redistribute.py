@@ -18,6 +18,7 @@ from tests.network import (
     Side,
     Try,
     is_full,
+    is_said,
     output,
     prefixes,
     run,
@@ -30,6 +31,8 @@ wait a second before it calculates its routes."""
 AGAIN = 5 + FOLLOWS
 """The same of what was announced already within MinLSInterval."""
 MANY, MOST = 10_000, 4096
+READ_AGAIN = 30
+"""Seconds that are waited for what a second reading of thousands of the kernel's routes brings."""
 SLOWLY = 180
 """Seconds that are waited for thousands, of which each LSA is acknowledged, on a busy machine."""
 PRICE = """hook price
@@ -322,10 +325,12 @@ def loaded(it: Scene, one: Announcing) -> None:
         return
     time.sleep(2)
     told = f"{MANY - MOST - 4} more destinations aren't announced"
-    status = it.box.status()
-    is_told = count() == MOST and told in status
+    # (the box may have read the kernel's list while `ip` was adding to it: then it tells of fewer at first)
+    took = within(READ_AGAIN, lambda: is_said(it.box, told))
+    is_told = took is not None and count() == MOST
     it.looks.look(f"{MOST} of them, and what doesn't fit is told", is_told)
-    print("     " + "\n     ".join(each for each in status.splitlines() if "announced" in each))
+    lines = it.box.status().splitlines()
+    print("     " + "\n     ".join(each for each in lines if "announced" in each))
     batch(one, [f"route del {each} via 10.11.0.2" for each in all_of_them[: MANY - MOST + 1]])
     left = set(all_of_them[MANY - MOST + 1 :])
     what = f"{len(left)} are left: all of those"
