@@ -364,6 +364,31 @@ def kill_all_in(namespace: str) -> None:
             os.kill(int(process), signal.SIGKILL)
 
 
+def waited(processes: Iterable[str], places: Path = Path("/proc")) -> float:
+    """Seconds that processes have waited for a processor so far, all their threads together (proc(5),
+    the file `schedstat`): a busy machine's part of what they take, where one waits for the other."""
+    total = 0
+    for process in processes:
+        for task in places.glob(f"{process}/task/*/schedstat"):
+            with contextlib.suppress(OSError):
+                total += int(task.read_text().split()[1])
+    return total / 1e9
+
+
+def within_own(
+    seconds: float, succeeds: Callable[[], object], processes: Iterable[str], each: float = 0.2
+) -> tuple[bool, str]:
+    """Whether it succeeds within that time, without what these processes waited for a processor
+    meanwhile; and after how long it did."""
+    these = list(processes)
+    before = waited(these)
+    took = within(3 * seconds, succeeds, each)
+    kept = waited(these) - before
+    said = f"not within {3 * seconds:g} s" if took is None else f"after {took:.2f} s"
+    said += f", of which they waited {kept:.2f} s for a processor" if kept >= 1 else ""
+    return took is not None and took - kept <= seconds, said
+
+
 def remove_stale() -> None:
     """Removes what an earlier try left that was killed: namespaces, their programs, and
     folders, whose names have its number."""
@@ -459,6 +484,9 @@ class Bird:
         if self._ran:
             self.network.stop(self._ran, by)
         self._ran = None
+
+    def processes(self) -> list[str]:
+        return pids_in(self.namespace)
 
     def says(self, *words: str) -> str:
         return output("birdc", "-s", f"{self.folder}/ctl", *words)
@@ -652,8 +680,12 @@ class Box:
 
     def runs(self) -> bool:
         """Whether anything of it runs: `leafrunt` or `routerd`."""
+        return bool(self.processes())
+
+    def processes(self) -> list[str]:
+        """All that runs of it, `routerd` too."""
         folder = self.network.work / "run" / self.name
-        return bool(pids_in(self.namespace) or started_below(folder))
+        return [*pids_in(self.namespace), *started_below(folder)]
 
     def send_signal(self, number: int) -> None:
         if self.process:

@@ -5,6 +5,7 @@ import contextlib
 import importlib.machinery
 import importlib.util
 import io
+import os
 import tempfile
 import unittest
 from collections.abc import Callable
@@ -76,6 +77,42 @@ class Rounds(unittest.TestCase):
         self.assertEqual([each.split(": ")[1].split()[0] for each in rounds], list("12012"))
 
 
+class SideBySide(unittest.TestCase):
+    def test_the_longest_are_begun_first(self) -> None:
+        """Each is played by a `try-network` of its own, which is given the same `routerd`."""
+        self.assertLessEqual(set(try_network.LONGEST), set(try_network.PARTS))
+        with mock.patch.object(try_network.lanes, "played", return_value=True) as played:
+            found = try_network.side_by_side(["ring", "peers", "bfd"], Path("/a/routerd"), 3, 4)
+        (parts, words, most, times), _ = played.call_args
+        self.assertEqual((found, parts, most, times), (True, ["bfd", "ring", "peers"], 4, 3))
+        self.assertEqual(words("ring")[2:], ["--only", "ring", "--routerd", "/a/routerd"])
+
+    def test_numbers_of_lanes(self) -> None:
+        for wrong in ("0", "-1", "x", "1.5"):
+            with self.subTest(wrong), contextlib.redirect_stderr(io.StringIO()) as said:
+                with mock.patch("sys.argv", ["try-network", "--lanes", wrong]):
+                    with self.assertRaises(SystemExit) as raised:
+                        try_network.main()
+                self.assertEqual(raised.exception.code, 2)
+                self.assertIn("--lanes: invalid count value", said.getvalue())
+
+
+class Waited(unittest.TestCase):
+    def test_of_all_threads(self) -> None:
+        """Of the processes that are named, those that have ended apart; in nanoseconds, the second of
+        three numbers (the kernel's Documentation/scheduler/sched-stats.rst)."""
+        with tempfile.TemporaryDirectory() as room:
+            for process, task, nanoseconds in (("7", "7", 1e9), ("7", "8", 5e8), ("9", "9", 4e9)):
+                place = Path(room, process, "task", task)
+                place.mkdir(parents=True)
+                (place / "schedstat").write_text(f"99000000000 {nanoseconds:.0f} 12\n")
+            self.assertEqual(network.waited(["7", "5"], Path(room)), 1.5)
+            self.assertEqual(network.waited(["7", "9"], Path(room)), 5.5)
+
+    def test_of_this_process(self) -> None:
+        self.assertGreaterEqual(network.waited([str(os.getpid())]), 0)
+
+
 class Within(unittest.TestCase):
     def setUp(self) -> None:
         self.now = 0.0
@@ -109,6 +146,24 @@ class Within(unittest.TestCase):
             with self.subTest(takes=takes, from_then_on=from_then_on):
                 self.now = 0.0
                 self.assertEqual(network.within(4, self.look(takes, from_then_on), 0.5), took)
+
+
+    def test_without_what_they_waited(self) -> None:
+        """For a processor, in all: 20 seconds before the look, and 3 more in it."""
+        for from_then_on, is_good, said in (
+            (3.9, True, "after 4.00 s, of which they waited 3.00 s for a processor"),
+            (6.9, True, "after 7.00 s, of which they waited 3.00 s for a processor"),
+            (7.1, False, "after 7.50 s, of which they waited 3.00 s for a processor"),
+            (12.1, False, "not within 12 s, of which they waited 3.00 s for a processor"),
+        ):
+            with self.subTest(said), mock.patch("tests.network.waited", side_effect=(20.0, 23.0)):
+                self.now = 0.0
+                found = network.within_own(4, self.look(0.0, from_then_on), iter("7"), 0.5)
+                self.assertEqual(found, (is_good, said))
+        with mock.patch("tests.network.waited", side_effect=(20.0, 20.0)):
+            self.now = 0.0
+            found = network.within_own(4, self.look(0.0, 3.9), ["7"], 0.5)
+            self.assertEqual(found, (True, "after 4.00 s"))
 
 
 if __name__ == "__main__":

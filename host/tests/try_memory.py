@@ -21,6 +21,7 @@ from tests.network import (
     line_of,
     prefixes,
     within,
+    within_own,
 )
 from tests.schemas import faults, schema
 from tests.try_wire import routerd_of
@@ -67,9 +68,10 @@ def memory(given: Try) -> None:
     limit(process, address_space(process) + HEADROOM)
     bird.externals = BEFORE + MORE
     bird.configure()
-    told = within(15, lambda: is_said(box, SAID))
+    processes = [*box.processes(), *bird.processes()]
+    is_told, after = within_own(15, lambda: is_said(box, SAID), processes)
     what = "memory is refused to routerd: the status says so, and what to do"
-    looks.look(what, told is not None, line_of(box, SAID))
+    looks.look(what, is_told, f"{after}: {line_of(box, SAID)}")
     status = json.loads(box.command("status", "--json"))
     refusal, is_valid = status["routerd"].get("refusal"), not faults(schema("status"), status)
     is_lasting = refusal is not None and refusal["until"] is None
