@@ -364,6 +364,14 @@ def kill_all_in(namespace: str) -> None:
             os.kill(int(process), signal.SIGKILL)
 
 
+def family(started: subprocess.Popen[str] | None) -> list[str]:
+    """A process that was started here, and its children (proc(5), the file `children`)."""
+    if started is None:
+        return []
+    tasks = Path("/proc", str(started.pid), "task").glob("*/children")
+    return [str(started.pid), *(child for each in tasks for child in each.read_text().split())]
+
+
 def waited(processes: Iterable[str], places: Path = Path("/proc")) -> float:
     """Seconds that processes have waited for a processor so far, all their threads together (proc(5),
     the file `schedstat`): a busy machine's part of what they take, where one waits for the other."""
@@ -485,8 +493,9 @@ class Bird:
             self.network.stop(self._ran, by)
         self._ran = None
 
-    def processes(self) -> list[str]:
-        return pids_in(self.namespace)
+    def programs(self) -> list[str]:
+        """The processes that do its work."""
+        return family(self._ran)
 
     def says(self, *words: str) -> str:
         return output("birdc", "-s", f"{self.folder}/ctl", *words)
@@ -566,6 +575,10 @@ class Frr:
         for each in reversed(self._ran):
             self.network.stop(each, by)
         self._ran.clear()
+
+    def programs(self) -> list[str]:
+        """The processes that do its work."""
+        return [each for ran in self._ran for each in family(ran)]
 
     def says(self, line: str) -> str:
         return output("vtysh", "--vty_socket", str(self.folder), "-c", line)
@@ -680,12 +693,12 @@ class Box:
 
     def runs(self) -> bool:
         """Whether anything of it runs: `leafrunt` or `routerd`."""
-        return bool(self.processes())
-
-    def processes(self) -> list[str]:
-        """All that runs of it, `routerd` too."""
         folder = self.network.work / "run" / self.name
-        return [*pids_in(self.namespace), *started_below(folder)]
+        return bool(pids_in(self.namespace) or started_below(folder))
+
+    def programs(self) -> list[str]:
+        """The processes that do its work: `leafrunt`, and what it started."""
+        return family(self.process)
 
     def send_signal(self, number: int) -> None:
         if self.process:

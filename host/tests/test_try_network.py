@@ -6,6 +6,8 @@ import importlib.machinery
 import importlib.util
 import io
 import os
+import signal
+import subprocess
 import tempfile
 import unittest
 from collections.abc import Callable
@@ -108,6 +110,16 @@ class Waited(unittest.TestCase):
                 (place / "schedstat").write_text(f"99000000000 {nanoseconds:.0f} 12\n")
             self.assertEqual(network.waited(["7", "5"], Path(room)), 1.5)
             self.assertEqual(network.waited(["7", "9"], Path(room)), 5.5)
+
+    def test_a_program_and_what_it_started(self) -> None:
+        words = ["sh", "-c", "sleep 60 & echo $!; wait"]
+        with subprocess.Popen(words, stdout=subprocess.PIPE, text=True) as shell:
+            assert shell.stdout
+            child = shell.stdout.readline().strip()
+            self.assertEqual(network.family(shell), [str(shell.pid), child])
+            os.kill(int(child), signal.SIGTERM)
+        self.assertEqual(network.family(shell), [str(shell.pid)])
+        self.assertEqual(network.family(None), [])
 
     def test_of_this_process(self) -> None:
         self.assertGreaterEqual(network.waited([str(os.getpid())]), 0)

@@ -31,6 +31,7 @@ from tests.network import (
     line_of,
     output,
     run,
+    waited,
     within,
 )
 from tests.try_load import PROBE
@@ -44,6 +45,8 @@ BETWEEN_ROUTER_LSAS = 6
 """Seconds: two of one router are five apart (RFC 2328, MinLSInterval)."""
 MOST_DISTURBED = 4
 """How often an outage is tried once more, since another session fell by the other end's silence."""
+TOLD = 0.2
+"""Seconds of waiting for a processor that are told of."""
 DETECTION = 0.9
 """Seconds: the detection time of `Bfd()`."""
 HEARD = "udp dst port 3784 and not src port 50000"
@@ -214,16 +217,21 @@ class Watched:
 
     def outage(self, fail: Callable[[], None] | None = None) -> float:
         """Seconds from the first link's silence, or another failure, until packets go by the
-        second."""
+        second, without what the router's programs waited for a processor."""
         words = ["ip", "netns", "exec", self.own, sys.executable, "-c", PROBE]
         words += [f"{time.monotonic() + 20}", TARGET]
         probe = subprocess.Popen(words, stdout=subprocess.PIPE, text=True)
         assert probe.stdout
         probe.stdout.readline()
+        programs = self.tried.programs()
+        before = waited(programs)
         (fail or (lambda: self.network.silence(self.bridges[0])))()
         began = time.monotonic()
         moment = float(probe.communicate()[0].split()[1])
-        return moment - began if moment else math.inf
+        kept = waited(programs) - before
+        if kept > TOLD:
+            print(f"     {kept:.2f} s waited for a processor, of {moment - began:.2f} s", flush=True)
+        return moment - began - kept if moment else math.inf
 
     def box_log(self) -> list[str]:
         assert isinstance(self.tried, Box)

@@ -68,8 +68,8 @@ def memory(given: Try) -> None:
     limit(process, address_space(process) + HEADROOM)
     bird.externals = BEFORE + MORE
     bird.configure()
-    processes = [*box.processes(), *bird.processes()]
-    is_told, after = within_own(15, lambda: is_said(box, SAID), processes)
+    programs = [*box.programs(), *bird.programs()]
+    is_told, after = within_own(15, lambda: is_said(box, SAID), programs)
     what = "memory is refused to routerd: the status says so, and what to do"
     looks.look(what, is_told, f"{after}: {line_of(box, SAID)}")
     status = json.loads(box.command("status", "--json"))

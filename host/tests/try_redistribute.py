@@ -141,9 +141,9 @@ class Scene:
     ) -> None:
         """Looks until the neighbor's kernel has the route, or hasn't; BIRD's time is shown beside
         it. What the programs on the way waited for a processor is the machine's, and not theirs."""
-        processes = [*it.router.processes(), *self.neighbor.processes()]
+        programs = [*it.router.programs(), *self.neighbor.programs()]
         is_so, measured = within_own(
-            seconds, lambda: (prefix in self.there()) is is_there, processes, 0.05
+            seconds, lambda: (prefix in self.there()) is is_there, programs, 0.05
         )
         said = f"{it.name}: {what}: {'there' if is_there else 'gone'}"
         if it.is_box:
