@@ -26,6 +26,7 @@ from tests.network import (
     is_full,
     output,
     run,
+    waited,
     within,
 )
 from tests.try_prompt import Noticed
@@ -37,6 +38,8 @@ FORGED = "66.66.66.0/24"
 ROUTER_IDS = ("1.1.1.1", "2.2.2.2")
 SENT_EACH = 20
 """Packets a second of an attack that isn't a flood."""
+MOST_FLOODS = 3
+"""How often a flood is tried in which the box waits for a processor for half of the time."""
 
 
 class Pair:
@@ -181,18 +184,35 @@ def flooded(
     it, looks, who = Pair(given, is_box, keys), given.looks, "a box" if is_box else "BIRD"
     it.start()
     looks.timed(f"{who} and its neighbor: Full", COMES_UP, it.is_up)
+    what = {"hellos": "Hellos of made-up Router IDs", "digests": "its packets with wrong digests"}
+    said = f"{who} stays Full under a flood of {what[kind]}"
+    for _ in range(MOST_FLOODS):
+        stays, seen, kept = outlived(it, kind, rate, seconds)
+        if stays or kept < seconds / 2 or not is_box:
+            break
+        print(f"     disturbed: {seen}", flush=True)
+        within(COMES_UP, it.is_up)
+    if is_box:
+        looks.look(said, stays, seen)
+    else:
+        print(f"     beside it: {said}: {'yes' if stays else 'no'}: {seen}")
+    it.stop()
+
+
+def outlived(it: Pair, kind: str, rate: float, seconds: float) -> tuple[bool, str, float]:
+    """Whether the neighbor stays Full under a flood, what was seen, and how long the router's programs
+    waited for a processor meanwhile. (Without one nobody looks at a packet, and what has no room
+    is lost, the neighbor's Hellos among it.)"""
+    programs, box = it.tried.programs(), it.tried if isinstance(it.tried, Box) else None
+    before, lines = waited(programs), len(box.log_lines()) if box else 0
     attack = it.attack(kind, it.next, "224.0.0.5", seconds, rate)
     sent = attack.communicate()[0].strip()
     it.network.stop(attack)
-    is_up = it.is_up()
-    what = {"hellos": "Hellos of made-up Router IDs", "digests": "its packets with wrong digests"}
-    said = f"{who} stays Full under a flood of {what[kind]}"
-    if isinstance(it.tried, Box):
-        changes = [each for each in it.tried.log_lines() if "2.2.2.2 Full ->" in each]
-        looks.look(said, is_up and not changes, "; ".join([sent, *changes]))
-    else:
-        print(f"     beside it: {said}: {'yes' if is_up else 'no'}: {sent}")
-    it.stop()
+    kept, is_up = waited(programs) - before, it.is_up()
+    log = box.log_lines()[lines:] if box else []
+    changes = [each for each in log if "2.2.2.2 Full ->" in each]
+    seen = [sent, f"{kept:.1f} s waited for a processor", *changes]
+    return is_up and not changes, "; ".join(seen), kept
 
 
 def faults(given: Try) -> None:
