@@ -332,16 +332,18 @@ def told_outages(given: Try, it: Watched, who: str) -> None:
 def undisturbed(it: Watched, fail: Callable[[], None], mend: Callable[[], None]) -> float:
     """Seconds from the failure of the first link until packets go by the second; infinite where all
     isn't well again after it. It's tried once more where another session fell by the neighbor's own
-    silence: then two router-LSAs of the neighbor's come within MinLSInterval."""
+    silence before that: then two router-LSAs of the neighbor's come within MinLSInterval. (FRR
+    ends the session once more after the link is mended, since its adjacency went by the first end.)"""
     for _ in range(MOST_DISTURBED):
         since = len(it.box_log()) if it.heard else 0
         time.sleep(BETWEEN_ROUTER_LSAS)
         seconds = it.outage(fail)
+        lines = it.box_log()[since:] if it.heard else []
         mend()
         if within(COMES_UP, it.is_up) is None:
             return math.inf
-        lines = it.box_log()[since:] if it.heard else []
-        of_box, of_other = falls_of(lines, it.heard)
+        of_box, _ = falls_of(it.box_log()[since:] if it.heard else [], it.heard)
+        _, of_other = falls_of(lines, it.heard)
         if len(of_other) <= 1 and not of_box:
             return seconds
         print(f"     disturbed, {seconds:.2f} s: {'; '.join(of_box + of_other)}", flush=True)
