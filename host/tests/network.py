@@ -373,8 +373,9 @@ def family(started: subprocess.Popen[str] | None) -> list[str]:
 
 
 def waited(processes: Iterable[str], places: Path = Path("/proc")) -> float:
-    """Seconds that processes have waited for a processor so far, all their threads together (proc(5),
-    the file `schedstat`): a busy machine's part of what they take, where one waits for the other."""
+    """Seconds that processes have waited for a processor so far, all their threads together
+    (proc(5), the file `schedstat`): a busy machine's part of what they take, where one waits for
+    the other."""
     total = 0
     for process in processes:
         for task in places.glob(f"{process}/task/*/schedstat"):
@@ -750,8 +751,9 @@ class Box:
         return self.command("console", lines=line + "\n").splitlines()
 
     def says(self, line: str) -> list[str]:
-        """The same, asked for by this process: what is looked at again and again would cost a fifth of
-        a second of processor each time by a `leafrunt` of its own, and keep the box from its work."""
+        """The same, asked for by this process: what is looked at again and again would cost a fifth
+        of a second of processor each time by a `leafrunt` of its own, and keep the box from its
+        work."""
         try:
             client = Client(self.network.work / "run", self.name)
             with closing(client):
@@ -760,7 +762,8 @@ class Box:
             return []
 
     def reported(self) -> Json:
-        """Its status as `leafrunt status --json` has it; without interfaces while it doesn't answer."""
+        """Its status as `leafrunt status --json` has it; without interfaces where it doesn't
+        answer."""
         try:
             client = Client(self.network.work / "run", self.name)
             with closing(client):

@@ -120,8 +120,8 @@ class Lanes(unittest.TestCase):
         self.assertIn("round 2 of 2: 2 in a row without a NO", said)
 
     def test_it_is_interrupted(self) -> None:
-        """The parts are ended, and waited for until they have removed what they made; a second signal
-        doesn't come between."""
+        """The parts are ended, and waited for until they have removed what they made; a second
+        signal doesn't come between."""
 
         def interrupted(*_: object) -> None:
             raise KeyboardInterrupt

@@ -101,8 +101,8 @@ class SideBySide(unittest.TestCase):
 
 class Waited(unittest.TestCase):
     def test_of_all_threads(self) -> None:
-        """Of the processes that are named, those that have ended apart; in nanoseconds, the second of
-        three numbers (the kernel's Documentation/scheduler/sched-stats.rst)."""
+        """Of the processes that are named, those that have ended apart; in nanoseconds, the second
+        of three numbers (the kernel's Documentation/scheduler/sched-stats.rst)."""
         with tempfile.TemporaryDirectory() as room:
             for process, task, nanoseconds in (("7", "7", 1e9), ("7", "8", 5e8), ("9", "9", 4e9)):
                 place = Path(room, process, "task", task)

@@ -230,7 +230,8 @@ class Watched:
         moment = float(probe.communicate()[0].split()[1])
         kept = waited(programs) - before
         if kept > TOLD:
-            print(f"     {kept:.2f} s waited for a processor, of {moment - began:.2f} s", flush=True)
+            said = f"{kept:.2f} s waited for a processor, of {moment - began:.2f} s"
+            print(f"     {said}", flush=True)
         return moment - began - kept if moment else math.inf
 
     def box_log(self) -> list[str]:
@@ -333,7 +334,8 @@ def undisturbed(it: Watched, fail: Callable[[], None], mend: Callable[[], None])
     """Seconds from the failure of the first link until packets go by the second; infinite where all
     isn't well again after it. It's tried once more where another session fell by the neighbor's own
     silence before that: then two router-LSAs of the neighbor's come within MinLSInterval. (FRR
-    ends the session once more after the link is mended, since its adjacency went by the first end.)"""
+    ends the session once more after the link is mended, since its adjacency went by the first
+    end.)"""
     for _ in range(MOST_DISTURBED):
         since = len(it.box_log()) if it.heard else 0
         time.sleep(BETWEEN_ROUTER_LSAS)

@@ -145,9 +145,9 @@ class Two:
         return sum(int((each / "schedstat").read_text().split()[0]) for each in tasks.iterdir()) / 1e6
 
     def outage(self) -> float:
-        """Seconds from the kernel's word that the first link has lost its carrier until packets go by
-        the second, the median of first, middle and last destination; without what the router's programs
-        waited for a processor, of which each of the two that are compared gets as much as it happens."""
+        """Seconds from the kernel's word that the first link has lost its carrier until packets go
+        by the second, the median of first, middle and last destination; without what the router's
+        programs waited for a processor, of which the two that are compared don't get the same."""
         targets = [self.target(at) for at in (0, COUNT // 2, -1)]
         words = ["ip", "netns", "exec", self.own, sys.executable, "-c", PROBE]
         words += [f"{time.monotonic() + 20}", *targets]

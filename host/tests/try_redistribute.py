@@ -328,7 +328,7 @@ def loaded(it: Scene, one: Announcing) -> None:
         return
     time.sleep(2)
     told = f"{MANY - MOST - 4} more destinations aren't announced"
-    # (the box may have read the kernel's list while `ip` was adding to it: then it tells of fewer at first)
+    # (the box may have read the kernel's list while `ip` was adding to it, and tells of fewer then)
     took = within(READ_AGAIN, lambda: is_said(it.box, told))
     is_told = took is not None and count() == MOST
     it.looks.look(f"{MOST} of them, and what doesn't fit is told", is_told)

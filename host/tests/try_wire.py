@@ -200,9 +200,9 @@ def flooded(
 
 
 def outlived(it: Pair, kind: str, rate: float, seconds: float) -> tuple[bool, str, float]:
-    """Whether the neighbor stays Full under a flood, what was seen, and how long the router's programs
-    waited for a processor meanwhile. (Without one nobody looks at a packet, and what has no room
-    is lost, the neighbor's Hellos among it.)"""
+    """Whether the neighbor stays Full under a flood, what was seen, and how long the router's
+    programs waited for a processor meanwhile. (Without one nobody looks at a packet, and what has
+    no room is lost, the neighbor's Hellos among it.)"""
     programs, box = it.tried.programs(), it.tried if isinstance(it.tried, Box) else None
     before, lines = waited(programs), len(box.log_lines()) if box else 0
     attack = it.attack(kind, it.next, "224.0.0.5", seconds, rate)
