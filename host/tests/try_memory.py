@@ -35,6 +35,9 @@ WHAT = r"(packets, timers and commands \(refused 6\)|its lists \(out of memory\)
 SAID = re.compile(rf"routerd refuses {WHAT}: routerd is out of memory: give the machine more")
 """What is refused first goes by what is left of the headroom: a list of routes wants more than most
 events, and of these an Update more than what the box asks by."""
+SENT_AGAIN = 2 * COMES_UP
+"""Seconds in which the neighbor has sent all again that wasn't acknowledged: where the adjacency
+wasn't lost, BIRD sends some 100 of 3,000 LSAs each RxmtInterval, which is 2 here."""
 SECONDS_SHORT = DEAD_INTERVAL + 2
 """The neighbor is lost by then; after a minute the box would end."""
 
@@ -87,7 +90,8 @@ def memory(given: Try) -> None:
     over = within(10, lambda: is_said(box, "routerd was out of memory for"))
     looks.look("there is memory: that is told", over is not None, line_of(box, "was out of"))
     every = len(BEFORE) + len(MORE)
-    looks.timed("all 4,000 routes, by itself", COMES_UP, lambda: len(box.kernel_routes()) == every)
+    what = "all 4,000 routes, by itself"
+    looks.timed(what, SENT_AGAIN, lambda: len(box.kernel_routes()) == every)
     looks.timed("at rest", 20, lambda: is_said(box, "at rest since"))
     ended = [each for each in box.log_lines() if "routerd refuses nothing any more" in each]
     looks.look("the log says that it's over", len(ended) == 1, "; ".join(ended))
