@@ -35,8 +35,12 @@ ADDRESS_SPACE = 1 << 30
 ENVIRONMENT = {
     "PATH": PLACES,
     "LANG": "C.UTF-8",
-    # glibc would reserve 64 MiB or more of address space for each thread (mallopt(3))
+    # How glibc allocates (mallopt(3)). It would reserve 64 MiB or more of address space for each
+    # thread; and each recalculation takes some buffers of up to a megabyte for a moment, which it
+    # would give back to the kernel and get anew as empty pages, every time.
     "MALLOC_ARENA_MAX": "1",
+    "MALLOC_MMAP_THRESHOLD_": str(2 << 20),
+    "MALLOC_TRIM_THRESHOLD_": str(4 << 20),
 }
 
 # Numbers of Linux that Python has no names for.

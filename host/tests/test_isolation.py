@@ -172,6 +172,8 @@ class Worlds(unittest.TestCase):
             f"{ADDRESS_SPACE >> 10}",
             "the configuration",
             "MALLOC_ARENA_MAX=1",
+            "MALLOC_MMAP_THRESHOLD_=2097152",
+            "MALLOC_TRIM_THRESHOLD_=4194304",
         ):
             self.assertIn(line.strip(), [each.strip() for each in said])
 
