@@ -15,24 +15,34 @@ NEW_NETWORK = 0x40000000
 IP_HEADER = 20
 
 
-def grid(side: int, externals: int) -> tuple[dict[str, list], dict[str, list]]:
-    """Returns the links of each router, and of each external prefix its originator, type and metric."""
+def grid(side: int, externals: int, networks: int = 0) -> tuple[dict[str, list], dict[str, list], dict[str, list]]:
+    """Returns the links of each router; of each external prefix its originator, type and metric; and of so many of the
+    grid's links, which are transit networks, by the designated router's address the routers, that one first."""
     chance = random.Random(1)
     names = {(x, y): ospf.dotted(0x0A800000 + x * side + y + 1) for x in range(side) for y in range(side)}
     routers: dict[str, list] = {it: [] for it in names.values()}
+    transit: dict[str, list] = {}
+    count, links = 0, 2 * side * (side - 1)
     for (x, y), one in names.items():
         for dx, dy in ((1, 0), (0, 1)):
             if other := names.get((x + dx, y + dy)):
                 cost, link = chance.randint(1, 20), 0xAC000000 + ((x * side + y) * 2 + dx) * 4
-                routers[one].append([other, ospf.dotted(link + 1), 1, cost])
-                routers[other].append([one, ospf.dotted(link + 2), 1, cost])
-    for count, links in enumerate(routers.values()):
-        links.append([ospf.dotted(0x0B000000 + count), "255.255.255.255", 3, 1])
+                here, there = ospf.dotted(link + 1), ospf.dotted(link + 2)
+                count += 1
+                # (spread evenly over the links)
+                is_transit = count * networks // links > (count - 1) * networks // links
+                if is_transit:
+                    transit[here] = [one, other]
+                routers[one].append([here, here, 2, cost] if is_transit else [other, here, 1, cost])
+                routers[other].append([here, there, 2, cost] if is_transit else [one, there, 1, cost])
+    for count, each in enumerate(routers.values()):
+        each.append([ospf.dotted(0x0B000000 + count), "255.255.255.255", 3, 1])
     first = names[0, 0]
     routers[first].append([NEIGHBOR, "172.31.0.1", 1, 3])
     own = [[ROOT, "10.0.1.2", 1, 10], ["10.0.1.0", "255.255.255.0", 3, 10], [first, "172.31.0.2", 1, 3]]
-    announced = {prefix(count): [chance.choice(sorted(routers)), 1 + count % 2, chance.randint(1, 1000)] for count in range(externals)}
-    return routers | {NEIGHBOR: own}, announced
+    behind = sorted(routers)
+    announced = {prefix(count): [chance.choice(behind), 1 + count % 2, chance.randint(1, 1000)] for count in range(externals)}
+    return routers | {NEIGHBOR: own}, announced, transit
 
 
 def prefix(count: int) -> str:
@@ -87,14 +97,16 @@ class Wire(Datagrams):
 class Neighbor:
     """Brings a router to Full as the master of the exchange, and floods changes to it."""
 
-    def __init__(self, way: Datagrams, routers: dict[str, list], externals: dict[str, list]) -> None:
-        self.way, self.routers, self.externals = way, routers, externals
+    def __init__(self, way: Datagrams, routers: dict[str, list], externals: dict[str, list], networks: dict[str, list]) -> None:
+        self.way, self.routers, self.externals, self.networks = way, routers, externals, networks
         self.sequences: dict[str, int] = {}
         self.lsas: dict[tuple[int, str, str], bytes] = {}
         for name in routers:
             self.router(name)
         for name in externals:
             self.external(name)
+        for address in networks:
+            self.network(address)
         self.rest: list[bytes] = []
         self.said: tuple[int, int, list[bytes]] | None = None
         self.last, self.done, self.stop = 0.0, False, False
@@ -111,6 +123,11 @@ class Neighbor:
     def external(self, name: str) -> bytes:
         by, kind, metric = self.externals[name]
         made = self.lsas[5, name, by] = ospf.external_lsa(by, name, self.next(name), kind, metric)
+        return made
+
+    def network(self, address: str) -> bytes:
+        routers = self.networks[address]
+        made = self.lsas[2, address, routers[0]] = ospf.network_lsa(routers[0], address, self.next(address), routers)
         return made
 
     def update(self, lsas: list[bytes]) -> None:

@@ -57,6 +57,12 @@ def router_lsa(router: str, sequence: int, links: list[list]) -> bytes:
     return sealed(1, router, router, sequence, body)
 
 
+def network_lsa(router: str, address: str, sequence: int, attached: list[str]) -> bytes:
+    """Returns the LSA of a transit network of prefix length 30, by its designated router."""
+    body = struct.pack(">I", number_of("255.255.255.252"))
+    return sealed(2, address, router, sequence, body + b"".join(number_of(it).to_bytes(4, "big") for it in attached))
+
+
 def external_lsa(router: str, prefix: str, sequence: int, kind: int, metric: int) -> bytes:
     """Returns the LSA of a prefix of length 24, of metric type 1 or 2."""
     kind_and_metric = (0x80000000 if kind == 2 else 0) | metric
