@@ -97,8 +97,9 @@ class Wire(Datagrams):
 class Neighbor:
     """Brings a router to Full as the master of the exchange, and floods changes to it."""
 
-    def __init__(self, way: Datagrams, routers: dict[str, list], externals: dict[str, list], networks: dict[str, list]) -> None:
-        self.way, self.routers, self.externals, self.networks = way, routers, externals, networks
+    def __init__(self, way: Datagrams, routers: dict[str, list], externals: dict[str, list], networks: dict[str, list],
+                 dead: int = DEAD_INTERVAL) -> None:
+        self.way, self.routers, self.externals, self.networks, self.dead = way, routers, externals, networks, dead
         self.sequences: dict[str, int] = {}
         self.lsas: dict[tuple[int, str, str], bytes] = {}
         for name in routers:
@@ -147,7 +148,7 @@ class Neighbor:
         while not self.stop:
             if time.monotonic() >= due:
                 due = time.monotonic() + HELLO_INTERVAL
-                self.way.put(ospf.hello(NEIGHBOR, HELLO_INTERVAL, DEAD_INTERVAL, [ROOT]))
+                self.way.put(ospf.hello(NEIGHBOR, HELLO_INTERVAL, self.dead, [ROOT]))
                 if self.said and not self.done and time.monotonic() - self.last > 3:
                     self.describe(*self.said)
             try:
