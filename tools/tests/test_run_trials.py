@@ -61,6 +61,20 @@ nothing new
 """
         self.assertEqual(self.play(rows), (0, "run-trials: 1 cases, 4 commands, 0 wrong\n"))
 
+    def test_a_packet_has_its_length_and_checksum(self):
+        rows = """let HELLO {packet 1 1.1.1.1 ffffff00000a0201000000280000000000000000 02020202}
+== a Hello and an empty Database Description of the documents, and an Update of one LSA, as {update} makes it
+file text
+| {HELLO} {packet 2 1.1.1.1 2000 02 07 00000000}
+| {update 1 7 1}
+$ routerd read text
+> 020100300101010100000000f69400000000000000000000ffffff00000a020100000028000000000000000002020202 {packet 2 1.1.1.1 20000207 00000000}
+> {packet 4 2.2.2.2 00000001 lsas:1:2.2.2.2:7:1}
+~ d9d4000000000000000000002000020700000000
+= 0
+"""
+        self.assertEqual(self.play(rows), (0, "run-trials: 1 cases, 1 commands, 0 wrong\n"))
+
     def test_what_is_otherwise_is_told(self):
         for wrong in ("> 8\n= 0", "> 7\n= 1", "~ 8\n= 0", "- 7\n= 0", "= 0", "> 7\n! usage\n= 0"):
             with self.subTest(wrong):

@@ -62,8 +62,11 @@ const COMMANDS: &[(&str, &str)] = &[
 ];
 
 fn says(alloc: Global, line: &str) -> Result<String, AllocError> {
-    let command = read_command(alloc, line)?;
-    format!(in alloc; "{command:?}")
+    let command = read_command(alloc, line);
+    match &command {
+        Ok(found) => format!(in alloc; "{found:?}"),
+        Err(_) => Err(AllocError),
+    }
 }
 
 #[test]
