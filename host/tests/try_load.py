@@ -36,11 +36,15 @@ from tests.test_topology import lsa
 COUNT, TIMES = 10_000, 3
 PROBE = """
 import socket, sys, time
-away, targets, lost = {}, sys.argv[2:], 0.0
+away, targets, lost, told = {}, sys.argv[2:], 0.0, 0.0
+def said(name):
+    return open("/sys/class/net/eth1/" + name).read().strip()
 print("ready", flush=True)
 while time.monotonic() < float(sys.argv[1]) and len(away) < len(targets):
-    if not lost and open("/sys/class/net/eth1/operstate").read() != "up\\n":
+    if not lost and said("carrier") != "1":
         lost = time.monotonic()
+    if not told and said("operstate") != "up":
+        told = time.monotonic()
     for each in targets:
         with socket.socket(socket.AF_INET, socket.SOCK_DGRAM) as one:
             try:
@@ -51,11 +55,12 @@ while time.monotonic() < float(sys.argv[1]) and len(away) < len(targets):
         if by == "10.0.2.1":
             away.setdefault(each, time.monotonic())
     time.sleep(0.001)
-print(f"{lost:.4f}", *(f"{away.get(each, 0.0):.4f}" for each in targets))
+print(f"{told or lost:.4f}", *(f"{away.get(each, 0.0):.4f}" for each in targets))
 """
-"""When the kernel tells that the first link has no carrier (which it does once a second at most,
-for all namespaces together: Linux, net/core/link_watch.c), and by when it sends packets to each
-target from 10.0.2.1, the second link's address."""
+"""When the kernel tells that the first link has no carrier (where others have lost theirs a moment
+ago, in whatever namespace, up to a second late: Linux, net/core/link_watch.c), or, where somebody
+acts before that, since he looks by himself (BIRD does each second), when the carrier was lost; and
+by when the kernel sends packets to each target from 10.0.2.1, the second link's address."""
 
 
 class Slowness:
@@ -145,9 +150,10 @@ class Two:
         return sum(int((each / "schedstat").read_text().split()[0]) for each in tasks.iterdir()) / 1e6
 
     def outage(self) -> float:
-        """Seconds from the kernel's word that the first link has lost its carrier until packets go
-        by the second, the median of first, middle and last destination; without what the router's
-        programs waited for a processor, of which the two that are compared don't get the same."""
+        """Seconds from the kernel's word that the first link has lost its carrier (PROBE) until
+        packets go by the second, the median of first, middle and last destination; without what
+        the router's programs waited for a processor, of which the two that are compared don't get
+        the same."""
         targets = [self.target(at) for at in (0, COUNT // 2, -1)]
         words = ["ip", "netns", "exec", self.own, sys.executable, "-c", PROBE]
         words += [f"{time.monotonic() + 20}", *targets]
