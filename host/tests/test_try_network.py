@@ -14,7 +14,7 @@ from collections.abc import Callable
 from pathlib import Path
 from unittest import mock
 
-from tests import network
+from tests import network, try_bfd
 
 PROGRAM = Path(__file__).resolve().parent.parent / "try-network"
 loader = importlib.machinery.SourceFileLoader("try_network", str(PROGRAM))
@@ -123,6 +123,25 @@ class Waited(unittest.TestCase):
 
     def test_of_this_process(self) -> None:
         self.assertGreaterEqual(network.waited([str(os.getpid())]), 0)
+
+
+class Locked(unittest.TestCase):
+    def test_what_falls_between(self) -> None:
+        with tempfile.TemporaryDirectory() as room:
+            own = mock.Mock(work=Path(room))
+            it = try_bfd.Locked(own, "a namespace")
+            (Path(room) / "locked").write_text("10.0 10.5\n12.0 13.0\n14.5 16.0\n17.0")
+            for first, last, seconds in (
+                (0, 9, 0),
+                (0, 20, 3.0),
+                (10.25, 15, 1.75),
+                (12.5, 12.75, 0.25),
+            ):
+                with self.subTest(first=first, last=last):
+                    self.assertEqual(it.between(first, last), seconds)
+
+    def test_it_is_a_program(self) -> None:
+        compile(try_bfd.LOCKED, "LOCKED", "exec")
 
 
 class Within(unittest.TestCase):

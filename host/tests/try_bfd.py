@@ -46,7 +46,7 @@ BETWEEN_ROUTER_LSAS = 6
 MOST_DISTURBED = 4
 """How often an outage is tried once more, since another session fell by the other end's silence."""
 TOLD = 0.2
-"""Seconds of waiting for a processor that are told of."""
+"""Seconds of such waiting that are told of."""
 DETECTION = 0.9
 """Seconds: the detection time of `Bfd()`."""
 HEARD = "udp dst port 3784 and not src port 50000"
@@ -84,6 +84,22 @@ with socket.socket(socket.AF_INET, socket.SOCK_DGRAM) as one:
 print(sent)
 """
 """The same, again and again, with a digest by another key."""
+LOCKED = """
+import fcntl, socket, struct, time
+def waited():
+    return int(open("/proc/self/schedstat").read().split()[1]) / 1e9
+queue_of_lo = struct.pack("16si20x", b"lo", 1000)
+with socket.socket(socket.AF_INET, socket.SOCK_DGRAM) as one:
+    while True:
+        began, before = time.monotonic(), waited()
+        fcntl.ioctl(one, 0x8943, queue_of_lo)
+        took = time.monotonic() - began - (waited() - before)
+        if took > 0.02:
+            print(f"{began:.4f} {began + took:.4f}", flush=True)
+        time.sleep(0.02)
+"""
+"""Sets the length of a queue to what it is (SIOCSIFTXQLEN, netdevice(7)), again and again, and says
+when that took long for another reason than that it had no processor."""
 RATE, SECONDS_OF_FLOOD = 40_000, 8
 WASTE = "while True: pass"
 LOAD, SECONDS_OF_LOAD = 8, 600
@@ -155,6 +171,24 @@ def falls_of(lines: list[str], heards: dict[str, Heard]) -> tuple[list[str], lis
     return of_box, of_other
 
 
+class Locked:
+    """How long the kernel kept any change of links and routes waiting: one lock is held for it,
+    which all network namespaces of the machine share (rtnl_lock, Linux, net/core/rtnetlink.c), so
+    those of other parts of a try too."""
+
+    def __init__(self, network: Network, namespace: str) -> None:
+        self._file = network.work / "locked"
+        with open(self._file, "w", encoding="utf-8") as it:
+            words = [sys.executable, "-c", LOCKED]
+            network.start(namespace, words, network.work / "heard", stdout=it.fileno())
+
+    def between(self, first: float, last: float) -> float:
+        """Seconds between two moments of the clock that nobody sets."""
+        waits = (line.split() for line in self._file.read_text().splitlines())
+        spans = [(float(words[0]), float(words[1])) for words in waits if len(words) == 2]
+        return sum(max(0.0, min(to, last) - max(at, first)) for at, to in spans)
+
+
 class Watched:
     """The router that is tried, 1.1.1.1, has two links with BFD to 2.2.2.2, by bridges that may
     fall silent; the first is the better one."""
@@ -186,6 +220,7 @@ class Watched:
         self.neighbor = router_of(neighbor, given, network, self.far, 2, sides)
         names = ("eth1", "eth2") if tried == "a box" else ()
         self.heard = {each: Heard(network, self.own, each) for each in names}
+        self.locked = Locked(network, self.own)
 
     def start(self) -> None:
         self.neighbor.start()
@@ -217,7 +252,8 @@ class Watched:
 
     def outage(self, fail: Callable[[], None] | None = None) -> float:
         """Seconds from the first link's silence, or another failure, until packets go by the
-        second, without what the router's programs waited for a processor."""
+        second, without what the router's programs waited for a processor, and the kernel's lock
+        was others'."""
         words = ["ip", "netns", "exec", self.own, sys.executable, "-c", PROBE]
         words += [f"{time.monotonic() + 20}", TARGET]
         probe = subprocess.Popen(words, stdout=subprocess.PIPE, text=True)
@@ -228,11 +264,13 @@ class Watched:
         (fail or (lambda: self.network.silence(self.bridges[0])))()
         began = time.monotonic()
         moment = float(probe.communicate()[0].split()[1])
-        kept = waited(programs) - before
-        if kept > TOLD:
-            said = f"{kept:.2f} s waited for a processor, of {moment - began:.2f} s"
-            print(f"     {said}", flush=True)
-        return moment - began - kept if moment else math.inf
+        if not moment:
+            return math.inf
+        kept, locked = waited(programs) - before, self.locked.between(began, moment)
+        if kept + locked > TOLD:
+            said = f"{kept:.2f} s waited for a processor, and {locked:.2f} s for the kernel's lock"
+            print(f"     {said}, of {moment - began:.2f} s", flush=True)
+        return moment - began - kept - locked
 
     def box_log(self) -> list[str]:
         assert isinstance(self.tried, Box)
