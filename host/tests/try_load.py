@@ -10,7 +10,7 @@ import sys
 import threading
 import time
 from collections.abc import Callable
-from contextlib import closing
+from contextlib import closing, suppress
 from pathlib import Path
 
 from leafrunt_host.withheld import Database, fault
@@ -146,8 +146,11 @@ class Two:
     def processor(self) -> float:
         """What the box's own process has taken of a processor, in milliseconds."""
         assert isinstance(self.tried, Box) and self.tried.process
-        tasks = Path(f"/proc/{self.tried.process.pid}/task")
-        return sum(int((each / "schedstat").read_text().split()[0]) for each in tasks.iterdir()) / 1e6
+        nanoseconds = 0
+        for each in Path(f"/proc/{self.tried.process.pid}/task").glob("*/schedstat"):
+            with suppress(OSError):  # (a thread that has ended meanwhile)
+                nanoseconds += int(each.read_text().split()[0])
+        return nanoseconds / 1e6
 
     def outage(self) -> float:
         """Seconds from the kernel's word that the first link has lost its carrier (PROBE) until
