@@ -104,6 +104,17 @@ def total(looks: Looks, seconds: float, loads: list[float]) -> str:
     return "; ".join([said, *looks.bad])
 
 
+def taken(waiting: list[tuple[int, str]], running: list[Playing]) -> tuple[int, str] | None:
+    """Takes what is begun next, a round's number and a part: the first one that isn't being played
+    for an earlier round, beside which it would share what few parts do, such as the processor time
+    of real-time classes; None where there is none."""
+    busy = {each.part for each in running}
+    found = next((each for each in waiting if each[1] not in busy), None)
+    if found:
+        waiting.remove(found)
+    return found
+
+
 def played(parts: list[str], words: Callable[[str], list[str]], lanes: int, times: int) -> bool:
     """Plays the parts so many times, always so many of them at once: where no part of a round
     waits, those of the next begin. Whether all looks of all rounds were good."""
@@ -113,8 +124,8 @@ def played(parts: list[str], words: Callable[[str], list[str]], lanes: int, time
     told = in_a_row = 0
     try:
         while running or waiting:
-            while waiting and len(running) < lanes:
-                number, part = waiting.pop(0)
+            while len(running) < lanes and (begun := taken(waiting, running)):
+                number, part = begun
                 rounds[number].began = rounds[number].began or time.monotonic()
                 running.append(Playing(number, part, words(part)))
             time.sleep(LOOKS_EACH)

@@ -32,7 +32,11 @@ if part == "endless":
     open(f"{folder}/endless.pid", "w").write(str(os.getpid()))
     time.sleep(60)
 _, is_after, other = part.partition("-until-")
-while is_after and f"ended {other}" not in open(f"{folder}/order").read():
+other, _, times = other.partition("-")
+last = time.monotonic() + 10
+while is_after and open(f"{folder}/order").read().count(f"ended {other}\\n") < int(times or 1):
+    if time.monotonic() > last:
+        break
     time.sleep(0.05)
 print(f"yes  {part}: looked at")
 if part.startswith("bad"):
@@ -118,6 +122,12 @@ class Lanes(unittest.TestCase):
         order = self.order()
         self.assertLess(order.index("ended b"), order.index("ended a-until-b"))
         self.assertIn("round 2 of 2: 2 in a row without a NO", said)
+
+    def test_no_part_beside_itself(self) -> None:
+        """One that is still played for an earlier round isn't begun for the next."""
+        self.played(["a-until-b-2", "b"], 2, 2)
+        its = [each.split()[0] for each in self.order() if each.endswith("a-until-b-2")]
+        self.assertEqual(its, ["begun", "ended"] * 2)
 
     def test_it_is_interrupted(self) -> None:
         """The parts are ended, and waited for until they have removed what they made; a second
