@@ -20,6 +20,7 @@ from dataclasses import dataclass, field
 from datetime import datetime
 from ipaddress import IPv4Address, IPv4Interface
 from pathlib import Path
+from typing import ClassVar
 
 from leafrunt_host.client import Client
 from leafrunt_host.kernel import Json
@@ -159,15 +160,19 @@ NOT_FULL = (None, "Init", "Down", "ExStart", "Exchange", "2-Way")
 class Network:
     """Namespaces, links and programs, ended and removed by `close`."""
 
+    made: ClassVar[list[Network]] = []
+    """Those that aren't closed yet: whoever is ended while he makes one can't close it."""
+
     def __init__(self) -> None:
         remove_stale()
-        self.work = Path(tempfile.mkdtemp(prefix=f"{PREFIX}-{os.getpid()}-"))
-        self.work.chmod(0o711)
         self._namespaces: list[str] = []
         self._running: list[subprocess.Popen[str]] = []
         self._pairs: list[str] = []
         self._bridges = 0
         self._wires: subprocess.Popen[str] | None = None
+        self.work = Path(tempfile.mkdtemp(prefix=f"{PREFIX}-{os.getpid()}-"))
+        self.made.append(self)
+        self.work.chmod(0o711)
 
     def name(self, short: str) -> str:
         return f"{PREFIX}-{os.getpid()}-{short}"
@@ -338,6 +343,8 @@ class Network:
             output("ip", "netns", "del", name)
         shutil.rmtree(self.work, ignore_errors=True)
         self._namespaces.clear()
+        if self in self.made:
+            self.made.remove(self)
         return left
 
 

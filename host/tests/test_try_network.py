@@ -63,6 +63,21 @@ class Parts(unittest.TestCase):
         own.close.assert_called_once()
 
 
+    def test_a_part_that_is_ended_while_it_makes_a_network(self) -> None:
+        """Nobody but the list of all has it; nothing of it is left."""
+        made: list[network.Network] = []
+
+        def part(_: network.Try) -> None:
+            made.append(network.Network())
+            raise KeyboardInterrupt
+
+        looks = network.Looks()
+        with mock.patch("tests.network.remove_stale"), self.assertRaises(KeyboardInterrupt):
+            try_network.tried(part, looks, Path("routerd"))
+        self.assertEqual([each.work.exists() for each in made], [False])
+        self.assertEqual(network.Network.made, [])
+
+
 class Rounds(unittest.TestCase):
     def test_how_many_in_a_row(self) -> None:
         """A NO begins the count anew, and makes the status 1."""
