@@ -301,6 +301,10 @@ class AsAProcess(unittest.TestCase):
         said = self.sessions.report(1)
         return said["state"] if said else None
 
+    def diagnostic(self) -> str | None:
+        said = self.sessions.report(1)
+        return said["diagnostic"] if said else None
+
     def come_up(self, multiplier: int = PATIENT) -> int:
         """The session is Up; its discriminator."""
         self.sessions.follow(1, Neighbor(IPv4Address(THERE), 1), is_two_way=True)
@@ -321,9 +325,8 @@ class AsAProcess(unittest.TestCase):
         self.assertTrue(self.sessions.is_cut(1))
         self.sessions.is_known(1)
         self.assertFalse(self.sessions.is_cut(1))
-        said = self.sessions.report(1)
-        assert said
-        self.assertEqual(said["diagnostic"], "control detection time expired")
+        # (the process tells of the loss before its next report says why)
+        self.until(lambda: self.diagnostic() == "control detection time expired")
         self.sessions.follow(1, None, is_two_way=False)
         self.assertIsNone(self.state())
         self.assertEqual(self.lost, [1])
