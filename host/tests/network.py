@@ -379,27 +379,39 @@ def family(started: subprocess.Popen[str] | None) -> list[str]:
     return [str(started.pid), *(child for each in tasks for child in each.read_text().split())]
 
 
-def waited(processes: Iterable[str], places: Path = Path("/proc")) -> float:
-    """Seconds that processes have waited for a processor so far, all their threads together
-    (proc(5), the file `schedstat`): a busy machine's part of what they take, where one waits for
-    the other."""
-    total = 0
-    for process in processes:
-        for task in places.glob(f"{process}/task/*/schedstat"):
+class Waiting:
+    """How long programs wait for a processor from now on (proc(5), the file `schedstat`): a busy
+    machine's part of what they take. Of each program that thread counts which waited longest, as
+    its threads wait side by side; where one program needs the other, both wait."""
+
+    def __init__(self, programs: Iterable[str], places: Path = Path("/proc")) -> None:
+        self._programs, self._places = list(programs), places
+        self._before = {each: self._of(each) for each in self._programs}
+
+    def _of(self, program: str) -> dict[str, int]:
+        """The nanoseconds of each of its threads."""
+        found = {}
+        for task in self._places.glob(f"{program}/task/*"):
             with contextlib.suppress(OSError):
-                total += int(task.read_text().split()[1])
-    return total / 1e9
+                found[task.name] = int((task / "schedstat").read_text().split()[1])
+        return found
+
+    def seconds(self) -> float:
+        total = 0
+        for each, before in self._before.items():
+            now = self._of(each).items()
+            total += max((there - before.get(task, 0) for task, there in now), default=0)
+        return total / 1e9
 
 
 def within_own(
-    seconds: float, succeeds: Callable[[], object], processes: Iterable[str], each: float = 0.2
+    seconds: float, succeeds: Callable[[], object], programs: Iterable[str], each: float = 0.2
 ) -> tuple[bool, str]:
-    """Whether it succeeds within that time, without what these processes waited for a processor
+    """Whether it succeeds within that time, without what these programs waited for a processor
     meanwhile; and after how long it did."""
-    these = list(processes)
-    before = waited(these)
+    waiting = Waiting(programs)
     took = within(3 * seconds, succeeds, each)
-    kept = waited(these) - before
+    kept = waiting.seconds()
     said = f"not within {3 * seconds:g} s" if took is None else f"after {took:.2f} s"
     said += f", of which they waited {kept:.2f} s for a processor" if kept >= 1 else ""
     return took is not None and took - kept <= seconds, said

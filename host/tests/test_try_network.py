@@ -115,16 +115,23 @@ class SideBySide(unittest.TestCase):
 
 
 class Waited(unittest.TestCase):
-    def test_of_all_threads(self) -> None:
-        """Of the processes that are named, those that have ended apart; in nanoseconds, the second
-        of three numbers (the kernel's Documentation/scheduler/sched-stats.rst)."""
+    def test_of_threads_and_programs(self) -> None:
+        """From the beginning on, in nanoseconds, the second of three numbers (the kernel's
+        Documentation/scheduler/sched-stats.rst): of each program its longest; one has ended."""
         with tempfile.TemporaryDirectory() as room:
-            for process, task, nanoseconds in (("7", "7", 1e9), ("7", "8", 5e8), ("9", "9", 4e9)):
-                place = Path(room, process, "task", task)
-                place.mkdir(parents=True)
-                (place / "schedstat").write_text(f"99000000000 {nanoseconds:.0f} 12\n")
-            self.assertEqual(network.waited(["7", "5"], Path(room)), 1.5)
-            self.assertEqual(network.waited(["7", "9"], Path(room)), 5.5)
+
+            def are(**seconds: float) -> None:
+                for name, waited in seconds.items():
+                    _, program, task = name.split("_")
+                    place = Path(room, program, "task", task)
+                    place.mkdir(parents=True, exist_ok=True)
+                    (place / "schedstat").write_text(f"99000000000 {waited * 1e9:.0f} 12\n")
+
+            are(of_7_7=20, of_7_8=3, of_9_9=1, of_4_4=50)
+            waiting = network.Waiting(iter(["7", "9", "5"]), Path(room))
+            self.assertEqual(waiting.seconds(), 0)
+            are(of_7_7=20.5, of_7_8=5, of_7_9=1, of_9_9=1.25, of_4_4=60)
+            self.assertEqual(waiting.seconds(), 2.25)
 
     def test_a_program_and_what_it_started(self) -> None:
         words = ["sh", "-c", "sleep 60 & echo $!; wait"]
@@ -137,7 +144,7 @@ class Waited(unittest.TestCase):
         self.assertEqual(network.family(None), [])
 
     def test_of_this_process(self) -> None:
-        self.assertGreaterEqual(network.waited([str(os.getpid())]), 0)
+        self.assertGreaterEqual(network.Waiting([str(os.getpid())]).seconds(), 0)
 
 
 class Locked(unittest.TestCase):
@@ -195,21 +202,21 @@ class Within(unittest.TestCase):
 
 
     def test_without_what_they_waited(self) -> None:
-        """For a processor, in all: 20 seconds before the look, and 3 more in it."""
+        """For a processor: 3 seconds."""
         for from_then_on, is_good, said in (
             (3.9, True, "after 4.00 s, of which they waited 3.00 s for a processor"),
             (6.9, True, "after 7.00 s, of which they waited 3.00 s for a processor"),
             (7.1, False, "after 7.50 s, of which they waited 3.00 s for a processor"),
             (12.1, False, "not within 12 s, of which they waited 3.00 s for a processor"),
         ):
-            with self.subTest(said), mock.patch("tests.network.waited", side_effect=(20.0, 23.0)):
+            with self.subTest(said), mock.patch("tests.network.Waiting") as waiting:
+                waiting.return_value.seconds.return_value = 3.0
                 self.now = 0.0
-                found = network.within_own(4, self.look(0.0, from_then_on), iter("7"), 0.5)
+                found = network.within_own(4, self.look(0.0, from_then_on), ["7"], 0.5)
                 self.assertEqual(found, (is_good, said))
-        with mock.patch("tests.network.waited", side_effect=(20.0, 20.0)):
-            self.now = 0.0
-            found = network.within_own(4, self.look(0.0, 3.9), ["7"], 0.5)
-            self.assertEqual(found, (True, "after 4.00 s"))
+        self.now = 0.0
+        found = network.within_own(4, self.look(0.0, 3.9), [], 0.5)
+        self.assertEqual(found, (True, "after 4.00 s"))
 
 
 if __name__ == "__main__":

@@ -26,12 +26,12 @@ from tests.network import (
     Secret,
     Side,
     Try,
+    Waiting,
     is_full,
     is_said,
     line_of,
     output,
     run,
-    waited,
     within,
 )
 from tests.try_load import PROBE
@@ -259,14 +259,13 @@ class Watched:
         probe = subprocess.Popen(words, stdout=subprocess.PIPE, text=True)
         assert probe.stdout
         probe.stdout.readline()
-        programs = self.tried.programs()
-        before = waited(programs)
+        waiting = Waiting(self.tried.programs())
         (fail or (lambda: self.network.silence(self.bridges[0])))()
         began = time.monotonic()
         moment = float(probe.communicate()[0].split()[1])
         if not moment:
             return math.inf
-        kept, locked = waited(programs) - before, self.locked.between(began, moment)
+        kept, locked = waiting.seconds(), self.locked.between(began, moment)
         if kept + locked > TOLD:
             said = f"{kept:.2f} s waited for a processor, and {locked:.2f} s for the kernel's lock"
             print(f"     {said}, of {moment - began:.2f} s", flush=True)

@@ -23,11 +23,11 @@ from tests.network import (
     Network,
     Side,
     Try,
+    Waiting,
     is_full,
     output,
     prefixes,
     run,
-    waited,
     within,
 )
 from tests.pty_terminal import Terminal
@@ -167,11 +167,10 @@ class Two:
         assert probe.stdout
         probe.stdout.readline()
         time.sleep(1)
-        programs = self.tried.programs()
-        before = waited(programs)
+        waiting = Waiting(self.tried.programs())
         cut.communicate("link set eth1 down\n")
         lost, *away = (float(each) for each in probe.communicate()[0].split())
-        kept = waited(programs) - before
+        kept = waiting.seconds()
         return statistics.median(away) - lost - kept if lost and all(away) else math.inf
 
     def close(self) -> None:

@@ -23,10 +23,10 @@ from tests.network import (
     Secret,
     Side,
     Try,
+    Waiting,
     is_full,
     output,
     run,
-    waited,
     within,
 )
 from tests.try_prompt import Noticed
@@ -203,12 +203,12 @@ def outlived(it: Pair, kind: str, rate: float, seconds: float) -> tuple[bool, st
     """Whether the neighbor stays Full under a flood, what was seen, and how long the router's
     programs waited for a processor meanwhile. (Without one nobody looks at a packet, and what has
     no room is lost, the neighbor's Hellos among it.)"""
-    programs, box = it.tried.programs(), it.tried if isinstance(it.tried, Box) else None
-    before, lines = waited(programs), len(box.log_lines()) if box else 0
+    box = it.tried if isinstance(it.tried, Box) else None
+    waiting, lines = Waiting(it.tried.programs()), len(box.log_lines()) if box else 0
     attack = it.attack(kind, it.next, "224.0.0.5", seconds, rate)
     sent = attack.communicate()[0].strip()
     it.network.stop(attack)
-    kept, is_up = waited(programs) - before, it.is_up()
+    kept, is_up = waiting.seconds(), it.is_up()
     log = box.log_lines()[lines:] if box else []
     changes = [each for each in log if "2.2.2.2 Full ->" in each]
     seen = [sent, f"{kept:.1f} s waited for a processor", *changes]
