@@ -1,6 +1,7 @@
 -- A result has no more bits than its width.
 use Rattle.std.proofs.Common.{◌≡◌, ℕ, zero, suc, ◌/◌, ◌%◌, ◌<◌, ◌≤◌, ◌^◌, Bool, true, false, arith}
-use Rattle.std.specs.Prelude.{ℤ, pos, negsuc, neg_ℤ, ◌==◌, unsigned_abs, int_div, int_rem, if◌then◌else◌}
+use Rattle.std.specs.Prelude.{ℤ, pos, negsuc, neg_ℤ, ◌==◌, unsigned_abs, int_div, int_rem}
+use Rattle.std.specs.Prelude.{if◌then◌else◌}
 use Rattle.std.specs.Int.{int_shr}
 use Rattle.std.proofs.Math.Nat.{div-le_self}
 use Rattle.std.proofs.lemmas.Int.{ints}
@@ -8,14 +9,18 @@ use Rattle.std.proofs.lemmas.Nat.{and_le_l, or_lt, xor_lt}
 use Rattle.isa.specs.declared.instruction.Width.{Width}
 use Rattle.isa.specs.declared.instruction.Width.TheVariants.{Bits32, Bits64}
 use Rattle.isa.specs.declared.instruction.Operation.{Operation}
-use Rattle.isa.specs.declared.instruction.Operation.TheVariants.{Add, Subtract, Multiply, Divide, SignedDivide, Or, And, ShiftLeft, ShiftRight, Modulo, SignedModulo, Xor, Move, ArithmeticShiftRight}
+use Rattle.isa.specs.declared.instruction.Operation.TheVariants.{Add, Subtract, Multiply, Divide}
+use Rattle.isa.specs.declared.instruction.Operation.TheVariants.{SignedDivide, Or, And, ShiftLeft}
+use Rattle.isa.specs.declared.instruction.Operation.TheVariants.{ShiftRight, Modulo, SignedModulo}
+use Rattle.isa.specs.declared.instruction.Operation.TheVariants.{Xor, Move, ArithmeticShiftRight}
 use Rattle.isa.specs.declared.instruction.Extension.{Extension}
 use Rattle.isa.specs.declared.instruction.Extension.TheVariants as extensions
 use Rattle.isa.specs.declared.instruction.ByteOrder.{ByteOrder}
 use Rattle.isa.specs.declared.instruction.ByteOrder.TheVariants as orders
 use Rattle.isa.specs.declared.instruction.SwapWidth.{SwapWidth}
 use Rattle.isa.specs.declared.instruction.SwapWidth.TheVariants as swaps
-use Rattle.isa.specs.Arithmetic.{bits, low, signed, unsigned, operate, sign_extended, in_byte_order, swap_modulus}
+use Rattle.isa.specs.Arithmetic.{bits, low, signed, unsigned, operate, sign_extended, in_byte_order}
+use Rattle.isa.specs.Arithmetic.{swap_modulus}
 use Rattle.absdom.specs.declared.unary.UnaryOperation.{UnaryOperation}
 use Rattle.absdom.specs.declared.unary.UnaryOperation.TheVariants.{Negate, Extend, Reorder}
 use Rattle.absdom.specs.Unary.{unary_result, unary_modulus}
@@ -75,33 +80,42 @@ modulo_below m a b small = omega arith
 quotient_below : (m a b : ℕ) → a < m → a / b < m
 quotient_below m a b small = omega (arith, div-le_self a b)
 
-pub operate_below : (w : Width) (operation : Operation) (a b : ℕ) → a < 2 ^ bits w → b < 2 ^ bits w → operate w operation a b < 2 ^ bits w
+pub operate_below : (w : Width) (operation : Operation) (a b : ℕ) → a < 2 ^ bits w → b < 2 ^ bits w
+    → operate w operation a b < 2 ^ bits w
 operate_below w Add a b left right = low_below w _
 operate_below w Subtract a b left right = low_below w _
 operate_below w Multiply a b left right = low_below w _
-operate_below w Divide a b left right = choice_below _ 0 (a / b) (b == 0) (power_some w) (quotient_below _ a b left)
+operate_below w Divide a b left right =
+    choice_below _ 0 (a / b) (b == 0) (power_some w) (quotient_below _ a b left)
 operate_below w SignedDivide a b left right =
-    choice_below _ 0 _ (b == 0) (power_some w) (unsigned_below w (int_div (signed w a) (signed w b)) (omega (arith, quotient_near (signed w a) (signed w b), signed_near w a left)))
+    choice_below _ 0 _ (b == 0) (power_some w)
+    (unsigned_below w (int_div (signed w a) (signed w b))
+    (omega (arith, quotient_near (signed w a) (signed w b), signed_near w a left)))
 operate_below w Or a b left right = or_lt (bits w) a b left right
 operate_below w And a b left right = omega (arith, and_le_l a b)
 operate_below w ShiftLeft a b left right = low_below w _
 operate_below w ShiftRight a b left right = quotient_below _ a (2 ^ (b % bits w)) left
-operate_below w Modulo a b left right = choice_below _ a (a % b) (b == 0) left (modulo_below _ a b left)
+operate_below w Modulo a b left right =
+    choice_below _ a (a % b) (b == 0) left (modulo_below _ a b left)
 operate_below w SignedModulo a b left right =
-    choice_below _ a _ (b == 0) left (unsigned_below w (int_rem (signed w a) (signed w b)) (omega (arith, remainder_near (signed w a) (signed w b), signed_near w a left)))
+    choice_below _ a _ (b == 0) left (unsigned_below w (int_rem (signed w a) (signed w b))
+    (omega (arith, remainder_near (signed w a) (signed w b), signed_near w a left)))
 operate_below w Xor a b left right = xor_lt (bits w) a b left right
 operate_below w Move a b left right = right
 operate_below w ArithmeticShiftRight a b left right =
-    unsigned_below w (int_shr (signed w a) (b % bits w)) (omega (arith, shifted_near (signed w a) (b % bits w), signed_near w a left))
+    unsigned_below w (int_shr (signed w a) (b % bits w))
+    (omega (arith, shifted_near (signed w a) (b % bits w), signed_near w a left))
 
-extended_below : (extension : Extension) (n : ℕ) → sign_extended extension n < unary_modulus (Extend extension)
+extended_below : (extension : Extension) (n : ℕ)
+    → sign_extended extension n < unary_modulus (Extend extension)
 extended_below (extensions.Byte Bits32) n = grind (arith, ints)
 extended_below (extensions.Byte Bits64) n = grind (arith, ints)
 extended_below (extensions.Half Bits32) n = grind (arith, ints)
 extended_below (extensions.Half Bits64) n = grind (arith, ints)
 extended_below extensions.Word n = grind (arith, ints)
 
-reordered_below : (order : ByteOrder) (w : SwapWidth) (n : ℕ) → in_byte_order order w n < swap_modulus w
+reordered_below : (order : ByteOrder) (w : SwapWidth) (n : ℕ)
+    → in_byte_order order w n < swap_modulus w
 reordered_below orders.Little swaps.Bits16 n = omega arith
 reordered_below orders.Little swaps.Bits32 n = omega arith
 reordered_below orders.Little swaps.Bits64 n = omega arith
@@ -112,7 +126,8 @@ reordered_below orders.Swap swaps.Bits16 n = omega arith
 reordered_below orders.Swap swaps.Bits32 n = omega arith
 reordered_below orders.Swap swaps.Bits64 n = omega arith
 
-pub unary_below : (operation : UnaryOperation) (n : ℕ) → unary_result operation n < unary_modulus operation
+pub unary_below : (operation : UnaryOperation) (n : ℕ)
+    → unary_result operation n < unary_modulus operation
 unary_below (Negate w) n = low_below w _
 unary_below (Extend extension) n = extended_below extension n
 unary_below (Reorder order w) n = reordered_below order w n

@@ -1,5 +1,6 @@
 -- Facts about a neighbor's lists that every step keeps.
-use Rattle.std.proofs.Common.{◌≡◌, ℕ, Bool, true, false, cond, not, ◌&&◌, ◌||◌, List, take, drop, is_some, Option, None, Some, refl, sym, ap, ◌∙◌, true≢false}
+use Rattle.std.proofs.Common.{◌≡◌, ℕ, Bool, true, false, cond, not, ◌&&◌, ◌||◌, List, take, drop}
+use Rattle.std.proofs.Common.{is_some, Option, None, Some, refl, sym, ap, ◌∙◌, true≢false}
 use Rattle.std.specs.Prelude.{◌==◌}
 use Rattle.std.specs.List.{list_any}
 use Rattle.std.specs.FinMap as finite
@@ -14,7 +15,8 @@ use Rattle.lsdb.proofs.Keys.{keys_exact, keys_total}
 use Rattle.adjacency.specs.declared.state.State.{State}
 use Rattle.adjacency.specs.declared.state.State.TheVariants.{Init, ExStart, Exchange, Loading, Full}
 use Rattle.adjacency.specs.Lists.{HasSoundLists, IsDoneWhereFull, IsOutstandingRequested}
-use Rattle.adjacency.specs.Neighbors.{Neighbor, is_full, is_exchange_or_loading, is_exchange_or_later}
+use Rattle.adjacency.specs.Neighbors.{Neighbor, is_full, is_exchange_or_loading}
+use Rattle.adjacency.specs.Neighbors.{is_exchange_or_later}
 use Rattle.adjacency.proofs.Kept.{Fact, IsKept, Of}
 
 -- ---- empty maps and sets
@@ -54,18 +56,23 @@ left_out o key e =
 abbrev pub Requested : Fact
 Requested state s r t o = (key : Key) → set.contains o key ≡ true → finite.contains_key r key ≡ true
 
-nothing_asked : (r : ByKey ListEntry) (key : Key) → set.contains (set.empty {R = key_cmp}) key ≡ true → finite.contains_key r key ≡ true
+nothing_asked : (r : ByKey ListEntry) (key : Key)
+    → set.contains (set.empty {R = key_cmp}) key ≡ true → finite.contains_key r key ≡ true
 nothing_asked r key e = not_both (sym e ∙ set.contains-empty key_cmp key)
 
-still_there : (b : Bool) (x : ListEntry) (y : Option ListEntry) → is_some y ≡ true → is_some (cond b (Some x) y) ≡ true
+still_there : (b : Bool) (x : ListEntry) (y : Option ListEntry) → is_some y ≡ true
+    → is_some (cond b (Some x) y) ≡ true
 still_there true x y e = refl
 still_there false x y e = e
 
-among_more : (p : Key → Bool) (n : ℕ) (keys : List Key) → list_any p (take n keys) ≡ true → list_any p keys ≡ true
+among_more : (p : Key → Bool) (n : ℕ) (keys : List Key) → list_any p (take n keys) ≡ true
+    → list_any p keys ≡ true
 among_more p n keys e =
-    sym (ap (list_any p) (take-append-drop n keys)) ∙ list_any-append p (take n keys) (drop n keys) ∙ ap (λ b. b || list_any p (drop n keys)) e
+    sym (ap (list_any p) (take-append-drop n keys)) ∙ list_any-append p (take n keys) (drop n keys)
+    ∙ ap (λ b. b || list_any p (drop n keys)) e
 
-both_left : (b c : Bool) (x : Option ListEntry) → (c ≡ true → is_some x ≡ true) → (not b && c) ≡ true → is_some (cond b None x) ≡ true
+both_left : (b c : Bool) (x : Option ListEntry) → (c ≡ true → is_some x ≡ true)
+    → (not b && c) ≡ true → is_some (cond b None x) ≡ true
 both_left true c x f e = e
 both_left false c x f e = f e
 
@@ -74,15 +81,19 @@ requested_kept = record {
   begins = λ key e. nothing_asked finite.empty key e;
   restarts = λ key e. nothing_asked finite.empty key e;
   negotiates = λ s r t s' t' o begun h. h;
-  wants = λ s r t o key x h q e. ap is_some (finite.get-insert keys_total r key x q) ∙ still_there (same_key q key) x (finite.get r q) (h q e);
+  wants = λ s r t o key x h q e. ap is_some (finite.get-insert keys_total r key x q)
+      ∙ still_there (same_key q key) x (finite.get r q) (h q e);
   describes = λ s r t s' o h. h;
   loads = λ s r t o h. h;
   ends = λ s r t o h e. h;
   fills = λ s r t o h e. h;
   asks = λ state s r t o busy h q e.
-      finite.contains_key-keys r q ∙ among_more (same_key q) 680 (finite.keys r) (sym (set.contains-from_list keys_total (take 680 (finite.keys r)) q) ∙ e);
+      finite.contains_key-keys r q ∙ among_more (same_key q) 680 (finite.keys r)
+      (sym (set.contains-from_list keys_total (take 680 (finite.keys r)) q) ∙ e);
   meets = λ state s r t o key h q e.
-      ap is_some (finite.get-remove keys_total r key q) ∙ both_left (same_key q key) (set.contains o q) (finite.get r q) (h q) (sym (set.contains-remove keys_total o key q) ∙ e);
+      ap is_some (finite.get-remove keys_total r key q)
+      ∙ both_left (same_key q key) (set.contains o q) (finite.get r q) (h q)
+      (sym (set.contains-remove keys_total o key q) ∙ e);
   releases = λ state s r t o key h. h;
   has_retransmission = λ state s r t o key x adds part h. h;
 }
@@ -90,9 +101,11 @@ requested_kept = record {
 -- ---- before Exchange the lists are empty
 
 abbrev pub Listless : Fact
-Listless state s r t o = is_exchange_or_later state ≡ false → (s ≡ finite.empty) × (r ≡ finite.empty) × (t ≡ finite.empty) × (o ≡ set.empty)
+Listless state s r t o = is_exchange_or_later state ≡ false
+    → (s ≡ finite.empty) × (r ≡ finite.empty) × (t ≡ finite.empty) × (o ≡ set.empty)
 
-synchronizing_part : (state : State) → is_exchange_or_loading state ≡ true → is_exchange_or_later state ≡ false → true ≡ false
+synchronizing_part : (state : State) → is_exchange_or_loading state ≡ true
+    → is_exchange_or_later state ≡ false → true ≡ false
 synchronizing_part Init e p = sym e
 synchronizing_part ExStart e p = sym e
 synchronizing_part Exchange e p = p
@@ -135,22 +148,28 @@ bare_kept = record {
   fills = λ s r t o h is e. is;
   asks = λ state s r t o busy h e. h e;
   meets = λ state s r t o key h e.
-      ap (λ (m : ByKey ListEntry). finite.len m == 0) (removed r key (none r (h e))) ∙ ap (λ n. n == 0) (finite.len-empty key_cmp ListEntry);
+      ap (λ (m : ByKey ListEntry). finite.len m == 0) (removed r key (none r (h e)))
+      ∙ ap (λ n. n == 0) (finite.len-empty key_cmp ListEntry);
   releases = λ state s r t o key h. h;
   has_retransmission = λ state s r t o key x adds part h. h;
 }
 
 -- ---- all facts
 
-nothing_left : (o : KeySet) (r : ByKey ListEntry) → ((key : Key) → set.contains o key ≡ true → finite.contains_key r key ≡ true) → r ≡ finite.empty → o ≡ set.empty
+nothing_left : (o : KeySet) (r : ByKey ListEntry)
+    → ((key : Key) → set.contains o key ≡ true → finite.contains_key r key ≡ true)
+    → r ≡ finite.empty → o ≡ set.empty
 nothing_left o r asked e =
-    set.same_set keys_total keys_exact o set.empty (λ q. is_out q (set.contains o q) refl ∙ sym (set.contains-empty key_cmp q))
+    set.same_set keys_total keys_exact o set.empty
+    (λ q. is_out q (set.contains o q) refl ∙ sym (set.contains-empty key_cmp q))
   where
     is_out : (q : Key) (b : Bool) → set.contains o q ≡ b → b ≡ false
-    is_out q true is = sym (asked q is) ∙ ap (λ (m : ByKey ListEntry). is_some (finite.get m q)) e ∙ ap is_some (finite.get-empty key_cmp q)
+    is_out q true is = sym (asked q is) ∙ ap (λ (m : ByKey ListEntry). is_some (finite.get m q)) e
+        ∙ ap is_some (finite.get-empty key_cmp q)
     is_out q false is = refl
 
-done_where_full : (n : Neighbor) → (n.state ≡ Full → (finite.len n.requests == 0) ≡ true) → IsOutstandingRequested n → IsDoneWhereFull n
+done_where_full : (n : Neighbor) → (n.state ≡ Full → (finite.len n.requests == 0) ≡ true)
+    → IsOutstandingRequested n → IsDoneWhereFull n
 done_where_full n bare asked full =
     let empty : n.requests ≡ finite.empty = none n.requests (bare full) in
     (empty, nothing_left n.outstanding n.requests asked empty)
@@ -162,7 +181,8 @@ both_kept : (A B : Fact) → IsKept A → IsKept B → IsKept (Both A B)
 both_kept A B a b = record {
   begins = (a.begins, b.begins);
   restarts = (a.restarts, b.restarts);
-  negotiates = λ s r t s' t' o begun h. (a.negotiates s r t s' t' o tt h.0, b.negotiates s r t s' t' o tt h.1);
+  negotiates = λ s r t s' t' o begun h.
+      (a.negotiates s r t s' t' o tt h.0, b.negotiates s r t s' t' o tt h.1);
   wants = λ s r t o key x h. (a.wants s r t o key x h.0, b.wants s r t o key x h.1);
   describes = λ s r t s' o h. (a.describes s r t s' o h.0, b.describes s r t s' o h.1);
   loads = λ s r t o h. (a.loads s r t o h.0, b.loads s r t o h.1);
@@ -170,21 +190,31 @@ both_kept A B a b = record {
   fills = λ s r t o h e. (a.fills s r t o h.0 e, b.fills s r t o h.1 e);
   asks = λ state s r t o busy h. (a.asks state s r t o busy h.0, b.asks state s r t o busy h.1);
   meets = λ state s r t o key h. (a.meets state s r t o key h.0, b.meets state s r t o key h.1);
-  releases = λ state s r t o key h. (a.releases state s r t o key h.0, b.releases state s r t o key h.1);
-  has_retransmission = λ state s r t o key x adds part h. (a.has_retransmission state s r t o key x tt part h.0, b.has_retransmission state s r t o key x tt part h.1);
+  releases = λ state s r t o key h.
+      (a.releases state s r t o key h.0, b.releases state s r t o key h.1);
+  has_retransmission = λ state s r t o key x adds part h. (
+    a.has_retransmission state s r t o key x tt part h.0,
+    b.has_retransmission state s r t o key x tt part h.1,
+  );
 }
 
 abbrev pub Sound : Fact
 Sound = Both Listless (Both Requested Bare)
 
 pub sound_kept : IsKept Sound
-sound_kept = both_kept Listless (Both Requested Bare) listless_kept (both_kept Requested Bare requested_kept bare_kept)
+sound_kept = both_kept Listless (Both Requested Bare) listless_kept
+    (both_kept Requested Bare requested_kept bare_kept)
 
 pub sound_lists : (n : Neighbor) → Of Sound n → HasSoundLists n
-sound_lists n h = record { before_exchange = h.0; outstanding = h.1.0; full = done_where_full n h.1.1 h.1.0 }
+sound_lists n h = record {
+  before_exchange = h.0;
+  outstanding = h.1.0;
+  full = done_where_full n h.1.1 h.1.0;
+}
 
 pub sound_of : (n : Neighbor) → HasSoundLists n → Of Sound n
 sound_of n h =
     let bare : n.state ≡ Full → (finite.len n.requests == 0) ≡ true =
-    λ full. ap (λ (m : ByKey ListEntry). finite.len m == 0) (h.full full).0 ∙ ap (λ k. k == 0) (finite.len-empty key_cmp ListEntry) in
+    λ full. ap (λ (m : ByKey ListEntry). finite.len m == 0) (h.full full).0
+    ∙ ap (λ k. k == 0) (finite.len-empty key_cmp ListEntry) in
     (h.before_exchange, (h.outstanding, bare))

@@ -10,14 +10,20 @@ pub drafting-none : (delay : ℕ) (d : Drafted) → d ≡ drafting delay [] d
 unfolding drafting
 drafting-none delay d = refl
 
-pub drafting-one : (delay : ℕ) (c : Content) (d : Drafted) → adds delay d c ≡ drafting delay (c ∷ []) d
+pub drafting-one : (delay : ℕ) (c : Content) (d : Drafted)
+    → adds delay d c ≡ drafting delay (c ∷ []) d
 unfolding drafting
 drafting-one delay c d = refl
 
-pub floods : (moment : ℕ) (from : Bool) (lsa : Lsa) (n : Neighbor) → is_exchange_or_later n.state ≡ true → flooded_in_exchange moment from lsa n ≡ flood_step moment from lsa n
+pub floods : (moment : ℕ) (from : Bool) (lsa : Lsa) (n : Neighbor)
+    → is_exchange_or_later n.state ≡ true
+    → flooded_in_exchange moment from lsa n ≡ flood_step moment from lsa n
 unfolding flood_step
-floods moment from lsa n is = ap (λ b. cond b (flooded_in_exchange moment from lsa n) (no_sends n)) (sym is)
+floods moment from lsa n is = ap (λ b. cond b (flooded_in_exchange moment from lsa n) (no_sends n))
+    (sym is)
 
-pub rests : (moment : ℕ) (from : Bool) (lsa : Lsa) (n : Neighbor) → is_exchange_or_later n.state ≡ false → no_sends n ≡ flood_step moment from lsa n
+pub rests : (moment : ℕ) (from : Bool) (lsa : Lsa) (n : Neighbor)
+    → is_exchange_or_later n.state ≡ false → no_sends n ≡ flood_step moment from lsa n
 unfolding flood_step
-rests moment from lsa n is = ap (λ b. cond b (flooded_in_exchange moment from lsa n) (no_sends n)) (sym is)
+rests moment from lsa n is = ap (λ b. cond b (flooded_in_exchange moment from lsa n) (no_sends n))
+    (sym is)

@@ -5,7 +5,8 @@ use Rattle.lsdb.proofs.Empty.{no_entries}
 use mathlib.Core.Bool.{false≢true}
 use Rattle.adjacency.specs.Kept.{Kept}
 use Rattle.adjacency.specs.Contents.{no_sends}
-use Rattle.adjacency.specs.Adjacencies.{two_way_received_in, after_hello, initial_description, enter_exstart}
+use Rattle.adjacency.specs.Adjacencies.{two_way_received_in, after_hello, initial_description}
+use Rattle.adjacency.specs.Adjacencies.{enter_exstart}
 use Rattle.adjacency.specs.declared.state.State.{State}
 use Rattle.adjacency.specs.declared.state.State.TheVariants.{Init, ExStart, Exchange, Loading, Full}
 use Rattle.std.specs.Ordering.{eq_by_cmp}
@@ -22,48 +23,69 @@ use Rattle.adjacency.specs.Retransmissions.{add_retransmission, remove_retransmi
 use Rattle.adjacency.specs.Floods.{meets, request_of, without_met_request}
 use Rattle.packet.specs.declared.model.Description.{Description}
 use Rattle.adjacency.specs.declared.standing.Standing.{Standing}
-use Rattle.adjacency.specs.Views.{begins, begun, fresh_standing, keys_of, neighbor_of, started_standing}
+use Rattle.adjacency.specs.Views.{begins, begun, fresh_standing, keys_of, neighbor_of}
+use Rattle.adjacency.specs.Views.{started_standing}
 
-pub contains_key_of : {X : Type 0} (m : ByKey X) (q : Key) → set.contains (keys_of m) q ≡ is_some (finite.get m q)
-contains_key_of m q = set.contains-from_list keys_total (finite.keys m) q ∙ sym (finite.contains_key-keys m q)
+pub contains_key_of : {X : Type 0} (m : ByKey X) (q : Key)
+    → set.contains (keys_of m) q ≡ is_some (finite.get m q)
+contains_key_of m q = set.contains-from_list keys_total (finite.keys m) q
+    ∙ sym (finite.contains_key-keys m q)
 
 gone_or : {X : Type 0} (b : Bool) (o : Option X) → is_some (cond b None o) ≡ (not b && is_some o)
 gone_or true o = refl
 gone_or false o = refl
 
-keys_remove : {X : Type 0} (m : ByKey X) (k : Key) → keys_of (finite.remove m k) ≡ set.remove (keys_of m) k
-keys_remove m k = set.same_set keys_total keys_exact (keys_of (finite.remove m k)) (set.remove (keys_of m) k) (λ q.
-    contains_key_of (finite.remove m k) q ∙ ap is_some (finite.get-remove keys_total m k q) ∙ gone_or (eq_by_cmp key_cmp q k) (finite.get m q)
-    ∙ ap (λ b. not (eq_by_cmp key_cmp q k) && b) (sym (contains_key_of m q)) ∙ sym (set.contains-remove keys_total (keys_of m) k q))
+keys_remove : {X : Type 0} (m : ByKey X) (k : Key)
+    → keys_of (finite.remove m k) ≡ set.remove (keys_of m) k
+keys_remove m k = set.same_set keys_total keys_exact (keys_of (finite.remove m k))
+    (set.remove (keys_of m) k) (λ q.
+    contains_key_of (finite.remove m k) q ∙ ap is_some (finite.get-remove keys_total m k q)
+    ∙ gone_or (eq_by_cmp key_cmp q k) (finite.get m q)
+    ∙ ap (λ b. not (eq_by_cmp key_cmp q k) && b) (sym (contains_key_of m q))
+    ∙ sym (set.contains-remove keys_total (keys_of m) k q))
 
-module _ {X : Type 0} (s : Standing) (des : Option Description) (sum req : ByKey ListEntry) (out : ByKey X) (retr : ByKey ListEntry) where
-  pub standing_part : is_exchange_or_later s.state ≡ is_exchange_or_later (neighbor_of s des sum req out retr).state
+module _ {X : Type 0} (s : Standing) (des : Option Description) (sum req : ByKey ListEntry)
+    (out : ByKey X) (retr : ByKey ListEntry) where
+  pub standing_part : is_exchange_or_later s.state
+      ≡ is_exchange_or_later (neighbor_of s des sum req out retr).state
   unfolding neighbor_of
   standing_part = refl
 
-  pub releases : (k : Key) → neighbor_of s des sum req out (finite.remove retr k) ≡ remove_retransmission k (neighbor_of s des sum req out retr)
+  pub releases : (k : Key) → neighbor_of s des sum req out (finite.remove retr k)
+      ≡ remove_retransmission k (neighbor_of s des sum req out retr)
   unfolding neighbor_of
   releases k = refl
 
-  pub withdraws : (k : Key) → neighbor_of s des sum (finite.remove req k) (finite.remove out k) retr ≡ without_request k (neighbor_of s des sum req out retr)
+  pub withdraws : (k : Key) → neighbor_of s des sum (finite.remove req k) (finite.remove out k) retr
+      ≡ without_request k (neighbor_of s des sum req out retr)
   unfolding neighbor_of
-  withdraws k = ap (λ (o : KeySet). record (neighbor_of s des sum (finite.remove req k) out retr) { outstanding = o }) (keys_remove out k)
+  withdraws k = ap (λ (o : KeySet). record (neighbor_of s des sum (finite.remove req k) out retr)
+      { outstanding = o }) (keys_remove out k)
 
   pub has_retransmission : (moment : ℕ) (h : Header)
-      → neighbor_of (record s { retransmitted_at = cond (finite.len (finite.remove retr (key_of h)) == 0) moment s.retransmitted_at }) des sum req out (finite.insert (finite.remove retr (key_of h)) (key_of h) (record { header = h; at = moment }))
+      → neighbor_of (record s {
+        retransmitted_at = cond (finite.len (finite.remove retr (key_of h)) == 0) moment
+            s.retransmitted_at;
+      }) des sum req out (finite.insert (finite.remove retr (key_of h)) (key_of h) (record {
+        header = h;
+        at = moment;
+      }))
       ≡ add_retransmission moment h (neighbor_of s des sum req out retr)
   unfolding neighbor_of
   has_retransmission moment h = refl
 
-  pub requests_nothing_now : (lsa : Lsa) → is_exchange_or_loading s.state ≡ false → request_of (neighbor_of s des sum req out retr) lsa ≡ None
+  pub requests_nothing_now : (lsa : Lsa) → is_exchange_or_loading s.state ≡ false
+      → request_of (neighbor_of s des sum req out retr) lsa ≡ None
   unfolding neighbor_of
   requests_nothing_now lsa is = ap (λ b. cond b (finite.get req (lsa_key lsa)) None) is
 
-  pub requests_now : (lsa : Lsa) → is_exchange_or_loading s.state ≡ true → request_of (neighbor_of s des sum req out retr) lsa ≡ finite.get req (lsa_key lsa)
+  pub requests_now : (lsa : Lsa) → is_exchange_or_loading s.state ≡ true
+      → request_of (neighbor_of s des sum req out retr) lsa ≡ finite.get req (lsa_key lsa)
   unfolding neighbor_of
   requests_now lsa is = ap (λ b. cond b (finite.get req (lsa_key lsa)) None) is
 
-  pub lists_now : (k : Key) → finite.get retr k ≡ finite.get (neighbor_of s des sum req out retr).retransmissions k
+  pub lists_now : (k : Key) → finite.get retr k
+      ≡ finite.get (neighbor_of s des sum req out retr).retransmissions k
   unfolding neighbor_of
   lists_now k = refl
 
@@ -83,12 +105,16 @@ module _ {X : Type 0} (s : Standing) (des : Option Description) (sum req : ByKey
   unfolding neighbor_of
   last_heard_now = refl
 
-  pub hears : (moment : ℕ) → neighbor_of (record s { last_heard = moment }) des sum req out retr ≡ record (neighbor_of s des sum req out retr) { last_heard = moment }
+  pub hears : (moment : ℕ) → neighbor_of (record s {
+    last_heard = moment;
+  }) des sum req out retr ≡ record (neighbor_of s des sum req out retr) { last_heard = moment }
   unfolding neighbor_of
   hears moment = refl
 
 -- the definition by the test
-pub met : (moment : ℕ) (lsa : Lsa) (n : Neighbor) (b : Bool) → b ≡ meets moment lsa (request_of n lsa) → cond b (without_request (lsa_key lsa) n) n ≡ without_met_request moment lsa n
+pub met : (moment : ℕ) (lsa : Lsa) (n : Neighbor) (b : Bool)
+    → b ≡ meets moment lsa (request_of n lsa)
+    → cond b (without_request (lsa_key lsa) n) n ≡ without_met_request moment lsa n
 met moment lsa n b is = ap (λ c. cond c (without_request (lsa_key lsa) n) n) is
 
 -- ---- starting over
@@ -96,48 +122,64 @@ met moment lsa n b is = ap (λ c. cond c (without_request (lsa_key lsa) n) n) is
 pub no_keys : (X : Type 0) → keys_of (finite.empty {X = X} {R = key_cmp}) ≡ set.empty
 no_keys X = ap (λ es. set.from_list {R = key_cmp} (each (λ (e : Key × X). e.0) es)) no_entries
 
-pub neighbor_at : {X : Type 0} {s s' : Standing} {d d' : Option Description} {u u' q q' r r' : ByKey ListEntry} {o o' : ByKey X}
-    → s ≡ s' → d ≡ d' → u ≡ u' → q ≡ q' → o ≡ o' → r ≡ r' → neighbor_of s d u q o r ≡ neighbor_of s' d' u' q' o' r'
+pub neighbor_at : {X : Type 0} {s s' : Standing} {d d' : Option Description}
+    {u u' q q' r r' : ByKey ListEntry} {o o' : ByKey X} → s ≡ s' → d ≡ d' → u ≡ u' → q ≡ q' → o ≡ o'
+    → r ≡ r' → neighbor_of s d u q o r ≡ neighbor_of s' d' u' q' o' r'
 neighbor_at s d u q o r i = neighbor_of (s i) (d i) (u i) (q i) (o i) (r i)
 
 pub freshly : (router : ℕ) (dd_sequence_start : Option ℕ) (last_heard : ℕ)
-    → neighbor_of {X = Unit {0}} (fresh_standing router dd_sequence_start last_heard) None finite.empty finite.empty finite.empty finite.empty ≡ fresh router dd_sequence_start last_heard
+    → neighbor_of {X = Unit {0}} (fresh_standing router dd_sequence_start last_heard) None
+    finite.empty finite.empty finite.empty finite.empty
+    ≡ fresh router dd_sequence_start last_heard
 unfolding neighbor_of
-freshly router dd_sequence_start last_heard = λ i. record (fresh router dd_sequence_start last_heard) { outstanding = no_keys (Unit {0}) i }
+freshly router dd_sequence_start last_heard =
+    λ i. record (fresh router dd_sequence_start last_heard) { outstanding = no_keys (Unit {0}) i }
 
-pub starts : (moment router : ℕ) (dd_sequence_start : Option ℕ) (last_heard number : ℕ) → number ≡ (enter_exstart moment (fresh router dd_sequence_start last_heard)).neighbor.sequence
-    → neighbor_of {X = Unit {0}} (started_standing moment router number last_heard) (Some (initial_description number)) finite.empty finite.empty finite.empty finite.empty
+pub starts : (moment router : ℕ) (dd_sequence_start : Option ℕ) (last_heard number : ℕ)
+    → number ≡ (enter_exstart moment (fresh router dd_sequence_start last_heard)).neighbor.sequence
+    → neighbor_of {X = Unit {0}} (started_standing moment router number last_heard)
+    (Some (initial_description number)) finite.empty finite.empty finite.empty finite.empty
     ≡ (enter_exstart moment (fresh router dd_sequence_start last_heard)).neighbor
 unfolding neighbor_of
-starts moment router dd_sequence_start last_heard number is = λ i. record (fresh router (Some (is i)) last_heard) {
-  state = ExStart;
-  is_master = true;
-  sequence = is i;
-  described = Some (initial_description (is i));
-  described_at = moment;
-  outstanding = no_keys (Unit {0}) i;
-}
+starts moment router dd_sequence_start last_heard number is =
+    λ i. record (fresh router (Some (is i)) last_heard) {
+      state = ExStart;
+      is_master = true;
+      sequence = is i;
+      described = Some (initial_description (is i));
+      described_at = moment;
+      outstanding = no_keys (Unit {0}) i;
+    }
 
-pub kept_is : {A : Type 0} {p q s t : A} → p ≡ q → s ≡ t → ◌≡◌ {A = Kept A} (record { present = p; settled = s }) (record { present = q; settled = t })
+pub kept_is : {A : Type 0} {p q s t : A} → p ≡ q → s ≡ t → ◌≡◌ {A = Kept A} (record {
+  present = p;
+  settled = s;
+}) (record { present = q; settled = t })
 kept_is a b i = record { present = a i; settled = b i }
 
 -- ---- a Hello
 
-pub begun_named : (moment router : ℕ) (start : Option ℕ) (names : Bool) → names ≡ true → enter_exstart moment (fresh router start moment) ≡ begun moment router start names
+pub begun_named : (moment router : ℕ) (start : Option ℕ) (names : Bool) → names ≡ true
+    → enter_exstart moment (fresh router start moment) ≡ begun moment router start names
 unfolding begun
-begun_named moment router start names is = ap (λ b. after_hello moment router b (Some (fresh router start moment))) (sym is)
+begun_named moment router start names is =
+    ap (λ b. after_hello moment router b (Some (fresh router start moment))) (sym is)
 
-pub begun_unnamed : (moment router : ℕ) (start : Option ℕ) (names : Bool) → names ≡ false → no_sends (fresh router start moment) ≡ begun moment router start names
+pub begun_unnamed : (moment router : ℕ) (start : Option ℕ) (names : Bool) → names ≡ false
+    → no_sends (fresh router start moment) ≡ begun moment router start names
 unfolding begun
-begun_unnamed moment router start names is = ap (λ b. after_hello moment router b (Some (fresh router start moment))) (sym is)
+begun_unnamed moment router start names is =
+    ap (λ b. after_hello moment router b (Some (fresh router start moment))) (sym is)
 
-pub none_begins : (moment router : ℕ) (names : Bool) → begun moment router None names ≡ after_hello moment router names None
+pub none_begins : (moment router : ℕ) (names : Bool)
+    → begun moment router None names ≡ after_hello moment router names None
 unfolding begun
 none_begins moment router true = refl
 none_begins moment router false = refl
 
 starts_in : (moment : ℕ) (n : Neighbor) (state : State) → begins state true ≡ true
-    → enter_exstart moment (fresh n.router n.dd_sequence_start moment) ≡ two_way_received_in state moment (record n { last_heard = moment })
+    → enter_exstart moment (fresh n.router n.dd_sequence_start moment)
+    ≡ two_way_received_in state moment (record n { last_heard = moment })
 starts_in moment n Init is = refl
 starts_in moment n ExStart is = absurd (false≢true is)
 starts_in moment n Exchange is = absurd (false≢true is)
@@ -150,7 +192,8 @@ unfolding begun
 some_begins moment from n true is = starts_in moment n n.state is
 some_begins moment from n false is = refl
 
-rests_in : (moment : ℕ) (n : Neighbor) (state : State) → begins state true ≡ false → two_way_received_in state moment n ≡ no_sends n
+rests_in : (moment : ℕ) (n : Neighbor) (state : State) → begins state true ≡ false
+    → two_way_received_in state moment n ≡ no_sends n
 rests_in moment n Init is = absurd (false≢true (sym is))
 rests_in moment n ExStart is = refl
 rests_in moment n Exchange is = refl
@@ -166,5 +209,7 @@ goes_on Full = refl
 
 pub some_rests : (moment from : ℕ) (n : Neighbor) (names : Bool) → begins n.state names ≡ false
     → no_sends (record n { last_heard = moment }) ≡ after_hello moment from names (Some n)
-some_rests moment from n true is = sym (rests_in moment (record n { last_heard = moment }) n.state is)
+some_rests moment from n true is = sym (rests_in moment (record n {
+  last_heard = moment;
+}) n.state is)
 some_rests moment from n false is = absurd (false≢true (sym is ∙ goes_on n.state))

@@ -15,6 +15,8 @@ both_there false b f = refl
 pub requested_again : WhatIsOutstandingIsRequestedAgain
 requested_again n asked key =
     let s : KeySet = n.outstanding in
-    any-filter_same (same_key key) (set.contains s) (set.contains s key) (λ k same. set.contains_tied keys_total s key k ((Equal-is (key_cmp key k)).0 same)) (finite.keys n.requests)
+    any-filter_same (same_key key) (set.contains s) (set.contains s key)
+    (λ k same. set.contains_tied keys_total s key k ((Equal-is (key_cmp key k)).0 same))
+    (finite.keys n.requests)
     ∙ ap (λ (b : Bool). set.contains s key && b) (sym (finite.contains_key-keys n.requests key))
     ∙ both_there (set.contains s key) (finite.contains_key n.requests key) (asked key)

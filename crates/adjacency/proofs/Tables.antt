@@ -5,7 +5,8 @@ use Rattle.lsdb.specs.Instances.{ListEntry}
 use Rattle.adjacency.specs.declared.state.State.{State}
 use Rattle.adjacency.specs.declared.state.State.TheVariants.{Init, ExStart, Exchange, Loading, Full}
 use Rattle.adjacency.specs.Adjacencies.{loading_done_in, requests_nothing}
-use Rattle.adjacency.specs.Laws.{FullHasNothingToRequest, IsBareWhereFull, OnlyTheSameInstanceIsAcknowledged}
+use Rattle.adjacency.specs.Laws.{FullHasNothingToRequest, IsBareWhereFull}
+use Rattle.adjacency.specs.Laws.{OnlyTheSameInstanceIsAcknowledged}
 use Rattle.adjacency.specs.Neighbors.{Neighbor, is_full}
 use Rattle.adjacency.specs.Retransmissions.{is_entry, remove_retransmission}
 
@@ -13,11 +14,16 @@ chosen_full : (b : Bool) → cond b Full Loading ≡ Full → b ≡ true
 chosen_full true e = refl
 chosen_full false e = ap is_full e
 
-filled_bare : (b : Bool) (n : Neighbor) → requests_nothing n ≡ b → (cond b (record n { state = Full }) n).state ≡ Full → n.state ≡ Loading → requests_nothing (cond b (record n { state = Full }) n) ≡ true
+filled_bare : (b : Bool) (n : Neighbor) → requests_nothing n ≡ b → (cond b (record n {
+  state = Full;
+}) n).state ≡ Full → n.state ≡ Loading → requests_nothing (cond b (record n {
+  state = Full;
+}) n) ≡ true
 filled_bare true n is e loading = is
 filled_bare false n is e loading = is ∙ ap is_full (sym loading ∙ e)
 
-kept_bare : (s : State) (n : Neighbor) → n.state ≡ s → IsBareWhereFull n → (loading_done_in s n).state ≡ Full → requests_nothing (loading_done_in s n) ≡ true
+kept_bare : (s : State) (n : Neighbor) → n.state ≡ s → IsBareWhereFull n
+    → (loading_done_in s n).state ≡ Full → requests_nothing (loading_done_in s n) ≡ true
 kept_bare Init n is bare e = bare e
 kept_bare ExStart n is bare e = bare e
 kept_bare Exchange n is bare e = bare e
@@ -32,5 +38,6 @@ full_is_bare = record {
 
 pub only_the_same : OnlyTheSameInstanceIsAcknowledged
 only_the_same moment n h l here other =
-    ap (λ (o : Option ListEntry). cond (is_entry moment h o) (remove_retransmission (key_of h) n) n) here
+    ap (λ (o : Option ListEntry). cond (is_entry moment h o) (remove_retransmission (key_of h) n) n)
+    here
     ∙ ap (λ (b : Bool). cond b (remove_retransmission (key_of h) n) n) other

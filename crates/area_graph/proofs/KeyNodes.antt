@@ -1,5 +1,8 @@
 -- What the LSAs of a database say determines its nodes, in order.
-use Rattle.std.proofs.Common.{◌≡◌, ℕ, zero, suc, ◌+◌, ◌<◌, ◌≤◌, ◌++◌, get_or, slice_get, Bool, true, false, ◌&&◌, ◌==◌, cond, List, [], ◌∷◌, length, take, Option, None, Some, inl, inr, refl, sym, ◌∙◌, ap, subst, arith, eqb-true, eq-eqb, Ordering}
+use Rattle.std.proofs.Common.{◌≡◌, ℕ, zero, suc, ◌+◌, ◌<◌, ◌≤◌, ◌++◌, get_or, slice_get, Bool, true}
+use Rattle.std.proofs.Common.{false, ◌&&◌, ◌==◌, cond, List, [], ◌∷◌, length, take, Option, None}
+use Rattle.std.proofs.Common.{Some, inl, inr, refl, sym, ◌∙◌, ap, subst, arith, eqb-true, eq-eqb}
+use Rattle.std.proofs.Common.{Ordering}
 use Rattle.std.proofs.lemmas.Bool.{cases_lt, false≢true}
 use Rattle.std.proofs.lemmas.List.{take_all, take_more}
 use Rattle.std.proofs.lemmas.List.Elements.{filter_map-append}
@@ -19,7 +22,8 @@ use Rattle.routes.specs.Links.{network_key, router_key}
 use Rattle.routes.specs.Said.{Said}
 use Rattle.routes.specs.declared.node.Node.{Node}
 use Rattle.routes.specs.declared.node.Node.TheVariants.{ANetwork, ARouter}
-use Rattle.area_graph.specs.Nodes.{AreNodes, Ascend, HasLsa, if_network, if_router, network_in, node_cmp, node_of, router_in}
+use Rattle.area_graph.specs.Nodes.{AreNodes, Ascend, HasLsa, if_network, if_router, network_in}
+use Rattle.area_graph.specs.Nodes.{node_cmp, node_of, router_in}
 use Rattle.area_graph.proofs.Lists.{filtered_few, filtered_in, filtered_out, more_pairs, none_pairs}
 use Rattle.routes.proofs.Lists.{first_is, later_is}
 
@@ -30,7 +34,8 @@ key_of (ANetwork id by) = network_key id by
 
 -- ---- what an LSA says
 
-pub router_said : (o : Option Body) (lsa : RouterLsa) → router_in o ≡ Some lsa → o ≡ Some (body.Router lsa)
+pub router_said : (o : Option Body) (lsa : RouterLsa) → router_in o ≡ Some lsa
+    → o ≡ Some (body.Router lsa)
 router_said None lsa e = absurd (none-some lsa e)
 router_said (Some (body.Router x)) lsa e = ap (λ y. Some (body.Router y)) (same_Some x lsa e)
 router_said (Some (body.Network x)) lsa e = absurd (none-some lsa e)
@@ -38,7 +43,8 @@ router_said (Some (body.NetworkSummary x)) lsa e = absurd (none-some lsa e)
 router_said (Some (body.RouterSummary x)) lsa e = absurd (none-some lsa e)
 router_said (Some (body.External x)) lsa e = absurd (none-some lsa e)
 
-pub network_said : (o : Option Body) (lsa : NetworkLsa) → network_in o ≡ Some lsa → o ≡ Some (body.Network lsa)
+pub network_said : (o : Option Body) (lsa : NetworkLsa) → network_in o ≡ Some lsa
+    → o ≡ Some (body.Network lsa)
 network_said None lsa e = absurd (none-some lsa e)
 network_said (Some (body.Router x)) lsa e = absurd (none-some lsa e)
 network_said (Some (body.Network x)) lsa e = ap (λ y. Some (body.Network y)) (same_Some x lsa e)
@@ -57,40 +63,67 @@ two : (a b : Bool) → a && b ≡ true → (a ≡ true) × (b ≡ true)
 two true b e = (refl, e)
 two false b e = absurd (false≢true e)
 
-of_router : (said : Said) (one : Key × Body) (node : Node) → said one.0 ≡ Some one.1 → one.0.ls_type ≡ 1 → one.0.link_state_id ≡ one.0.advertising_router → if_router one.0.advertising_router (router_in (Some one.1)) ≡ Some node → IsNodeOf said one.0 node
+of_router : (said : Said) (one : Key × Body) (node : Node) → said one.0 ≡ Some one.1
+    → one.0.ls_type ≡ 1 → one.0.link_state_id ≡ one.0.advertising_router
+    → if_router one.0.advertising_router (router_in (Some one.1)) ≡ Some node
+    → IsNodeOf said one.0 node
 of_router said one node says first both e =
     let router = one.0.advertising_router in
-    let key : one.0 ≡ router_key router = λ i. record { ls_type = first i; link_state_id = both i; advertising_router = router } in
-    elim (router_in (Some one.1)) as (λ o. router_in (Some one.1) ≡ o → if_router router o ≡ Some node → IsNodeOf said one.0 node) [
+    let key : one.0 ≡ router_key router = λ i. record {
+      ls_type = first i;
+      link_state_id = both i;
+      advertising_router = router;
+    } in
+    elim (router_in (Some one.1)) as (λ o. router_in (Some one.1) ≡ o
+    → if_router router o ≡ Some node → IsNodeOf said one.0 node) [
       | None ↦ λ is p. absurd (none-some node p)
       | Some lsa ↦ λ is p.
           let P : Node → Type 0 = λ n. IsNodeOf said one.0 n in
-          subst P (same_Some (ARouter router) node p) (record { same = key; has = (lsa, sym (ap said key) ∙ says ∙ router_said (Some one.1) lsa is) })
+          subst P (same_Some (ARouter router) node p) (record {
+            same = key;
+            has = (lsa, sym (ap said key) ∙ says ∙ router_said (Some one.1) lsa is);
+          })
     ] refl e
 
-of_network : (said : Said) (one : Key × Body) (node : Node) → said one.0 ≡ Some one.1 → one.0.ls_type ≡ 2 → if_network one.0.link_state_id one.0.advertising_router (network_in (Some one.1)) ≡ Some node → IsNodeOf said one.0 node
+of_network : (said : Said) (one : Key × Body) (node : Node) → said one.0 ≡ Some one.1
+    → one.0.ls_type ≡ 2 → if_network one.0.link_state_id one.0.advertising_router
+    (network_in (Some one.1)) ≡ Some node → IsNodeOf said one.0 node
 of_network said one node says is_two e =
     let id = one.0.link_state_id in
     let router = one.0.advertising_router in
-    let key : one.0 ≡ network_key id router = λ i. record { ls_type = is_two i; link_state_id = id; advertising_router = router } in
-    elim (network_in (Some one.1)) as (λ o. network_in (Some one.1) ≡ o → if_network id router o ≡ Some node → IsNodeOf said one.0 node) [
+    let key : one.0 ≡ network_key id router = λ i. record {
+      ls_type = is_two i;
+      link_state_id = id;
+      advertising_router = router;
+    } in
+    elim (network_in (Some one.1)) as
+    (λ o. network_in (Some one.1) ≡ o → if_network id router o ≡ Some node
+    → IsNodeOf said one.0 node) [
       | None ↦ λ is p. absurd (none-some node p)
       | Some lsa ↦ λ is p.
           let P : Node → Type 0 = λ n. IsNodeOf said one.0 n in
-          subst P (same_Some (ANetwork id router) node p) (record { same = key; has = (lsa, sym (ap said key) ∙ says ∙ network_said (Some one.1) lsa is) })
+          subst P (same_Some (ANetwork id router) node p) (record {
+            same = key;
+            has = (lsa, sym (ap said key) ∙ says ∙ network_said (Some one.1) lsa is);
+          })
     ] refl e
 
-is_node : (said : Said) (one : Key × Body) (node : Node) → said one.0 ≡ Some one.1 → node_of one ≡ Some node → IsNodeOf said one.0 node
+is_node : (said : Said) (one : Key × Body) (node : Node) → said one.0 ≡ Some one.1
+    → node_of one ≡ Some node → IsNodeOf said one.0 node
 is_node said one node says e =
     let key = one.0 in
     let r = if_router key.advertising_router (router_in (Some one.1)) in
     let n = if_network key.link_state_id key.advertising_router (network_in (Some one.1)) in
-    elim ((key.ls_type == 1) && (key.link_state_id == key.advertising_router)) as (λ b. (key.ls_type == 1) && (key.link_state_id == key.advertising_router) ≡ b → cond b r (cond (key.ls_type == 2) n None) ≡ Some node → IsNodeOf said key node) [
+    elim ((key.ls_type == 1) && (key.link_state_id == key.advertising_router)) as
+    (λ b. (key.ls_type == 1) && (key.link_state_id == key.advertising_router) ≡ b
+    → cond b r (cond (key.ls_type == 2) n None) ≡ Some node → IsNodeOf said key node) [
       | true ↦ λ is p.
           let tests = two (key.ls_type == 1) (key.link_state_id == key.advertising_router) is in
-          of_router said one node says (eqb-true key.ls_type 1 tests.0) (eqb-true key.link_state_id key.advertising_router tests.1) p
+          of_router said one node says (eqb-true key.ls_type 1 tests.0)
+          (eqb-true key.link_state_id key.advertising_router tests.1) p
       | false ↦ λ _ p.
-          elim (key.ls_type == 2) as (λ b. key.ls_type == 2 ≡ b → cond b n None ≡ Some node → IsNodeOf said key node) [
+          elim (key.ls_type == 2) as (λ b. key.ls_type == 2 ≡ b → cond b n None ≡ Some node
+          → IsNodeOf said key node) [
             | true ↦ λ is q. of_network said one node says (eqb-true key.ls_type 2 is) q
             | false ↦ λ _ q. absurd (none-some node q)
           ] refl p
@@ -106,8 +139,18 @@ record IsSaidOf (said : Said) (node : Node) : Type 0 where
 at_key : (said : Said) (node : Node) → HasLsa said node → IsSaidOf said node
 at_key said (ARouter router) has =
     let same : router == router ≡ true = eq-eqb router router refl in
-    record { says = body.Router has.0; its = has.1; low = omega arith; made = ap (λ b. cond (true && b) (if_router router (Some has.0)) None) same }
-at_key said (ANetwork id by) has = record { says = body.Network has.0; its = has.1; low = omega arith; made = refl }
+    record {
+      says = body.Router has.0;
+      its = has.1;
+      low = omega arith;
+      made = ap (λ b. cond (true && b) (if_router router (Some has.0)) None) same;
+    }
+at_key said (ANetwork id by) has = record {
+  says = body.Network has.0;
+  its = has.1;
+  low = omega arith;
+  made = refl;
+}
 
 -- nodes are in the order of their keys
 twice : (r : Ordering) → ordering_then r r ≡ Less → r ≡ Less
@@ -128,7 +171,8 @@ by_keys (ANetwork id by) (ARouter b) e = e
 by_keys (ANetwork id by) (ANetwork other its) e = e
 
 pub before_all : (a b c : Node) → node_cmp a b ≡ Less → node_cmp b c ≡ Less → node_cmp a c ≡ Less
-before_all a b c p q = in_order a c (keys_total.trans (key_of a) (key_of b) (key_of c) (by_keys a b p) (by_keys b c q))
+before_all a b c p q = in_order a c
+    (keys_total.trans (key_of a) (key_of b) (key_of c) (by_keys a b p) (by_keys b c q))
 
 pub lt_true : (r : Ordering) → is_lt r ≡ true → r ≡ Less
 lt_true Less e = refl
@@ -140,16 +184,22 @@ lt_false r e is = false≢true (sym e ∙ ap is_lt is)
 
 -- ---- the search for an index
 
-pub in_places : (nodes : List Node) (ascend : Ascend nodes) (i j : ℕ) (a b : Node) → slice_get nodes i ≡ Some a → slice_get nodes j ≡ Some b → i < j → node_cmp a b ≡ Less
+pub in_places : (nodes : List Node) (ascend : Ascend nodes) (i j : ℕ) (a b : Node)
+    → slice_get nodes i ≡ Some a → slice_get nodes j ≡ Some b → i < j → node_cmp a b ≡ Less
 in_places nodes ascend i j a b here there lt =
     let P : Node → Type 0 = λ n. node_cmp n (get_or nodes j a) ≡ Less in
     let Q : Node → Type 0 = λ n. node_cmp a n ≡ Less in
-    subst Q (get_or_from_slice_get nodes j b a there) (subst P (get_or_from_slice_get nodes i a a here) (ascend i j a lt (slice_get_within nodes j b there)))
+    subst Q (get_or_from_slice_get nodes j b a there)
+    (subst P (get_or_from_slice_get nodes i a a here)
+    (ascend i j a lt (slice_get_within nodes j b there)))
 
-pub go_up : (nodes : List Node) (ascend : Ascend nodes) (node middle : Node) (m : ℕ) → slice_get nodes m ≡ Some middle → node_cmp middle node ≡ Less → (k : ℕ) (other : Node) → slice_get nodes k ≡ Some other → k < m + 1 → node_cmp other node ≡ Less
+pub go_up : (nodes : List Node) (ascend : Ascend nodes) (node middle : Node) (m : ℕ)
+    → slice_get nodes m ≡ Some middle → node_cmp middle node ≡ Less → (k : ℕ) (other : Node)
+    → slice_get nodes k ≡ Some other → k < m + 1 → node_cmp other node ≡ Less
 go_up nodes ascend node middle m here below k other there low =
     elim (cases_lt k m) [
-      | inl lt ↦ before_all other middle node (in_places nodes ascend k m other middle there here lt) below
+      | inl lt ↦ before_all other middle node
+          (in_places nodes ascend k m other middle there here lt) below
       | inr past ↦
           let e : k ≡ m = omega (arith, past, low) in
           let P : ℕ → Type 0 = λ i. slice_get nodes i ≡ Some other in
@@ -157,10 +207,13 @@ go_up nodes ascend node middle m here below k other there low =
           subst Q (same_Some middle other (sym here ∙ subst P e there)) below
     ]
 
-pub go_down : (nodes : List Node) (ascend : Ascend nodes) (node middle : Node) (m : ℕ) → slice_get nodes m ≡ Some middle → (node_cmp middle node ≡ Less → ⊥) → (k : ℕ) (other : Node) → slice_get nodes k ≡ Some other → m ≤ k → node_cmp other node ≡ Less → ⊥
+pub go_down : (nodes : List Node) (ascend : Ascend nodes) (node middle : Node) (m : ℕ)
+    → slice_get nodes m ≡ Some middle → (node_cmp middle node ≡ Less → ⊥) → (k : ℕ) (other : Node)
+    → slice_get nodes k ≡ Some other → m ≤ k → node_cmp other node ≡ Less → ⊥
 go_down nodes ascend node middle m here never k other there high below =
     elim (cases_lt m k) [
-      | inl lt ↦ never (before_all middle other node (in_places nodes ascend m k middle other here there lt) below)
+      | inl lt ↦ never (before_all middle other node
+          (in_places nodes ascend m k middle other here there lt) below)
       | inr past ↦
           let e : k ≡ m = omega (arith, past, high) in
           let P : ℕ → Type 0 = λ i. slice_get nodes i ≡ Some other in
@@ -173,18 +226,22 @@ go_down nodes ascend node middle m here never k other there high below =
 abbrev AllSaid : Said → List (Key × Body) → Type 0
 AllSaid said es = (one : Key × Body) → Contains es one → said one.0 ≡ Some one.1
 
-first_before : (e : Key × Body) (es : List (Key × Body)) → InOrder (e ∷ es) → (one : Key × Body) → Contains es one → key_cmp e.0 one.0 ≡ Less
+first_before : (e : Key × Body) (es : List (Key × Body)) → InOrder (e ∷ es) → (one : Key × Body)
+    → Contains es one → key_cmp e.0 one.0 ≡ Less
 first_before e es order one (k, within, is) =
     let P : Key × Body → Type 0 = λ x. key_cmp e.0 x.0 ≡ Less in
     subst P is (order zero (suc k) one (omega arith) (omega (arith, within)))
 
 rest_in_order : (e : Key × Body) (es : List (Key × Body)) → InOrder (e ∷ es) → InOrder es
-rest_in_order e es order = λ i j d before within. order (suc i) (suc j) d (omega (arith, before)) (omega (arith, within))
+rest_in_order e es order = λ i j d before within. order (suc i) (suc j) d (omega (arith, before))
+    (omega (arith, within))
 
-ascend : (said : Said) (es : List (Key × Body)) → AllSaid said es → InOrder es → Ascend (filter_map node_of es)
+ascend : (said : Said) (es : List (Key × Body)) → AllSaid said es → InOrder es
+    → Ascend (filter_map node_of es)
 ascend said [] says order = none_pairs (λ (a : Node) (b : Node). node_cmp a b ≡ Less)
 ascend said (e ∷ es) says order =
-    let later : (one : Key × Body) → Contains es one → said one.0 ≡ Some one.1 = λ one among. says one (later_is e es one among) in
+    let later : (one : Key × Body) → Contains es one → said one.0 ≡ Some one.1 =
+    λ one among. says one (later_is e es one among) in
     let rest = ascend said es later (rest_in_order e es order) in
     let these = filter_map node_of es in
     elim (node_of e) as (λ o. node_of e ≡ o → Ascend (cons_option o these)) [
@@ -194,20 +251,27 @@ ascend said (e ∷ es) says order =
           (λ other among.
           let source = filtered_out node_of es other among in
           let lower = is_node said e node (says e (first_is e es)) is in
-          let upper = is_node said source.from other (later source.from source.among) source.gives in
+          let upper = is_node said source.from other (later source.from source.among) source.gives
+          in
           let P : Key → Type 0 = λ k. key_cmp k (key_of other) ≡ Less in
           let Q : Key → Type 0 = λ k. key_cmp e.0 k ≡ Less in
-          in_order node other (subst P lower.same (subst Q upper.same (first_before e es order source.from source.among))))
+          in_order node other (subst P lower.same
+          (subst Q upper.same (first_before e es order source.from source.among))))
           rest
     ] refl
 
-pub are_nodes : (said : Said) (es : List (Key × Body)) → AreBodies (Some 2) said es → AreNodes said (filter_map node_of es)
+pub are_nodes : (said : Said) (es : List (Key × Body)) → AreBodies (Some 2) said es
+    → AreNodes said (filter_map node_of es)
 are_nodes said es told =
-    let says : (one : Key × Body) → Contains es one → said one.0 ≡ Some one.1 = λ one among. ((told.each one.0 one.1).0 among).1 in
+    let says : (one : Key × Body) → Contains es one → said one.0 ≡ Some one.1 =
+    λ one among. ((told.each one.0 one.1).0 among).1 in
     record {
       each = λ node. (
-        (λ among. let source = filtered_out node_of es node among in (is_node said source.from node (says source.from source.among) source.gives).has),
-        (λ has. let at = at_key said node has in filtered_in node_of es (key_of node, at.says) node ((told.each (key_of node) at.says).1 (at.low, at.its)) at.made),
+        (λ among. let source = filtered_out node_of es node among in
+            (is_node said source.from node (says source.from source.among) source.gives).has),
+        (λ has. let at = at_key said node has in
+            filtered_in node_of es (key_of node, at.says) node
+            ((told.each (key_of node) at.says).1 (at.low, at.its)) at.made),
       );
       ascend = ascend said es says told.ascend;
     }
@@ -217,11 +281,14 @@ few es n count = omega (arith, filtered_few node_of es, count)
 
 -- ---- the loop over them
 
-pub kept_more : (es : List (Key × Body)) (i : ℕ) (one : Key × Body) → i < length es → one ≡ get_or es i one → filter_map node_of (take (i + 1) es) ≡ filter_map node_of (take i es) ++ cons_option (node_of one) []
+pub kept_more : (es : List (Key × Body)) (i : ℕ) (one : Key × Body) → i < length es
+    → one ≡ get_or es i one → filter_map node_of (take (i + 1) es) ≡ filter_map node_of (take i es)
+    ++ cons_option (node_of one) []
 kept_more es i one lt is =
     ap (filter_map node_of) (take_more es i one lt)
     ∙ filter_map-append node_of (take i es) (get_or es i one ∷ [])
     ∙ ap (λ (e : Key × Body). filter_map node_of (take i es) ++ cons_option (node_of e) []) (sym is)
 
-pub all_bodies : (nodes : List Node) (seen es : List (Key × Body)) (k : ℕ) → seen ≡ es → length seen ≤ k → nodes ≡ filter_map node_of (take k seen) → nodes ≡ filter_map node_of es
+pub all_bodies : (nodes : List Node) (seen es : List (Key × Body)) (k : ℕ) → seen ≡ es
+    → length seen ≤ k → nodes ≡ filter_map node_of (take k seen) → nodes ≡ filter_map node_of es
 all_bodies nodes seen es k same done e = e ∙ ap (filter_map node_of) (take_all k seen done ∙ same)

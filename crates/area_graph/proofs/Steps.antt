@@ -1,5 +1,7 @@
 -- The steps by which links are added.
-use Rattle.std.proofs.Common.{◌≡◌, ℕ, ◌+◌, ◌<◌, ◌≤◌, inl, inr, List, [], ◌∷◌, ◌++◌, length, None, Some, Ok, Err, Option, Result, slice_get, refl, sym, ◌∙◌, ap, subst, arith}
+use Rattle.std.proofs.Common.{◌≡◌, ℕ, ◌+◌, ◌<◌, ◌≤◌, inl, inr, List, [], ◌∷◌, ◌++◌, length, None}
+use Rattle.std.proofs.Common.{Some, Ok, Err, Option, Result, slice_get, refl, sym, ◌∙◌, ap, subst}
+use Rattle.std.proofs.Common.{arith}
 use Rattle.std.proofs.lemmas.Bool.{cases_lt}
 use Rattle.std.proofs.lemmas.Option.{same_Some, slice_get_within}
 use Rattle.std.specs.List.{All, Contains}
@@ -14,7 +16,8 @@ use Rattle.routes.specs.declared.node.Node.TheVariants.{ARouter}
 use Rattle.routes.specs.declared.root.Root.{Root}
 use Rattle.area_graph.specs.Entries.{HasEntry, IsLeastMetric, attached_entry, entry_cmp}
 use Rattle.area_graph.specs.Graphs.{Adds, CostFits, OfEach, StandsAt}
-use Rattle.area_graph.specs.Links.{IsCheapest, IsExitTo, IsNeighborAt, IsOwnTo, IsOwnTransit, IsToListed, IsToNetwork, IsToRouter, IsToSomeNetwork}
+use Rattle.area_graph.specs.Links.{IsCheapest, IsExitTo, IsNeighborAt, IsOwnTo, IsOwnTransit}
+use Rattle.area_graph.specs.Links.{IsToListed, IsToNetwork, IsToRouter, IsToSomeNetwork}
 use Rattle.area_graph.specs.Nodes.{Ascend, node_cmp}
 use Rattle.area_graph.specs.declared.entry.Entry.{Entry}
 use Rattle.area_graph.specs.declared.entry.EntryKind.{EntryKind}
@@ -27,14 +30,18 @@ pub on_ok : {T E : Type 0} (r : Result T E) (P Q : Type 0) → (P → Q) → OnO
 on_ok (Ok x) P Q f p = f p
 on_ok (Err e) P Q f p = p
 
-pub pushed_fits : (xs : List Link) (link : Link) → link.cost < 65536 → All CostFits xs → All CostFits (xs ++ link ∷ [])
-pushed_fits xs link fits = adds_all (λ (x : Link). x ≡ link) CostFits xs (xs ++ link ∷ []) (adds_one (λ (x : Link). x ≡ link) xs link refl (λ x e. e)) (λ x e. omega (arith, ap (λ (y : Link). y.cost) e, fits))
+pub pushed_fits : (xs : List Link) (link : Link) → link.cost < 65536 → All CostFits xs
+    → All CostFits (xs ++ link ∷ [])
+pushed_fits xs link fits = adds_all (λ (x : Link). x ≡ link) CostFits xs (xs ++ link ∷ [])
+    (adds_one (λ (x : Link). x ≡ link) xs link refl (λ x e. e))
+    (λ x e. omega (arith, ap (λ (y : Link). y.cost) e, fits))
 
 -- ---- a link by each own interface with the address
 
 module _ (root : Root) (to cost address : ℕ) where
   abbrev pub OwnBelow : ℕ → Link → Type 0
-  OwnBelow i link = (link.to ≡ to) × (link.cost ≡ cost) × ((n : ℕ) × (link.interface ≡ n + 1) × (slice_get root.addresses n ≡ Some address) × (n < i))
+  OwnBelow i link = (link.to ≡ to) × (link.cost ≡ cost)
+      × ((n : ℕ) × (link.interface ≡ n + 1) × (slice_get root.addresses n ≡ Some address) × (n < i))
 
   pub own_none : (xs : List Link) → Adds (OwnBelow 0) xs xs
   own_none xs = adds_none (OwnBelow 0) xs (λ x o. omega (arith, o.2.3))
@@ -42,17 +49,25 @@ module _ (root : Root) (to cost address : ℕ) where
   wider : (i : ℕ) (x : Link) → OwnBelow i x → OwnBelow (i + 1) x
   wider i x o = (o.0, o.1, (o.2.0, o.2.1, o.2.2, omega (arith, o.2.3)))
 
-  pub own_more : (i : ℕ) (xs ys : List Link) → slice_get root.addresses i ≡ Some address → Adds (OwnBelow i) xs ys → Adds (OwnBelow (i + 1)) xs (ys ++ record { to = to; cost = cost; interface = i + 1 } ∷ [])
+  pub own_more : (i : ℕ) (xs ys : List Link) → slice_get root.addresses i ≡ Some address
+      → Adds (OwnBelow i) xs ys → Adds (OwnBelow (i + 1)) xs (ys ++ record {
+        to = to;
+        cost = cost;
+        interface = i + 1;
+      } ∷ [])
   own_more i xs ys here a =
       let link : Link = record { to = to; cost = cost; interface = i + 1 } in
-      adds_more (OwnBelow i) (OwnBelow (i + 1)) xs ys link a (refl, refl, (i, refl, here, omega arith))
+      adds_more (OwnBelow i) (OwnBelow (i + 1)) xs ys link a
+      (refl, refl, (i, refl, here, omega arith))
       (λ x o. elim (cases_lt o.2.0 i) [
         | inl lt ↦ inl (o.0, o.1, (o.2.0, o.2.1, o.2.2, lt))
-        | inr past ↦ let at : x.interface ≡ i + 1 = omega (arith, o.2.1, o.2.3, past) in inr (λ j. record { to = o.0 j; cost = o.1 j; interface = at j })
+        | inr past ↦ let at : x.interface ≡ i + 1 = omega (arith, o.2.1, o.2.3, past) in
+            inr (λ j. record { to = o.0 j; cost = o.1 j; interface = at j })
       ])
       (wider i)
 
-  pub own_skip : (i : ℕ) (xs ys : List Link) → (slice_get root.addresses i ≡ Some address → ⊥) → Adds (OwnBelow i) xs ys → Adds (OwnBelow (i + 1)) xs ys
+  pub own_skip : (i : ℕ) (xs ys : List Link) → (slice_get root.addresses i ≡ Some address → ⊥)
+      → Adds (OwnBelow i) xs ys → Adds (OwnBelow (i + 1)) xs ys
   own_skip i xs ys never a =
       adds_same (OwnBelow i) (OwnBelow (i + 1)) xs ys (wider i)
       (λ x o. elim (cases_lt o.2.0 i) [
@@ -63,40 +78,85 @@ module _ (root : Root) (to cost address : ℕ) where
             absurd (never (subst P same o.2.2))
       ]) a
 
-  pub own_all : (i : ℕ) (xs ys : List Link) → length root.addresses ≤ i → Adds (OwnBelow i) xs ys → Adds (IsOwnTo root to cost address) xs ys
+  pub own_all : (i : ℕ) (xs ys : List Link) → length root.addresses ≤ i → Adds (OwnBelow i) xs ys
+      → Adds (IsOwnTo root to cost address) xs ys
   own_all i xs ys done a =
-      adds_same (OwnBelow i) (IsOwnTo root to cost address) xs ys (λ x o. (o.0, o.1, (o.2.0, o.2.1, o.2.2)))
-      (λ x o. (o.0, o.1, (o.2.0, o.2.1, o.2.2, omega (arith, done, slice_get_within root.addresses o.2.0 address o.2.2)))) a
+      adds_same (OwnBelow i) (IsOwnTo root to cost address) xs ys
+      (λ x o. (o.0, o.1, (o.2.0, o.2.1, o.2.2)))
+      (λ x o. (
+        o.0,
+        o.1,
+        (
+          o.2.0,
+          o.2.1,
+          o.2.2,
+          omega (arith, done, slice_get_within root.addresses o.2.0 address o.2.2),
+        ),
+      )) a
 
-  pub own_fits : cost < 65536 → (xs ys : List Link) → Adds (IsOwnTo root to cost address) xs ys → All CostFits xs → All CostFits ys
-  own_fits fits xs ys a = adds_all (IsOwnTo root to cost address) CostFits xs ys a (λ x o. omega (arith, o.1, fits))
+  pub own_fits : cost < 65536 → (xs ys : List Link) → Adds (IsOwnTo root to cost address) xs ys
+      → All CostFits xs → All CostFits ys
+  own_fits fits xs ys a = adds_all (IsOwnTo root to cost address) CostFits xs ys a
+      (λ x o. omega (arith, o.1, fits))
 
   -- ---- of the root, or of any other router
 
   module _ (router : ℕ) where
-    pub exits_at_root : (xs ys : List Link) → router ≡ root.router → Adds (IsOwnTo root to cost address) xs ys → Adds (IsExitTo root router to cost address) xs ys
+    pub exits_at_root : (xs ys : List Link) → router ≡ root.router
+        → Adds (IsOwnTo root to cost address) xs ys
+        → Adds (IsExitTo root router to cost address) xs ys
     exits_at_root xs ys own a =
-        adds_same (IsOwnTo root to cost address) (IsExitTo root router to cost address) xs ys (λ x o. (o.0, o.1, record { by_interface = λ _. o.2; elsewhere = λ off. absurd (off own) }))
+        adds_same (IsOwnTo root to cost address) (IsExitTo root router to cost address) xs ys
+        (λ x o. (
+          o.0,
+          o.1,
+          record {
+            by_interface = λ _. o.2;
+            elsewhere = λ off. absurd (off own);
+          },
+        ))
         (λ x e. (e.0, e.1, e.2.by_interface own)) a
 
-    pub exit_elsewhere : (xs : List Link) → (router ≡ root.router → ⊥) → Adds (IsExitTo root router to cost address) xs (xs ++ record { to = to; cost = cost; interface = 0 } ∷ [])
+    pub exit_elsewhere : (xs : List Link) → (router ≡ root.router → ⊥)
+        → Adds (IsExitTo root router to cost address) xs (xs ++ record {
+          to = to;
+          cost = cost;
+          interface = 0;
+        } ∷ [])
     exit_elsewhere xs off =
         let link : Link = record { to = to; cost = cost; interface = 0 } in
-        adds_one (IsExitTo root router to cost address) xs link (refl, refl, record { by_interface = λ own. absurd (off own); elsewhere = λ _. refl })
-        (λ x e. let at : x.interface ≡ 0 = e.2.elsewhere off in let to_end = e.0 in let costs = e.1 in λ j. record { to = to_end j; cost = costs j; interface = at j })
+        adds_one (IsExitTo root router to cost address) xs link (
+          refl,
+          refl,
+          record {
+            by_interface = λ own. absurd (off own);
+            elsewhere = λ _. refl;
+          },
+        )
+        (λ x e. let at : x.interface ≡ 0 = e.2.elsewhere off in let to_end = e.0 in let costs =
+        e.1 in λ j. record { to = to_end j; cost = costs j; interface = at j })
 
-    pub exits_fit : cost < 65536 → (xs ys : List Link) → Adds (IsExitTo root router to cost address) xs ys → All CostFits xs → All CostFits ys
-    exits_fit fits xs ys a = adds_all (IsExitTo root router to cost address) CostFits xs ys a (λ x e. omega (arith, e.1, fits))
+    pub exits_fit : cost < 65536 → (xs ys : List Link)
+        → Adds (IsExitTo root router to cost address) xs ys → All CostFits xs → All CostFits ys
+    exits_fit fits xs ys a = adds_all (IsExitTo root router to cost address) CostFits xs ys a
+        (λ x e. omega (arith, e.1, fits))
 
 -- ---- to the router at the far end
 
-pub neighbor_is : (nodes : List Node) (entries : List Entry) (router : ℕ) (kind : EntryKind) (id at : ℕ) → Ascend nodes → Contains nodes (ARouter router) → HasEntry entries router kind id
-    → ((k : ℕ) (other : Node) → slice_get nodes k ≡ Some other → k < at → node_cmp other (ARouter router) ≡ Less)
-    → ((k : ℕ) (other : Node) → slice_get nodes k ≡ Some other → at ≤ k → node_cmp other (ARouter router) ≡ Less → ⊥)
+pub neighbor_is : (nodes : List Node) (entries : List Entry) (router : ℕ) (kind : EntryKind)
+    (id at : ℕ) → Ascend nodes → Contains nodes (ARouter router) → HasEntry entries router kind id
+    → ((k : ℕ) (other : Node) → slice_get nodes k ≡ Some other → k < at
+    → node_cmp other (ARouter router) ≡ Less)
+    → ((k : ℕ) (other : Node) → slice_get nodes k ≡ Some other → at ≤ k
+    → node_cmp other (ARouter router) ≡ Less → ⊥)
     → IsNeighborAt nodes entries router kind id (Some at)
-neighbor_is nodes entries router kind id at ascend among has before beyond = (at_its_place nodes ascend (ARouter router) at among before beyond, has)
+neighbor_is nodes entries router kind id at ascend among has before beyond =
+    (at_its_place nodes ascend (ARouter router) at among before beyond, has)
 
-pub same_neighbor : (nodes : List Node) (entries : List Entry) (kind : EntryKind) (router other id its : ℕ) (at to : Option ℕ) → router ≡ other → id ≡ its → at ≡ to → IsNeighborAt nodes entries router kind id at → IsNeighborAt nodes entries other kind its to
+pub same_neighbor : (nodes : List Node) (entries : List Entry) (kind : EntryKind)
+    (router other id its : ℕ) (at to : Option ℕ) → router ≡ other → id ≡ its → at ≡ to
+    → IsNeighborAt nodes entries router kind id at
+    → IsNeighborAt nodes entries other kind its to
 same_neighbor nodes entries kind router other id its at to e f g is =
     let P : ℕ → Type 0 = λ r. IsNeighborAt nodes entries r kind id at in
     let Q : ℕ → Type 0 = λ n. IsNeighborAt nodes entries other kind n at in
@@ -104,42 +164,85 @@ same_neighbor nodes entries kind router other id its at to e f g is =
     subst R g (subst Q f (subst P e is))
 
 module _ (root : Root) (nodes : List Node) (entries : List Entry) (router : ℕ) (told : Told) where
-  pub no_neighbor : (xs : List Link) → IsNeighborAt nodes entries told.link_id PointToPoint router None → Adds (IsToRouter root nodes entries router told) xs xs
-  no_neighbor xs none = adds_none (IsToRouter root nodes entries router told) xs (λ x t. none t.back)
+  pub no_neighbor : (xs : List Link)
+      → IsNeighborAt nodes entries told.link_id PointToPoint router None
+      → Adds (IsToRouter root nodes entries router told) xs xs
+  no_neighbor xs none = adds_none (IsToRouter root nodes entries router told) xs
+      (λ x t. none t.back)
 
   -- it has one index
-  pub to_neighbor : (to : ℕ) (xs ys : List Link) → Ascend nodes → told.kind ≡ kinds.PointToPoint → 0 < told.metric → IsNeighborAt nodes entries told.link_id PointToPoint router (Some to)
-      → Adds (IsExitTo root router to told.metric told.link_data) xs ys → Adds (IsToRouter root nodes entries router told) xs ys
+  pub to_neighbor : (to : ℕ) (xs ys : List Link) → Ascend nodes → told.kind ≡ kinds.PointToPoint
+      → 0 < told.metric → IsNeighborAt nodes entries told.link_id PointToPoint router (Some to)
+      → Adds (IsExitTo root router to told.metric told.link_data) xs ys
+      → Adds (IsToRouter root nodes entries router told) xs ys
   to_neighbor to xs ys ascend kind counts at a =
-      adds_same (IsExitTo root router to told.metric told.link_data) (IsToRouter root nodes entries router told) xs ys
+      adds_same (IsExitTo root router to told.metric told.link_data)
+      (IsToRouter root nodes entries router told) xs ys
       (λ x e.
       let P : ℕ → Type 0 = λ k. StandsAt nodes (ARouter told.link_id) k in
-      record { is_kind = kind; counts = counts; stands = subst P (sym e.0) at.0; back = at.1; leads = (refl, e.1, e.2) })
-      (λ x t. (one_place nodes ascend (ARouter told.link_id) x.to to t.stands at.0, t.leads.1, t.leads.2)) a
+      record {
+        is_kind = kind;
+        counts = counts;
+        stands = subst P (sym e.0) at.0;
+        back = at.1;
+        leads = (refl, e.1, e.2);
+      })
+      (λ x t. (
+        one_place nodes ascend (ARouter told.link_id) x.to to t.stands at.0,
+        t.leads.1,
+        t.leads.2,
+      )) a
 
 -- ---- to the network of one entry
 
-module _ (root : Root) (entries : List Entry) (router : ℕ) (told_links : List Told) (entry : Entry) where
-  pub network_at_root : (xs ys : List Link) → router ≡ root.router → Adds (OfEach (IsOwnTransit root entry.id entry.place) told_links) xs ys → Adds (IsToNetwork root entries router told_links entry) xs ys
-  network_at_root xs ys own a =
-      adds_same (OfEach (IsOwnTransit root entry.id entry.place) told_links) (IsToNetwork root entries router told_links entry) xs ys (λ x o. record { own = λ _. o; other = λ off. absurd (off own) }) (λ x t. t.own own) a
+module _ (root : Root) (entries : List Entry) (router : ℕ) (told_links : List Told) (entry : Entry)
+  where
+    pub network_at_root : (xs ys : List Link) → router ≡ root.router
+        → Adds (OfEach (IsOwnTransit root entry.id entry.place) told_links) xs ys
+        → Adds (IsToNetwork root entries router told_links entry) xs ys
+    network_at_root xs ys own a =
+        adds_same (OfEach (IsOwnTransit root entry.id entry.place) told_links)
+        (IsToNetwork root entries router told_links entry) xs ys (λ x o. record {
+          own = λ _. o;
+          other = λ off. absurd (off own);
+        }) (λ x t. t.own own) a
 
-  pub network_elsewhere : (xs ys : List Link) → (router ≡ root.router → ⊥) → Adds (IsCheapest entries router entry) xs ys → Adds (IsToNetwork root entries router told_links entry) xs ys
-  network_elsewhere xs ys off a =
-      adds_same (IsCheapest entries router entry) (IsToNetwork root entries router told_links entry) xs ys (λ x c. record { own = λ own. absurd (off own); other = λ _. c }) (λ x t. t.other off) a
+    pub network_elsewhere : (xs ys : List Link) → (router ≡ root.router → ⊥)
+        → Adds (IsCheapest entries router entry) xs ys
+        → Adds (IsToNetwork root entries router told_links entry) xs ys
+    network_elsewhere xs ys off a =
+        adds_same (IsCheapest entries router entry)
+        (IsToNetwork root entries router told_links entry)
+        xs ys (λ x c. record {
+          own = λ own. absurd (off own);
+          other = λ _. c;
+        }) (λ x t. t.other off) a
 
 module _ (entries : List Entry) (router : ℕ) (entry : Entry) where
-  pub none_cheapest : (xs : List Link) → IsLeastMetric entries router Transit entry.id 1 None → Adds (IsCheapest entries router entry) xs xs
-  none_cheapest xs none = adds_none (IsCheapest entries router entry) xs (λ x c. none x.cost c.least.0 c.least.1)
+  pub none_cheapest : (xs : List Link) → IsLeastMetric entries router Transit entry.id 1 None
+      → Adds (IsCheapest entries router entry) xs xs
+  none_cheapest xs none = adds_none (IsCheapest entries router entry) xs
+      (λ x c. none x.cost c.least.0 c.least.1)
 
-  pub one_cheapest : (cost : ℕ) (xs : List Link) → IsLeastMetric entries router Transit entry.id 1 (Some cost) → Adds (IsCheapest entries router entry) xs (xs ++ record { to = entry.place; cost = cost; interface = 0 } ∷ [])
+  pub one_cheapest : (cost : ℕ) (xs : List Link)
+      → IsLeastMetric entries router Transit entry.id 1 (Some cost)
+      → Adds (IsCheapest entries router entry) xs (xs ++ record {
+        to = entry.place;
+        cost = cost;
+        interface = 0;
+      } ∷ [])
   one_cheapest cost xs least =
       let link : Link = record { to = entry.place; cost = cost; interface = 0 } in
-      adds_one (IsCheapest entries router entry) xs link (record { same_end = refl; least = least; exit = refl })
+      adds_one (IsCheapest entries router entry) xs link (record {
+        same_end = refl;
+        least = least;
+        exit = refl;
+      })
       (λ x c.
       let to = c.same_end in
       let exit = c.exit in
-      let costs : x.cost ≡ cost = omega (arith, c.least.2 cost least.0 least.1, least.2 x.cost c.least.0 c.least.1) in
+      let costs : x.cost ≡ cost = omega
+      (arith, c.least.2 cost least.0 least.1, least.2 x.cost c.least.0 c.least.1) in
       λ j. record { to = to j; cost = costs j; interface = exit j })
 
 -- ---- to the networks of all entries that list the router
@@ -152,14 +255,20 @@ module _ (root : Root) (entries : List Entry) (router : ℕ) (told_links : List 
   ToSome = IsToSomeNetwork root entries router told_links
 
   abbrev pub WalkedTo : ℕ → Link → Type 0
-  WalkedTo at link = (k : ℕ) × (entry : Entry) × (slice_get entries k ≡ Some entry) × (entry.router ≡ router) × (entry.kind ≡ Attached) × (k < at) × To entry link
+  WalkedTo at link = (k : ℕ) × (entry : Entry) × (slice_get entries k ≡ Some entry)
+      × (entry.router ≡ router) × (entry.kind ≡ Attached) × (k < at) × To entry link
 
-  pub walk_none : (first : ℕ) (xs : List Link) → ((k : ℕ) (other : Entry) → slice_get entries k ≡ Some other → k < first → entry_cmp other (attached_entry 0 0 router) ≡ Less) → Adds (WalkedTo first) xs xs
+  pub walk_none : (first : ℕ) (xs : List Link)
+      → ((k : ℕ) (other : Entry) → slice_get entries k ≡ Some other → k < first
+      → entry_cmp other (attached_entry 0 0 router) ≡ Less) → Adds (WalkedTo first) xs xs
   walk_none first xs before =
       adds_none (WalkedTo first) xs
-      (λ x o. not_before (attached_entry 0 0 router) o.1 o.3 o.4 (omega arith) (omega arith) (omega arith) (before o.0 o.1 o.2 o.5))
+      (λ x o. not_before (attached_entry 0 0 router) o.1 o.3 o.4 (omega arith) (omega arith)
+      (omega arith) (before o.0 o.1 o.2 o.5))
 
-  pub walk_more : (at : ℕ) (entry : Entry) (xs ys zs : List Link) → slice_get entries at ≡ Some entry → entry.router ≡ router → entry.kind ≡ Attached → Adds (WalkedTo at) xs ys → Adds (To entry) ys zs → Adds (WalkedTo (at + 1)) xs zs
+  pub walk_more : (at : ℕ) (entry : Entry) (xs ys zs : List Link)
+      → slice_get entries at ≡ Some entry → entry.router ≡ router → entry.kind ≡ Attached
+      → Adds (WalkedTo at) xs ys → Adds (To entry) ys zs → Adds (WalkedTo (at + 1)) xs zs
   walk_more at entry xs ys zs here is_router is_kind a b =
       adds_both (WalkedTo at) (To entry) (WalkedTo (at + 1)) xs ys zs a b
       (λ x o. elim (cases_lt o.0 at) [
@@ -174,15 +283,34 @@ module _ (root : Root) (entries : List Entry) (router : ℕ) (told_links : List 
       (λ x t. (at, entry, here, is_router, is_kind, omega arith, t))
 
   walked : (at : ℕ) (x : Link) → WalkedTo at x → ToSome x
-  walked at x o = record { entry = o.1; among = contained entries o.0 o.1 o.2; is_router = o.3; is_kind = o.4; leads = o.6 }
+  walked at x o = record {
+    entry = o.1;
+    among = contained entries o.0 o.1 o.2;
+    is_router = o.3;
+    is_kind = o.4;
+    leads = o.6;
+  }
 
-  pub walk_end : (at : ℕ) (xs ys : List Link) → length entries ≤ at → Adds (WalkedTo at) xs ys → Adds ToSome xs ys
+  pub walk_end : (at : ℕ) (xs ys : List Link) → length entries ≤ at → Adds (WalkedTo at) xs ys
+      → Adds ToSome xs ys
   walk_end at xs ys done a =
       adds_same (WalkedTo at) ToSome xs ys (walked at)
-      (λ x s. let stands = placed entries s.entry s.among in (stands.0, s.entry, stands.1, s.is_router, s.is_kind, omega (arith, done, slice_get_within entries stands.0 s.entry stands.1), s.leads)) a
+      (λ x s. let stands = placed entries s.entry s.among in (
+        stands.0,
+        s.entry,
+        stands.1,
+        s.is_router,
+        s.is_kind,
+        omega (arith, done, slice_get_within entries stands.0 s.entry stands.1),
+        s.leads,
+      )) a
 
-  pub walk_stop : (first at : ℕ) (entry : Entry) (xs ys : List Link) → IsSorted entry_cmp entries → ((k : ℕ) (other : Entry) → slice_get entries k ≡ Some other → first ≤ k → entry_cmp other (attached_entry 0 0 router) ≡ Less → ⊥) → first ≤ at
-      → slice_get entries at ≡ Some entry → (entry.router ≡ router → entry.kind ≡ Attached → ⊥) → Adds (WalkedTo at) xs ys → Adds ToSome xs ys
+  pub walk_stop : (first at : ℕ) (entry : Entry) (xs ys : List Link) → IsSorted entry_cmp entries
+      → ((k : ℕ) (other : Entry) → slice_get entries k ≡ Some other → first ≤ k
+      → entry_cmp other (attached_entry 0 0 router) ≡ Less → ⊥) → first ≤ at
+      → slice_get entries at ≡ Some entry
+      → (entry.router ≡ router → entry.kind ≡ Attached → ⊥) → Adds (WalkedTo at) xs ys
+      → Adds ToSome xs ys
   walk_stop first at entry xs ys sorted beyond low here never a =
       adds_same (WalkedTo at) ToSome xs ys (walked at)
       (λ x s.
@@ -190,20 +318,34 @@ module _ (root : Root) (entries : List Entry) (router : ℕ) (told_links : List 
       elim (cases_lt stands.0 at) [
         | inl lt ↦ (stands.0, s.entry, stands.1, s.is_router, s.is_kind, lt, s.leads)
         | inr past ↦
-            let o = of_kind (attached_entry 0 0 router) entry s.entry s.is_router s.is_kind (beyond at entry here low) (in_order entries sorted at stands.0 entry s.entry here stands.1 past) in
+            let o = of_kind (attached_entry 0 0 router) entry s.entry s.is_router s.is_kind
+            (beyond at entry here low) (in_order entries sorted at stands.0 entry s.entry here
+            stands.1 past) in
             absurd (never o.router o.kind)
       ]) a
 
 -- ---- from a network
 
 module _ (nodes : List Node) (entries : List Entry) (id router : ℕ) where
-  pub not_listed : (xs : List Link) → IsNeighborAt nodes entries router Transit id None → Adds (IsToListed nodes entries id router) xs xs
+  pub not_listed : (xs : List Link) → IsNeighborAt nodes entries router Transit id None
+      → Adds (IsToListed nodes entries id router) xs xs
   not_listed xs none = adds_none (IsToListed nodes entries id router) xs (λ x t. none t.back)
 
-  pub to_listed : (to : ℕ) (xs : List Link) → Ascend nodes → IsNeighborAt nodes entries router Transit id (Some to) → Adds (IsToListed nodes entries id router) xs (xs ++ record { to = to; cost = 0; interface = 0 } ∷ [])
+  pub to_listed : (to : ℕ) (xs : List Link) → Ascend nodes
+      → IsNeighborAt nodes entries router Transit id (Some to)
+      → Adds (IsToListed nodes entries id router) xs (xs ++ record {
+        to = to;
+        cost = 0;
+        interface = 0;
+      } ∷ [])
   to_listed to xs ascend at =
       let link : Link = record { to = to; cost = 0; interface = 0 } in
-      adds_one (IsToListed nodes entries id router) xs link (record { stands = at.0; back = at.1; free = refl; exit = refl })
+      adds_one (IsToListed nodes entries id router) xs link (record {
+        stands = at.0;
+        back = at.1;
+        free = refl;
+        exit = refl;
+      })
       (λ x t.
       let same = one_place nodes ascend (ARouter router) x.to to t.stands at.0 in
       let free = t.free in

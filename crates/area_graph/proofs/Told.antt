@@ -1,5 +1,6 @@
 -- The entries of all nodes are exactly what their LSAs advertise.
-use Rattle.std.proofs.Common.{◌≡◌, ℕ, ◌+◌, ◌<◌, ◌≤◌, inl, inr, List, [], length, ◌↔◌, Some, slice_get, refl, sym, ◌∙◌, ap, subst, arith}
+use Rattle.std.proofs.Common.{◌≡◌, ℕ, ◌+◌, ◌<◌, ◌≤◌, inl, inr, List, [], length, ◌↔◌, Some}
+use Rattle.std.proofs.Common.{slice_get, refl, sym, ◌∙◌, ap, subst, arith}
 use Rattle.std.proofs.lemmas.Bool.{cases_lt}
 use Rattle.std.proofs.lemmas.Option.{none-some, same_Some, slice_get_within}
 use Rattle.std.specs.List.{Contains}
@@ -14,7 +15,9 @@ use Rattle.routes.specs.Said.{Said}
 use Rattle.routes.specs.declared.node.Node.{Node}
 use Rattle.routes.specs.declared.node.Node.TheVariants.{ANetwork, ARouter}
 use Rattle.routes.proofs.Lists.{of_empty}
-use Rattle.area_graph.specs.Entries.{AreEntries, AreOrdered, HasEntry, HasLinkOf, HasMetric, IsToldAs, TellsOf, attached_entry, entry_cmp, entry_of, link_entry, rank, with_kind}
+use Rattle.area_graph.specs.Entries.{AreEntries, AreOrdered, HasEntry, HasLinkOf, HasMetric}
+use Rattle.area_graph.specs.Entries.{IsToldAs, TellsOf, attached_entry, entry_cmp, entry_of}
+use Rattle.area_graph.specs.Entries.{link_entry, rank, with_kind}
 use Rattle.area_graph.specs.Graphs.{Adds, OfEach, StandsAt}
 use Rattle.area_graph.specs.Nodes.{AreNodes, network_in, network_lsa, router_in, router_lsa}
 use Rattle.area_graph.specs.declared.entry.Entry.{Entry}
@@ -27,25 +30,45 @@ use Rattle.area_graph.proofs.Whole.{placed}
 -- ---- what one LSA advertises
 
 module _ (said : Said) (place : ℕ) where
-  pub router_tells : (router : ℕ) (lsa : RouterLsa) (xs ys : List Entry) → router_lsa said router ≡ Some lsa → Adds (OfEach (λ (link : Link) (entry : Entry). entry_of router link ≡ Some entry) lsa.links) xs ys
-      → Adds (TellsOf said (ARouter router) place) xs ys
+  pub router_tells : (router : ℕ) (lsa : RouterLsa) (xs ys : List Entry)
+      → router_lsa said router ≡ Some lsa
+      → Adds (OfEach (λ (link : Link) (entry : Entry). entry_of router link ≡ Some entry)
+      lsa.links) xs ys → Adds (TellsOf said (ARouter router) place) xs ys
   router_tells router lsa xs ys is a =
       let its : IsRouterLsa said router lsa = router_said _ lsa is in
-      adds_same (OfEach (λ (link : Link) (entry : Entry). entry_of router link ≡ Some entry) lsa.links) (TellsOf said (ARouter router) place) xs ys (λ x o. (o.0, record { lsa = lsa; its = its; among = o.1 }, o.2))
+      adds_same (OfEach (λ (link : Link) (entry : Entry). entry_of router link ≡ Some entry)
+      lsa.links) (TellsOf said (ARouter router) place) xs ys (λ x o. (
+        o.0,
+        record {
+          lsa = lsa;
+          its = its;
+          among = o.1;
+        },
+        o.2,
+      ))
       (λ x t.
       let L : RouterLsa → Type 0 = λ l. Contains l.links t.0 in
       let same : t.1.lsa ≡ lsa = same_Some t.1.lsa lsa (sym (ap router_in t.1.its) ∙ is) in
       (t.0, subst L same t.1.among, t.2)) a
 
-  pub network_tells : (id by : ℕ) (lsa : NetworkLsa) (xs ys : List Entry) → network_lsa said id by ≡ Some lsa → Adds (OfEach (λ (router : ℕ) (entry : Entry). entry ≡ attached_entry id place router) lsa.attached) xs ys
-      → Adds (TellsOf said (ANetwork id by) place) xs ys
+  pub network_tells : (id by : ℕ) (lsa : NetworkLsa) (xs ys : List Entry)
+      → network_lsa said id by ≡ Some lsa
+      → Adds (OfEach (λ (router : ℕ) (entry : Entry). entry ≡ attached_entry id place router)
+      lsa.attached) xs ys → Adds (TellsOf said (ANetwork id by) place) xs ys
   network_tells id by lsa xs ys is a =
       let its : IsNetworkLsa said id by lsa = network_said _ lsa is in
-      adds_same (OfEach (λ (router : ℕ) (entry : Entry). entry ≡ attached_entry id place router) lsa.attached) (TellsOf said (ANetwork id by) place) xs ys
+      adds_same (OfEach (λ (router : ℕ) (entry : Entry). entry ≡ attached_entry id place router)
+      lsa.attached) (TellsOf said (ANetwork id by) place) xs ys
       (λ x o.
       let same : o.0 ≡ x.router = sym (ap (λ (e : Entry). e.router) o.2) in
-      let P : ℕ → Type 0 = λ r. Contains lsa.attached r in
-      (record { lsa = lsa; its = its; among = subst P same o.1 }, o.2 ∙ ap (λ (r : ℕ). attached_entry id place r) same))
+      let P : ℕ → Type 0 = λ r. Contains lsa.attached r in (
+        record {
+          lsa = lsa;
+          its = its;
+          among = subst P same o.1;
+        },
+        o.2 ∙ ap (λ (r : ℕ). attached_entry id place r) same,
+      ))
       (λ x t.
       let L : NetworkLsa → Type 0 = λ l. Contains l.attached x.router in
       let same : t.0.lsa ≡ lsa = same_Some t.0.lsa lsa (sym (ap network_in t.0.its) ∙ is) in
@@ -55,12 +78,14 @@ module _ (said : Said) (place : ℕ) where
 
 module _ (said : Said) (nodes : List Node) where
   abbrev pub FromBelow : ℕ → Entry → Type 0
-  FromBelow n entry = (place : ℕ) × (node : Node) × StandsAt nodes node place × (place < n) × TellsOf said node place entry
+  FromBelow n entry = (place : ℕ) × (node : Node) × StandsAt nodes node place × (place < n)
+      × TellsOf said node place entry
 
   pub below_none : (xs : List Entry) → Adds (FromBelow 0) xs xs
   below_none xs = adds_none (FromBelow 0) xs (λ x o. omega (arith, o.3))
 
-  pub below_more : (i : ℕ) (node : Node) (xs ys zs : List Entry) → StandsAt nodes node i → Adds (FromBelow i) xs ys → Adds (TellsOf said node i) ys zs → Adds (FromBelow (i + 1)) xs zs
+  pub below_more : (i : ℕ) (node : Node) (xs ys zs : List Entry) → StandsAt nodes node i
+      → Adds (FromBelow i) xs ys → Adds (TellsOf said node i) ys zs → Adds (FromBelow (i + 1)) xs zs
   below_more i node xs ys zs here a b =
       adds_both (FromBelow i) (TellsOf said node i) (FromBelow (i + 1)) xs ys zs a b
       (λ x o. elim (cases_lt o.0 i) [
@@ -78,17 +103,22 @@ module _ (said : Said) (nodes : List Node) where
 
   -- ---- and what entries say on their own
 
-  told_link : (router : ℕ) (link : Link) → HasLink said router link → (kind : LinkKind) → link.kind ≡ kind → (entry : Entry) → link_entry kind router link ≡ Some entry → IsToldAs said nodes entry.kind entry
+  told_link : (router : ℕ) (link : Link) → HasLink said router link → (kind : LinkKind)
+      → link.kind ≡ kind → (entry : Entry) → link_entry kind router link ≡ Some entry
+      → IsToldAs said nodes entry.kind entry
   told_link router link has kinds.PointToPoint is entry e =
       let P : Entry → Type 0 = λ x. IsToldAs said nodes x.kind x in
-      subst P (same_Some (with_kind router PointToPoint link) entry e) ((link, has, is, refl, refl), refl)
+      subst P (same_Some (with_kind router PointToPoint link) entry e)
+      ((link, has, is, refl, refl), refl)
   told_link router link has kinds.Transit is entry e =
       let P : Entry → Type 0 = λ x. IsToldAs said nodes x.kind x in
-      subst P (same_Some (with_kind router Transit link) entry e) ((link, has, is, refl, refl), refl)
+      subst P (same_Some (with_kind router Transit link) entry e)
+      ((link, has, is, refl, refl), refl)
   told_link router link has kinds.Stub is entry e = absurd (none-some entry e)
   told_link router link has kinds.Virtual is entry e = absurd (none-some entry e)
 
-  told_of : (place : ℕ) (node : Node) (entry : Entry) → StandsAt nodes node place → TellsOf said node place entry → IsToldAs said nodes entry.kind entry
+  told_of : (place : ℕ) (node : Node) (entry : Entry) → StandsAt nodes node place
+      → TellsOf said node place entry → IsToldAs said nodes entry.kind entry
   told_of place (ARouter router) entry stands t = told_link router t.0 t.1 t.0.kind refl entry t.2
   told_of place (ANetwork id by) entry stands t =
       let P : Entry → Type 0 = λ x. IsToldAs said nodes x.kind x in
@@ -96,34 +126,77 @@ module _ (said : Said) (nodes : List Node) where
 
   module _ (are : AreNodes said nodes) where
     abbrev Source : Entry → Type 0
-    Source entry = (place : ℕ) × (node : Node) × StandsAt nodes node place × TellsOf said node place entry
+    Source entry = (place : ℕ) × (node : Node) × StandsAt nodes node place
+        × TellsOf said node place entry
 
-    source : (entry : Entry) (kind : EntryKind) → entry.kind ≡ kind → IsToldAs said nodes kind entry → Source entry
+    source : (entry : Entry) (kind : EntryKind) → entry.kind ≡ kind → IsToldAs said nodes kind entry
+        → Source entry
     source entry PointToPoint is t =
         let h = t.0 in
-        let at = placed nodes (ARouter entry.router) ((are.each (ARouter entry.router)).1 (h.1.lsa, h.1.its)) in
+        let at = placed nodes (ARouter entry.router)
+        ((are.each (ARouter entry.router)).1 (h.1.lsa, h.1.its)) in
         let k : PointToPoint ≡ entry.kind = sym is in
         let p : 0 ≡ entry.place = sym t.1 in
         let n = h.3 in
         let m = h.4 in
-        let same : with_kind entry.router PointToPoint h.0 ≡ entry = λ i. record { router = entry.router; kind = k i; id = n i; metric = m i; place = p i } in
-        (at.0, ARouter entry.router, at.1, (h.0, h.1, ap (λ (l : LinkKind). link_entry l entry.router h.0) h.2 ∙ ap (λ (x : Entry). Some x) same))
+        let same : with_kind entry.router PointToPoint h.0 ≡ entry = λ i. record {
+          router = entry.router;
+          kind = k i;
+          id = n i;
+          metric = m i;
+          place = p i;
+        } in (
+          at.0,
+          ARouter entry.router,
+          at.1,
+          (
+            h.0,
+            h.1,
+            ap (λ (l : LinkKind). link_entry l entry.router h.0) h.2
+                ∙ ap (λ (x : Entry). Some x) same,
+          ),
+        )
     source entry Transit is t =
         let h = t.0 in
-        let at = placed nodes (ARouter entry.router) ((are.each (ARouter entry.router)).1 (h.1.lsa, h.1.its)) in
+        let at = placed nodes (ARouter entry.router)
+        ((are.each (ARouter entry.router)).1 (h.1.lsa, h.1.its)) in
         let k : Transit ≡ entry.kind = sym is in
         let p : 0 ≡ entry.place = sym t.1 in
         let n = h.3 in
         let m = h.4 in
-        let same : with_kind entry.router Transit h.0 ≡ entry = λ i. record { router = entry.router; kind = k i; id = n i; metric = m i; place = p i } in
-        (at.0, ARouter entry.router, at.1, (h.0, h.1, ap (λ (l : LinkKind). link_entry l entry.router h.0) h.2 ∙ ap (λ (x : Entry). Some x) same))
+        let same : with_kind entry.router Transit h.0 ≡ entry = λ i. record {
+          router = entry.router;
+          kind = k i;
+          id = n i;
+          metric = m i;
+          place = p i;
+        } in (
+          at.0,
+          ARouter entry.router,
+          at.1,
+          (
+            h.0,
+            h.1,
+            ap (λ (l : LinkKind). link_entry l entry.router h.0) h.2
+                ∙ ap (λ (x : Entry). Some x) same,
+          ),
+        )
     source entry Attached is t =
         let l = t.0 in
         let m = t.1 in
-        let same : entry ≡ attached_entry entry.id entry.place entry.router = λ i. record { router = entry.router; kind = is i; id = entry.id; metric = m i; place = entry.place } in
+        let same : entry ≡ attached_entry entry.id entry.place entry.router = λ i. record {
+          router = entry.router;
+          kind = is i;
+          id = entry.id;
+          metric = m i;
+          place = entry.place;
+        } in
         (entry.place, ANetwork entry.id l.0, l.1, (l.2, same))
 
-    pub are_entries : (n : ℕ) (raw entries : List Entry) → length nodes ≤ n → Adds (FromBelow n) [] raw → ((entry : Entry) → Contains entries entry ↔ Contains raw entry) → IsSorted entry_cmp entries → AreEntries said nodes entries
+    pub are_entries : (n : ℕ) (raw entries : List Entry) → length nodes ≤ n
+        → Adds (FromBelow n) [] raw → ((entry : Entry)
+        → Contains entries entry ↔ Contains raw entry) → IsSorted entry_cmp entries
+        → AreEntries said nodes entries
     are_entries n raw entries done a same sorted = record {
       each = λ entry. (
         (λ among. elim ((a entry).0 ((same entry).0 among)) [
@@ -132,35 +205,80 @@ module _ (said : Said) (nodes : List Node) where
         ]),
         (λ t.
             let s = source entry entry.kind refl t in
-            (same entry).1 ((a entry).1 (inr (s.0, s.1, s.2, omega (arith, done, slice_get_within nodes s.0 s.1 s.2), s.3)))),
+            (same entry).1 ((a entry).1 (inr
+            (s.0, s.1, s.2, omega (arith, done, slice_get_within nodes s.0 s.1 s.2), s.3)))),
       );
       sorted = sorted;
     }
 
 -- ---- what entries say of links back
 
-module _ (said : Said) (nodes : List Node) (entries : List Entry) (told : AreEntries said nodes entries) where
-  pub transit_of : (router id metric : ℕ) → HasMetric entries router Transit id metric → HasLinkOf said router kinds.Transit id metric
-  transit_of router id metric has = ((told.each (record { router = router; kind = Transit; id = id; metric = metric; place = has.0 })).0 has.1).0
+module _ (said : Said) (nodes : List Node) (entries : List Entry)
+    (told : AreEntries said nodes entries) where
+  pub transit_of : (router id metric : ℕ) → HasMetric entries router Transit id metric
+      → HasLinkOf said router kinds.Transit id metric
+  transit_of router id metric has = ((told.each (record {
+    router = router;
+    kind = Transit;
+    id = id;
+    metric = metric;
+    place = has.0;
+  })).0 has.1).0
 
-  pub of_transit : (router id metric : ℕ) → HasLinkOf said router kinds.Transit id metric → HasMetric entries router Transit id metric
-  of_transit router id metric has = (0, (told.each (record { router = router; kind = Transit; id = id; metric = metric; place = 0 })).1 (has, refl))
+  pub of_transit : (router id metric : ℕ) → HasLinkOf said router kinds.Transit id metric
+      → HasMetric entries router Transit id metric
+  of_transit router id metric has = (
+    0,
+    (told.each (record {
+      router = router;
+      kind = Transit;
+      id = id;
+      metric = metric;
+      place = 0;
+    })).1 (has, refl),
+  )
 
-  pub transit_back : (router id : ℕ) → HasEntry entries router Transit id → LinksBack said router kinds.Transit id
+  pub transit_back : (router id : ℕ) → HasEntry entries router Transit id
+      → LinksBack said router kinds.Transit id
   transit_back router id has = let h = transit_of router id has.0 has.1 in (h.0, h.1, h.2, h.3)
 
-  pub back_transit : (router id : ℕ) → LinksBack said router kinds.Transit id → HasEntry entries router Transit id
-  back_transit router id b = (b.0.metric, of_transit router id b.0.metric (b.0, b.1, b.2, b.3, refl))
+  pub back_transit : (router id : ℕ) → LinksBack said router kinds.Transit id
+      → HasEntry entries router Transit id
+  back_transit router id b = (
+    b.0.metric,
+    of_transit router id b.0.metric (b.0, b.1, b.2, b.3, refl),
+  )
 
-  pub point_back : (router id : ℕ) → HasEntry entries router PointToPoint id → LinksBack said router kinds.PointToPoint id
+  pub point_back : (router id : ℕ) → HasEntry entries router PointToPoint id
+      → LinksBack said router kinds.PointToPoint id
   point_back router id has =
-      let h = ((told.each (record { router = router; kind = PointToPoint; id = id; metric = has.0; place = has.1.0 })).0 has.1.1).0 in
+      let h = ((told.each (record {
+        router = router;
+        kind = PointToPoint;
+        id = id;
+        metric = has.0;
+        place = has.1.0;
+      })).0 has.1.1).0 in
       (h.0, h.1, h.2, h.3)
 
-  pub back_point : (router id : ℕ) → LinksBack said router kinds.PointToPoint id → HasEntry entries router PointToPoint id
-  back_point router id b = (b.0.metric, (0, (told.each (record { router = router; kind = PointToPoint; id = id; metric = b.0.metric; place = 0 })).1 ((b.0, b.1, b.2, b.3, refl), refl)))
+  pub back_point : (router id : ℕ) → LinksBack said router kinds.PointToPoint id
+      → HasEntry entries router PointToPoint id
+  back_point router id b = (
+    b.0.metric,
+    (
+      0,
+      (told.each (record {
+        router = router;
+        kind = PointToPoint;
+        id = id;
+        metric = b.0.metric;
+        place = 0;
+      })).1 ((b.0, b.1, b.2, b.3, refl), refl),
+    ),
+  )
 
-  has_lsa : (entry : Entry) (kind : EntryKind) → AreNodes said nodes → IsToldAs said nodes kind entry → rank kind < 2 → Contains nodes (ARouter entry.router)
+  has_lsa : (entry : Entry) (kind : EntryKind) → AreNodes said nodes
+      → IsToldAs said nodes kind entry → rank kind < 2 → Contains nodes (ARouter entry.router)
   has_lsa entry PointToPoint are t low = (are.each (ARouter entry.router)).1 (t.0.1.lsa, t.0.1.its)
   has_lsa entry Transit are t low = (are.each (ARouter entry.router)).1 (t.0.1.lsa, t.0.1.its)
   has_lsa entry Attached are t low = absurd (omega (arith, low))

@@ -8,16 +8,19 @@ use Rattle.routes.specs.Candidates.{AreCandidates}
 use Rattle.routes.specs.Said.{Said}
 use Rattle.routes.specs.Tables.{Answers, IsStale}
 use Rattle.routes.specs.declared.root.Root.{Root}
-use Rattle.area_routes.specs.Kept.{KeptRoutes, KnowsAnswered, KnowsCandidates, KnowsInner, KnowsWalk}
+use Rattle.area_routes.specs.Kept.{KeptRoutes, KnowsAnswered, KnowsCandidates, KnowsInner}
+use Rattle.area_routes.specs.Kept.{KnowsWalk}
 use Rattle.area_routes.proofs.Candidates.{carried, inner_carried}
 use Rattle.external_updates.specs.Laws.{InnerRoutesAreKept}
 use Rattle.kept_routes.specs.Sameness.{SayTheSame}
 
 -- nothing is known of answers if none are known to exist
-pub unanswered : (said : Said) (root : Root) (answers : Answers) (kept : KeptRoutes) → kept.answered ≡ false → KnowsAnswered said root answers kept
+pub unanswered : (said : Said) (root : Root) (answers : Answers) (kept : KeptRoutes)
+    → kept.answered ≡ false → KnowsAnswered said root answers kept
 unanswered said root answers kept is on = absurd (false≢true (sym is ∙ on))
 
-module _ (old new : Said) (was is : Root) (kept : KeptRoutes) (serves : kept.behind ≡ false) (begins : kept.walk.root ≡ is) (knew : KnowsWalk old was kept) where
+module _ (old new : Said) (was is : Root) (kept : KeptRoutes) (serves : kept.behind ≡ false)
+    (begins : kept.walk.root ≡ is) (knew : KnowsWalk old was kept) where
   same_root : was ≡ is
   same_root = sym (knew.root serves) ∙ begins
 
@@ -26,19 +29,23 @@ module _ (old new : Said) (was is : Root) (kept : KeptRoutes) (serves : kept.beh
   still_walks goes_on = record { walk = λ on. goes_on (knew.walk serves); root = λ on. begins }
 
   -- candidates that are still valid
-  pub still_offers : ((routes : List Route) → AreCandidates old was routes → AreCandidates new was routes) → KnowsCandidates old was kept
-      → KnowsCandidates new is kept
+  pub still_offers : ((routes : List Route) → AreCandidates old was routes
+      → AreCandidates new was routes) → KnowsCandidates old was kept → KnowsCandidates new is kept
   still_offers goes_on knows =
       subst (λ root. KnowsCandidates new root kept) same_root
-      (carried (λ routes. AreCandidates old was routes) (λ routes. AreCandidates new was routes) goes_on kept.candidates knows)
+      (carried (λ routes. AreCandidates old was routes) (λ routes. AreCandidates new was routes)
+      goes_on kept.candidates knows)
 
   -- the results from the LSAs of types 1 to 4, if these say the same
-  pub still_inner : InnerRoutesAreKept → SayTheSame (Some 4) old new → KnowsInner old was kept → KnowsInner new is kept
+  pub still_inner : InnerRoutesAreKept → SayTheSame (Some 4) old new → KnowsInner old was kept
+      → KnowsInner new is kept
   still_inner law same knows =
-      subst (λ root. KnowsInner new root kept) same_root (inner_carried law old new was kept.walk same kept.inner knows)
+      subst (λ root. KnowsInner new root kept) same_root
+      (inner_carried law old new was kept.walk same kept.inner knows)
 
   -- answers that are still complete
-  pub still_answered : (answers : Answers) → (IsStale new was answers → IsStale old was answers) → KnowsAnswered old was answers kept
-      → KnowsAnswered new is answers kept
+  pub still_answered : (answers : Answers) → (IsStale new was answers → IsStale old was answers)
+      → KnowsAnswered old was answers kept → KnowsAnswered new is answers kept
   still_answered answers back knows =
-      subst (λ root. KnowsAnswered new root answers kept) same_root (λ on stale. knows on (back stale))
+      subst (λ root. KnowsAnswered new root answers kept) same_root
+      (λ on stale. knows on (back stale))

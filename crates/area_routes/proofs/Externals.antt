@@ -1,5 +1,6 @@
 -- What AS-external-LSAs advertise, kept over an event.
-use Rattle.std.proofs.Common.{◌≡◌, ◌∙◌, Bool, true, false, List, Option, None, Some, ap, refl, sym, subst}
+use Rattle.std.proofs.Common.{◌≡◌, ◌∙◌, Bool, true, false, List, Option, None, Some, ap, refl, sym}
+use Rattle.std.proofs.Common.{subst}
 use Rattle.std.specs.Prelude.{IfSome, IsTrue}
 use Rattle.std.specs.Global.{Vec}
 use Rattle.words.specs.Numbers.{Moment, RouterNumber}
@@ -11,28 +12,39 @@ use Rattle.candidates.specs.declared.graph.AreaGraph.{AreaGraph}
 use Rattle.area_routes.specs.Kept.{AreOffersOf, ExternalsSayTheSame, KeptRoutes, KnowsExternals}
 
 -- it is unchanged while they say the same
-externals_stay : (old new : Said) (told : List External) → ExternalsSayTheSame old new → AreExternals old told → AreExternals new told
+externals_stay : (old new : Said) (told : List External) → ExternalsSayTheSame old new
+    → AreExternals old told → AreExternals new told
 externals_stay old new told same are e = (
   (λ t. let p = (are e).0 t in (p.0, sym (same p.0.0 p.2.is_type) ∙ p.1, p.2)),
   (λ p. (are e).1 (p.0, same p.0.0 p.2.is_type ∙ p.1, p.2)),
 )
 
-carried : (old new : Said) (kept : Option (Vec External)) → ExternalsSayTheSame old new → IfSome kept (λ told. AreExternals old told.items) → IfSome kept (λ told. AreExternals new told.items)
+carried : (old new : Said) (kept : Option (Vec External)) → ExternalsSayTheSame old new
+    → IfSome kept (λ told. AreExternals old told.items)
+    → IfSome kept (λ told. AreExternals new told.items)
 carried old new None same are = are
 carried old new (Some told) same are = externals_stay old new told.items same are
 
 -- what is kept after an event, if they say the same
-pub externals_after : (old new : Said) (stay : Bool) (kept next last : KeptRoutes) → (IsTrue stay → ExternalsSayTheSame old new) → next.externals ≡ kept.externals
-    → (IsTrue stay → last.externals ≡ next.externals) → (stay ≡ false → last.externals ≡ None) → KnowsExternals old kept → KnowsExternals new last
+pub externals_after : (old new : Said) (stay : Bool) (kept next last : KeptRoutes)
+    → (IsTrue stay → ExternalsSayTheSame old new) → next.externals ≡ kept.externals
+    → (IsTrue stay → last.externals ≡ next.externals) → (stay ≡ false → last.externals ≡ None)
+    → KnowsExternals old kept → KnowsExternals new last
 externals_after old new true kept next last same followed stays forgotten knows =
     let is : last.externals ≡ kept.externals = stays refl ∙ followed in
-    subst (λ (o : Option (Vec External)). IfSome o (λ told. AreExternals new told.items)) (sym is) (carried old new kept.externals (same refl) knows)
+    subst (λ (o : Option (Vec External)). IfSome o (λ told. AreExternals new told.items)) (sym is)
+    (carried old new kept.externals (same refl) knows)
 externals_after old new false kept next last same followed stays forgotten knows =
-    subst (λ (o : Option (Vec External)). IfSome o (λ told. AreExternals new told.items)) (sym (forgotten refl)) tt
+    subst (λ (o : Option (Vec External)). IfSome o (λ told. AreExternals new told.items))
+    (sym (forgotten refl)) tt
 
 -- candidates and walk don't depend on what is kept of them, nor on the graph
-pub same_but : (router : RouterNumber) (area : Area) (moment : Moment) (kept : KeptRoutes) (externals : Option (Vec External)) (graph : Option AreaGraph)
-    → AreOffersOf router area moment kept → AreOffersOf router area moment (record kept { externals = externals; graph = graph })
+pub same_but : (router : RouterNumber) (area : Area) (moment : Moment) (kept : KeptRoutes)
+    (externals : Option (Vec External)) (graph : Option AreaGraph)
+    → AreOffersOf router area moment kept → AreOffersOf router area moment (record kept {
+      externals = externals;
+      graph = graph;
+    })
 same_but router area moment kept externals graph are = record {
   walk = record { walk = are.walk.walk; root = are.walk.root };
   candidates = are.candidates;
@@ -40,8 +52,13 @@ same_but router area moment kept externals graph are = record {
 }
 
 -- changing one of both and then the other leaves the rest unchanged
-pub both_else : (kept next last : KeptRoutes) → next ≡ record kept { externals = next.externals } → last ≡ record next { graph = last.graph }
+pub both_else : (kept next last : KeptRoutes) → next ≡ record kept {
+  externals = next.externals;
+} → last ≡ record next { graph = last.graph }
     → last ≡ record kept { externals = last.externals; graph = last.graph }
 both_else kept next last one other =
     other ∙ ap (λ (k : KeptRoutes). record k { graph = last.graph }) one
-    ∙ ap (λ (e : Option (Vec External)). record kept { externals = e; graph = last.graph }) (sym (ap (λ (k : KeptRoutes). k.externals) other))
+    ∙ ap (λ (e : Option (Vec External)). record kept {
+      externals = e;
+      graph = last.graph;
+    }) (sym (ap (λ (k : KeptRoutes). k.externals) other))

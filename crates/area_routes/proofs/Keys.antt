@@ -16,7 +16,11 @@ same_or_not a b =
                 elim (cases_eq a.advertising_router b.advertising_router) [
                   | inr other ↦ inr (λ e. other (ap (λ (k : Key). k.advertising_router) e))
                   | inl advertising_router ↦
-                      inl (λ i. record { ls_type = ls_type i; link_state_id = link_state_id i; advertising_router = advertising_router i })
+                      inl (λ i. record {
+                        ls_type = ls_type i;
+                        link_state_id = link_state_id i;
+                        advertising_router = advertising_router i;
+                      })
                 ]
           ]
     ]

@@ -1,6 +1,7 @@
 -- Nodes are unchanged if only recorded router-LSAs change, and so is each vertex whose index wasn't
 -- recorded.
-use Rattle.std.proofs.Common.{◌≡◌, ◌≤◌, ◌⊎◌, ◌↔◌, ℕ, inl, inr, List, [], ◌∷◌, ◌++◌, Option, Some, length, slice_get, sym, subst, ◌∙◌, ap, arith}
+use Rattle.std.proofs.Common.{◌≡◌, ◌≤◌, ◌⊎◌, ◌↔◌, ℕ, inl, inr, List, [], ◌∷◌, ◌++◌, Option, Some}
+use Rattle.std.proofs.Common.{length, slice_get, sym, subst, ◌∙◌, ap, arith}
 use Rattle.std.proofs.lemmas.Bool.{cases_eq}
 use Rattle.std.proofs.lemmas.List.Elements.{Contains-push_cases}
 use Rattle.std.specs.List.{Contains}
@@ -18,7 +19,8 @@ use Rattle.area_routes.proofs.Keys.{among_or_not}
 use Rattle.kept_routes.specs.Sameness.{SayTheSame}
 use Rattle.routes.proofs.Lists.{of_empty}
 use Rattle.routes.specs.Graphs.{Graph}
-use Rattle.routes.specs.Links.{Counts, HasLink, LeadsTo, LinksBack, ListsRouter, network_key, router_key}
+use Rattle.routes.specs.Links.{Counts, HasLink, LeadsTo, LinksBack, ListsRouter, network_key}
+use Rattle.routes.specs.Links.{router_key}
 use Rattle.routes.specs.Said.{Said}
 use Rattle.routes.specs.declared.graph.Link.{Link}
 use Rattle.routes.specs.declared.graph.Vertex.{Vertex}
@@ -27,7 +29,8 @@ use Rattle.routes.specs.declared.node.Node.TheVariants.{ANetwork, ARouter}
 use Rattle.routes.specs.declared.root.Root.{Root}
 use Rattle.words.specs.declared.key.Key.{Key}
 
-same_lsa : (a b : RouterLsa) → ◌≡◌ {A = Option Body} (Some (body.Router a)) (Some (body.Router b)) → a ≡ b
+same_lsa : (a b : RouterLsa) → ◌≡◌ {A = Option Body} (Some (body.Router a)) (Some (body.Router b))
+    → a ≡ b
 same_lsa a b e = cc
 
 -- each vertex is one of what LSAs say now, or, if its index isn't among these, of what they said
@@ -44,29 +47,40 @@ abbrev pub AllCovered : Said → Said → List Node → List ℕ → Type 0
 AllCovered old new nodes places = (key : Key) → key.ls_type ≤ 2 → IsCovered old new nodes places key
 
 -- what is recorded is so in both directions
-noted_back : (old new : Said) (nodes : List Node) (places : List ℕ) (router : ℕ) → IsNoted old new nodes places router → IsNoted new old nodes places router
+noted_back : (old new : Said) (nodes : List Node) (places : List ℕ) (router : ℕ)
+    → IsNoted old new nodes places router → IsNoted new old nodes places router
 noted_back old new nodes places router n = record {
   was = n.is;
   is = n.was;
   said = n.says;
   says = n.said;
-  change = record { plain_before = n.change.plain; plain = n.change.plain_before; own = n.change.own; named_before = n.change.named; named = n.change.named_before };
+  change = record {
+    plain_before = n.change.plain;
+    plain = n.change.plain_before;
+    own = n.change.own;
+    named_before = n.change.named;
+    named = n.change.named_before;
+  };
 }
 
-pub covered_back : (old new : Said) (nodes : List Node) (places : List ℕ) → AllCovered old new nodes places → AllCovered new old nodes places
+pub covered_back : (old new : Said) (nodes : List Node) (places : List ℕ)
+    → AllCovered old new nodes places → AllCovered new old nodes places
 covered_back old new nodes places covered key few =
     elim (covered key few) [
       | inl same ↦ inl (sym same)
       | inr n ↦ inr (n.0, n.1, noted_back old new nodes places n.0 n.2)
     ]
 
-module _ (old new : Said) (nodes : List Node) (places : List ℕ) (covered : AllCovered old new nodes places) where
+module _ (old new : Said) (nodes : List Node) (places : List ℕ)
+    (covered : AllCovered old new nodes places) where
   -- a router-LSA says what it said, or was recorded
-  of_router : (router : ℕ) → (old (router_key router) ≡ new (router_key router)) ⊎ IsNoted old new nodes places router
+  of_router : (router : ℕ) → (old (router_key router) ≡ new (router_key router))
+      ⊎ IsNoted old new nodes places router
   of_router router =
       elim (covered (router_key router) (omega arith)) [
         | inl same ↦ inl same
-        | inr n ↦ let is : router ≡ n.0 = ap (λ (k : Key). k.link_state_id) n.1 in inr (subst (λ r. IsNoted old new nodes places r) (sym is) n.2)
+        | inr n ↦ let is : router ≡ n.0 = ap (λ (k : Key). k.link_state_id) n.1 in
+            inr (subst (λ r. IsNoted old new nodes places r) (sym is) n.2)
       ]
 
   of_network : (id by : ℕ) → old (network_key id by) ≡ new (network_key id by)
@@ -86,10 +100,17 @@ module _ (old new : Said) (nodes : List Node) (places : List ℕ) (covered : All
 
   -- ---- links
 
-  has_link : (router : ℕ) (link : Told) → old (router_key router) ≡ new (router_key router) → HasLink old router link → HasLink new router link
-  has_link router link same has = record { lsa = has.lsa; its = sym same ∙ has.its; among = has.among }
+  has_link : (router : ℕ) (link : Told) → old (router_key router) ≡ new (router_key router)
+      → HasLink old router link → HasLink new router link
+  has_link router link same has = record {
+    lsa = has.lsa;
+    its = sym same ∙ has.its;
+    among = has.among;
+  }
 
-  counts : (root : Root) (router : ℕ) (kind : LinkKind) (id price exit : ℕ) → old (router_key router) ≡ new (router_key router) → Counts old root router kind id price exit → Counts new root router kind id price exit
+  counts : (root : Root) (router : ℕ) (kind : LinkKind) (id price exit : ℕ)
+      → old (router_key router) ≡ new (router_key router)
+      → Counts old root router kind id price exit → Counts new root router kind id price exit
   counts root router kind id price exit same c = record {
     link = c.link;
     its = has_link router c.link same c.its;
@@ -102,26 +123,35 @@ module _ (old new : Said) (nodes : List Node) (places : List ℕ) (covered : All
   }
 
   lists : (id by router : ℕ) → ListsRouter old id by router → ListsRouter new id by router
-  lists id by router l = record { lsa = l.lsa; its = sym (of_network id by) ∙ l.its; among = l.among }
+  lists id by router l = record {
+    lsa = l.lsa;
+    its = sym (of_network id by) ∙ l.its;
+    among = l.among;
+  }
 
   -- a link of the LSA that was recorded is one of what it said
-  of_was : (router : ℕ) (n : IsNoted old new nodes places router) (link : Told) → HasLink old router link → Contains n.was.links link
-  of_was router n link has = subst (λ (l : RouterLsa). Contains l.links link) (same_lsa has.lsa n.was (sym has.its ∙ n.said)) has.among
+  of_was : (router : ℕ) (n : IsNoted old new nodes places router) (link : Told)
+      → HasLink old router link → Contains n.was.links link
+  of_was router n link has = subst (λ (l : RouterLsa). Contains l.links link)
+      (same_lsa has.lsa n.was (sym has.its ∙ n.said)) has.among
 
   -- a router whose index isn't recorded says what it said, and is named by no recorded LSA
   module _ (at : ℕ) (none : Contains places at → ⊥) where
-    unnoted : (router : ℕ) → StandsAt nodes (ARouter router) at → old (router_key router) ≡ new (router_key router)
+    unnoted : (router : ℕ) → StandsAt nodes (ARouter router) at
+        → old (router_key router) ≡ new (router_key router)
     unnoted router here =
         elim (of_router router) [
           | inl same ↦ same
           | inr n ↦ absurd (none (n.change.own at here))
         ]
 
-    back_to_router : (router far : ℕ) → StandsAt nodes (ARouter router) at → LinksBack old far PointToPoint router → LinksBack new far PointToPoint router
+    back_to_router : (router far : ℕ) → StandsAt nodes (ARouter router) at
+        → LinksBack old far PointToPoint router → LinksBack new far PointToPoint router
     back_to_router router far here b =
         elim (of_router far) [
           | inl same ↦ (b.0, has_link far b.0 same b.1, b.2, b.3)
-          | inr n ↦ absurd (none (n.change.named_before router (b.0, of_was far n b.0 b.1, b.2, b.3) at here))
+          | inr n ↦ absurd (none (n.change.named_before router (b.0, of_was far n b.0 b.1, b.2, b.3)
+              at here))
         ]
 
     back_to_network : (id far : ℕ) → LinksBack old far Transit id → LinksBack new far Transit id
@@ -131,15 +161,18 @@ module _ (old new : Said) (nodes : List Node) (places : List ℕ) (covered : All
           | inr n ↦ absurd (n.change.plain_before b.0 (of_was far n b.0 b.1) b.2)
         ]
 
-    pub leads : (root : Root) (from to : Node) (price exit : ℕ) → StandsAt nodes from at → LeadsTo old root from to price exit → LeadsTo new root from to price exit
+    pub leads : (root : Root) (from to : Node) (price exit : ℕ) → StandsAt nodes from at
+        → LeadsTo old root from to price exit → LeadsTo new root from to price exit
     leads root (ARouter a) (ARouter b) price exit here l =
         (counts root a PointToPoint b price exit (unnoted a here) l.0, back_to_router a b here l.1)
     leads root (ARouter a) (ANetwork id by) price exit here l =
         (counts root a Transit id price exit (unnoted a here) l.0, lists id by a l.1)
-    leads root (ANetwork id by) (ARouter b) price exit here l = (lists id by b l.0, back_to_network id b l.1, l.2, l.3)
+    leads root (ANetwork id by) (ARouter b) price exit here l =
+        (lists id by b l.0, back_to_network id b l.1, l.2, l.3)
     leads root (ANetwork id by) (ANetwork other its) price exit here l = absurd l
 
-module _ (old new : Said) (nodes : List Node) (places : List ℕ) (covered : AllCovered old new nodes places) where
+module _ (old new : Said) (nodes : List Node) (places : List ℕ)
+    (covered : AllCovered old new nodes places) where
   backwards : AllCovered new old nodes places
   backwards = covered_back old new nodes places covered
 
@@ -158,25 +191,41 @@ module _ (old new : Said) (nodes : List Node) (places : List ℕ) (covered : All
     links = record {
       only = λ link among.
           let f = is.links.only link among in
-          record { target = f.target; stands = f.stands; leads = leads old new nodes places covered at none root node f.target link.cost link.interface here f.leads };
+          record {
+            target = f.target;
+            stands = f.stands;
+            leads = leads old new nodes places covered at none root node f.target link.cost
+                link.interface here f.leads;
+          };
       each = λ link f.
-          is.links.each link (record { target = f.target; stands = f.stands; leads = leads new old nodes places backwards at none root node f.target link.cost link.interface here f.leads });
+          is.links.each link (record {
+            target = f.target;
+            stands = f.stands;
+            leads = leads new old nodes places backwards at none root node f.target link.cost
+                link.interface here f.leads;
+          });
     };
     fits = is.fits;
   }
 
 -- if all say what they said, the graph is still that of the area
-pub same_covered : (old new : Said) (nodes : List Node) → SayTheSame (Some 2) old new → AllCovered old new nodes []
+pub same_covered : (old new : Said) (nodes : List Node) → SayTheSame (Some 2) old new
+    → AllCovered old new nodes []
 same_covered old new nodes same key few = inl (same key few)
 
-pub all_stay : (old new : Said) (root : Root) (nodes : List Node) (graph : Graph) → SayTheSame (Some 2) old new → AreVertices old root nodes graph → AreVertices new root nodes graph
+pub all_stay : (old new : Said) (root : Root) (nodes : List Node) (graph : Graph)
+    → SayTheSame (Some 2) old new → AreVertices old root nodes graph
+    → AreVertices new root nodes graph
 all_stay old new root nodes graph same are = record {
   count = are.count;
-  each = λ at node vertex here got. vertices_stay old new nodes [] (same_covered old new nodes same) root at node vertex here (of_empty at) (are.each at node vertex here got);
+  each = λ at node vertex here got. vertices_stay old new nodes [] (same_covered old new nodes same)
+      root at node vertex here (of_empty at) (are.each at node vertex here got);
 }
 
 -- all others say what they said
-pub all_covered : (old new : Said) (nodes : List Node) (places : List ℕ) (keys : List Key) → ((key : Key) → (Contains keys key → ⊥) → old key ≡ new key) → AreCovered old new nodes places keys → AllCovered old new nodes places
+pub all_covered : (old new : Said) (nodes : List Node) (places : List ℕ) (keys : List Key)
+    → ((key : Key) → (Contains keys key → ⊥) → old key ≡ new key)
+    → AreCovered old new nodes places keys → AllCovered old new nodes places
 all_covered old new nodes places keys others covered key few =
     elim (among_or_not keys key) [
       | inl among ↦ covered key among few
@@ -184,7 +233,9 @@ all_covered old new nodes places keys others covered key few =
     ]
 
 -- what is recorded is still so with more indices
-pub covered_more : (old new : Said) (nodes : List Node) (few more : List ℕ) (key : Key) → ((place : ℕ) → Contains few place → Contains more place) → IsCovered old new nodes few key → IsCovered old new nodes more key
+pub covered_more : (old new : Said) (nodes : List Node) (few more : List ℕ) (key : Key)
+    → ((place : ℕ) → Contains few place → Contains more place) → IsCovered old new nodes few key
+    → IsCovered old new nodes more key
 covered_more old new nodes few more key kept covered =
     elim covered [
       | inl same ↦ inl same
@@ -202,7 +253,8 @@ covered_more old new nodes few more key kept covered =
                 plain_before = change.plain_before;
                 plain = change.plain;
                 own = λ at here. kept at (change.own at here);
-                named_before = λ router named at here. kept at (change.named_before router named at here);
+                named_before = λ router named at here. kept at
+                    (change.named_before router named at here);
                 named = λ router named at here. kept at (change.named router named at here);
               };
             },
@@ -212,15 +264,23 @@ covered_more old new nodes few more key kept covered =
 -- ---- recalculated vertices
 
 module _ (old new : Said) (root : Root) (nodes : List Node) where
-  pub none_renewed : (graph : Graph) → AreVertices old root nodes graph → AreEither old new root nodes [] graph
-  none_renewed graph are = record { count = are.count; each = λ at node vertex here got. inr (are.each at node vertex here got, of_empty at) }
+  pub none_renewed : (graph : Graph) → AreVertices old root nodes graph
+      → AreEither old new root nodes [] graph
+  none_renewed graph are = record {
+    count = are.count;
+    each = λ at node vertex here got. inr (are.each at node vertex here got, of_empty at);
+  }
 
-  pub one_renewed : (places : List ℕ) (place : ℕ) (graph next : Graph) → AreEither old new root nodes places graph → IsRenewed new root nodes place graph next → AreEither old new root nodes (places ++ place ∷ []) next
+  pub one_renewed : (places : List ℕ) (place : ℕ) (graph next : Graph)
+      → AreEither old new root nodes places graph → IsRenewed new root nodes place graph next
+      → AreEither old new root nodes (places ++ place ∷ []) next
   one_renewed places place graph next are renewed = record {
     count = renewed.count ∙ are.count;
     each = λ at node vertex here got.
         elim (cases_eq at place) [
-          | inl same ↦ inl (renewed.own node vertex (subst (λ (p : ℕ). StandsAt nodes node p) same here) (subst (λ (p : ℕ). slice_get next p ≡ Some vertex) same got))
+          | inl same ↦ inl (renewed.own node vertex
+              (subst (λ (p : ℕ). StandsAt nodes node p) same here)
+              (subst (λ (p : ℕ). slice_get next p ≡ Some vertex) same got))
           | inr other ↦
               elim (are.each at node vertex here (sym (renewed.others at other) ∙ got)) [
                 | inl is ↦ inl is
@@ -237,7 +297,8 @@ module _ (old new : Said) (root : Root) (nodes : List Node) where
         ];
   }
 
-  pub all_renewed : (places : List ℕ) (graph : Graph) → AreEither old new root nodes places graph → StayUnlessAmong old new root nodes places → AreVertices new root nodes graph
+  pub all_renewed : (places : List ℕ) (graph : Graph) → AreEither old new root nodes places graph
+      → StayUnlessAmong old new root nodes places → AreVertices new root nodes graph
   all_renewed places graph are stay = record {
     count = are.count;
     each = λ at node vertex here got.

@@ -1,5 +1,6 @@
 -- Each word of a table names what it spells, and no other.
-use Rattle.std.proofs.Common.{◌≡◌, ℕ, zero, suc, ◌≤◌, List, [], ◌∷◌, Bool, true, false, ◌&&◌, not, Some, None, refl, sym, ap, ◌∙◌, arith}
+use Rattle.std.proofs.Common.{◌≡◌, ℕ, zero, suc, ◌≤◌, List, [], ◌∷◌, Bool, true, false, ◌&&◌, not}
+use Rattle.std.proofs.Common.{Some, None, refl, sym, ap, ◌∙◌, arith}
 use Rattle.std.specs.Str.{bytes_eq}
 use Rattle.std.proofs.lemmas.Bool.{false≢true, false_from_ne_true}
 use Rattle.std.proofs.lemmas.Slice.Eq.{bytes_eq-Decides}
@@ -21,7 +22,10 @@ use Rattle.isa.specs.declared.instruction.LoadSize.{LoadSize}
 use Rattle.isa.specs.declared.instruction.LoadSize.TheVariants as loads
 use Rattle.isa.specs.declared.instruction.StoreSize.{StoreSize}
 use Rattle.isa.specs.declared.instruction.StoreSize.TheVariants as stores
-use Rattle.asm_words.specs.Words.{Word, first_match, hook_word, hook_of, operation_word, operation_of, test_word, test_of, load_word, load_of, store_word, store_of, reorder_word, reorder_of, register_word, register_of, extension_word, extension_of, extension_width}
+use Rattle.asm_words.specs.Words.{Word, first_match, hook_word, hook_of, operation_word}
+use Rattle.asm_words.specs.Words.{operation_of, test_word, test_of, load_word, load_of, store_word}
+use Rattle.asm_words.specs.Words.{store_of, reorder_word, reorder_of, register_word, register_of}
+use Rattle.asm_words.specs.Words.{extension_word, extension_of, extension_width}
 use Rattle.asm_words.proofs.Numbers.{both}
 
 pub operation_again : (x : Operation) → operation_of (operation_word x) ≡ Some x
@@ -90,7 +94,8 @@ extension_again (extensions.Byte width) = refl
 extension_again (extensions.Half width) = refl
 extension_again extensions.Word = refl
 
-pub each_register : (P : ℕ → Type 0) → P 0 → P 1 → P 2 → P 3 → P 4 → P 5 → P 6 → P 7 → P 8 → P 9 → P 10 → (r : ℕ) → r ≤ 10 → P r
+pub each_register : (P : ℕ → Type 0) → P 0 → P 1 → P 2 → P 3 → P 4 → P 5 → P 6 → P 7 → P 8 → P 9
+    → P 10 → (r : ℕ) → r ≤ 10 → P r
 each_register P p0 p1 p2 p3 p4 p5 p6 p7 p8 p9 p10 zero h = p0
 each_register P p0 p1 p2 p3 p4 p5 p6 p7 p8 p9 p10 (suc zero) h = p1
 each_register P p0 p1 p2 p3 p4 p5 p6 p7 p8 p9 p10 (suc (suc zero)) h = p2
@@ -98,20 +103,31 @@ each_register P p0 p1 p2 p3 p4 p5 p6 p7 p8 p9 p10 (suc (suc (suc zero))) h = p3
 each_register P p0 p1 p2 p3 p4 p5 p6 p7 p8 p9 p10 (suc (suc (suc (suc zero)))) h = p4
 each_register P p0 p1 p2 p3 p4 p5 p6 p7 p8 p9 p10 (suc (suc (suc (suc (suc zero))))) h = p5
 each_register P p0 p1 p2 p3 p4 p5 p6 p7 p8 p9 p10 (suc (suc (suc (suc (suc (suc zero)))))) h = p6
-each_register P p0 p1 p2 p3 p4 p5 p6 p7 p8 p9 p10 (suc (suc (suc (suc (suc (suc (suc zero))))))) h = p7
-each_register P p0 p1 p2 p3 p4 p5 p6 p7 p8 p9 p10 (suc (suc (suc (suc (suc (suc (suc (suc zero)))))))) h = p8
-each_register P p0 p1 p2 p3 p4 p5 p6 p7 p8 p9 p10 (suc (suc (suc (suc (suc (suc (suc (suc (suc zero))))))))) h = p9
-each_register P p0 p1 p2 p3 p4 p5 p6 p7 p8 p9 p10 (suc (suc (suc (suc (suc (suc (suc (suc (suc (suc zero)))))))))) h = p10
-each_register P p0 p1 p2 p3 p4 p5 p6 p7 p8 p9 p10 (suc (suc (suc (suc (suc (suc (suc (suc (suc (suc (suc n))))))))))) h = absurd (omega arith)
+each_register P p0 p1 p2 p3 p4 p5 p6 p7 p8 p9 p10 (suc (suc (suc (suc (suc (suc (suc zero))))))) h =
+    p7
+each_register P p0 p1 p2 p3 p4 p5 p6 p7 p8 p9 p10
+    (suc (suc (suc (suc (suc (suc (suc (suc zero)))))))) h = p8
+each_register P p0 p1 p2 p3 p4 p5 p6 p7 p8 p9 p10
+    (suc (suc (suc (suc (suc (suc (suc (suc (suc zero))))))))) h = p9
+each_register P p0 p1 p2 p3 p4 p5 p6 p7 p8 p9 p10
+    (suc (suc (suc (suc (suc (suc (suc (suc (suc (suc zero)))))))))) h = p10
+each_register P p0 p1 p2 p3 p4 p5 p6 p7 p8 p9 p10
+    (suc (suc (suc (suc (suc (suc (suc (suc (suc (suc (suc n))))))))))) h = absurd (omega arith)
 
 pub register_again : (w : Width) (r : ℕ) → r ≤ 10 → register_of (register_word (w, r)) ≡ Some (w, r)
-register_again Bits64 r h = each_register (λ n. register_of (register_word (Bits64, n)) ≡ Some (Bits64, n)) refl refl refl refl refl refl refl refl refl refl refl r h
-register_again Bits32 r h = each_register (λ n. register_of (register_word (Bits32, n)) ≡ Some (Bits32, n)) refl refl refl refl refl refl refl refl refl refl refl r h
+register_again Bits64 r h = each_register
+    (λ n. register_of (register_word (Bits64, n)) ≡ Some (Bits64, n)) refl refl refl refl refl refl
+    refl refl refl refl refl r h
+register_again Bits32 r h = each_register
+    (λ n. register_of (register_word (Bits32, n)) ≡ Some (Bits32, n)) refl refl refl refl refl refl
+    refl refl refl refl refl r h
 
 -- ---- a word that a test tells from the words of a table is not in it
 
 pub not_equal : (f : Word → Bool) (w t : Word) → f w ≡ true → f t ≡ false → bytes_eq w t ≡ false
-not_equal f w t holds fails = false_from_ne_true _ (λ e. let same : w ≡ t = (bytes_eq-Decides w t).0 e in false≢true (sym fails ∙ sym (ap f same) ∙ holds))
+not_equal f w t holds fails = false_from_ne_true _
+    (λ e. let same : w ≡ t = (bytes_eq-Decides w t).0 e in
+    false≢true (sym fails ∙ sym (ap f same) ∙ holds))
 
 abbrev pub tells : {A : Type 0} → (Word → Bool) → List (Word × A) → Bool
 tells f [] = true
@@ -121,7 +137,8 @@ not_true : (b : Bool) → not b ≡ true → b ≡ false
 not_true true e = absurd (cc e)
 not_true false e = refl
 
-pub not_in_table : {A : Type 0} (f : Word → Bool) (xs : List (Word × A)) (w : Word) → f w ≡ true → tells f xs ≡ true → first_match xs w ≡ None
+pub not_in_table : {A : Type 0} (f : Word → Bool) (xs : List (Word × A)) (w : Word) → f w ≡ true
+    → tells f xs ≡ true → first_match xs w ≡ None
 not_in_table f [] w holds all = refl
 not_in_table f (x ∷ xs) w holds all =
     let parts = both (not (f x.0)) (tells f xs) all in

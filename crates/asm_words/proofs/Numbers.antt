@@ -1,5 +1,6 @@
 -- Words that spell no number, or one that is too large.
-use Rattle.std.proofs.Common.{◌≡◌, ℕ, ◌<◌, ◌≤◌, ◌^◌, List, [], ◌∷◌, length, Bool, true, false, ◌&&◌, refl, ap, arith, None}
+use Rattle.std.proofs.Common.{◌≡◌, ℕ, ◌<◌, ◌≤◌, ◌^◌, List, [], ◌∷◌, length, Bool, true, false, ◌&&◌}
+use Rattle.std.proofs.Common.{refl, ap, arith, None}
 use Rattle.std.specs.Str.{all_ascii_digits}
 use Rattle.std.proofs.lemmas.Bool.{le-ltb, ne_eqb}
 use Rattle.asm_words.specs.Numbers.{is_numeral, natural_of, number_of, distance_of, held}
@@ -8,13 +9,18 @@ use Rattle.asm_words.specs.declared.numeral.Numeral.TheVariants.{Huge}
 pub held_huge : (v : ℕ) → 2 ^ 64 ≤ v → held v ≡ Huge
 held_huge v h = rw (le-ltb v (2 ^ 64) h) refl
 
-pub number_unsigned : (w : List ℕ) → ((rest : List ℕ) → w ≡ 45 ∷ rest → ⊥) → natural_of w ≡ number_of w
+pub number_unsigned : (w : List ℕ) → ((rest : List ℕ) → w ≡ 45 ∷ rest → ⊥)
+    → natural_of w ≡ number_of w
 number_unsigned [] h = refl
 number_unsigned (c ∷ cs) h = rw (ne_eqb c 45 (λ e. h cs (ap (λ d. d ∷ cs) e))) refl
 
-pub distance_none : (w : List ℕ) → ((rest : List ℕ) → w ≡ 43 ∷ rest → ⊥) → ((rest : List ℕ) → w ≡ 45 ∷ rest → ⊥) → None ≡ distance_of w
+pub distance_none : (w : List ℕ) → ((rest : List ℕ) → w ≡ 43 ∷ rest → ⊥)
+    → ((rest : List ℕ) → w ≡ 45 ∷ rest → ⊥) → None ≡ distance_of w
 distance_none [] h k = refl
-distance_none (c ∷ cs) h k = rw (ne_eqb c 43 (λ e. h cs (ap (λ d. d ∷ cs) e)), ne_eqb c 45 (λ e. k cs (ap (λ d. d ∷ cs) e))) refl
+distance_none (c ∷ cs) h k = rw (
+  ne_eqb c 43 (λ e. h cs (ap (λ d. d ∷ cs) e)),
+  ne_eqb c 45 (λ e. k cs (ap (λ d. d ∷ cs) e)),
+) refl
 
 pub both : (a b : Bool) → (a && b) ≡ true → (a ≡ true) × (b ≡ true)
 both true true e = (refl, refl)

@@ -14,7 +14,8 @@ use Rattle.flood.specs.declared.event.Event.TheVariants as event
 use Rattle.flood.specs.Occurrences.{brings_answers, occurrence_of, words_of}
 use Rattle.book.specs.declared.entry.Entry.{Entry}
 use Rattle.book.specs.Bytes.{bytes_of, with_event}
-use Rattle.book.specs.Replay.{IsInstalledLast, IsLightened, Replays, entry_occurrence, forgotten_at, step_occurrence}
+use Rattle.book.specs.Replay.{IsInstalledLast, IsLightened, Replays, entry_occurrence, forgotten_at}
+use Rattle.book.specs.Replay.{step_occurrence}
 use Rattle.book.specs.Replay.{without_answers}
 use Rattle.book.proofs.Unheeded.{installed, overlooked, replaced, told}
 
@@ -64,7 +65,8 @@ with_answers answers [] e start now is run =
     goes_on (told answers start) e [] now (record {
       outs = it.outs;
       middle = it.middle;
-      happens = replaced answers start e.moment (occurrence_of e.event) it.outs it.middle is it.happens;
+      happens = replaced answers start e.moment (occurrence_of e.event) it.outs it.middle is
+          it.happens;
       others = it.others;
     })
 with_answers answers (d ∷ journal) e start now is run =
@@ -79,13 +81,15 @@ with_answers answers (d ∷ journal) e start now is run =
     by true brings it later = goes_on (told answers start) d (journal ++ e ∷ []) now (record {
       outs = it.outs;
       middle = it.middle;
-      happens = replaced answers start d.moment (occurrence_of d.event) it.outs it.middle brings it.happens;
+      happens = replaced answers start d.moment (occurrence_of d.event) it.outs it.middle brings
+          it.happens;
       others = it.others;
     })
     by false brings it later = goes_on (told answers start) d (journal ++ e ∷ []) now (record {
       outs = it.outs;
       middle = told answers it.middle;
-      happens = overlooked answers start d.moment (occurrence_of d.event) it.outs it.middle brings it.happens;
+      happens = overlooked answers start d.moment (occurrence_of d.event) it.outs it.middle brings
+          it.happens;
       others = later it.middle it.others;
     })
 
@@ -115,7 +119,8 @@ forgotten_replays : (journal : List Entry) (place : ℕ) (e : Entry) (start now 
 forgotten_replays [] place e start now is run = run
 forgotten_replays (d ∷ journal) zero e start now is run =
     goes_on start (record d { event = without_answers d.event }) (journal ++ e ∷ []) now
-    (first_forgotten d.moment d.event journal e start now is (begun start d (journal ++ e ∷ []) now run))
+    (first_forgotten d.moment d.event journal e start now is
+    (begun start d (journal ++ e ∷ []) now run))
 forgotten_replays (d ∷ journal) (suc place) e start now is run =
     let it = begun start d (journal ++ e ∷ []) now run in
     goes_on start d (forgotten_at journal place ++ e ∷ []) now (record {
@@ -127,7 +132,8 @@ forgotten_replays (d ∷ journal) (suc place) e start now is run =
 
 -- ---- what stays
 
-weighs_the_same : (bytes : ℕ) (e : Event) → with_event bytes (without_answers e) ≡ with_event bytes e
+weighs_the_same : (bytes : ℕ) (e : Event)
+    → with_event bytes (without_answers e) ≡ with_event bytes e
 weighs_the_same bytes (event.Packet number b) = refl
 weighs_the_same bytes event.Tick = refl
 weighs_the_same bytes (event.Redistribute tag price) = refl
@@ -141,13 +147,16 @@ added bytes e = with_event bytes e.event
 forgotten_weighs : (bytes : ℕ) (journal : List Entry) (place : ℕ)
     → fold added bytes (forgotten_at journal place) ≡ fold added bytes journal
 forgotten_weighs bytes [] place = refl
-forgotten_weighs bytes (e ∷ journal) zero = ap (λ n. fold added n journal) (weighs_the_same bytes e.event)
+forgotten_weighs bytes (e ∷ journal) zero =
+    ap (λ n. fold added n journal) (weighs_the_same bytes e.event)
 forgotten_weighs bytes (e ∷ journal) (suc place) = forgotten_weighs (added bytes e) journal place
 
-pub forgotten_bytes : (journal : List Entry) (place : ℕ) → bytes_of (forgotten_at journal place) ≡ bytes_of journal
+pub forgotten_bytes : (journal : List Entry) (place : ℕ)
+    → bytes_of (forgotten_at journal place) ≡ bytes_of journal
 forgotten_bytes journal place = forgotten_weighs 0 journal place
 
-pub forgotten_length : (journal : List Entry) (place : ℕ) → length (forgotten_at journal place) ≡ length journal
+pub forgotten_length : (journal : List Entry) (place : ℕ)
+    → length (forgotten_at journal place) ≡ length journal
 forgotten_length [] place = refl
 forgotten_length (e ∷ journal) zero = refl
 forgotten_length (e ∷ journal) (suc place) = ap (λ n. suc n) (forgotten_length journal place)
@@ -163,7 +172,11 @@ record Ends (journal : List Entry) (last : ℕ) (e : Entry) : Type 0 where
 ends : (journal : List Entry) (last : ℕ) (e : Entry) → length journal ≡ suc last
     → e ≡ get_or journal last e → Ends journal last e
 ends [] last e long is = absurd cc
-ends (d ∷ []) zero e long is = record { before = []; whole = ap (λ x. x ∷ []) (sym is); long = refl }
+ends (d ∷ []) zero e long is = record {
+  before = [];
+  whole = ap (λ x. x ∷ []) (sym is);
+  long = refl;
+}
 ends (d ∷ []) (suc last) e long is = absurd cc
 ends (d ∷ c ∷ journal) zero e long is = absurd cc
 ends (d ∷ c ∷ journal) (suc last) e long is =
@@ -183,8 +196,8 @@ before_the_last (d ∷ before) e (suc place) within =
     ap (λ l. d ∷ l) (before_the_last before e place (omega (arith, within)))
 
 -- what a journal that ends with an Install becomes
-pub lightened : (journal : List Entry) (last place : ℕ) → IsInstalledLast journal last → place < last
-    → IsLightened journal (forgotten_at journal place)
+pub lightened : (journal : List Entry) (last place : ℕ) → IsInstalledLast journal last
+    → place < last → IsLightened journal (forgotten_at journal place)
 lightened journal last place (long, (e, is, brings)) within =
     let it = ends journal last e long is in
     inr (
@@ -202,7 +215,8 @@ pub lightened_replays : (old new : List Entry) (start now : Router) → IsLighte
 lightened_replays old new start now (inl same) run =
     subst (λ (l : List Entry). Replays start l now) (sym same) run
 lightened_replays old new start now (inr (before, e, place, whole, brings, is)) run =
-    let from : Replays start (before ++ e ∷ []) now = subst (λ (l : List Entry). Replays start l now) whole run in
+    let from : Replays start (before ++ e ∷ []) now =
+    subst (λ (l : List Entry). Replays start l now) whole run in
     subst (λ (l : List Entry). Replays start l now) (sym is)
     (forgotten_replays before place e start now brings from)
 
@@ -210,7 +224,8 @@ lightened_replays old new start now (inr (before, e, place, whole, brings, is)) 
 filled : (new old : List Entry) (count : ℕ) → length new ≡ count
     → take count (new ++ drop (length new) old) ≡ new
 filled new old count long =
-    ap (λ n. take n (new ++ drop (length new) old)) (sym long) ∙ take-append_seam new (drop (length new) old)
+    ap (λ n. take n (new ++ drop (length new) old)) (sym long)
+    ∙ take-append_seam new (drop (length new) old)
 
 -- what the journal is after an Install at a place was told to forget
 pub written_back : (items lent made : List Entry) (count place : ℕ)
@@ -227,11 +242,16 @@ pub set_forgotten : (journal : List Entry) (place : ℕ) (e otherwise : Entry) (
 set_forgotten [] place e otherwise gone within is same = absurd (omega (arith, within))
 set_forgotten (d ∷ journal) zero e otherwise gone within is same =
     ap (λ (x : Entry). x ∷ journal)
-    (ap (λ (v : Event). record e { event = v }) same ∙ ap (λ (x : Entry). record x { event = without_answers x.event }) is)
+    (ap (λ (v : Event). record e {
+      event = v;
+    }) same ∙ ap (λ (x : Entry). record x { event = without_answers x.event }) is)
 set_forgotten (d ∷ journal) (suc place) e otherwise gone within is same =
-    ap (λ (l : List Entry). d ∷ l) (set_forgotten journal place e otherwise gone (omega (arith, within)) is same)
+    ap (λ (l : List Entry). d ∷ l) (set_forgotten journal place e otherwise gone
+    (omega (arith, within)) is same)
 
-pub beyond : (journal : List Entry) (place : ℕ) → length journal ≤ place → journal ≡ forgotten_at journal place
+pub beyond : (journal : List Entry) (place : ℕ) → length journal ≤ place
+    → journal ≡ forgotten_at journal place
 beyond [] place far = refl
 beyond (e ∷ journal) zero far = absurd (omega (arith, far))
-beyond (e ∷ journal) (suc place) far = ap (λ (l : List Entry). e ∷ l) (beyond journal place (omega (arith, far)))
+beyond (e ∷ journal) (suc place) far =
+    ap (λ (l : List Entry). e ∷ l) (beyond journal place (omega (arith, far)))

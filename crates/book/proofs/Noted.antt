@@ -30,7 +30,11 @@ same_ends (a ∷ xs) (b ∷ ys) x y same =
 
 -- a journal with one more entry, then lightened
 pub noted_in : (before grown new : BookView) (e : Entry)
-    → grown ≡ record before { journal = before.journal ++ e ∷ []; current = grown.current; taken = before.taken + 1 }
+    → grown ≡ record before {
+      journal = before.journal ++ e ∷ [];
+      current = grown.current;
+      taken = before.taken + 1;
+    }
     → new ≡ record grown { journal = new.journal } → IsLightened grown.journal new.journal
     → IsNotedIn before e new
 noted_in before grown new e is same light =
@@ -98,8 +102,9 @@ happens_at a b moment e back outs new same router happens =
     (subst (λ (x : Event). Happens b moment (occurrence_of x) outs new) same happens)
 
 -- a refusal looks at the router as it is now, and at how many events were taken
-pub answered_at : {X : Type 0} (a b : BookView) (moment : Moment) (e : Event) (r : Result X BookError)
-    → b.current ≡ a.current → b.taken ≡ a.taken → AnswersAnew b moment e r → AnswersAnew a moment e r
+pub answered_at : {X : Type 0} (a b : BookView) (moment : Moment) (e : Event)
+    (r : Result X BookError) → b.current ≡ a.current → b.taken ≡ a.taken → AnswersAnew b moment e r
+    → AnswersAnew a moment e r
 answered_at {X = X} a b moment e (Ok x) current taken (fresh, answers) = (
   (λ spent. fresh (taken ∙ spent)),
   subst (λ (r : Router). router.Answers {X = X} r moment (occurrence_of e) (Ok x)) current answers,
@@ -107,12 +112,13 @@ answered_at {X = X} a b moment e (Ok x) current taken (fresh, answers) = (
 answered_at a b moment e (Err refusing.Journal) current taken spent = sym taken ∙ spent
 answered_at a b moment e (Err (refusing.Core x)) current taken (fresh, answers) = (
   (λ spent. fresh (taken ∙ spent)),
-  subst (λ (r : Router). router.Answers {X = Unit {0}} r moment (occurrence_of e) (Err x)) current answers,
+  subst (λ (r : Router). router.Answers {X = Unit {0}} r moment (occurrence_of e) (Err x)) current
+      answers,
 )
 
-pub answered_back : {X : Type 0} (a b : BookView) (moment : Moment) (e back : Event) (r : Result X BookError)
-    → back ≡ e → b.current ≡ a.current → b.taken ≡ a.taken → AnswersAnew b moment back r
-    → AnswersAnew a moment e r
+pub answered_back : {X : Type 0} (a b : BookView) (moment : Moment) (e back : Event)
+    (r : Result X BookError) → back ≡ e → b.current ≡ a.current → b.taken ≡ a.taken
+    → AnswersAnew b moment back r → AnswersAnew a moment e r
 answered_back {X = X} a b moment e back r same current taken answers =
     answered_at {X = X} a b moment e r current taken
     (subst (λ (x : Event). AnswersAnew {X = X} b moment x r) same answers)

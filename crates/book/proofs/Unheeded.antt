@@ -52,18 +52,23 @@ module _ (answers : List (Route × ℕ)) where
   abbrev Overlooks : (EventState → EventState) → Type 0
   Overlooks f = (p : EventState) → answering (f p) ≡ f (answering p)
 
-  one_of : (b : Bool) (x y : EventState) → answering (cond b x y) ≡ cond b (answering x) (answering y)
+  one_of : (b : Bool) (x y : EventState)
+      → answering (cond b x y) ≡ cond b (answering x) (answering y)
   one_of true x y = refl
   one_of false x y = refl
 
-  one_of_three : (b c : Bool) (x y z : EventState) → answering (cond b x (cond c y z)) ≡ cond b (answering x) (cond c (answering y) (answering z))
+  one_of_three : (b c : Bool) (x y z : EventState)
+      → answering (cond b x (cond c y z))
+      ≡ cond b (answering x) (cond c (answering y) (answering z))
   one_of_three true c x y z = refl
   one_of_three false c x y z = one_of c y z
 
-  by_body : (may_now : Bool) (moment : Moment) (key : Key) (says : Option LsaBody) → Overlooks (originate_body may_now moment key says)
+  by_body : (may_now : Bool) (moment : Moment) (key : Key) (says : Option LsaBody)
+      → Overlooks (originate_body may_now moment key says)
   by_body may_now moment key None p = refl
   by_body may_now moment key (Some says) p =
-      one_of_three (has_max_sequence (finite.get p.router.area.database key)) (may_now && may_originate moment key p.router)
+      one_of_three (has_max_sequence (finite.get p.router.area.database key))
+      (may_now && may_originate moment key p.router)
       (flush moment key p) (originate moment key says p) (on_router (wait key) p)
 
   described : (before : List Link) (moment : Moment) → Overlooks (describe_router before moment)
@@ -71,7 +76,8 @@ module _ (answers : List (Route × ℕ)) where
       let b : Bool = links_differ before p.router.area.links && not (is_current moment p.router) in
       let key : Key = router_key p.router.id in
       one_of b (originate_or_wait moment key p) p
-      ∙ ap (λ (q : EventState). cond b q (answering p)) (by_body (has_room key p.router) moment key (wanted_body p.router key) p)
+      ∙ ap (λ (q : EventState). cond b q (answering p))
+      (by_body (has_room key p.router) moment key (wanted_body p.router key) p)
 
   -- the end from where the router-LSA was told
   abbrev rest : Moment → EventState → EventState
@@ -84,7 +90,9 @@ module _ (answers : List (Route × ℕ)) where
   rested moment p =
       let loaded : EventState = loading_done p in
       let b : Bool = links_differ p.router.area.links loaded.router.area.links in
-      let last : EventState → EventState = λ q. on_router (λ (r : Router). record r { moment = moment }) (on_area (λ o. remove_aged moment (request_all moment o)) q) in
+      let last : EventState → EventState = λ q. on_router (λ (r : Router). record r {
+        moment = moment;
+      }) (on_area (λ o. remove_aged moment (request_all moment o)) q) in
       ap last (one_of b (on_router (wait (router_key loaded.router.id)) loaded) loaded)
 
   ended : (old : Router) (moment : Moment) → Overlooks (end_event old moment)

@@ -27,42 +27,64 @@ use Rattle.candidates.proofs.Outward.{external_back, external_forth}
 use Rattle.candidates.proofs.Told.{of_told_one, told_of}
 use Rattle.candidates.proofs.Each.{inner_up_to, of_each, of_said, told_up_to}
 
-module _ (said : Said) (root : Root) (ways : Ways) (are : AreWays said root ways) (routers : List Flagged) (flagged : AreFlagged said ways routers) where
+module _ (said : Said) (root : Root) (ways : Ways) (are : AreWays said root ways)
+    (routers : List Flagged) (flagged : AreFlagged said ways routers) where
   -- ---- the results from the LSAs of types 1 to 4
 
   module _ (bodies : List (Key × Body)) (have : HaveAll 4 said bodies) where
-    pub of_inside : (first : List Offer) → Adds [] first (OfEach (IsInner root ways routers) bodies) → (o : Offer) → Contains first o ↔ OffersInside said root o
+    pub of_inside : (first : List Offer) → Adds [] first (OfEach (IsInner root ways routers) bodies)
+        → (o : Offer) → Contains first o ↔ OffersInside said root o
     of_inside first a o =
         let Q = IsInner root ways routers in (
-          (λ t. inner_forth said root ways are routers flagged o (of_said 4 said bodies have Q o (such first (OfEach Q bodies) a o t))),
-          (λ k. all_such first (OfEach Q bodies) a o (of_each 4 said bodies have Q (inner_up_to root ways routers) o (inner_back said root ways are routers flagged o k))),
+          (λ t. inner_forth said root ways are routers flagged o
+              (of_said 4 said bodies have Q o (such first (OfEach Q bodies) a o t))),
+          (λ k. all_such first (OfEach Q bodies) a o
+              (of_each 4 said bodies have Q (inner_up_to root ways routers) o
+              (inner_back said root ways are routers flagged o k))),
         )
 
-    pub of_told : (told : List Route) → AreRoutesAmong (OfEach (Tells root routers) bodies) told → AreRoutesAmong (OfSaid (Tells root routers) said) told
-    of_told told all = let Q = Tells root routers in routes_among (OfEach Q bodies) (OfSaid Q said) told (of_said 4 said bodies have Q) (of_each 4 said bodies have Q (told_up_to root routers)) all
+    pub of_told : (told : List Route) → AreRoutesAmong (OfEach (Tells root routers) bodies) told
+        → AreRoutesAmong (OfSaid (Tells root routers) said) told
+    of_told told all = let Q = Tells root routers in
+        routes_among (OfEach Q bodies) (OfSaid Q said) told (of_said 4 said bodies have Q)
+        (of_each 4 said bodies have Q (told_up_to root routers)) all
 
-    pub of_networks : (first : List Offer) (networks : List Route) → Adds [] first (OfEach (IsInner root ways routers) bodies) → AreRoutesAmong (λ o. Contains first o) networks → AreRoutesAmong (OffersInside said root) networks
-    of_networks first networks a all = routes_among (λ o. Contains first o) (OffersInside said root) networks (λ o t. (of_inside first a o).0 t) (λ o k. (of_inside first a o).1 k) all
+    pub of_networks : (first : List Offer) (networks : List Route)
+        → Adds [] first (OfEach (IsInner root ways routers) bodies)
+        → AreRoutesAmong (λ o. Contains first o) networks
+        → AreRoutesAmong (OffersInside said root) networks
+    of_networks first networks a all =
+        routes_among (λ o. Contains first o) (OffersInside said root) networks
+        (λ o t. (of_inside first a o).0 t) (λ o k. (of_inside first a o).1 k) all
 
   -- ---- with external destinations
 
-  module _ (externals : List ExternalTold) (tell : AreExternals said externals) (told networks : List Route) (all_told : AreRoutesAmong (OfSaid (Tells root routers) said) told) (inside : AreRoutesAmong (OffersInside said root) networks) where
-    of_external : (o : Offer) → OfEach (OfTold root routers told networks) externals o → Offers said root o
+  module _ (externals : List ExternalTold) (tell : AreExternals said externals)
+      (told networks : List Route) (all_told : AreRoutesAmong (OfSaid (Tells root routers) said)
+      told) (inside : AreRoutesAmong (OffersInside said root) networks) where
+    of_external : (o : Offer) → OfEach (OfTold root routers told networks) externals o
+        → Offers said root o
     of_external o (e, among, k) =
         let one = (tell e).0 among in
-        External (external_forth said root ways are routers flagged told all_told networks inside o (one.0, one.1, of_told_one root routers told networks one.0 e one.2 o k))
+        External (external_forth said root ways are routers flagged told all_told networks inside o
+        (one.0, one.1, of_told_one root routers told networks one.0 e one.2 o k))
 
     of_inner : (o : Offer) → OffersInside said root o → Offers said root o
     of_inner o (inl w) = Within w
     of_inner o (inr b) = Between b
 
-    by_external : (o : Offer) → OfSaid (OfExternal root routers told networks) said o → OfEach (OfTold root routers told networks) externals o
-    by_external o (one, is, k) = let t = told_of root routers told networks one o k in (t.0, (tell t.0).1 (one, is, t.1), t.2)
+    by_external : (o : Offer) → OfSaid (OfExternal root routers told networks) said o
+        → OfEach (OfTold root routers told networks) externals o
+    by_external o (one, is, k) = let t = told_of root routers told networks one o k in
+        (t.0, (tell t.0).1 (one, is, t.1), t.2)
 
-    pub are_candidates : (first all : List Offer) (routes : List Route) → ((o : Offer) → Contains first o ↔ OffersInside said root o) → Adds first all (OfEach (OfTold root routers told networks) externals)
+    pub are_candidates : (first all : List Offer) (routes : List Route)
+        → ((o : Offer) → Contains first o ↔ OffersInside said root o)
+        → Adds first all (OfEach (OfTold root routers told networks) externals)
         → AreRoutesAmong (λ o. Contains all o) routes → AreCandidates said root routes
     are_candidates first all routes same more best =
-        let put : (o : Offer) → OffersInside said root o → Contains all o = λ o k. (more o).1 (inl ((same o).1 k)) in
+        let put : (o : Offer) → OffersInside said root o → Contains all o =
+        λ o k. (more o).1 (inl ((same o).1 k)) in
         routes_among (λ o. Contains all o) (Offers said root) routes
         (λ o t.
         elim ((more o).0 t) [
@@ -73,6 +95,7 @@ module _ (said : Said) (root : Root) (ways : Ways) (are : AreWays said root ways
         elim k [
           | Within w ↦ put o (inl w)
           | Between b ↦ put o (inr b)
-          | External e ↦ (more o).1 (inr (by_external o (external_back said root ways are routers flagged told all_told networks inside o e)))
+          | External e ↦ (more o).1 (inr (by_external o
+              (external_back said root ways are routers flagged told all_told networks inside o e)))
         ])
         best

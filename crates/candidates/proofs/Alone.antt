@@ -1,6 +1,7 @@
 -- If the root has no LSA, or one without a link to a node, no link leads on from it, so that it
 -- alone is reached.
-use Rattle.std.proofs.Common.{◌≡◌, ◌<◌, get_or, ℕ, zero, suc, Bool, true, inl, inr, List, [], ◌∷◌, slice_get, Option, None, Some, arith, refl, sym, ap, subst}
+use Rattle.std.proofs.Common.{◌≡◌, ◌<◌, get_or, ℕ, zero, suc, Bool, true, inl, inr, List, [], ◌∷◌}
+use Rattle.std.proofs.Common.{slice_get, Option, None, Some, arith, refl, sym, ap, subst}
 use Rattle.std.proofs.lemmas.Bool.{false≢true}
 use Rattle.std.proofs.lemmas.List.Elements.{All-contains}
 use Rattle.std.proofs.lemmas.List.Sums.{AllPass-from_list_all}
@@ -30,15 +31,22 @@ pub alone_ascends : (root : Root) → Ascend (alone root).nodes
 alone_ascends root = λ i j d before within. absurd (omega (arith, before, within))
 
 -- a router's LSA advertises each link from it
-by_lsa : (said : Said) (root : Root) (router : ℕ) (step : Step Node) → Leads said root (ARouter router) step → HasLsa said (ARouter router)
-by_lsa said root router step leads = near_end said root (ARouter router) step.target step.price step.exit leads
+by_lsa : (said : Said) (root : Root) (router : ℕ) (step : Step Node)
+    → Leads said root (ARouter router) step → HasLsa said (ARouter router)
+by_lsa said root router step leads =
+    near_end said root (ARouter router) step.target step.price step.exit leads
 
-module _ (said : Said) (root : Root) (still : (step : Step Node) → Leads said root (ARouter root.router) step → ⊥) where
-  stays : (walk : List (Step Node)) (to : Node) → IsWalk (Leads said root) (ARouter root.router) walk to → ARouter root.router ≡ to
+module _ (said : Said) (root : Root)
+    (still : (step : Step Node) → Leads said root (ARouter root.router) step → ⊥) where
+  stays : (walk : List (Step Node)) (to : Node)
+      → IsWalk (Leads said root) (ARouter root.router) walk to → ARouter root.router ≡ to
   stays [] to is = is
   stays (step ∷ rest) to is = absurd (still step is.0)
 
-  own : IsWay (Leads said root) (ARouter root.router) (ARouter root.router) (record { distance = 0; hops = 0 })
+  own : IsWay (Leads said root) (ARouter root.router) (ARouter root.router) (record {
+    distance = 0;
+    hops = 0;
+  })
   own = record {
     distance = ([], record { is_walk = refl; least = λ other is. omega arith }, refl);
     hops = λ i. (
@@ -47,11 +55,14 @@ module _ (said : Said) (root : Root) (still : (step : Step Node) → Leads said 
     );
   }
 
-  at_root : (node : Node) (at : ℕ) → slice_get (alone root).nodes at ≡ Some node → IsNodeAnswer said root node (way_in (alone root) node)
+  at_root : (node : Node) (at : ℕ) → slice_get (alone root).nodes at ≡ Some node
+      → IsNodeAnswer said root node (way_in (alone root) node)
   at_root node zero here =
       let Q : Node → Type 0 = λ n. IsNodeAnswer said root n (way_in (alone root) n) in
       let P : Option Way → Type 0 = λ o. IsNodeAnswer said root (ARouter root.router) o in
-      subst Q (same_Some (ARouter root.router) node here) (subst P (sym (beside (alone root).nodes (alone root).ways (alone_ascends root) (ARouter root.router) zero refl)) own)
+      subst Q (same_Some (ARouter root.router) node here)
+      (subst P (sym (beside (alone root).nodes (alone root).ways (alone_ascends root)
+      (ARouter root.router) zero refl)) own)
   at_root node (suc k) here = cc
 
   pub alone_ways : AreWays said root (way_in (alone root))
@@ -61,29 +72,39 @@ module _ (said : Said) (root : Root) (still : (step : Step Node) → Leads said 
       let ways = (alone root).ways in
       elim (seek nodes node) [
         | inl there ↦ at_root node there.0 there.1
-        | inr missing ↦ subst P (sym (beside_none nodes ways node missing)) (λ walk is. missing zero (ap (λ n. Some n) (stays walk node is)))
+        | inr missing ↦ subst P (sym (beside_none nodes ways node missing))
+            (λ walk is. missing zero (ap (λ n. Some n) (stays walk node is)))
       ]
 
-pub without_lsa : (said : Said) (root : Root) → (HasLsa said (ARouter root.router) → ⊥) → (step : Step Node) → Leads said root (ARouter root.router) step → ⊥
+pub without_lsa : (said : Said) (root : Root) → (HasLsa said (ARouter root.router) → ⊥)
+    → (step : Step Node) → Leads said root (ARouter root.router) step → ⊥
 without_lsa said root none step leads = none (by_lsa said root root.router step leads)
 
 -- none of these links is of a kind that leads on
-passes : (links : List Link) (link : Link) (kind : LinkKind) → list_all (λ (l : Link). leads_nowhere l.kind) links ≡ true → Contains links link → link.kind ≡ kind → leads_nowhere kind ≡ true
+passes : (links : List Link) (link : Link) (kind : LinkKind)
+    → list_all (λ (l : Link). leads_nowhere l.kind) links ≡ true → Contains links link
+    → link.kind ≡ kind → leads_nowhere kind ≡ true
 passes links link kind all among is =
     let P : LinkKind → Type 0 = λ k. leads_nowhere k ≡ true in
     let each = AllPass-from_list_all (λ (l : Link). leads_nowhere l.kind) links all in
     subst P is (All-contains (λ (l : Link). leads_nowhere l.kind ≡ true) links link each among)
 
-pub without_way_out : (said : Said) (root : Root) → HasNoWayOut said root.router → (step : Step Node) → Leads said root (ARouter root.router) step → ⊥
+pub without_way_out : (said : Said) (root : Root) → HasNoWayOut said root.router
+    → (step : Step Node) → Leads said root (ARouter root.router) step → ⊥
 without_way_out said root nowhere step leads = on step.target leads
   where
     on : (target : Node) → LeadsTo said root (ARouter root.router) target step.price step.exit → ⊥
-    on (ARouter b) to = false≢true (passes to.0.its.lsa.links to.0.link PointToPoint (nowhere to.0.its.lsa to.0.its.its) to.0.its.among to.0.is_kind)
-    on (ANetwork id by) to = false≢true (passes to.0.its.lsa.links to.0.link Transit (nowhere to.0.its.lsa to.0.its.its) to.0.its.among to.0.is_kind)
+    on (ARouter b) to = false≢true (passes to.0.its.lsa.links to.0.link PointToPoint
+        (nowhere to.0.its.lsa to.0.its.its) to.0.its.among to.0.is_kind)
+    on (ANetwork id by) to = false≢true
+        (passes to.0.its.lsa.links to.0.link Transit (nowhere to.0.its.lsa to.0.its.its)
+        to.0.its.among to.0.is_kind)
 
-near_at : (root : Root) (at : ℕ) (way : Way) → get_or (alone root).ways at None ≡ Some way → way.distance < 1073741824
+near_at : (root : Root) (at : ℕ) (way : Way) → get_or (alone root).ways at None ≡ Some way
+    → way.distance < 1073741824
 near_at root zero way is = omega (arith, ap (λ (w : Way). w.distance) (same_Some _ way is))
 near_at root (suc k) way is = cc
 
 pub alone_near : (root : Root) → AreNear (way_in (alone root))
-alone_near root = of_beside (λ way. way.distance < 1073741824) (alone root).nodes (alone root).ways (near_at root)
+alone_near root = of_beside (λ way. way.distance < 1073741824) (alone root).nodes (alone root).ways
+    (near_at root)

@@ -1,8 +1,10 @@
 -- Offers added one after another.
-use Rattle.std.proofs.Common.{◌≡◌, ℕ, ◌+◌, ◌<◌, ◌≤◌, ◌⊎◌, inl, inr, List, [], ◌∷◌, ◌++◌, length, get_or, take, Option, Some, None, sym, ◌∙◌, ap, subst}
+use Rattle.std.proofs.Common.{◌≡◌, ℕ, ◌+◌, ◌<◌, ◌≤◌, ◌⊎◌, inl, inr, List, [], ◌∷◌, ◌++◌, length}
+use Rattle.std.proofs.Common.{get_or, take, Option, Some, None, sym, ◌∙◌, ap, subst}
 use Rattle.std.specs.List.{Contains}
 use Rattle.std.proofs.lemmas.List.{take_all, take_more}
-use Rattle.std.proofs.lemmas.List.Elements.{Contains-append_left, Contains-push, Contains-push_cases}
+use Rattle.std.proofs.lemmas.List.Elements.{Contains-append_left, Contains-push}
+use Rattle.std.proofs.lemmas.List.Elements.{Contains-push_cases}
 use Rattle.words.specs.declared.key.Key.{Key}
 use Rattle.lsa.specs.declared.body.Body.{Body}
 use Rattle.routes.specs.declared.offer.Offer.{Offer}
@@ -30,11 +32,13 @@ adds_one xs it o = (
   λ w.
       elim w [
         | inl t ↦ Contains-append_left xs (it ∷ []) o t
-        | inr e ↦ let same : it ≡ o = cc in subst (Contains (xs ++ it ∷ [])) same (Contains-push xs it)
+        | inr e ↦ let same : it ≡ o = cc in
+            subst (Contains (xs ++ it ∷ [])) same (Contains-push xs it)
       ],
 )
 
-pub adds_just : (xs ys : List Offer) (P : Offer → Type 0) (given : Option Offer) → IsJust P given → Adds xs ys (λ o. given ≡ Some o) → Adds xs ys P
+pub adds_just : (xs ys : List Offer) (P : Offer → Type 0) (given : Option Offer) → IsJust P given
+    → Adds xs ys (λ o. given ≡ Some o) → Adds xs ys P
 adds_just xs ys P None none a o = (
   λ t.
       elim ((a o).0 t) [
@@ -66,16 +70,20 @@ module _ {X : Type 0} (Q : X → Offer → Type 0) where
   pub none_yet : (start : List Offer) (xs : List X) → Adds start start (OfEach Q (take 0 xs))
   none_yet start xs = adds_nothing start (OfEach Q []) (λ o p. of_empty p.0 p.1)
 
-  pub one_more : (start now next : List Offer) (xs : List X) (i : ℕ) (x : X) → x ≡ get_or xs i x → i < length xs → Adds start now (OfEach Q (take i xs)) → Adds now next (Q x) → Adds start next (OfEach Q (take (i + 1) xs))
+  pub one_more : (start now next : List Offer) (xs : List X) (i : ℕ) (x : X) → x ≡ get_or xs i x
+      → i < length xs → Adds start now (OfEach Q (take i xs)) → Adds now next (Q x)
+      → Adds start next (OfEach Q (take (i + 1) xs))
   one_more start now next xs i x is lt before more o =
-      let split : take (i + 1) xs ≡ take i xs ++ x ∷ [] = take_more xs i x lt ∙ ap (λ (y : X). take i xs ++ y ∷ []) (sym is) in
+      let split : take (i + 1) xs ≡ take i xs ++ x ∷ [] =
+      take_more xs i x lt ∙ ap (λ (y : X). take i xs ++ y ∷ []) (sym is) in
       let P : List X → Type 0 = λ ys. OfEach Q ys o in (
         λ t.
             elim ((more o).0 t) [
               | inl old ↦
                   elim ((before o).0 old) [
                     | inl first ↦ inl first
-                    | inr p ↦ inr (subst P (sym split) (p.0, Contains-append_left (take i xs) (x ∷ []) p.0 p.1, p.2))
+                    | inr p ↦ inr (subst P (sym split)
+                        (p.0, Contains-append_left (take i xs) (x ∷ []) p.0 p.1, p.2))
                   ]
               | inr q ↦ inr (subst P (sym split) (x, Contains-push (take i xs) x, q))
             ],
@@ -91,18 +99,22 @@ module _ {X : Type 0} (Q : X → Offer → Type 0) where
             ],
       )
 
-  pub all_of_them : (start now : List Offer) (xs : List X) (i : ℕ) → length xs ≤ i → Adds start now (OfEach Q (take i xs)) → Adds start now (OfEach Q xs)
+  pub all_of_them : (start now : List Offer) (xs : List X) (i : ℕ) → length xs ≤ i
+      → Adds start now (OfEach Q (take i xs)) → Adds start now (OfEach Q xs)
   all_of_them start now xs i past a =
       let P : List X → Type 0 = λ ys. Adds start now (OfEach Q ys) in
       subst P (take_all i xs past) a
 
 -- the offers of one LSA, by its key and by what it says
-pub of_one : (Q : Key × Body → Offer → Type 0) (now next : List Offer) (one : Key × Body) (key : Key) (says : Body) → key ≡ one.0 → says ≡ one.1 → Adds now next (Q (key, says)) → Adds now next (Q one)
+pub of_one : (Q : Key × Body → Offer → Type 0) (now next : List Offer) (one : Key × Body)
+    (key : Key) (says : Body) → key ≡ one.0 → says ≡ one.1 → Adds now next (Q (key, says))
+    → Adds now next (Q one)
 of_one Q now next one key says is_key is_says a =
     let same : (key, says) ≡ one = λ i. (is_key i, is_says i) in
     subst (λ (x : Key × Body). Adds now next (Q x)) same a
 
-pub adds_same : (xs ys : List Offer) (P R : Offer → Type 0) → ((o : Offer) → P o → R o) → ((o : Offer) → R o → P o) → Adds xs ys P → Adds xs ys R
+pub adds_same : (xs ys : List Offer) (P R : Offer → Type 0) → ((o : Offer) → P o → R o)
+    → ((o : Offer) → R o → P o) → Adds xs ys P → Adds xs ys R
 adds_same xs ys P R forth back a o = (
   λ t.
       elim ((a o).0 t) [
@@ -116,7 +128,8 @@ adds_same xs ys P R forth back a o = (
       ],
 )
 
-pub adds_both : (xs ys zs : List Offer) (P R : Offer → Type 0) → Adds xs ys P → Adds ys zs R → Adds xs zs (λ o. P o ⊎ R o)
+pub adds_both : (xs ys zs : List Offer) (P R : Offer → Type 0) → Adds xs ys P → Adds ys zs R
+    → Adds xs zs (λ o. P o ⊎ R o)
 adds_both xs ys zs P R a b o = (
   λ t.
       elim ((b o).0 t) [
@@ -140,7 +153,8 @@ adds_both xs ys zs P R a b o = (
 
 -- ---- their costs
 
-pub cheap_more : (xs ys : List Offer) (given : Option Offer) → Adds xs ys (λ o. given ≡ Some o) → IfSome given (λ o. o.cost < 2147483648) → AreCheap xs → AreCheap ys
+pub cheap_more : (xs ys : List Offer) (given : Option Offer) → Adds xs ys (λ o. given ≡ Some o)
+    → IfSome given (λ o. o.cost < 2147483648) → AreCheap xs → AreCheap ys
 cheap_more xs ys None a few cheap o t =
     elim ((a o).0 t) [
       | inl old ↦ cheap o old
@@ -164,5 +178,6 @@ such xs P a o t =
       | inr p ↦ p
     ]
 
-pub all_such : (xs : List Offer) (P : Offer → Type 0) → Adds [] xs P → (o : Offer) → P o → Contains xs o
+pub all_such : (xs : List Offer) (P : Offer → Type 0) → Adds [] xs P → (o : Offer) → P o
+    → Contains xs o
 all_such xs P a o p = (a o).1 (inr p)

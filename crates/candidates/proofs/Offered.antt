@@ -1,6 +1,7 @@
 -- Every prefix that is offered has a candidate: one of its offers comes first, and their hops are a
 -- set.
-use Rattle.std.proofs.Common.{◌≡◌, ℕ, zero, suc, ◌+◌, ◌<◌, ◌≤◌, ◌⊎◌, inl, inr, IsTrue, List, [], ◌∷◌, length, get_or, arith, refl, sym, ◌∙◌, ap, subst}
+use Rattle.std.proofs.Common.{◌≡◌, ℕ, zero, suc, ◌+◌, ◌<◌, ◌≤◌, ◌⊎◌, inl, inr, IsTrue, List, []}
+use Rattle.std.proofs.Common.{◌∷◌, length, get_or, arith, refl, sym, ◌∙◌, ap, subst}
 use Rattle.std.specs.Int.{bit_at}
 use Rattle.std.specs.List.{Contains}
 use Rattle.std.proofs.lemmas.Bool.{cases_eq, cases_lt}
@@ -32,7 +33,8 @@ use Rattle.routes.specs.Summaries.IsBoundaryWay.{Inside, Outside}
 use Rattle.routes.specs.Summaries.{IsBoundaryWay, OffersBetween, OffersInside}
 
 -- of elements with a number, one has the least
-least_by : {X : Type 0} (P : X → Type 0) (f : X → ℕ) (n : ℕ) (x : X) → P x → f x ≤ n → (((y : X) × P y × ((z : X) → P z → f y ≤ f z)) → ⊥) → ⊥
+least_by : {X : Type 0} (P : X → Type 0) (f : X → ℕ) (n : ℕ) (x : X) → P x → f x ≤ n
+    → (((y : X) × P y × ((z : X) → P z → f y ≤ f z)) → ⊥) → ⊥
 least_by P f zero x p within none = none (x, p, λ z q. omega (arith, within))
 least_by P f (suc n) x p within none =
     none (
@@ -87,7 +89,13 @@ module _ (P : Offer → Type 0) where
       let one : Best1 a.0 = record { has = a.1; kind = a.2 } in
       least_by Best1 (λ o. o.cost) a.0.cost a.0 one (omega arith) (λ b.
       let two : Best2 b.0 = record { has = b.1; cost = b.2 } in
-      least_by Best2 (λ o. o.distance) b.0.distance b.0 two (omega arith) (λ c. none (c.0, record { has = c.1; distance = c.2 }))))
+      least_by Best2 (λ o. o.distance) b.0.distance b.0 two (omega arith) (λ c. none (
+        c.0,
+        record {
+          has = c.1;
+          distance = c.2;
+        },
+      ))))
 
   record First1 (o : Offer) : Type 0 where
     has : P o
@@ -103,18 +111,28 @@ module _ (P : Offer → Type 0) where
         | inl less ↦ ByOriginator (omega (arith, less))
         | inr past ↦
             let same : o.originator ≡ z.originator = omega (arith, past, f.has.originator z p) in
-            ByTag same (f.tag z (record { has = p; originator = λ y q. omega (arith, same, f.has.originator y q) }))
+            ByTag same (f.tag z (record {
+              has = p;
+              originator = λ y q. omega (arith, same, f.has.originator y q);
+            }))
       ]
 
   first : (x : Offer) → P x → (((o : Offer) × First2 o) → ⊥) → ⊥
   first x p none =
       least_by P (λ o. o.originator) x.originator x p (omega arith) (λ a.
       let one : First1 a.0 = record { has = a.1; originator = a.2 } in
-      least_by First1 (λ o. o.tag) a.0.tag a.0 one (omega arith) (λ b. none (b.0, record { has = b.1; tag = b.2 })))
+      least_by First1 (λ o. o.tag) a.0.tag a.0 one (omega arith) (λ b. none (
+        b.0,
+        record {
+          has = b.1;
+          tag = b.2;
+        },
+      )))
 
 -- ---- the hops are interfaces of the root
 
-external_hops : (t : ExternalType) (prefix : Network) (lsa : ExternalLsa) (originator : ℕ) (way : Way) → (external_offer t prefix lsa originator way).hops ≡ way.hops
+external_hops : (t : ExternalType) (prefix : Network) (lsa : ExternalLsa) (originator : ℕ)
+    (way : Way) → (external_offer t prefix lsa originator way).hops ≡ way.hops
 external_hops Type1 prefix lsa originator way = refl
 external_hops Type2 prefix lsa originator way = refl
 
@@ -122,13 +140,15 @@ module _ (said : Said) (root : Root) where
   abbrev limit : ℕ
   limit = length root.addresses + 1
 
-  of_way : (node : Node) (w : Way) → IsWay (Leads said root) (ARouter root.router) node w → (i : ℕ) → IsTrue (has_interface w.hops i) → i < limit
+  of_way : (node : Node) (w : Way) → IsWay (Leads said root) (ARouter root.router) node w → (i : ℕ)
+      → IsTrue (has_interface w.hops i) → i < limit
   of_way node w is i t =
       let hop = (is.hops i).0 t in
       let low = (reached.counted said root hop.0.target hop.0.price hop.0.exit hop.2.is_walk.0).1 in
       omega (arith, low, hop.3)
 
-  of_within : (o : Offer) → OffersWithin said root o → (i : ℕ) → IsTrue (has_interface o.hops i) → i < limit
+  of_within : (o : Offer) → OffersWithin said root o → (i : ℕ) → IsTrue (has_interface o.hops i)
+      → i < limit
   of_within o x i t =
       let Has : ℕ → Type 0 = λ hops. IsTrue (has_interface hops i) in
       let has : Has x.hops = subst Has (ap (λ (y : Offer). y.hops) x.is) t in
@@ -137,37 +157,47 @@ module _ (said : Said) (root : Root) where
         | inr other ↦ of_way x.node x.way x.reached i (subst Has (x.by_others other) has)
       ]
 
-  of_between : (o : Offer) → OffersBetween said root o → (i : ℕ) → IsTrue (has_interface o.hops i) → i < limit
+  of_between : (o : Offer) → OffersBetween said root o → (i : ℕ) → IsTrue (has_interface o.hops i)
+      → i < limit
   of_between o x i t =
       let Has : ℕ → Type 0 = λ hops. IsTrue (has_interface hops i) in
-      of_way (ARouter x.originator) x.border x.counts.reaches.reached i (subst Has (ap (λ (y : Offer). y.hops) x.is) t)
+      of_way (ARouter x.originator) x.border x.counts.reaches.reached i
+      (subst Has (ap (λ (y : Offer). y.hops) x.is) t)
 
-  of_inside : (o : Offer) → OffersInside said root o → (i : ℕ) → IsTrue (has_interface o.hops i) → i < limit
+  of_inside : (o : Offer) → OffersInside said root o → (i : ℕ) → IsTrue (has_interface o.hops i)
+      → i < limit
   of_inside o (inl x) i t = of_within o x i t
   of_inside o (inr x) i t = of_between o x i t
 
-  of_boundary : (router : ℕ) (w : Way) → IsBoundaryWay said root router w → (i : ℕ) → IsTrue (has_interface w.hops i) → i < limit
+  of_boundary : (router : ℕ) (w : Way) → IsBoundaryWay said root router w → (i : ℕ)
+      → IsTrue (has_interface w.hops i) → i < limit
   of_boundary router w (Inside x) i t = of_way (ARouter router) w x.reached i t
   of_boundary router w (Outside none x) i t =
       let h = (x.hops i).0 t in
       of_way (ARouter h.1.originator) h.0 h.1.counts.reaches.reached i h.2
 
-  of_forwarded : (address : ℕ) (w : Way) → IsForwarded (OffersInside said root) address w → (i : ℕ) → IsTrue (has_interface w.hops i) → i < limit
+  of_forwarded : (address : ℕ) (w : Way) → IsForwarded (OffersInside said root) address w → (i : ℕ)
+      → IsTrue (has_interface w.hops i) → i < limit
   of_forwarded address w f i t =
       let Has : ℕ → Type 0 = λ hops. IsTrue (has_interface hops i) in
       let o = (f.is_route.hops i).0 (subst Has (ap (λ (x : Way). x.hops) f.is) t) in
       of_inside o.0 o.1.offered i o.2
 
-  of_external : (o : Offer) → OffersExternal said root o → (i : ℕ) → IsTrue (has_interface o.hops i) → i < limit
+  of_external : (o : Offer) → OffersExternal said root o → (i : ℕ) → IsTrue (has_interface o.hops i)
+      → i < limit
   of_external o x i t =
       let Has : ℕ → Type 0 = λ hops. IsTrue (has_interface hops i) in
-      let has : Has x.way.hops = subst Has (ap (λ (y : Offer). y.hops) x.is ∙ external_hops x.lsa.kind x.prefix x.lsa x.originator x.way) t in
+      let has : Has x.way.hops = subst Has
+      (ap (λ (y : Offer). y.hops) x.is
+      ∙ external_hops x.lsa.kind x.prefix x.lsa x.originator x.way) t in
       elim (cases_eq x.lsa.forwarding 0) [
-        | inl e ↦ of_boundary x.originator x.is_way.boundary x.is_way.reaches i (subst Has (ap (λ (y : Way). y.hops) (x.is_way.direct e)) has)
+        | inl e ↦ of_boundary x.originator x.is_way.boundary x.is_way.reaches i
+            (subst Has (ap (λ (y : Way). y.hops) (x.is_way.direct e)) has)
         | inr some ↦ of_forwarded x.lsa.forwarding x.way (x.is_way.forwarded some) i has
       ]
 
-  of_offer : (o : Offer) → Offers said root o → (i : ℕ) → IsTrue (has_interface o.hops i) → i < limit
+  of_offer : (o : Offer) → Offers said root o → (i : ℕ) → IsTrue (has_interface o.hops i)
+      → i < limit
   of_offer o (Within x) i t = of_within o x i t
   of_offer o (Between x) i t = of_between o x i t
   of_offer o (External x) i t = of_external o x i t
@@ -188,9 +218,17 @@ module _ (said : Said) (root : Root) where
   abbrev HasHop : Network → ℕ → Type 0
   HasHop prefix i = (o : Offer) × IsBest said root prefix o × IsTrue (has_interface o.hops i)
 
-  made : (prefix : Network) (o : Offer) → First2 (IsBest said root prefix) o → Chosen (HasHop prefix) limit → (r : Route) × IsCandidate said root r × (r.prefix ≡ prefix)
+  made : (prefix : Network) (o : Offer) → First2 (IsBest said root prefix) o
+      → Chosen (HasHop prefix) limit → (r : Route) × IsCandidate said root r × (r.prefix ≡ prefix)
   made prefix o f c = (
-    record { prefix = prefix; kind = o.kind; cost = o.cost; distance = o.distance; hops = c.hops; tag = o.tag },
+    record {
+      prefix = prefix;
+      kind = o.kind;
+      cost = o.cost;
+      distance = o.distance;
+      hops = c.hops;
+      tag = o.tag;
+    },
     record {
       first = o;
       is_best = f.has.has;
@@ -203,15 +241,19 @@ module _ (said : Said) (root : Root) where
           elim (cases_lt i limit) [
             | inl less ↦ c.members i less
             | inr past ↦ (
-              λ t. absurd (let above : bit_at c.hops i ≡ 0 = bit_at_above c.hops limit i c.below past in omega (arith, above, bit_of_member c.hops i t)),
-              λ q. absurd (let low : i < limit = of_offer q.0 q.1.offered i q.2 in omega (arith, low, past)),
+              λ t. absurd (let above : bit_at c.hops i ≡ 0 =
+                  bit_at_above c.hops limit i c.below past in
+                  omega (arith, above, bit_of_member c.hops i t)),
+              λ q. absurd (let low : i < limit = of_offer q.0 q.1.offered i q.2 in
+                  omega (arith, low, past)),
             )
           ];
     },
     refl,
   )
 
-  candidate : (o : Offer) → Offers said root o → (((r : Route) × IsCandidate said root r × (r.prefix ≡ o.prefix)) → ⊥) → ⊥
+  candidate : (o : Offer) → Offers said root o
+      → (((r : Route) × IsCandidate said root r × (r.prefix ≡ o.prefix)) → ⊥) → ⊥
   candidate o x none =
       best (IsFor o.prefix) o (record { offered = x; is_for = refl }) (λ b.
       first (IsBest said root o.prefix) b.0 (is_best o.prefix b.0 b.1) (λ f.
@@ -233,11 +275,13 @@ same_or_not a b =
 abbrev HasRoute : List Route → Network → Type 0
 HasRoute routes prefix = (r : Route) × Contains routes r × (r.prefix ≡ prefix)
 
-split_at : (x : Route) (xs : List Route) (y : Route) (k : ℕ) → k < length (x ∷ xs) → get_or (x ∷ xs) k y ≡ y → (y ≡ x) ⊎ Contains xs y
+split_at : (x : Route) (xs : List Route) (y : Route) (k : ℕ) → k < length (x ∷ xs)
+    → get_or (x ∷ xs) k y ≡ y → (y ≡ x) ⊎ Contains xs y
 split_at x xs y zero lt e = inl (sym e)
 split_at x xs y (suc k) lt e = inr (k, omega (arith, lt), e)
 
-seek : (routes : List Route) (prefix : Network) → HasRoute routes prefix ⊎ (HasRoute routes prefix → ⊥)
+seek : (routes : List Route) (prefix : Network)
+    → HasRoute routes prefix ⊎ (HasRoute routes prefix → ⊥)
 seek [] prefix = inr (λ h. omega (arith, h.1.1))
 seek (x ∷ xs) prefix =
     elim (same_or_not x.prefix prefix) [

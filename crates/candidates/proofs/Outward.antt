@@ -1,6 +1,7 @@
 -- What is advertised about AS boundary routers, forwarding addresses and external destinations,
 -- given the ways by the database's links.
-use Rattle.std.proofs.Common.{◌≡◌, ℕ, ◌+◌, ◌≤◌, inl, inr, IsTrue, List, Some, arith, refl, sym, ◌∙◌, ap, subst}
+use Rattle.std.proofs.Common.{◌≡◌, ℕ, ◌+◌, ◌≤◌, inl, inr, IsTrue, List, Some, arith, refl, sym, ◌∙◌}
+use Rattle.std.proofs.Common.{ap, subst}
 use Rattle.std.proofs.lemmas.Bool.{cases_lt}
 use Rattle.words.specs.Interfaces.{has_interface}
 use Rattle.words.specs.Prefixes.{Network}
@@ -16,19 +17,22 @@ use Rattle.routes.specs.Routes.{AreRoutesAmong, IsBestAmong, IsNoWorse, IsRouteA
 use Rattle.routes.specs.Routes.IsNoLater.{ByTag}
 use Rattle.routes.specs.Routes.IsNoWorse.{ByCost, ByDistance, ByKind}
 use Rattle.routes.specs.Said.{Said}
-use Rattle.routes.specs.Summaries.{IsBoundaryWay, IsToldOf, IsWayBetween, OffersInside, inter, summary_key}
+use Rattle.routes.specs.Summaries.{IsBoundaryWay, IsToldOf, IsWayBetween, OffersInside, inter}
+use Rattle.routes.specs.Summaries.{summary_key}
 use Rattle.routes.specs.Summaries.IsBoundaryWay.{Inside as InsideWay, Outside as OutsideWay}
 use Rattle.routes.specs.declared.graph.Way.{Way}
 use Rattle.routes.specs.declared.offer.Offer.{Offer}
 use Rattle.routes.specs.declared.root.Root.{Root}
 use Rattle.routes.proofs.Determined.{AreAlike, alike, as_good}
-use Rattle.candidates.specs.Borders.{AreFlagged, IsBoundary, IsFound, IsOutward, Tells, host, way_by}
+use Rattle.candidates.specs.Borders.{AreFlagged, IsBoundary, IsFound, IsOutward, Tells, host}
+use Rattle.candidates.specs.Borders.{way_by}
 use Rattle.candidates.specs.Borders.IsBoundary.{Inside, Outside}
 use Rattle.candidates.specs.Bodies.{OfSaid}
 use Rattle.candidates.specs.Sources.{OfExternal}
 use Rattle.candidates.specs.Ways.{AreWays, Ways}
 use Rattle.candidates.specs.declared.flagged.Flagged.{Flagged}
-use Rattle.candidates.proofs.Carried.{as_found, as_way, boundary_back, boundary_forth, counted_back, counted_forth}
+use Rattle.candidates.proofs.Carried.{as_found, as_way, boundary_back, boundary_forth, counted_back}
+use Rattle.candidates.proofs.Carried.{counted_forth}
 
 same_router : (a b : ℕ) → host a ≡ host b → a ≡ b
 same_router a b e = omega (arith, ap (λ (n : Network). n.address) e)
@@ -38,7 +42,8 @@ cheaper a b e (ByKind less) = absurd (omega (arith, e, less))
 cheaper a b e (ByCost same less) = omega (arith, less)
 cheaper a b e (ByDistance same cost less) = omega (arith, cost)
 
-module _ (said : Said) (root : Root) (ways : Ways) (are : AreWays said root ways) (routers : List Flagged) (flagged : AreFlagged said ways routers) where
+module _ (said : Said) (root : Root) (ways : Ways) (are : AreWays said root ways)
+    (routers : List Flagged) (flagged : AreFlagged said ways routers) where
   -- ---- what is advertised about AS boundary routers
 
   abbrev Told : Offer → Type 0
@@ -56,8 +61,13 @@ module _ (said : Said) (root : Root) (ways : Ways) (are : AreWays said root ways
   told_of : (router : ℕ) (o : Offer) → Told o → o.prefix ≡ host router → TellsOf router o
   told_of router o ((key, says), is, k) e =
       let by = key.advertising_router in
-      let id : key.link_state_id ≡ router = same_router key.link_state_id router (sym (ap (λ (x : Offer). x.prefix) k.is) ∙ e) in
-      let here : key ≡ summary_key 4 router by = λ i. record { ls_type = k.is_type i; link_state_id = id i; advertising_router = by } in
+      let id : key.link_state_id ≡ router =
+      same_router key.link_state_id router (sym (ap (λ (x : Offer). x.prefix) k.is) ∙ e) in
+      let here : key ≡ summary_key 4 router by = λ i. record {
+        ls_type = k.is_type i;
+        link_state_id = id i;
+        advertising_router = by;
+      } in
       record {
         border = as_way k.border;
         told = record {
@@ -74,7 +84,8 @@ module _ (said : Said) (root : Root) (ways : Ways) (are : AreWays said root ways
         tag = ap (λ (x : Offer). x.tag) k.is;
       }
 
-  offer_of : (router distance : ℕ) (border : WalkWay) → IsToldOf said root router distance border → Told (inter (host router) distance border.hops)
+  offer_of : (router distance : ℕ) (border : WalkWay) → IsToldOf said root router distance border
+      → Told (inter (host router) distance border.hops)
   offer_of router distance border t =
       let c = counted_back said root ways are routers flagged t.originator t.lsa border t.counts in
       let key = summary_key 4 router t.originator in
@@ -97,28 +108,40 @@ module _ (said : Said) (root : Root) (ways : Ways) (are : AreWays said root ways
   same_rank router o t = ap (λ k. rank k) t.kind
 
   module _ (told : List Route) (all : AreRoutesAmong Told told) where
-    between_forth : (router : ℕ) (route : Route) → IsFound told (host router) route → IsWayBetween said root router (as_way (way_by route))
+    between_forth : (router : ℕ) (route : Route) → IsFound told (host router) route
+        → IsWayBetween said root router (as_way (way_by route))
     between_forth router route f =
         let k : IsRouteAmong Told route = (all.each route).0 f.among in
-        let first : TellsOf router k.first = told_of router k.first k.is_best.offered (k.is_best.is_for ∙ f.is_for) in
+        let first : TellsOf router k.first =
+        told_of router k.first k.is_best.offered (k.is_best.is_for ∙ f.is_for) in
         record {
           border = first.border;
           told = subst (λ d. IsToldOf said root router d first.border) (sym k.cost) first.told;
           least = λ distance other t.
               let o : Offer = inter (host router) distance other.hops in
-              let no_worse : IsNoWorse k.first o = k.is_best.best o (offer_of router distance other t) (sym f.is_for) in
+              let no_worse : IsNoWorse k.first o =
+              k.is_best.best o (offer_of router distance other t) (sym f.is_for) in
               omega (arith, cheaper k.first o (same_rank router k.first first) no_worse, k.cost);
           hops = λ i. (
             (λ t.
                 let h = (k.hops i).0 t in
-                let o : TellsOf router h.0 = told_of router h.0 h.1.offered (h.1.is_for ∙ f.is_for) in
-                let same = alike h.0 k.first (h.1.best k.first k.is_best.offered k.is_best.is_for) (k.is_best.best h.0 h.1.offered h.1.is_for) in
-                let cost : h.0.cost ≡ route.cost = same.cost ∙ sym k.cost in
-                (o.border, subst (λ d. IsToldOf said root router d o.border) cost o.told, subst (λ n. IsTrue (has_interface n i)) o.hops h.2)),
+                let o : TellsOf router h.0 = told_of router h.0 h.1.offered (h.1.is_for ∙ f.is_for)
+                in
+                let same = alike h.0 k.first (h.1.best k.first k.is_best.offered k.is_best.is_for)
+                (k.is_best.best h.0 h.1.offered h.1.is_for) in
+                let cost : h.0.cost ≡ route.cost = same.cost ∙ sym k.cost in (
+                  o.border,
+                  subst (λ d. IsToldOf said root router d o.border) cost o.told,
+                  subst (λ n. IsTrue (has_interface n i)) o.hops h.2,
+                )),
             (λ h.
                 let o : Offer = inter (host router) route.cost h.0.hops in
                 let offered : Told o = offer_of router route.cost h.0 h.1 in
-                let like : AreAlike k.first o = record { kind = same_rank router k.first first; cost = sym k.cost; distance = first.distance } in
+                let like : AreAlike k.first o = record {
+                  kind = same_rank router k.first first;
+                  cost = sym k.cost;
+                  distance = first.distance;
+                } in
                 let best : IsBestAmong Told route.prefix o = record {
                   offered = offered;
                   is_for = sym f.is_for;
@@ -129,11 +152,20 @@ module _ (said : Said) (root : Root) (ways : Ways) (are : AreWays said root ways
         }
 
     abbrev route_to : ℕ → WalkWay → Route
-    route_to router way = record { prefix = host router; kind = Inter; cost = way.distance; distance = 0; hops = way.hops; tag = 0 }
+    route_to router way = record {
+      prefix = host router;
+      kind = Inter;
+      cost = way.distance;
+      distance = 0;
+      hops = way.hops;
+      tag = 0;
+    }
 
-    between_back : (router : ℕ) (way : WalkWay) → IsWayBetween said root router way → IsRouteAmong Told (route_to router way)
+    between_back : (router : ℕ) (way : WalkWay) → IsWayBetween said root router way
+        → IsRouteAmong Told (route_to router way)
     between_back router way b =
-        let best_of : (border : WalkWay) → IsToldOf said root router way.distance border → IsBestAmong Told (host router) (inter (host router) way.distance border.hops) =
+        let best_of : (border : WalkWay) → IsToldOf said root router way.distance border
+        → IsBestAmong Told (host router) (inter (host router) way.distance border.hops) =
         λ border t.
         record {
           offered = offer_of router way.distance border t;
@@ -144,7 +176,8 @@ module _ (said : Said) (root : Root) (ways : Ways) (are : AreWays said root ways
               let ranks : 1 ≡ rank x.kind = sym (same_rank router x o) in
               elim (cases_lt way.distance x.cost) [
                 | inl less ↦ ByCost ranks (omega (arith, less))
-                | inr more ↦ let same : way.distance ≡ x.cost = omega (arith, least, more) in ByDistance ranks same (omega arith)
+                | inr more ↦ let same : way.distance ≡ x.cost = omega (arith, least, more) in
+                    ByDistance ranks same (omega arith)
               ];
         } in
         let first : Offer = inter (host router) way.distance b.border.hops in
@@ -152,38 +185,58 @@ module _ (said : Said) (root : Root) (ways : Ways) (are : AreWays said root ways
         record {
           first = first;
           is_best = its_best;
-          earliest = λ other is. let o : TellsOf router other = told_of router other is.offered is.is_for in ByTag (sym o.originator) (omega arith);
+          earliest = λ other is. let o : TellsOf router other =
+              told_of router other is.offered is.is_for in ByTag (sym o.originator) (omega arith);
           kind = refl;
           cost = refl;
           distance = refl;
           tag = refl;
           hops = λ i. (
-            (λ t. let h = (b.hops i).0 t in (inter (host router) way.distance h.0.hops, best_of h.0 h.1, h.2)),
+            (λ t. let h = (b.hops i).0 t in
+                (inter (host router) way.distance h.0.hops, best_of h.0 h.1, h.2)),
             (λ h.
                 let o : TellsOf router h.0 = told_of router h.0 h.1.offered h.1.is_for in
-                let same = alike h.0 first (h.1.best first its_best.offered refl) (its_best.best h.0 h.1.offered h.1.is_for) in
-                (b.hops i).1 (o.border, subst (λ d. IsToldOf said root router d o.border) same.cost o.told, subst (λ n. IsTrue (has_interface n i)) o.hops h.2)),
+                let same = alike h.0 first (h.1.best first its_best.offered refl)
+                (its_best.best h.0 h.1.offered h.1.is_for) in
+                (b.hops i).1 (
+                  o.border,
+                  subst (λ d. IsToldOf said root router d o.border) same.cost
+                      o.told,
+                  subst (λ n. IsTrue (has_interface n i)) o.hops h.2,
+                )),
           );
         }
 
-    boundary_way_forth : (router : ℕ) (w : Way) → IsBoundary routers told router w → IsBoundaryWay said root router (as_way w)
-    boundary_way_forth router w (Inside k) = InsideWay (boundary_forth said root ways are routers flagged router w k)
+    boundary_way_forth : (router : ℕ) (w : Way) → IsBoundary routers told router w
+        → IsBoundaryWay said root router (as_way w)
+    boundary_way_forth router w (Inside k) =
+        InsideWay (boundary_forth said root ways are routers flagged router w k)
     boundary_way_forth router w (Outside none route f e) =
-        OutsideWay (λ other r. let b = boundary_back said root ways are routers flagged router other r in none b.0 b.1)
-        (subst (λ (x : Way). IsWayBetween said root router (as_way x)) (sym e) (between_forth router route f))
+        OutsideWay (λ other r. let b = boundary_back said root ways are routers flagged router other
+        r in none b.0 b.1)
+        (subst (λ (x : Way). IsWayBetween said root router (as_way x)) (sym e)
+        (between_forth router route f))
 
-    boundary_way_back : (router : ℕ) (way : WalkWay) → IsBoundaryWay said root router way → IsBoundary routers told router (as_found way)
+    boundary_way_back : (router : ℕ) (way : WalkWay) → IsBoundaryWay said root router way
+        → IsBoundary routers told router (as_found way)
     boundary_way_back router way (InsideWay k) =
         let b = boundary_back said root ways are routers flagged router way k in
         subst (IsBoundary routers told router) (ap as_found b.2) (Inside b.1)
     boundary_way_back router way (OutsideWay none b) =
-        Outside (λ other k. none (as_way other) (boundary_forth said root ways are routers flagged router other k)) (route_to router way)
-        (record { among = (all.each (route_to router way)).1 (between_back router way b); is_for = refl }) refl
+        Outside (λ other k. none (as_way other)
+        (boundary_forth said root ways are routers flagged router other k))
+        (route_to router way)
+        (record {
+          among = (all.each (route_to router way)).1 (between_back router way b);
+          is_for = refl;
+        }) refl
 
     -- ---- external destinations
 
     module _ (inner : List Route) (inside : AreRoutesAmong (OffersInside said root) inner) where
-      outward_forth : (originator : ℕ) (lsa : ExternalLsa) (w : Way) → IsOutward routers told inner originator lsa w → IsExternalWay said root originator lsa (as_way w)
+      outward_forth : (originator : ℕ) (lsa : ExternalLsa) (w : Way)
+          → IsOutward routers told inner originator lsa w
+          → IsExternalWay said root originator lsa (as_way w)
       outward_forth originator lsa w k = record {
         boundary = as_way k.boundary;
         reaches = boundary_way_forth originator k.boundary k.reaches;
@@ -199,7 +252,9 @@ module _ (said : Said) (root : Root) (ways : Ways) (are : AreWays said root ways
             };
       }
 
-      outward_back : (originator : ℕ) (lsa : ExternalLsa) (way : WalkWay) → IsExternalWay said root originator lsa way → IsOutward routers told inner originator lsa (as_found way)
+      outward_back : (originator : ℕ) (lsa : ExternalLsa) (way : WalkWay)
+          → IsExternalWay said root originator lsa way
+          → IsOutward routers told inner originator lsa (as_found way)
       outward_back originator lsa way k = record {
         boundary = as_found k.boundary;
         reaches = boundary_way_back originator k.boundary k.reaches;
@@ -216,11 +271,16 @@ module _ (said : Said) (root : Root) (ways : Ways) (are : AreWays said root ways
             );
       }
 
-      pub external_forth : (o : Offer) → OfSaid (OfExternal root routers told inner) said o → OffersExternal said root o
+      pub external_forth : (o : Offer) → OfSaid (OfExternal root routers told inner) said o
+          → OffersExternal said root o
       external_forth o ((key, says), is, k) =
           let id = key.link_state_id in
           let by = key.advertising_router in
-          let here : key ≡ record { ls_type = 5; link_state_id = id; advertising_router = by } = λ i. record { ls_type = k.is_type i; link_state_id = id; advertising_router = by } in
+          let here : key ≡ record {
+            ls_type = 5;
+            link_state_id = id;
+            advertising_router = by;
+          } = λ i. record { ls_type = k.is_type i; link_state_id = id; advertising_router = by } in
           record {
             id = id;
             originator = by;
@@ -235,9 +295,14 @@ module _ (said : Said) (root : Root) (ways : Ways) (are : AreWays said root ways
             is = k.is;
           }
 
-      pub external_back : (o : Offer) → OffersExternal said root o → OfSaid (OfExternal root routers told inner) said o
+      pub external_back : (o : Offer) → OffersExternal said root o
+          → OfSaid (OfExternal root routers told inner) said o
       external_back o k =
-          let key : Key = record { ls_type = 5; link_state_id = k.id; advertising_router = k.originator } in (
+          let key : Key = record {
+            ls_type = 5;
+            link_state_id = k.id;
+            advertising_router = k.originator;
+          } in (
             (key, body.External k.lsa),
             k.its,
             record {

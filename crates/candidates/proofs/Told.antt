@@ -1,8 +1,10 @@
 -- What AS-external-LSAs advertise about external destinations, apart from their keys.
-use Rattle.std.proofs.Common.{◌≡◌, ◌≢◌, ℕ, ◌+◌, ◌<◌, ◌≤◌, ◌⊎◌, inl, inr, List, [], ◌∷◌, ◌++◌, length, get_or, take, Option, Some, None, refl, sym, ◌∙◌, ap, subst}
+use Rattle.std.proofs.Common.{◌≡◌, ◌≢◌, ℕ, ◌+◌, ◌<◌, ◌≤◌, ◌⊎◌, inl, inr, List, [], ◌∷◌, ◌++◌}
+use Rattle.std.proofs.Common.{length, get_or, take, Option, Some, None, refl, sym, ◌∙◌, ap, subst}
 use Rattle.std.specs.List.{Contains}
 use Rattle.std.proofs.lemmas.List.{take_all, take_more}
-use Rattle.std.proofs.lemmas.List.Elements.{Contains-append_left, Contains-push, Contains-push_cases}
+use Rattle.std.proofs.lemmas.List.Elements.{Contains-append_left, Contains-push}
+use Rattle.std.proofs.lemmas.List.Elements.{Contains-push_cases}
 use Rattle.words.specs.Prefixes.{Network}
 use Rattle.words.specs.declared.key.Key.{Key}
 use Rattle.words.specs.declared.route.ExternalType.{ExternalType}
@@ -28,25 +30,41 @@ use Rattle.candidates.specs.declared.flagged.Flagged.{Flagged}
 -- ---- what one LSA advertises
 
 module _ (one : Key × Body) (lsa : ExternalLsa) (its : one.1 ≡ body.External lsa) where
-  pub no_network : IsJust (IsPrefix one.0.link_state_id lsa.mask) None → IsJust (TellsExternal one) None
+  pub no_network : IsJust (IsPrefix one.0.link_state_id lsa.mask) None
+      → IsJust (TellsExternal one) None
   no_network none = λ e k.
       let bodies : body.External k.lsa ≡ body.External lsa = sym k.its ∙ its in
       let same : k.lsa ≡ lsa = cc in
-      none e.prefix (subst (λ (l : ExternalLsa). IsPrefix one.0.link_state_id l.mask e.prefix) same k.is_prefix)
+      none e.prefix (subst (λ (l : ExternalLsa). IsPrefix one.0.link_state_id l.mask e.prefix) same
+      k.is_prefix)
 
-  pub tells : (made : External) → one.0.ls_type ≡ 5 → IsJust (IsPrefix one.0.link_state_id lsa.mask) (Some made.prefix) → made.originator ≡ one.0.advertising_router
-      → made.kind ≡ lsa.kind → made.metric ≡ lsa.metric → made.forwarding ≡ lsa.forwarding → made.tag ≡ lsa.tag → IsJust (TellsExternal one) (Some made)
+  pub tells : (made : External) → one.0.ls_type ≡ 5
+      → IsJust (IsPrefix one.0.link_state_id lsa.mask) (Some made.prefix)
+      → made.originator ≡ one.0.advertising_router → made.kind ≡ lsa.kind
+      → made.metric ≡ lsa.metric → made.forwarding ≡ lsa.forwarding → made.tag ≡ lsa.tag
+      → IsJust (TellsExternal one) (Some made)
   tells made is_type under by kind metric forwarding tag = λ e. (
     λ k.
         let bodies : body.External k.lsa ≡ body.External lsa = sym k.its ∙ its in
         let same : k.lsa ≡ lsa = cc in
-        let p : e.prefix ≡ made.prefix = (under e.prefix).0 (subst (λ (l : ExternalLsa). IsPrefix one.0.link_state_id l.mask e.prefix) same k.is_prefix) in
+        let p : e.prefix ≡ made.prefix =
+        (under e.prefix).0 (subst (λ (l : ExternalLsa). IsPrefix one.0.link_state_id l.mask
+        e.prefix) same k.is_prefix) in
         let b : e.originator ≡ made.originator = k.originator ∙ sym by in
         let t : e.kind ≡ made.kind = k.kind ∙ ap (λ (l : ExternalLsa). l.kind) same ∙ sym kind in
-        let m : e.metric ≡ made.metric = k.metric ∙ ap (λ (l : ExternalLsa). l.metric) same ∙ sym metric in
-        let f : e.forwarding ≡ made.forwarding = k.forwarding ∙ ap (λ (l : ExternalLsa). l.forwarding) same ∙ sym forwarding in
+        let m : e.metric ≡ made.metric =
+        k.metric ∙ ap (λ (l : ExternalLsa). l.metric) same ∙ sym metric in
+        let f : e.forwarding ≡ made.forwarding =
+        k.forwarding ∙ ap (λ (l : ExternalLsa). l.forwarding) same ∙ sym forwarding in
         let g : e.tag ≡ made.tag = k.tag ∙ ap (λ (l : ExternalLsa). l.tag) same ∙ sym tag in
-        λ i. record { prefix = p i; originator = b i; kind = t i; metric = m i; forwarding = f i; tag = g i },
+        λ i. record {
+          prefix = p i;
+          originator = b i;
+          kind = t i;
+          metric = m i;
+          forwarding = f i;
+          tag = g i;
+        },
     λ e_is. subst (TellsExternal one) (sym e_is) (record {
       is_type = is_type;
       lsa = lsa;
@@ -62,30 +80,64 @@ module _ (one : Key × Body) (lsa : ExternalLsa) (its : one.1 ≡ body.External 
 
 -- ---- its offer
 
-alike : (t : ExternalType) (p : Network) (a b : ExternalLsa) (by : ℕ) (w : WalkWay) → a.metric ≡ b.metric → a.tag ≡ b.tag → external_offer t p a by w ≡ external_offer t p b by w
-alike Type1 p a b by w m g = λ i. record { prefix = p; kind = External1; cost = w.distance + m i; distance = 0; hops = w.hops; tag = g i; originator = by }
-alike Type2 p a b by w m g = λ i. record { prefix = p; kind = External2; cost = m i; distance = w.distance; hops = w.hops; tag = g i; originator = by }
+alike : (t : ExternalType) (p : Network) (a b : ExternalLsa) (by : ℕ) (w : WalkWay)
+    → a.metric ≡ b.metric → a.tag ≡ b.tag → external_offer t p a by w ≡ external_offer t p b by w
+alike Type1 p a b by w m g = λ i. record {
+  prefix = p;
+  kind = External1;
+  cost = w.distance + m i;
+  distance = 0;
+  hops = w.hops;
+  tag = g i;
+  originator = by;
+}
+alike Type2 p a b by w m g = λ i. record {
+  prefix = p;
+  kind = External2;
+  cost = m i;
+  distance = w.distance;
+  hops = w.hops;
+  tag = g i;
+  originator = by;
+}
 
 abbrev lsa_by : External → ExternalLsa
-lsa_by e = record { mask = 0; kind = e.kind; metric = e.metric; forwarding = e.forwarding; tag = e.tag; tos = [] }
+lsa_by e = record {
+  mask = 0;
+  kind = e.kind;
+  metric = e.metric;
+  forwarding = e.forwarding;
+  tag = e.tag;
+  tos = [];
+}
 
 abbrev walk_way : Way → WalkWay
 walk_way w = record { distance = w.distance; hops = w.hops }
 
 module _ (root : Root) (routers : List Flagged) (told inner : List Route) where
   module _ (e : External) where
-    pub no_way_out : IsJust (IsOutwardBy routers told inner e.originator e.forwarding) None → IsJust (OfTold root routers told inner e) None
+    pub no_way_out : IsJust (IsOutwardBy routers told inner e.originator e.forwarding) None
+        → IsJust (OfTold root routers told inner e) None
     no_way_out none = λ o k. none k.way k.is_way
 
-    pub offered_by : (way : Way) (made : Offer) → e.metric < 16777215 → e.originator ≢ root.router → IsJust (IsOutwardBy routers told inner e.originator e.forwarding) (Some way) → made ≡ offer_by e way
-        → IsJust (OfTold root routers told inner e) (Some made)
+    pub offered_by : (way : Way) (made : Offer) → e.metric < 16777215 → e.originator ≢ root.router
+        → IsJust (IsOutwardBy routers told inner e.originator e.forwarding) (Some way)
+        → made ≡ offer_by e way → IsJust (OfTold root routers told inner e) (Some made)
     offered_by way made low other just is = λ o. (
-      λ k. let w : k.way ≡ way = (just k.way).0 k.is_way in k.is ∙ ap (λ (x : Way). offer_by e x) w ∙ sym is,
-      λ same. record { reachable = low; of_another = other; way = way; is_way = (just way).1 refl; is = same ∙ is },
+      λ k. let w : k.way ≡ way = (just k.way).0 k.is_way in
+          k.is ∙ ap (λ (x : Way). offer_by e x) w ∙ sym is,
+      λ same. record {
+        reachable = low;
+        of_another = other;
+        way = way;
+        is_way = (just way).1 refl;
+        is = same ∙ is;
+      },
     )
 
   module _ (one : Key × Body) where
-    pub told_of : (o : Offer) → OfExternal root routers told inner one o → (e : External) × TellsExternal one e × OfTold root routers told inner e o
+    pub told_of : (o : Offer) → OfExternal root routers told inner one o
+        → (e : External) × TellsExternal one e × OfTold root routers told inner e o
     told_of o k =
         let e : External = record {
           prefix = k.prefix;
@@ -112,15 +164,20 @@ module _ (root : Root) (routers : List Flagged) (told inner : List Route) where
             of_another = k.of_another;
             way = k.way;
             is_way = k.is_way;
-            is = k.is ∙ alike k.lsa.kind k.prefix k.lsa (lsa_by e) one.0.advertising_router (walk_way k.way) refl refl;
+            is = k.is ∙ alike k.lsa.kind k.prefix k.lsa (lsa_by e) one.0.advertising_router
+                (walk_way k.way) refl refl;
           },
         )
 
-    pub of_told_one : (e : External) → TellsExternal one e → (o : Offer) → OfTold root routers told inner e o → OfExternal root routers told inner one o
+    pub of_told_one : (e : External) → TellsExternal one e → (o : Offer)
+        → OfTold root routers told inner e o → OfExternal root routers told inner one o
     of_told_one e t o k =
         let by = one.0.advertising_router in
-        let named : offer_by e k.way ≡ external_offer t.lsa.kind e.prefix (lsa_by e) by (walk_way k.way) = λ i. external_offer (t.kind i) e.prefix (lsa_by e) (t.originator i) (walk_way k.way) in
-        let IsOut : ℕ → ℕ → Type 0 = λ originator forwarding. IsOutwardBy routers told inner originator forwarding k.way in
+        let named : offer_by e k.way ≡ external_offer t.lsa.kind e.prefix (lsa_by e) by
+        (walk_way k.way) = λ i. external_offer (t.kind i) e.prefix (lsa_by e) (t.originator i)
+        (walk_way k.way) in
+        let IsOut : ℕ → ℕ → Type 0 = λ originator forwarding. IsOutwardBy routers told inner
+        originator forwarding k.way in
         record {
           is_type = t.is_type;
           lsa = t.lsa;
@@ -130,19 +187,25 @@ module _ (root : Root) (routers : List Flagged) (told inner : List Route) where
           prefix = e.prefix;
           is_prefix = t.is_prefix;
           way = k.way;
-          is_way = subst (λ f. IsOut by f) t.forwarding (subst (λ b. IsOut b e.forwarding) t.originator k.is_way);
-          is = k.is ∙ named ∙ alike t.lsa.kind e.prefix (lsa_by e) t.lsa by (walk_way k.way) t.metric t.tag;
+          is_way = subst (λ f. IsOut by f) t.forwarding
+              (subst (λ b. IsOut b e.forwarding) t.originator k.is_way);
+          is = k.is ∙ named ∙ alike t.lsa.kind e.prefix (lsa_by e) t.lsa by (walk_way k.way)
+              t.metric t.tag;
         }
 
-    pub by_none_told : IsJust (TellsExternal one) None → IsJust (OfExternal root routers told inner one) None
+    pub by_none_told : IsJust (TellsExternal one) None
+        → IsJust (OfExternal root routers told inner one) None
     by_none_told none = λ o k. let t = told_of o k in none t.0 t.1
 
-    pub by_told : (e : External) → IsJust (TellsExternal one) (Some e) → (given : Option Offer) → IsJust (OfTold root routers told inner e) given → IsJust (OfExternal root routers told inner one) given
+    pub by_told : (e : External) → IsJust (TellsExternal one) (Some e) → (given : Option Offer)
+        → IsJust (OfTold root routers told inner e) given
+        → IsJust (OfExternal root routers told inner one) given
     by_told e just None none = λ o k.
         let t = told_of o k in
         none o (subst (λ (x : External). OfTold root routers told inner x o) ((just t.0).0 t.1) t.2)
     by_told e just (Some it) its = λ o. (
-      λ k. let t = told_of o k in (its o).0 (subst (λ (x : External). OfTold root routers told inner x o) ((just t.0).0 t.1) t.2),
+      λ k. let t = told_of o k in (its o).0
+          (subst (λ (x : External). OfTold root routers told inner x o) ((just t.0).0 t.1) t.2),
       λ same. of_told_one e ((just e).1 refl) o ((its o).1 same),
     )
 
@@ -151,20 +214,29 @@ module _ (root : Root) (routers : List Flagged) (told inner : List Route) where
 abbrev IsTold : List (Key × Body) → External → Type 0
 IsTold bodies e = (one : Key × Body) × Contains bodies one × TellsExternal one e
 
-pub all_told : (bodies : List (Key × Body)) (i : ℕ) (told : List External) → length bodies ≤ i → AreToldBy (take i bodies) told → AreToldBy bodies told
-all_told bodies i told past are = let P : List (Key × Body) → Type 0 = λ xs. AreToldBy xs told in subst P (take_all i bodies past) are
+pub all_told : (bodies : List (Key × Body)) (i : ℕ) (told : List External) → length bodies ≤ i
+    → AreToldBy (take i bodies) told → AreToldBy bodies told
+all_told bodies i told past are = let P : List (Key × Body) → Type 0 = λ xs. AreToldBy xs told in
+    subst P (take_all i bodies past) are
 
-module _ (bodies : List (Key × Body)) (i : ℕ) (one : Key × Body) (is : one ≡ get_or bodies i one) (lt : i < length bodies) (told : List External) (are : AreToldBy (take i bodies) told) where
+module _ (bodies : List (Key × Body)) (i : ℕ) (one : Key × Body) (is : one ≡ get_or bodies i one)
+    (lt : i < length bodies) (told : List External) (are : AreToldBy (take i bodies) told) where
   split : take (i + 1) bodies ≡ take i bodies ++ one ∷ []
   split = take_more bodies i one lt ∙ ap (λ (y : Key × Body). take i bodies ++ y ∷ []) (sym is)
 
   still : (e : External) → IsTold (take i bodies) e → IsTold (take (i + 1) bodies) e
-  still e p = (p.0, subst (λ xs. Contains xs p.0) (sym split) (Contains-append_left (take i bodies) (one ∷ []) p.0 p.1), p.2)
+  still e p = (
+    p.0,
+    subst (λ xs. Contains xs p.0) (sym split)
+        (Contains-append_left (take i bodies) (one ∷ []) p.0 p.1),
+    p.2,
+  )
 
   here : (e : External) → TellsExternal one e → IsTold (take (i + 1) bodies) e
   here e q = (one, subst (λ xs. Contains xs one) (sym split) (Contains-push (take i bodies) one), q)
 
-  either : (e : External) → IsTold (take (i + 1) bodies) e → IsTold (take i bodies) e ⊎ TellsExternal one e
+  either : (e : External) → IsTold (take (i + 1) bodies) e
+      → IsTold (take i bodies) e ⊎ TellsExternal one e
   either e p =
       elim (Contains-push_cases (take i bodies) one p.0 (subst (λ xs. Contains xs p.0) split p.1)) [
         | inl old ↦ inl (p.0, old, p.2)
@@ -181,7 +253,8 @@ module _ (bodies : List (Key × Body)) (i : ℕ) (one : Key × Body) (is : one �
         ]),
   )
 
-  pub told_more : (new : External) → IsJust (TellsExternal one) (Some new) → AreToldBy (take (i + 1) bodies) (told ++ new ∷ [])
+  pub told_more : (new : External) → IsJust (TellsExternal one) (Some new)
+      → AreToldBy (take (i + 1) bodies) (told ++ new ∷ [])
   told_more new just e = (
     (λ t.
         elim (Contains-push_cases told new e t) [
@@ -191,6 +264,7 @@ module _ (bodies : List (Key × Body)) (i : ℕ) (one : Key × Body) (is : one �
     (λ p.
         elim (either e p) [
           | inl old ↦ Contains-append_left told (new ∷ []) e ((are e).1 old)
-          | inr q ↦ subst (Contains (told ++ new ∷ [])) (sym ((just e).0 q)) (Contains-push told new)
+          | inr q ↦ subst (Contains (told ++ new ∷ [])) (sym ((just e).0 q))
+              (Contains-push told new)
         ]),
   )

@@ -1,12 +1,15 @@
 -- Words make at most one request, and none if they have a mistake.
-use Rattle.std.proofs.Common.{◌≡◌, ◌∙◌, ap, sym, subst, refl, ℕ, List, [], ◌∷◌, Some, Ok, inl, inr, slice_index}
+use Rattle.std.proofs.Common.{◌≡◌, ◌∙◌, ap, sym, subst, refl, ℕ, List, [], ◌∷◌, Some, Ok, inl, inr}
+use Rattle.std.proofs.Common.{slice_index}
 use Rattle.std.specs.Prelude.{◌==◌, Option, Result, if◌then◌else◌}
 use Rattle.std.specs.Str.Parse.{digits_value, without_leading_plus}
 use Rattle.clap.specs.Kinds.{IsAmong, Kinds}
 use Rattle.clap.specs.Values.{kind_of}
 use Rattle.clap.specs.Walk.{Row, Text}
 use Rattle.clap.specs.declared.error.kind.ErrorKind.{ErrorKind}
-use Rattle.command_line.proofs.Made.{asm≢list, asm≢verify, list≢verify, raw≢asm, raw≢list, raw≢run, raw≢verify, run≢asm, run≢list, run≢verify, some_is, asm≢route, list≢route, raw≢route, run≢route, verify≢route}
+use Rattle.command_line.proofs.Made.{asm≢list, asm≢verify, list≢verify, raw≢asm, raw≢list, raw≢run}
+use Rattle.command_line.proofs.Made.{raw≢verify, run≢asm, run≢list, run≢verify, some_is, asm≢route}
+use Rattle.command_line.proofs.Made.{list≢route, raw≢route, run≢route, verify≢route}
 use Rattle.command_line.specs.Laws.{MistakenWordsAskForNothing, SameRequest, WordsMakeOneRequest}
 use Rattle.command_line.specs.Requests.{HasSeats, HasWordsOf, command_of}
 use Rattle.command_line.specs.Words.{IsContext, IsPacket, hook_name}
@@ -37,7 +40,8 @@ one_seats rows a b x y =
 ok_is : {E : Type 0} {a b : List ℕ} → ◌≡◌ {A = Result (List ℕ) E} (Ok a) (Ok b) → a ≡ b
 ok_is e = cc
 
-one_context : (word other : Text) (a b : List ℕ) → word ≡ other → IsContext word a → IsContext other b → a ≡ b
+one_context : (word other : Text) (a b : List ℕ) → word ≡ other → IsContext word a
+    → IsContext other b → a ≡ b
 one_context word other a b same x y = elim x [
   | inl p ↦ elim y [
     | inl q ↦ p.1 ∙ sym q.1
@@ -49,7 +53,8 @@ one_context word other a b same x y = elim x [
   ]
 ]
 
-one_packet : (word other : Text) (a b : List ℕ) → word ≡ other → IsPacket word a → IsPacket other b → a ≡ b
+one_packet : (word other : Text) (a b : List ℕ) → word ≡ other → IsPacket word a → IsPacket other b
+    → a ≡ b
 one_packet word other a b same x y = elim x [
   | inl p ↦ elim y [
     | inl q ↦ p.1 ∙ sym q.1
@@ -66,7 +71,8 @@ one_hook a b e = sym (hook_back a) ∙ ap hook_from e ∙ hook_back b
   where
     -- the first byte distinguishes the names
     hook_from : Text → Hook
-    hook_from name = if slice_index name 0 == 99 then hooks.Count else (if slice_index name 0 == 116 then hooks.Tag
+    hook_from name = if slice_index name 0 == 99 then hooks.Count else
+        (if slice_index name 0 == 116 then hooks.Tag
         else (if slice_index name 0 == 112 then hooks.Price else hooks.Veto))
 
     hook_back : (hook : Hook) → hook_from (hook_name hook) ≡ hook
@@ -75,15 +81,21 @@ one_hook a b e = sym (hook_back a) ∙ ap hook_from e ∙ hook_back b
     hook_back hooks.Price = refl
     hook_back hooks.Veto = refl
 
-same_words : (rows : List Row) (a b : Request) → command_of a ≡ command_of b → HasWordsOf rows a → HasWordsOf rows b → SameRequest a b
-same_words rows (requests.Raw hook file seats) (requests.Raw hook_2 file_2 seats_2) e x y =
-    (one_hook hook hook_2 (one_word x.0 y.0), one_word x.1 y.1, one_seats rows seats seats_2 x.2 y.2)
-same_words rows (requests.Run object context packet) (requests.Run object_2 context_2 packet_2) e x y = (
-  one_word x.0 y.0,
-  one_context x.1.0 y.1.0 _ _ (one_word x.1.1 y.1.1) x.1.2 y.1.2,
-  one_packet x.2.0 y.2.0 _ _ (one_word x.2.1 y.2.1) x.2.2 y.2.2,
+same_words : (rows : List Row) (a b : Request) → command_of a ≡ command_of b → HasWordsOf rows a
+    → HasWordsOf rows b → SameRequest a b
+same_words rows (requests.Raw hook file seats) (requests.Raw hook_2 file_2 seats_2) e x y = (
+  one_hook hook hook_2 (one_word x.0 y.0),
+  one_word x.1 y.1,
+  one_seats rows seats seats_2 x.2 y.2,
 )
-same_words rows (requests.Asm source object) (requests.Asm source_2 object_2) e x y = (one_word x.0 y.0, one_word x.1 y.1)
+same_words rows (requests.Run object context packet) (requests.Run object_2 context_2 packet_2) e x
+    y = (
+      one_word x.0 y.0,
+      one_context x.1.0 y.1.0 _ _ (one_word x.1.1 y.1.1) x.1.2 y.1.2,
+      one_packet x.2.0 y.2.0 _ _ (one_word x.2.1 y.2.1) x.2.2 y.2.2,
+    )
+same_words rows (requests.Asm source object) (requests.Asm source_2 object_2) e x y =
+    (one_word x.0 y.0, one_word x.1 y.1)
 same_words rows (requests.List object) (requests.List object_2) e x y = one_word x y
 same_words rows (requests.Verify object) (requests.Verify object_2) e x y = one_word x y
 same_words rows (requests.Route config) (requests.Route config_2) e x y = one_word x y
@@ -123,4 +135,5 @@ one_request line words request other own asks asks_2 =
     let both = some_is (sym asks.1.1 ∙ asks_2.1.1) in
     let names : command_of request ≡ command_of other = ap (λ (p : Text × List Row). p.0) both in
     let same : asks.1.0 ≡ asks_2.1.0 = ap (λ (p : Text × List Row). p.1) both in
-    same_words asks_2.1.0 request other names (subst (λ (rows : List Row). HasWordsOf rows request) same asks.1.2) asks_2.1.2
+    same_words asks_2.1.0 request other names
+    (subst (λ (rows : List Row). HasWordsOf rows request) same asks.1.2) asks_2.1.2

@@ -1,5 +1,6 @@
 -- Words that are no flags go to the names of a command in turn.
-use Rattle.std.proofs.Common.{◌≡◌, sym, subst, refl, arith, List, [], ◌∷◌, Option, Some, None, inl, inr, codes, false}
+use Rattle.std.proofs.Common.{◌≡◌, sym, subst, refl, arith, List, [], ◌∷◌, Option, Some, None, inl}
+use Rattle.std.proofs.Common.{inr, codes, false}
 use Rattle.std.specs.Prelude.{◌==◌, Bool, true}
 use Rattle.std.specs.Borrow.{Bor}
 use Rattle.std.specs.Str.{bytes_eq}
@@ -9,7 +10,8 @@ use Rattle.clap.specs.Lexer.{long_of, short_of}
 use Rattle.clap.specs.Simple.{App, subcommand_of}
 use Rattle.clap.specs.Walk.{Row, Text}
 use Rattle.command_line.specs.CommandLine.{IsCommandLine, line_with}
-use Rattle.command_line.specs.Laws.{IsPlain, ListIsTaken, AsmIsTaken, RouteIsTaken, RunIsTaken, VerifyIsTaken}
+use Rattle.command_line.specs.Laws.{IsPlain, ListIsTaken, AsmIsTaken, RouteIsTaken, RunIsTaken}
+use Rattle.command_line.specs.Laws.{VerifyIsTaken}
 use Rattle.command_line.specs.Requests.{Asks, HasWord}
 use Rattle.command_line.specs.declared.requests.Request.{Request}
 use Rattle.command_line.specs.declared.requests.Request.TheVariants as requests
@@ -35,9 +37,11 @@ rows_in None = []
 rows_in (Some named) = named.1
 
 -- A request that a line makes with its names anywhere is made by each line.
-at_line : (words : List Text) (request : Request) → ((hooks : Bor (List (Bor Text))) → Asks (line_with hooks) words request)
-    → (line : App) → IsCommandLine line → Asks line words request
-at_line words request asks line own = subst (λ (l : App). Asks l words request) (sym own.6) (asks own.0)
+at_line : (words : List Text) (request : Request)
+    → ((hooks : Bor (List (Bor Text))) → Asks (line_with hooks) words request) → (line : App)
+    → IsCommandLine line → Asks line words request
+at_line words request asks line own =
+    subst (λ (l : App). Asks l words request) (sym own.6) (asks own.0)
 
 abbrev pub rows_of_words : Bor (List (Bor Text)) → List Text → List Row
 rows_of_words hooks words = rows_in (subcommand_of (line_with hooks) words)
@@ -50,7 +54,8 @@ pub record Taken (hooks : Bor (List (Bor Text))) (name : Text) (words : List Tex
 abbrev list_words : Text → Text → List Text
 list_words program object = program ∷ codes "list" ∷ object ∷ []
 
-list_taken : (hooks : Bor (List (Bor Text))) (program object : Text) → NoFlag object → Taken hooks (codes "list") (list_words program object)
+list_taken : (hooks : Bor (List (Bor Text))) (program object : Text) → NoFlag object
+    → Taken hooks (codes "list") (list_words program object)
 unfolding clap_on_literals
 list_taken hooks program object plain = record {
   no_fault = rw (plain.not_end, plain.not_long, plain.not_short) refl;
@@ -63,10 +68,17 @@ unfolding clap_on_literals
 list_object hooks program object plain = rw (plain.not_end, plain.not_long, plain.not_short) refl
 
 pub list : ListIsTaken
-list line program object own plain = at_line (list_words program object.now) (requests.List object) (λ hooks.
+list line program object own plain =
+    at_line (list_words program object.now) (requests.List object) (λ hooks.
     let object_plain = no_flag object.now plain in
-    let taken = list_taken hooks program object.now object_plain in
-    (taken.no_fault, (rows_of_words hooks (list_words program object.now), taken.named, list_object hooks program object.now object_plain))) line own
+    let taken = list_taken hooks program object.now object_plain in (
+      taken.no_fault,
+      (
+        rows_of_words hooks (list_words program object.now),
+        taken.named,
+        list_object hooks program object.now object_plain,
+      ),
+    )) line own
 
 abbrev verify_words : Text → Text → List Text
 verify_words program object = program ∷ codes "verify" ∷ object ∷ []
@@ -85,11 +97,13 @@ unfolding clap_on_literals
 verify_object hooks program object plain = rw (plain.not_end, plain.not_long, plain.not_short) refl
 
 pub verify : VerifyIsTaken
-verify line program object own plain = at_line (verify_words program object.now) (requests.Verify object) (λ hooks.
+verify line program object own plain =
+    at_line (verify_words program object.now) (requests.Verify object) (λ hooks.
     let object_plain = no_flag object.now plain in
     let taken = verify_taken hooks program object.now object_plain in
     let word = verify_object hooks program object.now object_plain in
-    (taken.no_fault, (rows_of_words hooks (verify_words program object.now), taken.named, word))) line own
+    (taken.no_fault, (rows_of_words hooks (verify_words program object.now), taken.named, word)))
+    line own
 
 abbrev route_words : Text → Text → List Text
 route_words program config = program ∷ codes "route" ∷ config ∷ []
@@ -108,34 +122,54 @@ unfolding clap_on_literals
 route_config hooks program config plain = rw (plain.not_end, plain.not_long, plain.not_short) refl
 
 pub route : RouteIsTaken
-route line program config own plain = at_line (route_words program config.now) (requests.Route config) (λ hooks.
+route line program config own plain =
+    at_line (route_words program config.now) (requests.Route config) (λ hooks.
     let config_plain = no_flag config.now plain in
     let taken = route_taken hooks program config.now config_plain in
     let word = route_config hooks program config.now config_plain in
-    (taken.no_fault, (rows_of_words hooks (route_words program config.now), taken.named, word))) line own
+    (taken.no_fault, (rows_of_words hooks (route_words program config.now), taken.named, word)))
+    line own
 
 abbrev asm_words : Text → Text → Text → List Text
 asm_words program source object = program ∷ codes "asm" ∷ source ∷ object ∷ []
 
-asm_taken : (hooks : Bor (List (Bor Text))) (program source object : Text) → NoFlag source → NoFlag object
-    → Taken hooks (codes "asm") (asm_words program source object)
+asm_taken : (hooks : Bor (List (Bor Text))) (program source object : Text) → NoFlag source
+    → NoFlag object → Taken hooks (codes "asm") (asm_words program source object)
 unfolding clap_on_literals
 asm_taken hooks program source object plain more = record {
-  no_fault = rw (plain.not_end, plain.not_long, plain.not_short, more.not_end, more.not_long, more.not_short) refl;
-  named = rw (plain.not_end, plain.not_long, plain.not_short, more.not_end, more.not_long, more.not_short) refl;
+  no_fault = rw (
+    plain.not_end,
+    plain.not_long,
+    plain.not_short,
+    more.not_end,
+    more.not_long,
+    more.not_short,
+  ) refl;
+  named = rw (
+    plain.not_end,
+    plain.not_long,
+    plain.not_short,
+    more.not_end,
+    more.not_long,
+    more.not_short,
+  ) refl;
 }
 
-asm_named : (hooks : Bor (List (Bor Text))) (program source object : Text) → NoFlag source → NoFlag object
-    → HasWord (rows_of_words hooks (asm_words program source object)) (codes "SOURCE") source
-    × HasWord (rows_of_words hooks (asm_words program source object)) (codes "OBJECT") object
+asm_named : (hooks : Bor (List (Bor Text))) (program source object : Text) → NoFlag source
+    → NoFlag object → HasWord (rows_of_words hooks (asm_words program source object))
+    (codes "SOURCE") source × HasWord (rows_of_words hooks (asm_words program source object))
+    (codes "OBJECT") object
 unfolding clap_on_literals
 asm_named hooks program source object plain more = (
-  rw (plain.not_end, plain.not_long, plain.not_short, more.not_end, more.not_long, more.not_short) refl,
-  rw (plain.not_end, plain.not_long, plain.not_short, more.not_end, more.not_long, more.not_short) refl,
+  rw (plain.not_end, plain.not_long, plain.not_short, more.not_end, more.not_long, more.not_short)
+      refl,
+  rw (plain.not_end, plain.not_long, plain.not_short, more.not_end, more.not_long, more.not_short)
+      refl,
 )
 
 pub asm : AsmIsTaken
-asm line program source object own plain plain_2 = at_line (asm_words program source.now object.now) (requests.Asm source object) (λ hooks.
+asm line program source object own plain plain_2 =
+    at_line (asm_words program source.now object.now) (requests.Asm source object) (λ hooks.
     let first = no_flag source.now plain in
     let more = no_flag object.now plain_2 in
     let taken = asm_taken hooks program source.now object.now first more in (
@@ -150,28 +184,84 @@ asm line program source object own plain plain_2 = at_line (asm_words program so
 abbrev run_words : Text → Text → Text → Text → List Text
 run_words program object context packet = program ∷ codes "run" ∷ object ∷ context ∷ packet ∷ []
 
-run_taken : (hooks : Bor (List (Bor Text))) (program object context packet : Text) → NoFlag object → NoFlag context → NoFlag packet
-    → Taken hooks (codes "run") (run_words program object context packet)
+run_taken : (hooks : Bor (List (Bor Text))) (program object context packet : Text) → NoFlag object
+    → NoFlag context → NoFlag packet → Taken hooks (codes "run")
+    (run_words program object context packet)
 unfolding clap_on_literals
 run_taken hooks program object context packet a b c = record {
-  no_fault = rw (a.not_end, a.not_long, a.not_short, b.not_end, b.not_long, b.not_short, c.not_end, c.not_long, c.not_short) refl;
-  named = rw (a.not_end, a.not_long, a.not_short, b.not_end, b.not_long, b.not_short, c.not_end, c.not_long, c.not_short) refl;
+  no_fault = rw (
+    a.not_end,
+    a.not_long,
+    a.not_short,
+    b.not_end,
+    b.not_long,
+    b.not_short,
+    c.not_end,
+    c.not_long,
+    c.not_short,
+  ) refl;
+  named = rw (
+    a.not_end,
+    a.not_long,
+    a.not_short,
+    b.not_end,
+    b.not_long,
+    b.not_short,
+    c.not_end,
+    c.not_long,
+    c.not_short,
+  ) refl;
 }
 
-run_named : (hooks : Bor (List (Bor Text))) (program object context packet : Text) → NoFlag object → NoFlag context → NoFlag packet
-    → HasWord (rows_of_words hooks (run_words program object context packet)) (codes "OBJECT") object
-    × HasWord (rows_of_words hooks (run_words program object context packet)) (codes "CONTEXT") context
-    × HasWord (rows_of_words hooks (run_words program object context packet)) (codes "PACKET") packet
+run_named : (hooks : Bor (List (Bor Text))) (program object context packet : Text) → NoFlag object
+    → NoFlag context → NoFlag packet → HasWord
+    (rows_of_words hooks (run_words program object context packet)) (codes "OBJECT") object
+    × HasWord (rows_of_words hooks (run_words program object context packet))
+    (codes "CONTEXT") context × HasWord
+    (rows_of_words hooks (run_words program object context packet)) (codes "PACKET")
+    packet
 unfolding clap_on_literals
 run_named hooks program object context packet a b c = (
-  rw (a.not_end, a.not_long, a.not_short, b.not_end, b.not_long, b.not_short, c.not_end, c.not_long, c.not_short) refl,
-  rw (a.not_end, a.not_long, a.not_short, b.not_end, b.not_long, b.not_short, c.not_end, c.not_long, c.not_short) refl,
-  rw (a.not_end, a.not_long, a.not_short, b.not_end, b.not_long, b.not_short, c.not_end, c.not_long, c.not_short) refl,
+  rw (
+    a.not_end,
+    a.not_long,
+    a.not_short,
+    b.not_end,
+    b.not_long,
+    b.not_short,
+    c.not_end,
+    c.not_long,
+    c.not_short,
+  ) refl,
+  rw (
+    a.not_end,
+    a.not_long,
+    a.not_short,
+    b.not_end,
+    b.not_long,
+    b.not_short,
+    c.not_end,
+    c.not_long,
+    c.not_short,
+  ) refl,
+  rw (
+    a.not_end,
+    a.not_long,
+    a.not_short,
+    b.not_end,
+    b.not_long,
+    b.not_short,
+    c.not_end,
+    c.not_long,
+    c.not_short,
+  ) refl,
 )
 
 pub run : RunIsTaken
-run line program context_word packet_word object context packet own plain plain_2 plain_3 right right_2 =
-    at_line (run_words program object.now context_word packet_word) (requests.Run object context packet) (λ hooks.
+run line program context_word packet_word object context packet own plain plain_2 plain_3 right
+    right_2 =
+    at_line (run_words program object.now context_word packet_word)
+    (requests.Run object context packet) (λ hooks.
     let a = no_flag object.now plain in
     let b = no_flag context_word plain_2 in
     let c = no_flag packet_word plain_3 in

@@ -3,7 +3,8 @@ use Rattle.std.proofs.Common.{◌≡◌, ◌≢◌, ◌≤◌, refl, arith, ℕ,
 use Rattle.std.proofs.lemmas.Int.{ints}
 use Rattle.std.specs.Prelude.{◌==◌, ◌≤ℤ◌, FitsSigned, pos}
 use mir.Syntax.{w64}
-use Rattle.std.specs.Str.Parse.{IsNumeral, signed_digits_value, without_leading_plus, without_leading_sign}
+use Rattle.std.specs.Str.Parse.{IsNumeral, signed_digits_value, without_leading_plus}
+use Rattle.std.specs.Str.Parse.{without_leading_sign}
 use Rattle.clap.proofs.ValueTestLemmas.{Accepts-accepts}
 use Rattle.clap.specs.Lexer.{without_minus}
 use Rattle.clap.specs.ValueTests.{accepts}
@@ -18,7 +19,8 @@ pub record TakenSeats (word : Text) : Type 0 where
   pub taken : accepts false (Signed (pos 1) (pos 64)) word ≡ true
 
 -- a numeral doesn't begin with a hyphen
-no_hyphen : (first : ℕ) (rest : Text) → IsNumeral 10 (without_leading_plus (first ∷ rest)) → first ≢ 45
+no_hyphen : (first : ℕ) (rest : Text) → IsNumeral 10 (without_leading_plus (first ∷ rest))
+    → first ≢ 45
 no_hyphen first rest numeral e =
     let digits : IsNumeral 10 (without_leading_plus (45 ∷ rest)) = rw e at numeral in
     absurd (omega (arith, digits.1.0))
@@ -37,10 +39,16 @@ taken_seats [] seats is = absurd (omega (arith, is.0.0))
 taken_seats (first ∷ rest) seats is =
     let other = no_hyphen first rest is.0 in
     let differs : (first == 45) ≡ false = grind arith in
-    let same : without_leading_sign (first ∷ rest) ≡ without_leading_plus (first ∷ rest) = rw differs refl in
+    let same : without_leading_sign (first ∷ rest) ≡ without_leading_plus (first ∷ rest) =
+    rw differs refl in
     let value : signed_digits_value 10 (first ∷ rest) ≡ pos seats = rw (differs, is.1) refl in
     record {
       plain = no_flag (first ∷ rest) (inl other);
       unsigned = rw differs refl;
-      taken = Accepts-accepts false (Signed (pos 1) (pos 64)) (first ∷ rest) (rw same is.0, rw value (fits_seats seats is.3), rw value (from_one seats is.2), rw value (to_64 seats is.3));
+      taken = Accepts-accepts false (Signed (pos 1) (pos 64)) (first ∷ rest) (
+        rw same is.0,
+        rw value (fits_seats seats is.3),
+        rw value (from_one seats is.2),
+        rw value (to_64 seats is.3),
+      );
     }

@@ -12,7 +12,9 @@ use Rattle.command_line.proofs.PlainRaw.{raw}
 use Rattle.command_line.specs.CommandLine.{hook_names, line_with}
 use Rattle.command_line.specs.Laws.{IsPlain}
 use Rattle.command_line.specs.Requests.{Asks}
-use Rattle.command_line.specs.Worked.{AWordIsMissing, AWordTooMany, Fails, AFlagFails, HelpIsShown, NoSeatsFail, NoWordsGetHelp, RawAsks, RunAsks, TooManySeatsFail, UnknownCommandFails, UnknownHookFails}
+use Rattle.command_line.specs.Worked.{AWordIsMissing, AWordTooMany, Fails, AFlagFails, HelpIsShown}
+use Rattle.command_line.specs.Worked.{NoSeatsFail, NoWordsGetHelp, RawAsks, RunAsks}
+use Rattle.command_line.specs.Worked.{TooManySeatsFail, UnknownCommandFails, UnknownHookFails}
 use Rattle.command_line.specs.declared.requests.Request.TheVariants as requests
 use Rattle.isa.specs.declared.hook.Hook.TheVariants as hooks
 
@@ -22,12 +24,18 @@ hooks_at at a b c d = record { ref_ptr = at; now = hook_names a b c d }
 
 -- what holds of the line with the names at each address holds of each line
 each_line : (words : List Text) (mistakes : Kinds)
-    → ((at a b c d : ℕ × ℕ) → fault_of (line_with (hooks_at at a b c d)) words ≡ mistakes) → Fails words mistakes
+    → ((at a b c d : ℕ × ℕ) → fault_of (line_with (hooks_at at a b c d)) words ≡ mistakes)
+    → Fails words mistakes
 each_line words mistakes holds line own =
-    ap (λ (l : App). fault_of l words) (own.6 ∙ ap line_with (named own.0 own.5)) ∙ holds own.0.ref_ptr own.1 own.2 own.3 own.4
+    ap (λ (l : App). fault_of l words) (own.6 ∙ ap line_with (named own.0 own.5))
+    ∙ holds own.0.ref_ptr own.1 own.2 own.3 own.4
   where
-    named : (hooks : Bor (List (Bor Text))) → hooks.now ≡ hook_names own.1 own.2 own.3 own.4 → hooks ≡ hooks_at hooks.ref_ptr own.1 own.2 own.3 own.4
-    named hooks e = ap (λ (names : List (Bor Text)). record { ref_ptr = hooks.ref_ptr; now = names }) e
+    named : (hooks : Bor (List (Bor Text))) → hooks.now ≡ hook_names own.1 own.2 own.3 own.4
+        → hooks ≡ hooks_at hooks.ref_ptr own.1 own.2 own.3 own.4
+    named hooks e = ap (λ (names : List (Bor Text)). record {
+      ref_ptr = hooks.ref_ptr;
+      now = names;
+    }) e
 
 pub help : NoWordsGetHelp
 unfolding clap_on_literals
@@ -68,11 +76,15 @@ flag = each_line _ _ (λ at a b c d. refl)
 pub raw_asks : RawAsks
 raw_asks file e line own =
     let plain : IsPlain file.now = rw e (inl (λ (same : ◌≡◌ {A = ℕ} 97 45). omega arith)) in
-    let asks = raw line (codes "routerd") (codes "2") hooks.Count file 2 own plain ((omega arith, (omega arith, tt)), refl, omega arith, omega arith) in
-    subst (λ (t : Text). Asks line (codes "routerd" ∷ codes "raw" ∷ codes "count" ∷ t ∷ codes "2" ∷ []) (requests.Raw hooks.Count file 2)) e asks
+    let asks = raw line (codes "routerd") (codes "2") hooks.Count file 2 own plain
+    ((omega arith, (omega arith, tt)), refl, omega arith, omega arith) in
+    subst (λ (t : Text). Asks line (codes "routerd" ∷ codes "raw" ∷ codes "count" ∷ t ∷ codes "2"
+    ∷ []) (requests.Raw hooks.Count file 2)) e asks
 
 pub run_asks : RunAsks
 run_asks object packet e none line own =
     let plain : IsPlain object.now = rw e (inl (λ (same : ◌≡◌ {A = ℕ} 97 45). omega arith)) in
-    let asks = run line (codes "routerd") (codes "-") (codes "-") object (replicate 64 0) packet own plain (inr refl) (inr refl) (inl (refl, refl)) (inl (refl, none)) in
-    subst (λ (t : Text). Asks line (codes "routerd" ∷ codes "run" ∷ t ∷ codes "-" ∷ codes "-" ∷ []) (requests.Run object (replicate 64 0) packet)) e asks
+    let asks = run line (codes "routerd") (codes "-") (codes "-") object (replicate 64 0) packet own
+    plain (inr refl) (inr refl) (inl (refl, refl)) (inl (refl, none)) in
+    subst (λ (t : Text). Asks line (codes "routerd" ∷ codes "run" ∷ t ∷ codes "-" ∷ codes "-" ∷ [])
+    (requests.Run object (replicate 64 0) packet)) e asks

@@ -12,7 +12,9 @@ use Rattle.commands.specs.declared.fault.Fault.{Fault}
 use Rattle.commands.specs.declared.fault.Fault.TheVariants as faults
 
 -- clap's own text is told, or want of memory
-text_or_memory : (kind : ErrorKind) (error : Error) → (fault_of_kind_of_words kind error ≡ faults.Memory) ⊎ (fault_of_kind_of_words kind error ≡ faults.Usage error)
+text_or_memory : (kind : ErrorKind) (error : Error)
+    → (fault_of_kind_of_words kind error ≡ faults.Memory)
+    ⊎ (fault_of_kind_of_words kind error ≡ faults.Usage error)
 text_or_memory kinds.InvalidValue error = inr refl
 text_or_memory kinds.UnknownArgument error = inr refl
 text_or_memory kinds.InvalidSubcommand error = inr refl
@@ -31,8 +33,8 @@ text_or_memory kinds.Io error = inr refl
 text_or_memory kinds.Format error = inr refl
 text_or_memory kinds.OutOfMemory error = inl refl
 
-pub told : (line : App) (words : List (List ℕ)) (error : Error) (fault : Fault) → IsRefusal line words error → fault ≡ fault_of_words error
-    → IsFaultOfWords line words fault
+pub told : (line : App) (words : List (List ℕ)) (error : Error) (fault : Fault)
+    → IsRefusal line words error → fault ≡ fault_of_words error → IsFaultOfWords line words fault
 told line words error fault refusal is = elim refusal [
   | inl memory ↦ inl (is ∙ ap (λ (k : ErrorKind). fault_of_kind_of_words k error) memory)
   | inr mistake ↦ elim (text_or_memory (kind_of error) error) [

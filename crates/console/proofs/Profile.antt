@@ -1,5 +1,6 @@
 -- The configuration that a text spells is valid.
-use Rattle.std.proofs.Common.{◌≡◌, ℕ, ◌+◌, ◌<◌, ◌≤◌, true, not, ◌&&◌, List, [], ◌∷◌, length, map, refl, sym, subst, arith}
+use Rattle.std.proofs.Common.{◌≡◌, ℕ, ◌+◌, ◌<◌, ◌≤◌, true, not, ◌&&◌, List, [], ◌∷◌, length, map}
+use Rattle.std.proofs.Common.{refl, sym, subst, arith}
 use Rattle.std.proofs.lemmas.Bool.{le-leb, lt-ltb, ne_eqb}
 use Rattle.std.proofs.lemmas.List.{length-map}
 use Rattle.std.specs.List.{list_all}
@@ -37,7 +38,8 @@ in_the_profile text c start before says =
     let count = length (map interface_of cs) in
     let same : length cs ≡ count = sym (length-map cs interface_of) in
     let is = says.interfaces in λ i.
-    not (ne_eqb c.router 0 (some c.router says.router.lawful.0) i) && lt-ltb start clock_end before i
+    not (ne_eqb c.router 0 (some c.router says.router.lawful.0) i) && lt-ltb start clock_end
+    before i
     && le-leb 1 count (subst (λ n. 1 ≤ n) same is.some) i
     && le-leb count most_interfaces (subst (λ n. n ≤ most_interfaces) same is.few) i
     && all_lawful 1 says.others cs is.said i && is.apart i

@@ -1,5 +1,6 @@
 -- As many sockets as interfaces, and which router ran over them.
-use Rattle.std.proofs.Common.{◌≡◌, ℕ, List, [], ◌∷◌, ◌+◌, length, vec_len, refl, subst, ap, ◌∙◌, arith}
+use Rattle.std.proofs.Common.{◌≡◌, ℕ, List, [], ◌∷◌, ◌+◌, length, vec_len, refl, subst, ap, ◌∙◌}
+use Rattle.std.proofs.Common.{arith}
 use Rattle.console.specs.declared.configuration.Configured.{Configured}
 use Rattle.console.specs.declared.configuration.ConfiguredInterface.{ConfiguredInterface}
 use Rattle.console.specs.Configurations.{Says}
@@ -11,28 +12,39 @@ use Rattle.sockets.specs.Wires.{AreBound, Bound}
 use Rattle.daemon.specs.Statuses.{HasRan, HasRanFor, HasRanOver, IsConfigOf}
 use Rattle.daemon.specs.declared.ran.Ran.{Ran}
 
-as_many : {Socket : Type 0} (bound : Bound Socket) (interfaces : List ConfiguredInterface) (wires : List (Wire Socket))
-    → AreBound bound interfaces wires → length wires ≡ length interfaces
+as_many : {Socket : Type 0} (bound : Bound Socket) (interfaces : List ConfiguredInterface)
+    (wires : List (Wire Socket)) → AreBound bound interfaces wires
+    → length wires ≡ length interfaces
 as_many bound [] [] h = refl
 as_many bound [] (w ∷ wires) h = absurd h
 as_many bound (c ∷ interfaces) [] h = absurd h
-as_many bound (c ∷ interfaces) (w ∷ wires) h = let rest = as_many bound interfaces wires h.1 in omega (arith, rest)
+as_many bound (c ∷ interfaces) (w ∷ wires) h = let rest = as_many bound interfaces wires h.1 in
+    omega (arith, rest)
 
-pub ran_as : (origin : Router) (interfaces seats many : ℕ) (ran : Ran) (taken core : Router) → ran.origin.value ≡ taken → taken ≡ core
-    → core ≡ origin → vec_len ran.workers ≡ many → many + 1 ≡ seats → seats ≡ interfaces + 1 → HasRan origin interfaces ran
+pub ran_as : (origin : Router) (interfaces seats many : ℕ) (ran : Ran) (taken core : Router)
+    → ran.origin.value ≡ taken → taken ≡ core → core ≡ origin → vec_len ran.workers ≡ many
+    → many + 1 ≡ seats → seats ≡ interfaces + 1 → HasRan origin interfaces ran
 ran_as origin interfaces seats many ran taken core began then is workers every seated =
-    record { began = began ∙ then ∙ is; workers = omega (arith, workers, every, seated, ran.workers.ok.0) }
+    record {
+      began = began ∙ then ∙ is;
+      workers = omega (arith, workers, every, seated, ran.workers.ok.0);
+    }
 
-pub ran_from : (origin first : Router) (interfaces : ℕ) (ran : Ran) → HasRan first interfaces ran → first ≡ origin → HasRan origin interfaces ran
+pub ran_from : (origin first : Router) (interfaces : ℕ) (ran : Ran) → HasRan first interfaces ran
+    → first ≡ origin → HasRan origin interfaces ran
 ran_from origin first interfaces ran h is = subst (λ o. HasRan o interfaces ran) is h
 
-pub ran_over : (configured : Configured) (config : Config) (sockets links : ℕ) (ran : Ran) → IsConfigOf configured config
-    → HasRan (initial config) links ran → links ≡ sockets → HasRanOver sockets configured ran
-ran_over configured config sockets links ran is h same = (config, is, subst (λ n. HasRan (initial config) n ran) same h)
+pub ran_over : (configured : Configured) (config : Config) (sockets links : ℕ) (ran : Ran)
+    → IsConfigOf configured config → HasRan (initial config) links ran → links ≡ sockets
+    → HasRanOver sockets configured ran
+ran_over configured config sockets links ran is h same =
+    (config, is, subst (λ n. HasRan (initial config) n ran) same h)
 
-pub ran_for : {Socket : Type 0} (text : List ℕ) (bound : Bound Socket) (configured : Configured) (interfaces : List ConfiguredInterface)
-    (wires given : List (Wire Socket)) (ran : Ran) → Says text configured → interfaces ≡ configured.interfaces
-    → AreBound bound interfaces wires → given ≡ wires → HasRanOver (length given) configured ran → HasRanFor text ran
+pub ran_for : {Socket : Type 0} (text : List ℕ) (bound : Bound Socket) (configured : Configured)
+    (interfaces : List ConfiguredInterface) (wires given : List (Wire Socket)) (ran : Ran)
+    → Says text configured → interfaces ≡ configured.interfaces
+    → AreBound bound interfaces wires → given ≡ wires
+    → HasRanOver (length given) configured ran → HasRanFor text ran
 ran_for text bound configured interfaces wires given ran says same are handed h =
     let many : length given ≡ length configured.interfaces =
     ap length handed ∙ as_many bound interfaces wires are ∙ ap length same in

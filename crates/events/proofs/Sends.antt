@@ -4,6 +4,7 @@ use Rattle.std.specs.List.{enumerate_from, flat_map}
 use Rattle.received.specs.Links.{Link}
 use Rattle.events.specs.Packing.{outs_at}
 
-pub no_outs_from : (own k : ℕ) (xs : List Link) → flat_map (λ (e : ℕ × Link). outs_at own [] e.0 e.1) (enumerate_from k xs) ≡ []
+pub no_outs_from : (own k : ℕ) (xs : List Link)
+    → flat_map (λ (e : ℕ × Link). outs_at own [] e.0 e.1) (enumerate_from k xs) ≡ []
 no_outs_from own k [] = refl
 no_outs_from own k (x ∷ xs) = no_outs_from own (k + 1) xs

@@ -2,7 +2,8 @@
 use Rattle.std.proofs.Common.{◌≡◌, ◌⊎◌, inl, inr, List, [], ◌∷◌, ◌++◌, sym, subst}
 use Rattle.std.specs.List.{Contains}
 use Rattle.std.specs.Prelude.{Some, ◌↔◌}
-use Rattle.std.proofs.lemmas.List.Elements.{Contains-append_left, Contains-push, Contains-push_cases}
+use Rattle.std.proofs.lemmas.List.Elements.{Contains-append_left, Contains-push}
+use Rattle.std.proofs.lemmas.List.Elements.{Contains-push_cases}
 use Rattle.words.specs.Prefixes.{Network}
 use Rattle.words.specs.declared.key.Key.{Key}
 use Rattle.words.specs.declared.route.Route.{Route}
@@ -12,16 +13,19 @@ use Rattle.routes.specs.declared.root.Root.{Root}
 use Rattle.routes.proofs.Lists.{of_empty}
 use Rattle.kept_routes.specs.Sameness.{SayTheSame}
 use Rattle.external_updates.specs.Changes.{AreAllTold, IsUntouched, OthersSayTheSame}
-use Rattle.external_updates.specs.Placing.{AreHalfway, HasAnother, HasAnotherTo, IsEither, IsRenewed}
+use Rattle.external_updates.specs.Placing.{AreHalfway, HasAnother, HasAnotherTo, IsEither}
+use Rattle.external_updates.specs.Placing.{IsRenewed}
 use Rattle.external_updates.proofs.Networks.{among_or_not, same_or_not}
 use Rattle.external_updates.proofs.Staying.{untouched_kept}
 
 -- a candidate for one of these destinations isn't among the old routes
 abbrev pub HasAnotherOf : Said → Root → (done : List Network) → (before : List Route) → Type 0
-HasAnotherOf said root done before = (r : Route) × IsCandidate said root r × Contains done r.prefix × (Contains before r → ⊥)
+HasAnotherOf said root done before =
+    (r : Route) × IsCandidate said root r × Contains done r.prefix × (Contains before r → ⊥)
 
 module _ (old new : Said) (root : Root) where
-  pub none_yet : (routes : List Route) → AreCandidates old root routes → AreHalfway old new root [] routes
+  pub none_yet : (routes : List Route) → AreCandidates old root routes
+      → AreHalfway old new root [] routes
   none_yet routes are = record {
     each = λ r. (
       (λ t. inr (of_empty r.prefix, (are.each r).0 t)),
@@ -42,7 +46,8 @@ module _ (old new : Said) (root : Root) where
     here p e = subst (Contains more) (sym e) (Contains-push done prefix)
 
     -- one that isn't for this destination
-    kept : (r : Route) → (r.prefix ≡ prefix → ⊥) → IsEither old new root done r → IsEither old new root more r
+    kept : (r : Route) → (r.prefix ≡ prefix → ⊥) → IsEither old new root done r
+        → IsEither old new root more r
     kept r other (inl p) = inl (Contains-append_left done (prefix ∷ []) r.prefix p.0, p.1)
     kept r other (inr p) =
         inr (
@@ -54,19 +59,24 @@ module _ (old new : Said) (root : Root) where
           p.1,
         )
 
-    unkept : (r : Route) → (r.prefix ≡ prefix → ⊥) → IsEither old new root more r → IsEither old new root done r
+    unkept : (r : Route) → (r.prefix ≡ prefix → ⊥) → IsEither old new root more r
+        → IsEither old new root done r
     unkept r other (inl p) =
         elim (Contains-push_cases done prefix r.prefix p.0) [
           | inl before ↦ inl (before, p.1)
           | inr it ↦ absurd (other (sym it))
         ]
-    unkept r other (inr p) = inr (λ t. p.0 (Contains-append_left done (prefix ∷ []) r.prefix t), p.1)
+    unkept r other (inr p) = inr (
+      λ t. p.0 (Contains-append_left done (prefix ∷ []) r.prefix t),
+      p.1,
+    )
 
     now_ : (r : Route) → r.prefix ≡ prefix → IsEither old new root more r → IsCandidate new root r
     now_ r e (inl p) = p.1
     now_ r e (inr p) = absurd (p.0 (here r.prefix e))
 
-    pub one_more : (routes next : List Route) → AreHalfway old new root done routes → IsRenewed new root prefix routes next → AreHalfway old new root more next
+    pub one_more : (routes next : List Route) → AreHalfway old new root done routes
+        → IsRenewed new root prefix routes next → AreHalfway old new root more next
     one_more routes next half renewed = record {
       each = λ r. (
         (λ t.
@@ -84,12 +94,16 @@ module _ (old new : Said) (root : Root) where
     }
 
     -- one that was new before is still new
-    pub still_another : (before : List Route) → HasAnotherOf new root done before → HasAnotherOf new root more before
-    still_another before (r, k, among, none) = (r, k, Contains-append_left done (prefix ∷ []) r.prefix among, none)
+    pub still_another : (before : List Route) → HasAnotherOf new root done before
+        → HasAnotherOf new root more before
+    still_another before (r, k, among, none) =
+        (r, k, Contains-append_left done (prefix ∷ []) r.prefix among, none)
 
     -- a new one for this destination is new for all, since those for the destinations before it are
     -- current
-    pub first_another : (before routes : List Route) → AreCandidates old root before → AreHalfway old new root done routes → HasAnotherTo new root prefix routes → HasAnotherOf new root more before
+    pub first_another : (before routes : List Route) → AreCandidates old root before
+        → AreHalfway old new root done routes → HasAnotherTo new root prefix routes
+        → HasAnotherOf new root more before
     first_another before routes were half (r, k, its, none) = (
       r,
       k,
@@ -101,14 +115,19 @@ module _ (old new : Said) (root : Root) where
           ],
     )
 
-  pub all_another : (done : List Network) (before routes : List Route) → AreHalfway old new root done routes → HasAnotherOf new root done before → HasAnother before routes
-  all_another done before routes half (r, k, among, none) = (r, (half.each r).1 (inl (among, k)), none)
+  pub all_another : (done : List Network) (before routes : List Route)
+      → AreHalfway old new root done routes → HasAnotherOf new root done before
+      → HasAnother before routes
+  all_another done before routes half (r, k, among, none) =
+      (r, (half.each r).1 (inl (among, k)), none)
 
-  module _ (same : SayTheSame (Some 4) old new) (keys : List Key) (prefixes : List Network) (others : OthersSayTheSame keys old new) (told : AreAllTold old new keys prefixes) where
+  module _ (same : SayTheSame (Some 4) old new) (keys : List Key) (prefixes : List Network)
+      (others : OthersSayTheSame keys old new) (told : AreAllTold old new keys prefixes) where
     stays : (prefix : Network) → (Contains prefixes prefix → ⊥) → IsUntouched old new prefix
     stays prefix none key t = others key (λ among. none (told key prefix among t))
 
-    pub all_done : (routes : List Route) → AreHalfway old new root prefixes routes → AreCandidates new root routes
+    pub all_done : (routes : List Route) → AreHalfway old new root prefixes routes
+        → AreCandidates new root routes
     all_done routes half = record {
       each = λ r. (
         (λ t.
@@ -119,7 +138,8 @@ module _ (old new : Said) (root : Root) where
         (λ k.
             elim (among_or_not prefixes r.prefix) [
               | inl t ↦ (half.each r).1 (inl (t, k))
-              | inr none ↦ (half.each r).1 (inr (none, (untouched_kept old new root r same (stays r.prefix none)).1 k))
+              | inr none ↦ (half.each r).1 (inr
+                  (none, (untouched_kept old new root r same (stays r.prefix none)).1 k))
             ]),
       );
       ascending = half.ascending;

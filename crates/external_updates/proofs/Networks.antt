@@ -1,5 +1,7 @@
 -- Equality of networks, and their membership in lists, are decidable.
-use Rattle.std.proofs.Common.{◌≡◌, ◌⊎◌, inl, inr, ℕ, ◌<◌, ◌≤◌, length, get_or, Bool, true, false, ◌&&◌, ◌==◌, eqb-true, eq-eqb, List, [], ◌∷◌, arith, ap, sym, subst, ◌∙◌}
+use Rattle.std.proofs.Common.{◌≡◌, ◌⊎◌, inl, inr, ℕ, ◌<◌, ◌≤◌, length, get_or, Bool, true, false}
+use Rattle.std.proofs.Common.{◌&&◌, ◌==◌, eqb-true, eq-eqb, List, [], ◌∷◌, arith, ap, sym, subst}
+use Rattle.std.proofs.Common.{◌∙◌}
 use Rattle.std.specs.Cmp.{nat_cmp_is}
 use Rattle.std.specs.List.{Contains, HoldsAt}
 use Rattle.std.specs.List.Sorted.{IsPartitionPoint}
@@ -33,16 +35,22 @@ are_equal a b = (a.address == b.address) && (a.length == b.length)
 pub told_same : (a b : Network) → are_equal a b ≡ true → a ≡ b
 told_same a b e =
     let t = and_parts (a.address == b.address) (a.length == b.length) e in
-    λ i. record { address = eqb-true a.address b.address t.0 i; length = eqb-true a.length b.length t.1 i }
+    λ i. record {
+      address = eqb-true a.address b.address t.0 i;
+      length = eqb-true a.length b.length t.1 i;
+    }
 
 pub told_other : (a b : Network) → are_equal a b ≡ false → a ≡ b → ⊥
 told_other a b e same =
-    let address : (a.address == b.address) ≡ true = eq-eqb a.address b.address (ap (λ (n : Network). n.address) same) in
-    let length : (a.length == b.length) ≡ true = eq-eqb a.length b.length (ap (λ (n : Network). n.length) same) in
+    let address : (a.address == b.address) ≡ true =
+    eq-eqb a.address b.address (ap (λ (n : Network). n.address) same) in
+    let length : (a.length == b.length) ≡ true =
+    eq-eqb a.length b.length (ap (λ (n : Network). n.length) same) in
     let no : true ≡ false = sym (λ i. address i && length i) ∙ e in
     cc
 
-pub among_or_not : (prefixes : List Network) (prefix : Network) → Contains prefixes prefix ⊎ (Contains prefixes prefix → ⊥)
+pub among_or_not : (prefixes : List Network) (prefix : Network)
+    → Contains prefixes prefix ⊎ (Contains prefixes prefix → ⊥)
 among_or_not [] prefix = inr (of_empty prefix)
 among_or_not (first ∷ rest) prefix =
     elim (same_or_not first prefix) [
@@ -84,14 +92,20 @@ before_or_not a b =
     ]
 
 told_less : (a b : Network) → IsBefore a b → Less ≡ network_cmp a b
-told_less a b (ByAddress less) = ap (λ r. ordering_then r (nat_cmp a.length b.length)) (nat_cmp_is a.address b.address Less less)
+told_less a b (ByAddress less) = ap (λ r. ordering_then r (nat_cmp a.length b.length))
+    (nat_cmp_is a.address b.address Less less)
 told_less a b (ByLength same less) =
-    nat_cmp_is a.length b.length Less less ∙ ap (λ r. ordering_then r (nat_cmp a.length b.length)) (nat_cmp_is a.address b.address Equal same)
+    nat_cmp_is a.length b.length Less less
+    ∙ ap (λ r. ordering_then r (nat_cmp a.length b.length))
+    (nat_cmp_is a.address b.address Equal same)
 
 told_more : (a b : Network) → IsBefore b a → Greater ≡ network_cmp a b
-told_more a b (ByAddress less) = ap (λ r. ordering_then r (nat_cmp a.length b.length)) (nat_cmp_is a.address b.address Greater less)
+told_more a b (ByAddress less) = ap (λ r. ordering_then r (nat_cmp a.length b.length))
+    (nat_cmp_is a.address b.address Greater less)
 told_more a b (ByLength same less) =
-    nat_cmp_is a.length b.length Greater less ∙ ap (λ r. ordering_then r (nat_cmp a.length b.length)) (nat_cmp_is a.address b.address Equal (sym same))
+    nat_cmp_is a.length b.length Greater less
+    ∙ ap (λ r. ordering_then r (nat_cmp a.length b.length))
+    (nat_cmp_is a.address b.address Equal (sym same))
 
 pub less_is : (a b : Network) → network_cmp a b ≡ Less → IsBefore a b
 less_is a b e =
@@ -115,11 +129,17 @@ more_is a b e =
           ]
     ]
 
-pub is_there : (routes : List Route) (prefix : Network) (at : ℕ) → at < length routes → HoldsAt (λ (y : Route). network_cmp y.prefix prefix ≡ Equal) routes at → IsThere routes prefix at
-is_there routes prefix at within holds = record { within = within; is_for = λ d. networks_exact (get_or routes at d).prefix prefix (holds d) }
+pub is_there : (routes : List Route) (prefix : Network) (at : ℕ) → at < length routes
+    → HoldsAt (λ (y : Route). network_cmp y.prefix prefix ≡ Equal) routes at
+    → IsThere routes prefix at
+is_there routes prefix at within holds = record {
+  within = within;
+  is_for = λ d. networks_exact (get_or routes at d).prefix prefix (holds d);
+}
 
 pub is_gap : (routes : List Route) (prefix : Network) (at : ℕ) → at ≤ length routes
-    → IsPartitionPoint (λ (y : Route). network_cmp y.prefix prefix ≡ Less) (λ (y : Route). network_cmp y.prefix prefix ≡ Greater) routes at → IsGap routes prefix at
+    → IsPartitionPoint (λ (y : Route). network_cmp y.prefix prefix ≡ Less)
+    (λ (y : Route). network_cmp y.prefix prefix ≡ Greater) routes at → IsGap routes prefix at
 is_gap routes prefix at within parts = record {
   within = within;
   before = λ k d low. less_is (get_or routes k d).prefix prefix (parts.0 k d (omega arith) low);

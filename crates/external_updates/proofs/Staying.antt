@@ -32,7 +32,8 @@ use Rattle.external_updates.specs.Laws.{InnerRoutesAreKept, UntouchedCandidatesA
 -- ---- the results from the LSAs of types 1 to 4
 
 module _ (old new : Said) (same : AgreeInside old new) where
-  flagged : (ways : Ways) (router flag : ℕ) (way : Way) → IsFlagged old ways router flag way → IsFlagged new ways router flag way
+  flagged : (ways : Ways) (router flag : ℕ) (way : Way) → IsFlagged old ways router flag way
+      → IsFlagged new ways router flag way
   flagged ways router flag way k = record {
     lsa = k.lsa;
     its = sym (same (router_key router) (omega arith)) ∙ k.its;
@@ -40,7 +41,8 @@ module _ (old new : Said) (same : AgreeInside old new) where
     reached = k.reached;
   }
 
-  told : (root : Root) (routers : List Flagged) (o : Offer) → OfSaid (Tells root routers) old o → OfSaid (Tells root routers) new o
+  told : (root : Root) (routers : List Flagged) (o : Offer) → OfSaid (Tells root routers) old o
+      → OfSaid (Tells root routers) new o
   told root routers o (one, says, k) = (one, sym (same one.0 (omega (arith, k.is_type))) ∙ says, k)
 
 pub inner_kept : InnerRoutesAreKept
@@ -52,8 +54,11 @@ inner_kept old new root ways inner same are =
         (λ k. (are.flagged router flag way is).0 (flagged new old back ways router flag way k)),
         (λ k. flagged old new same ways router flag way ((are.flagged router flag way is).1 k)),
       );
-      told = routes_among (OfSaid (Tells root routers) old) (OfSaid (Tells root routers) new) inner.told.items (told old new same root routers) (told new old back root routers) are.told;
-      networks = routes_among (OffersInside old root) (OffersInside new root) inner.networks.items (inside old new same root) (inside new old back root) are.networks;
+      told = routes_among (OfSaid (Tells root routers) old) (OfSaid (Tells root routers) new)
+          inner.told.items (told old new same root routers) (told new old back root routers)
+          are.told;
+      networks = routes_among (OffersInside old root) (OffersInside new root) inner.networks.items
+          (inside old new same root) (inside new old back root) are.networks;
       offers = λ o. (
         (λ t. inside old new same root o ((are.offers o).0 t)),
         (λ k. (are.offers o).1 (inside new old back root o k)),
@@ -62,11 +67,13 @@ inner_kept old new root ways inner same are =
 
 -- ---- a destination that the same AS-external-LSAs advertise
 
-pub its_prefix : (kind : ExternalType) (prefix : Network) (lsa : ExternalLsa) (originator : ℕ) (way : WalkWay) → (external_offer kind prefix lsa originator way).prefix ≡ prefix
+pub its_prefix : (kind : ExternalType) (prefix : Network) (lsa : ExternalLsa) (originator : ℕ)
+    (way : WalkWay) → (external_offer kind prefix lsa originator way).prefix ≡ prefix
 its_prefix Type1 prefix lsa originator way = refl
 its_prefix Type2 prefix lsa originator way = refl
 
-swapped : (old new : Said) (key : Key) (prefix : Network) → TellsOf new old key prefix → TellsOf old new key prefix
+swapped : (old new : Said) (key : Key) (prefix : Network) → TellsOf new old key prefix
+    → TellsOf old new key prefix
 swapped old new key prefix t = record {
   lsa = t.lsa;
   says =
@@ -77,15 +84,26 @@ swapped old new key prefix t = record {
   is_prefix = t.is_prefix;
 }
 
-untouched_back : (old new : Said) (prefix : Network) → IsUntouched old new prefix → IsUntouched new old prefix
+untouched_back : (old new : Said) (prefix : Network) → IsUntouched old new prefix
+    → IsUntouched new old prefix
 untouched_back old new prefix stays key t = sym (stays key (swapped old new key prefix t))
 
-module _ (old new : Said) (same : AgreeInside old new) (prefix : Network) (stays : IsUntouched old new prefix) (root : Root) where
+module _ (old new : Said) (same : AgreeInside old new) (prefix : Network)
+    (stays : IsUntouched old new prefix) (root : Root) where
   external : (o : Offer) → o.prefix ≡ prefix → OffersExternal old root o → OffersExternal new root o
   external o e k =
-      let key : Key = record { ls_type = 5; link_state_id = k.id; advertising_router = k.originator } in
-      let here : k.prefix ≡ prefix = sym (its_prefix k.lsa.kind k.prefix k.lsa k.originator k.way) ∙ sym (ap (λ (x : Offer). x.prefix) k.is) ∙ e in
-      let tells : TellsOf old new key prefix = record { lsa = k.lsa; says = inl k.its; is_prefix = subst (IsPrefix k.id k.lsa.mask) here k.is_prefix } in
+      let key : Key = record {
+        ls_type = 5;
+        link_state_id = k.id;
+        advertising_router = k.originator;
+      } in
+      let here : k.prefix ≡ prefix = sym (its_prefix k.lsa.kind k.prefix k.lsa k.originator k.way)
+      ∙ sym (ap (λ (x : Offer). x.prefix) k.is) ∙ e in
+      let tells : TellsOf old new key prefix = record {
+        lsa = k.lsa;
+        says = inl k.its;
+        is_prefix = subst (IsPrefix k.id k.lsa.mask) here k.is_prefix;
+      } in
       record {
         id = k.id;
         originator = k.originator;

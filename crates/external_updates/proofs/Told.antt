@@ -9,5 +9,6 @@ pub just_is : {X : Type 0} (P : X → Type 0) (o : Option X) (x : X) → IsJust 
 just_is P None x none p = absurd (none x p)
 just_is {X} P (Some it) x just p = ap (λ (y : X). Some y) (sym ((just x).0 p))
 
-pub same_body : (a b : ExternalLsa) → ◌≡◌ {A = Option Body} (Some (body.External a)) (Some (body.External b)) → a ≡ b
+pub same_body : (a b : ExternalLsa)
+    → ◌≡◌ {A = Option Body} (Some (body.External a)) (Some (body.External b)) → a ≡ b
 same_body a b e = cc

@@ -21,7 +21,8 @@ use Rattle.flood.specs.Parts.{IsMade, IsPartOf, after_part, made_state}
 
 module _ (old : Router) (moment : ℕ) (event : Occurrence) (p : Part) (is : IsPartOf event p) where
   -- the result happens
-  pub made_happens : (outs : List Out) (new : Router) → IsMade old moment p outs new → Happens old moment event outs new
+  pub made_happens : (outs : List Out) (new : Router) → IsMade old moment p outs new
+      → Happens old moment event outs new
   made_happens outs new made_state = record {
     after = after_part p moment (start_event moment old);
     own = is.own moment (start_event moment old);
@@ -30,26 +31,38 @@ module _ (old : Router) (moment : ℕ) (event : Occurrence) (p : Part) (is : IsP
   }
 
   -- and keeps what is known, if the packets are encoded correctly
-  pub made_keeps : (outs : List Out) (new : Router) → IsMade old moment p outs new → AnnouncesAddress event → IsInOrder old → HoldsInstances old
-      → AreTexts old.id old.area.links (made_state old moment p).sends → KeepsWhatIsKnown old moment event outs new
+  pub made_keeps : (outs : List Out) (new : Router) → IsMade old moment p outs new
+      → AnnouncesAddress event → IsInOrder old → HoldsInstances old
+      → AreTexts old.id old.area.links (made_state old moment p).sends
+      → KeepsWhatIsKnown old moment event outs new
   unfolding made_happens
-  made_keeps outs new made_state address order holds texts = events_keep_what_is_known old moment event outs new (made_happens outs new made_state) address order holds texts
+  made_keeps outs new made_state address order holds texts =
+      events_keep_what_is_known old moment event outs new (made_happens outs new made_state) address
+      order holds texts
 
-  pub made_order : (outs : List Out) (new : Router) → IsMade old moment p outs new → IsInOrder old → IsInOrder new
-  made_order outs new made_state order = routers_stay_in_order.event old moment event outs new (made_happens outs new made_state) order
+  pub made_order : (outs : List Out) (new : Router) → IsMade old moment p outs new → IsInOrder old
+      → IsInOrder new
+  made_order outs new made_state order =
+      routers_stay_in_order.event old moment event outs new (made_happens outs new made_state) order
 
-  pub made_holds : (outs : List Out) (new : Router) → IsMade old moment p outs new → AnnouncesAddress event → IsInOrder old → HoldsInstances old → HoldsInstances new
-  made_holds outs new made_state address order holds = instances_stay_in_range.event old moment event outs new (made_happens outs new made_state) address order.own holds
+  pub made_holds : (outs : List Out) (new : Router) → IsMade old moment p outs new
+      → AnnouncesAddress event → IsInOrder old → HoldsInstances old → HoldsInstances new
+  made_holds outs new made_state address order holds =
+      instances_stay_in_range.event old moment event outs new (made_happens outs new made_state)
+      address order.own holds
 
-  makes : Happens old moment event (outs_of old.id old.area.links (made_state old moment p).sends) (made_state old moment p).router
+  makes : Happens old moment event (outs_of old.id old.area.links (made_state old moment p).sends)
+      (made_state old moment p).router
   makes = made_happens _ _ (record { router = refl; outs = refl })
 
   -- all that is sent fits
-  pub made_has_room : IsRoomy old → AllByRecursion (λ (s : Send). HasRoom s.content) (made_state old moment p).sends
+  pub made_has_room : IsRoomy old → AllByRecursion (λ (s : Send). HasRoom s.content)
+      (made_state old moment p).sends
   unfolding makes made_happens
   made_has_room roomy = every_packet_has_room.sends old moment event _ _ makes roomy
 
-  pub made_exceeds : first_refusal old moment event ≡ None → exceeds (made_state old moment p).router ≡ true → WouldExceed old moment event
+  pub made_exceeds : first_refusal old moment event ≡ None
+      → exceeds (made_state old moment p).router ≡ true → WouldExceed old moment event
   made_exceeds lawful too_much = record {
     lawful = lawful;
     outs = outs_of old.id old.area.links (made_state old moment p).sends;
@@ -59,12 +72,16 @@ module _ (old : Router) (moment : ℕ) (event : Occurrence) (p : Part) (is : IsP
   }
 
   -- an event has only one outcome
-  pub made_stays_within : exceeds (made_state old moment p).router ≡ false → WouldExceed old moment event → ⊥
+  pub made_stays_within : exceeds (made_state old moment p).router ≡ false
+      → WouldExceed old moment event → ⊥
   made_stays_within fine would =
-      let same : would.new ≡ (made_state old moment p).router = (determined old moment event _ _ _ _ would.happens makes).1 in
+      let same : would.new ≡ (made_state old moment p).router =
+      (determined old moment event _ _ _ _ would.happens makes).1 in
       let no : true ≡ false = sym would.too_much ∙ ap exceeds same ∙ fine in
       absurd cc
 
 -- after an event, all that the next one sends fits
-pub stays_roomy : (old : Router) (moment : ℕ) (event : Occurrence) (outs : List Out) (new : Router) → Happens old moment event outs new → IsRoomy old → IsRoomy new
-stays_roomy old moment event outs new happens roomy = (every_packet_has_room.event old moment event outs new happens roomy).0
+pub stays_roomy : (old : Router) (moment : ℕ) (event : Occurrence) (outs : List Out) (new : Router)
+    → Happens old moment event outs new → IsRoomy old → IsRoomy new
+stays_roomy old moment event outs new happens roomy =
+    (every_packet_has_room.event old moment event outs new happens roomy).0

@@ -11,16 +11,21 @@ use Rattle.area_routes.specs.routes.Said.{said_at}
 use Rattle.area_routes.specs.routes.Tables.{Answers}
 use Rattle.flood.specs.Offers.{AreKeptNow}
 
-pub are_kept : (r : Router) (id : ℕ) (area : Area) (moment : ℕ) (answers : Answers) (kept : KeptRoutes)
-    → id ≡ r.id → area ≡ r.area → moment ≡ r.moment → answers ≡ r.answers → AreKept id area moment answers kept → AreKeptNow r kept
+pub are_kept : (r : Router) (id : ℕ) (area : Area) (moment : ℕ) (answers : Answers)
+    (kept : KeptRoutes) → id ≡ r.id → area ≡ r.area → moment ≡ r.moment → answers ≡ r.answers
+    → AreKept id area moment answers kept → AreKeptNow r kept
 are_kept r id area moment answers kept a b c d is =
     subst (λ x. AreKept x r.area r.moment r.answers kept) a
-    (subst (λ x. AreKept id x r.moment r.answers kept) b (subst (λ x. AreKept id area x r.answers kept) c (subst (λ x. AreKept id area moment x kept) d is)))
+    (subst (λ x. AreKept id x r.moment r.answers kept) b
+    (subst (λ x. AreKept id area x r.answers kept) c
+    (subst (λ x. AreKept id area moment x kept) d is)))
 
 -- a property of the walk for the parts is one for the router
-pub walks_then : (before : ℕ) (r : Router) (settled : Area) (id moment : ℕ) (old new : Area) (kept next last : KeptRoutes)
-    → id ≡ r.id → old ≡ settled → new ≡ r.area → moment ≡ r.moment → last.walk ≡ next.walk → last.behind ≡ next.behind
-    → ServesOnlyThen before moment id old new kept next → ServesOnlyThen before r.moment r.id settled r.area kept last
+pub walks_then : (before : ℕ) (r : Router) (settled : Area) (id moment : ℕ) (old new : Area)
+    (kept next last : KeptRoutes) → id ≡ r.id → old ≡ settled → new ≡ r.area → moment ≡ r.moment
+    → last.walk ≡ next.walk → last.behind ≡ next.behind
+    → ServesOnlyThen before moment id old new kept next
+    → ServesOnlyThen before r.moment r.id settled r.area kept last
 walks_then before r settled id moment old new kept next last a b c d e f is =
     let then : ServesOnlyThen before moment id old new kept last =
     record {
@@ -31,15 +36,18 @@ walks_then before r settled id moment old new kept next last a b c d e f is =
     } in
     subst (λ x. ServesOnlyThen before x r.id settled r.area kept last) d
     (subst (λ x. ServesOnlyThen before moment x settled r.area kept last) a
-    (subst (λ x. ServesOnlyThen before moment id x r.area kept last) b (subst (λ x. ServesOnlyThen before moment id old x kept last) c then)))
+    (subst (λ x. ServesOnlyThen before moment id x r.area kept last) b
+    (subst (λ x. ServesOnlyThen before moment id old x kept last) c then)))
 
 -- the first walk is kept
-pub begun : (r : Router) (id : ℕ) (area : Area) (moment : ℕ) (kept : KeptRoutes) → id ≡ r.id → area ≡ r.area → moment ≡ r.moment
-    → AreRoutesOf id area moment kept → kept.answered ≡ false → AreKeptNow r kept
+pub begun : (r : Router) (id : ℕ) (area : Area) (moment : ℕ) (kept : KeptRoutes) → id ≡ r.id
+    → area ≡ r.area → moment ≡ r.moment → AreRoutesOf id area moment kept → kept.answered ≡ false
+    → AreKeptNow r kept
 begun r id area moment kept a b c routes is =
     are_kept r id area moment r.answers kept a b c refl (record {
       routes = routes;
-      answered = unanswered (said_at moment area.database) (root_by id area.links) r.answers kept is;
+      answered = unanswered (said_at moment area.database) (root_by id area.links) r.answers kept
+          is;
     })
 
 -- if no reason of refusal applies, an allocation may be refused

@@ -1,12 +1,14 @@
 -- What the neighbor at an interface owes, from the link at its index.
-use Rattle.std.proofs.Common.{◌≡◌, ◌⊎◌, ℕ, ◌+◌, ◌<◌, zero, suc, List, [], ◌∷◌, Some, None, get_or, length, map, refl, sym, ap, ◌∙◌, inl, inr, arith}
+use Rattle.std.proofs.Common.{◌≡◌, ◌⊎◌, ℕ, ◌+◌, ◌<◌, zero, suc, List, [], ◌∷◌, Some, None, get_or}
+use Rattle.std.proofs.Common.{length, map, refl, sym, ap, ◌∙◌, inl, inr, arith}
 use Rattle.std.specs.Prelude.{slice_get}
 use Rattle.flood_laws.specs.adjacency.Kept.{Kept}
 use Rattle.area_routes.specs.flooding.Links.{present}
 use Rattle.area_routes.specs.flooding.neighbors.Owed.{owed_on}
 use Rattle.events.specs.received.Links.{Link, neighbor_at, neighbor_on}
 
-none_behind : (links : List (Kept Link)) (place : ℕ) → length links < suc place → slice_get (map present links) place ≡ None
+none_behind : (links : List (Kept Link)) (place : ℕ) → length links < suc place
+    → slice_get (map present links) place ≡ None
 none_behind [] place few = refl
 none_behind (l ∷ links) zero few = absurd (omega (arith, few))
 none_behind (l ∷ links) (suc place) few = none_behind links place (omega (arith, few))
@@ -40,5 +42,6 @@ one_owed links shown number i link d n same lt at found owed =
     let there : Some link.present ≡ slice_get (map present links) i =
     ap (λ (l : Kept Link). Some l.present) found ∙ shown_get links i d lt in
     let all : link.present.neighbor ≡ neighbor_at number shown =
-    ap neighbor_on there ∙ ap (λ m. neighbor_at m (map present links)) next ∙ ap (neighbor_at number) same in
+    ap neighbor_on there ∙ ap (λ m. neighbor_at m (map present links)) next
+    ∙ ap (neighbor_at number) same in
     owed ∙ ap owed_on all

@@ -1,5 +1,6 @@
 -- What a valid configuration means for the start.
-use Rattle.std.proofs.Common.{◌≡◌, ◌≤◌, Bool, true, false, ◌&&◌, length, List, map, [], ◌∷◌, refl, sym, ap, ◌∙◌, arith}
+use Rattle.std.proofs.Common.{◌≡◌, ◌≤◌, Bool, true, false, ◌&&◌, length, List, map, [], ◌∷◌, refl}
+use Rattle.std.proofs.Common.{sym, ap, ◌∙◌, arith}
 use Rattle.std.proofs.lemmas.Bool.{leb-true}
 use Rattle.std.proofs.lemmas.List.{length-map}
 use Rattle.flood_laws.specs.adjacency.Drafts.{Drafted}
@@ -25,9 +26,11 @@ few_interfaces c e =
     let d = and_parts _ _ b.0 in
     leb-true (length c.interfaces) 63 d.1
 
-pub few_links : (c : Config) (links : List (Kept Link)) → in_profile c ≡ true → map present links ≡ map fresh_link c.interfaces → length links ≤ 63
+pub few_links : (c : Config) (links : List (Kept Link)) → in_profile c ≡ true
+    → map present links ≡ map fresh_link c.interfaces → length links ≤ 63
 few_links c links e same =
-    let count : length links ≡ length c.interfaces = sym (length-map links present) ∙ ap length same ∙ length-map c.interfaces fresh_link in
+    let count : length links ≡ length c.interfaces =
+    sym (length-map links present) ∙ ap length same ∙ length-map c.interfaces fresh_link in
     omega (arith, count, few_interfaces c e)
 
 pub fresh_links : (xs : List Interface) → map present (map fresh_kept xs) ≡ map fresh_link xs
@@ -35,6 +38,10 @@ fresh_links [] = refl
 fresh_links (x ∷ xs) = ap (λ ls. fresh_link x ∷ ls) (fresh_links xs)
 
 -- a part that is done first
-pub started : (f : EventState → EventState) (old new : Router) (before after : List Drafted) → Makes f old new before after
+pub started : (f : EventState → EventState) (old new : Router) (before after : List Drafted)
+    → Makes f old new before after
     → new ≡ (f (record { router = old; sends = [] })).router
-started f old new before after m = (m.part (record { router = old; sends = [] }) before (making_starts old before)).router
+started f old new before after m = (m.part (record {
+  router = old;
+  sends = [];
+}) before (making_starts old before)).router

@@ -13,16 +13,20 @@ use Rattle.events.specs.Routers.{Router}
 use Rattle.flood_laws.proofs.Invariants.{event_kept, initial_kept}
 
 -- from one property to another
-holds_so : (P R : Neighbor → Type 0) → ((n : Neighbor) → P n → R n) → (o : Option Neighbor) → Holds P o → Holds R o
+holds_so : (P R : Neighbor → Type 0) → ((n : Neighbor) → P n → R n) → (o : Option Neighbor)
+    → Holds P o → Holds R o
 holds_so P R so None h = tt
 holds_so P R so (Some n) h = so n h
 
-pub each_so : (P R : Neighbor → Type 0) → ((n : Neighbor) → P n → R n) → (xs : List Link) → HoldsOfEach P xs → HoldsOfEach R xs
+pub each_so : (P R : Neighbor → Type 0) → ((n : Neighbor) → P n → R n) → (xs : List Link)
+    → HoldsOfEach P xs → HoldsOfEach R xs
 each_so P R so [] h = tt
 each_so P R so (x ∷ xs) h = (holds_so P R so x.neighbor h.0, each_so P R so xs h.1)
 
-module _ (Q : Fact) (kept : IsKept Q) (P : Neighbor → Type 0) (of_it : (n : Neighbor) → P n → Of Q n) (is : (n : Neighbor) → Of Q n → P n) where
-  run_kept : (steps : List Step) (old new : Router) → Run old steps new → HoldsOfEach (Of Q) old.area.links → HoldsOfEach (Of Q) new.area.links
+module _ (Q : Fact) (kept : IsKept Q) (P : Neighbor → Type 0)
+    (of_it : (n : Neighbor) → P n → Of Q n) (is : (n : Neighbor) → Of Q n → P n) where
+  run_kept : (steps : List Step) (old new : Router) → Run old steps new
+      → HoldsOfEach (Of Q) old.area.links → HoldsOfEach (Of Q) new.area.links
   run_kept [] old new same h = subst (λ (r : Router). HoldsOfEach (Of Q) r.area.links) (sym same) h
   run_kept (s ∷ steps) old new run h =
       run_kept steps run.0 new run.2 (event_kept Q kept old s.moment s.event s.outs run.0 run.1 h)
@@ -31,8 +35,11 @@ module _ (Q : Fact) (kept : IsKept Q) (P : Neighbor → Type 0) (of_it : (n : Ne
   always = record {
     first = λ c. each_so (Of Q) P is (initial c).area.links (initial_kept Q kept c);
     event = λ old moment event outs new happens h.
-        each_so (Of Q) P is new.area.links (event_kept Q kept old moment event outs new happens (each_so P (Of Q) of_it old.area.links h));
-    run = λ c steps new run. each_so (Of Q) P is new.area.links (run_kept steps (initial c) new run (initial_kept Q kept c));
+        each_so (Of Q) P is new.area.links
+        (event_kept Q kept old moment event outs new happens
+        (each_so P (Of Q) of_it old.area.links h));
+    run = λ c steps new run. each_so (Of Q) P is new.area.links
+        (run_kept steps (initial c) new run (initial_kept Q kept c));
   }
 
 pub full_request_nothing : FullNeighborsRequestNothing

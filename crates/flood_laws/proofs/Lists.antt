@@ -3,7 +3,8 @@ use Rattle.std.proofs.Common.{◌≡◌, zero, suc, ◌⊎◌, inl, inr, List, [
 use Rattle.std.specs.List.{Contains}
 
 -- the first element, or one of the others
-pub of_cons : {X : Type 0} (x : X) (xs : List X) (y : X) → Contains (x ∷ xs) y → (x ≡ y) ⊎ Contains xs y
+pub of_cons : {X : Type 0} (x : X) (xs : List X) (y : X) → Contains (x ∷ xs) y
+    → (x ≡ y) ⊎ Contains xs y
 of_cons x xs y (zero, within, is) = inl is
 of_cons x xs y (suc k, within, is) = inr (k, omega (arith, within), is)
 

@@ -1,5 +1,6 @@
 -- At the end of every event, what is left on a request list is requested.
-use Rattle.std.proofs.Common.{◌≡◌, ℕ, suc, ◌+◌, ◌==◌, Bool, true, false, not, ◌&&◌, List, [], ◌∷◌, map, length, Option, None, Some, refl, sym, ap, subst, ◌∙◌}
+use Rattle.std.proofs.Common.{◌≡◌, ℕ, suc, ◌+◌, ◌==◌, Bool, true, false, not, ◌&&◌, List, [], ◌∷◌}
+use Rattle.std.proofs.Common.{map, length, Option, None, Some, refl, sym, ap, subst, ◌∙◌}
 use Rattle.std.specs.Prelude.{take}
 use Rattle.std.specs.Cmp.{tied_itself}
 use Rattle.std.specs.FinMap as finite
@@ -21,7 +22,9 @@ use Rattle.adjacency.proofs.Kept.{chosen}
 use Rattle.received.specs.Holds.{Holds, HoldsOfEach}
 use Rattle.received.specs.Links.{Link, any_exchange_or_loading}
 use Rattle.received.specs.Outcomes.{Outcome, Stepping, on_database, step_on}
-use Rattle.events.specs.Endings.{describe_router, describe_router_later, end_event, link_loading_done, links_differ, loading_done, loading_done_on, request_all, stays}
+use Rattle.events.specs.Endings.{describe_router, describe_router_later, end_event}
+use Rattle.events.specs.Endings.{link_loading_done, links_differ, loading_done, loading_done_on}
+use Rattle.events.specs.Endings.{request_all, stays}
 use Rattle.events.specs.EventState.{EventState, on_router}
 use Rattle.events.specs.Originations.{router_key, wait}
 use Rattle.events.specs.Routers.{Router}
@@ -34,16 +37,22 @@ not_empty keys k holds = by_answer (set.len keys == 0) refl
   where
     by_answer : (b : Bool) → (set.len keys == 0) ≡ b → (set.len keys == 0) ≡ false
     by_answer true e =
-        let none : true ≡ false = sym holds ∙ ap (λ (s : KeySet). set.contains s k) (set.empty_of_len keys (eqb-true (set.len keys) 0 e)) ∙ set.contains-empty key_cmp k in
+        let none : true ≡ false = sym holds
+        ∙ ap (λ (s : KeySet). set.contains s k)
+        (set.empty_of_len keys (eqb-true (set.len keys) 0 e))
+        ∙ set.contains-empty key_cmp k in
         absurd cc
     by_answer false e = e
 
 -- the first keys of a list that isn't empty
-first_asked : (n : ℕ) (keys : List Key) → (length keys == 0) ≡ false → (set.len (set.from_list {R = key_cmp} (take (suc n) keys)) == 0) ≡ false
+first_asked : (n : ℕ) (keys : List Key) → (length keys == 0) ≡ false
+    → (set.len (set.from_list {R = key_cmp} (take (suc n) keys)) == 0) ≡ false
 first_asked n [] e = absurd cc
 first_asked n (k ∷ keys) e =
     not_empty (set.from_list (k ∷ take n keys)) k
-    (set.contains-from_list keys_total (k ∷ take n keys) k ∙ ap (λ o. any_first (is_eq o) (list_any (same_key k) (take n keys))) (tied_itself keys_total k))
+    (set.contains-from_list keys_total (k ∷ take n keys) k
+    ∙ ap (λ o. any_first (is_eq o) (list_any (same_key k) (take n keys)))
+    (tied_itself keys_total k))
   where
     any_first : Bool → Bool → Bool
     any_first true b = true
@@ -59,25 +68,40 @@ loaded_in : (s : State) (n : Neighbor) → n.state ≡ s → IsLoaded (loading_d
 loaded_in Init n is = λ at. absurd cc
 loaded_in ExStart n is = λ at. absurd cc
 loaded_in Exchange n is = λ at. absurd cc
-loaded_in Loading n is = chosen IsLoaded (requests_nothing n) (record n { state = Full }) n (λ none at. absurd cc) (λ some at. some)
+loaded_in Loading n is = chosen IsLoaded (requests_nothing n) (record n {
+  state = Full;
+}) n (λ none at. absurd cc) (λ some at. some)
 loaded_in Full n is = λ at. absurd cc
 
-keys_left : (n : Neighbor) → requests_nothing n ≡ false → (length (finite.keys n.requests) == 0) ≡ false
+keys_left : (n : Neighbor) → requests_nothing n ≡ false
+    → (length (finite.keys n.requests) == 0) ≡ false
 keys_left n some =
-    ap (λ (m : ℕ). m == 0) (length-map (finite.entries n.requests) (λ e. e.0) ∙ sym (finite.len-entries n.requests)) ∙ some
+    ap (λ (m : ℕ). m == 0) (length-map (finite.entries n.requests) (λ e. e.0)
+    ∙ sym (finite.len-entries n.requests)) ∙ some
 
 nothing_outstanding : (a b c : Bool) → (a && not b && c) ≡ false → a ≡ true → b ≡ false → c ≡ false
 nothing_outstanding true false c e is some = e
 nothing_outstanding true true c e is some = absurd cc
 nothing_outstanding false b c e is some = absurd cc
 
-requesting : (moment : ℕ) (n : Neighbor) → IsLoaded n → IsRequesting (request_next moment n).neighbor
+requesting : (moment : ℕ) (n : Neighbor) → IsLoaded n
+    → IsRequesting (request_next moment n).neighbor
 requesting moment n loaded =
     chosen (λ (s : Step). IsRequesting s.neighbor) (may_request n)
-    (record { neighbor = record n { outstanding = set.from_list (next_request n); requested_at = moment }; sends = Requests (next_request n) ∷ [] })
+    (record {
+      neighbor = record n { outstanding = set.from_list (next_request n); requested_at = moment };
+      sends = Requests (next_request n) ∷ [];
+    })
     (no_sends n)
-    (λ may. record { loading = loaded; outstanding = λ at some. first_asked 679 (finite.keys n.requests) (keys_left n some) })
-    (λ may. record { loading = loaded; outstanding = λ at some. nothing_outstanding (is_exchange_or_loading n.state) (requests_nothing n) (set.len n.outstanding == 0) may at some })
+    (λ may. record {
+      loading = loaded;
+      outstanding = λ at some. first_asked 679 (finite.keys n.requests) (keys_left n some);
+    })
+    (λ may. record {
+      loading = loaded;
+      outstanding = λ at some. nothing_outstanding (is_exchange_or_loading n.state)
+          (requests_nothing n) (set.len n.outstanding == 0) may at some;
+    })
 
 -- ---- each neighbor
 
@@ -89,34 +113,45 @@ all_loaded : (links : List Link) → HoldsOfEach IsLoaded (map link_loading_done
 all_loaded [] = tt
 all_loaded (link ∷ links) = (loaded_on link.neighbor, all_loaded links)
 
-requesting_on : (f : Neighbor → Step) → ((n : Neighbor) → IsLoaded n → IsRequesting (f n).neighbor) → (o : Option Neighbor) → Holds IsLoaded o
-    → Holds IsRequesting (step_on f o)
+requesting_on : (f : Neighbor → Step) → ((n : Neighbor) → IsLoaded n → IsRequesting (f n).neighbor)
+    → (o : Option Neighbor) → Holds IsLoaded o → Holds IsRequesting (step_on f o)
 requesting_on f so None h = tt
 requesting_on f so (Some n) h = so n h
 
-all_requesting : (f : Stepping) → ((number : ℕ) (link : Link) (n : Neighbor) → IsLoaded n → IsRequesting (f number link n).neighbor) → (k : ℕ) (links : List Link)
+all_requesting : (f : Stepping) → ((number : ℕ) (link : Link) (n : Neighbor) → IsLoaded n
+    → IsRequesting (f number link n).neighbor) → (k : ℕ) (links : List Link)
     → HoldsOfEach IsLoaded links
-    → HoldsOfEach IsRequesting (map (λ (e : ℕ × Link). record e.1 { neighbor = step_on (f e.0 e.1) e.1.neighbor }) (enumerate_from k links))
+    → HoldsOfEach IsRequesting (map (λ (e : ℕ × Link). record e.1
+    { neighbor = step_on (f e.0 e.1) e.1.neighbor }) (enumerate_from k links))
 all_requesting f so k [] h = tt
-all_requesting f so k (link ∷ links) h = (requesting_on (f k link) (so k link) link.neighbor h.0, all_requesting f so (k + 1) links h.1)
+all_requesting f so k (link ∷ links) h =
+    (requesting_on (f k link) (so k link) link.neighbor h.0, all_requesting f so (k + 1) links h.1)
 
 -- ---- the end of an event
 
-end_requests : (old : Router) (moment : ℕ) (p : EventState) → HoldsOfEach IsRequesting (end_event old moment p).router.area.links
+end_requests : (old : Router) (moment : ℕ) (p : EventState)
+    → HoldsOfEach IsRequesting (end_event old moment p).router.area.links
 end_requests old moment p =
     let described : EventState = describe_router old.area.links moment (loading_done p) in
     let loaded : EventState = loading_done described in
     let refilled : EventState = describe_router_later described.router.area.links loaded in
     let o : Outcome = record { area = refilled.router.area; sends = refilled.sends } in
     let before : HoldsOfEach IsLoaded o.area.links =
-    chosen (λ (q : EventState). HoldsOfEach IsLoaded q.router.area.links) (links_differ described.router.area.links loaded.router.area.links)
-    (on_router (wait (router_key loaded.router.id)) loaded) loaded (λ is. all_loaded described.router.area.links) (λ is. all_loaded described.router.area.links) in
+    chosen (λ (q : EventState). HoldsOfEach IsLoaded q.router.area.links)
+    (links_differ described.router.area.links loaded.router.area.links)
+    (on_router (wait (router_key loaded.router.id)) loaded) loaded
+    (λ is. all_loaded described.router.area.links)
+    (λ is. all_loaded described.router.area.links) in
     let requested : HoldsOfEach IsRequesting (request_all moment o).area.links =
-    all_requesting (λ number link n. request_next moment n) (λ number link n loaded. requesting moment n loaded) 1 o.area.links before in
+    all_requesting (λ number link n. request_next moment n)
+    (λ number link n loaded. requesting moment n loaded) 1 o.area.links before in
     let q : Outcome = request_all moment o in
-    chosen (λ (r : Outcome). HoldsOfEach IsRequesting r.area.links) (any_exchange_or_loading q.area.links) q
-    (on_database (λ db. finite.retain_keys db (stays moment q.area)) q) (λ is. requested) (λ is. requested)
+    chosen (λ (r : Outcome). HoldsOfEach IsRequesting r.area.links)
+    (any_exchange_or_loading q.area.links) q
+    (on_database (λ db. finite.retain_keys db (stays moment q.area)) q) (λ is. requested)
+    (λ is. requested)
 
 pub what_is_left_is_requested : WhatIsLeftIsRequested
 what_is_left_is_requested old moment event outs new happens =
-    subst (λ (r : Router). HoldsOfEach IsRequesting r.area.links) (sym happens.router) (end_requests old moment happens.after)
+    subst (λ (r : Router). HoldsOfEach IsRequesting r.area.links) (sym happens.router)
+    (end_requests old moment happens.after)

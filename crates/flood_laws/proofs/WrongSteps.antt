@@ -1,5 +1,6 @@
 -- An acknowledgment of another instance than the one on the list removes nothing.
-use Rattle.std.proofs.Common.{◌≡◌, ℕ, true, false, cond, List, Option, None, Some, refl, sym, ap, subst, ◌∙◌}
+use Rattle.std.proofs.Common.{◌≡◌, ℕ, true, false, cond, List, Option, None, Some, refl, sym, ap}
+use Rattle.std.proofs.Common.{subst, ◌∙◌}
 use Rattle.std.specs.Prelude.{◌==◌}
 use Rattle.std.specs.List.{Contains}
 use Rattle.std.proofs.lemmas.Bool.{eqb-false}
@@ -19,7 +20,8 @@ use Rattle.events.specs.Routers.{Occurrence, Router}
 use Rattle.flood_laws.specs.NewInstances.{BringsLsa, lsas_brought}
 use Rattle.flood_laws.specs.TakenOff.{IsFlooded, IsTakenOff, IsTold, listed_instance}
 use Rattle.flood_laws.specs.Worlds.{Keeps}
-use Rattle.flood_laws.specs.WrongSteps.{AcknowledgesAnother, AnotherAcknowledgmentTakesNothingOff, release_on, remove_retransmission_in, without_entry}
+use Rattle.flood_laws.specs.WrongSteps.{AcknowledgesAnother, AnotherAcknowledgmentTakesNothingOff}
+use Rattle.flood_laws.specs.WrongSteps.{release_on, remove_retransmission_in, without_entry}
 use Rattle.flood_laws.proofs.Leaving.{numbered_kept}
 use Rattle.flood_laws.proofs.Lists.{of_empty}
 
@@ -31,11 +33,13 @@ bytes_of other (Occurrence.Withdraw prefix) = other
 bytes_of other (Occurrence.Install answers) = other
 bytes_of other (Occurrence.LinkDown number) = other
 
-same_bytes : (a b : ℕ) (bytes others : List ℕ) → Occurrence.Packet a bytes ≡ Occurrence.Packet b others → bytes ≡ others
+same_bytes : (a b : ℕ) (bytes others : List ℕ)
+    → Occurrence.Packet a bytes ≡ Occurrence.Packet b others → bytes ≡ others
 unfolding bytes_of
 same_bytes a b bytes others e = ap (bytes_of bytes) e
 
-module _ (old : Router) (moment number : ℕ) (n : Neighbor) (name : LsaInstance) (bytes : List ℕ) (headers : List Header)
+module _ (old : Router) (moment number : ℕ) (n : Neighbor) (name : LsaInstance) (bytes : List ℕ)
+    (headers : List Header)
     (at : AcknowledgesAnother old moment number n name bytes headers) where
   abbrev new : Router
   new = without_entry number name.key old
@@ -47,37 +51,55 @@ module _ (old : Router) (moment number : ℕ) (n : Neighbor) (name : LsaInstance
   sent = record { router = n.router; body = body.Acknowledgment headers }
 
   -- whatever packet the bytes encode, it is this one
-  is_it : (other : ℕ) (others : List ℕ) (packet : Packet) → event ≡ Occurrence.Packet other others → PacketText others packet → sent ≡ packet
-  is_it other others packet is text = one_packet bytes sent packet at.text (subst (λ bs. PacketText bs packet) (sym (same_bytes number other bytes others is)) text)
+  is_it : (other : ℕ) (others : List ℕ) (packet : Packet) → event ≡ Occurrence.Packet other others
+      → PacketText others packet → sent ≡ packet
+  is_it other others packet is text =
+      one_packet bytes sent packet at.text
+      (subst (λ bs. PacketText bs packet) (sym (same_bytes number other bytes others is)) text)
 
   left_there : neighbor_at number new.area.links ≡ Some (remove_retransmission name.key n)
   left_there =
-      numbered_kept (λ (o : Option Neighbor). o ≡ Some n) (λ (o : Option Neighbor). o ≡ Some (remove_retransmission name.key n)) (λ none. absurd cc)
+      numbered_kept (λ (o : Option Neighbor). o ≡ Some n)
+      (λ (o : Option Neighbor). o ≡ Some (remove_retransmission name.key n)) (λ none. absurd cc)
       (λ (e : ℕ × Link). cond (e.0 == number) (release_on name.key e.1) e.1) number
-      (λ link is. chosen (λ (l : Link). l.neighbor ≡ Some (remove_retransmission name.key n)) (number == number) (release_on name.key link) link
-      (λ here. ap (remove_retransmission_in name.key) is) (λ away. absurd (eqb-false number number away refl)))
+      (λ link is. chosen (λ (l : Link). l.neighbor ≡ Some (remove_retransmission name.key n))
+      (number == number) (release_on name.key link) link
+      (λ here. ap (remove_retransmission_in name.key) is)
+      (λ away. absurd (eqb-false number number away refl)))
       old.area.links at.there
 
   not_flooded : IsFlooded old moment event new number n name.key → ⊥
   not_flooded (IsFlooded.Newer newer st) =
       let b : BringsLsa event newer.lsa = newer.brought in
-      of_empty newer.lsa (subst (λ (p : Packet). Contains (lsas_brought p.body) newer.lsa) (sym (is_it b.number b.bytes b.packet b.is b.text)) b.among)
+      of_empty newer.lsa (subst (λ (p : Packet). Contains (lsas_brought p.body) newer.lsa)
+      (sym (is_it b.number b.bytes b.packet b.is b.text)) b.among)
   not_flooded (IsFlooded.Originated it st) = it.not_before it.now
-  not_flooded (IsFlooded.Aged comes asked) = let no_such : true ≡ false = sym comes ∙ at.young in absurd cc
+  not_flooded (IsFlooded.Aged comes asked) = let no_such : true ≡ false = sym comes ∙ at.young in
+      absurd cc
 
   pub taken_off : IsTakenOff old moment event new number n name
   taken_off = record {
     after = remove_retransmission name.key n;
-    adjacent = record { was = at.there; is = left_there; same_router = refl; from = at.part; on = at.part };
+    adjacent = record {
+      was = at.there;
+      is = left_there;
+      same_router = refl;
+      from = at.part;
+      on = at.part;
+    };
     stood = at.owed;
-    left = λ owed. let none : None ≡ Some name = sym (ap (listed_instance name.key) (removed n.retransmissions name.key)) ∙ owed in absurd cc;
+    left = λ owed. let none : None ≡ Some name =
+        sym (ap (listed_instance name.key) (removed n.retransmissions name.key)) ∙ owed in
+        absurd cc;
     not_flooded = not_flooded;
   }
 
-  pub never_kept : (outs : List Out) (originated : List LsaInstance) → Keeps old moment event outs new originated → ⊥
+  pub never_kept : (outs : List Out) (originated : List LsaInstance)
+      → Keeps old moment event outs new originated → ⊥
   never_kept outs originated keeps =
       let told : IsTold event number n.router name = keeps.taken number n name taken_off in
-      at.another (subst (λ (p : Packet). Contains (instances_advertised p.body) name) (sym (is_it number told.bytes told.packet told.is told.text)) told.told)
+      at.another (subst (λ (p : Packet). Contains (instances_advertised p.body) name)
+      (sym (is_it number told.bytes told.packet told.is told.text)) told.told)
 
 pub another_takes_nothing_off : AnotherAcknowledgmentTakesNothingOff
 another_takes_nothing_off = never_kept

@@ -12,7 +12,8 @@ use Rattle.flooding.proofs.Finish.{Finishes, finish_counts, finish_drafts, finis
 use Rattle.flooding.proofs.Kept.{mixed}
 use Rattle.flooding.proofs.Sends.{draft_from, drafts_are}
 
-pub changes_begin : {N L : Type 0} (f : N → L) (a : L → L) (ns : List N) → mixed f (λ n. a (f n)) 0 ns ≡ map a (map f ns)
+pub changes_begin : {N L : Type 0} (f : N → L) (a : L → L) (ns : List N)
+    → mixed f (λ n. a (f n)) 0 ns ≡ map a (map f ns)
 changes_begin f a [] = refl
 changes_begin f a (n ∷ ns) = ap (λ ls. a (f n) ∷ ls) (changes_begin f a ns)
 
@@ -31,22 +32,28 @@ module _ (A : Link → Link) (S : Link → List Content) where
   abbrev pub counts : ℕ → Link → Bool
   counts n l = false
 
-  items_begin : (n : ℕ) (xs : List (Kept Link)) → finish_items present after after_draft counts 0 n xs ≡ map A (map present xs)
+  items_begin : (n : ℕ) (xs : List (Kept Link))
+      → finish_items present after after_draft counts 0 n xs ≡ map A (map present xs)
   items_begin n [] = refl
   items_begin n (x ∷ xs) = ap (λ ls. A (present x) ∷ ls) (items_begin (n + 1) xs)
 
-  drafts_begin : (n : ℕ) (xs : List (Kept Link)) (ds : List Drafted) → finish_drafts present after after_draft counts 0 n xs ds ≡ draft_from sent_at n (map present xs) ds
+  drafts_begin : (n : ℕ) (xs : List (Kept Link)) (ds : List Drafted)
+      → finish_drafts present after after_draft counts 0 n xs ds
+      ≡ draft_from sent_at n (map present xs) ds
   drafts_begin n [] ds = refl
   drafts_begin n (x ∷ xs) [] = refl
-  drafts_begin n (x ∷ xs) (d ∷ ds) = ap (λ zs. after_draft n (present x) d ∷ zs) (drafts_begin (n + 1) xs ds)
+  drafts_begin n (x ∷ xs) (d ∷ ds) =
+      ap (λ zs. after_draft n (present x) d ∷ zs) (drafts_begin (n + 1) xs ds)
 
-  counts_begin : (n : ℕ) (xs : List (Kept Link)) → finish_counts present after after_draft counts 0 n xs ≡ false
+  counts_begin : (n : ℕ) (xs : List (Kept Link))
+      → finish_counts present after after_draft counts 0 n xs ≡ false
   counts_begin n [] = refl
   counts_begin n (x ∷ xs) = counts_begin (n + 1) xs
 
   abbrev pub Steps : ℕ → List (Kept Link) → List Drafted → List Link → List Drafted → Type 0
   Steps i xs ds olds drafts =
-      Finishes present after after_draft counts i xs ds false (map A olds) (drafts_with (sends_of S olds) olds drafts) false
+      Finishes present after after_draft counts i xs ds false (map A olds)
+      (drafts_with (sends_of S olds) olds drafts) false
 
   pub begins : (xs : List (Kept Link)) (ds : List Drafted) → Steps 0 xs ds (map present xs) ds
   begins xs ds = record {

@@ -1,5 +1,6 @@
 -- The flooding loop over the links.
-use Rattle.std.proofs.Common.{◌≡◌, ℕ, ◌+◌, Bool, true, false, cond, not, ◌&&◌, ◌||◌, List, [], ◌∷◌, map, refl, sym, ap, ◌∙◌}
+use Rattle.std.proofs.Common.{◌≡◌, ℕ, ◌+◌, Bool, true, false, cond, not, ◌&&◌, ◌||◌, List, [], ◌∷◌}
+use Rattle.std.proofs.Common.{map, refl, sym, ap, ◌∙◌}
 use Rattle.std.specs.Prelude.{Option, None, Some}
 use Rattle.std.specs.List.{fold}
 use Rattle.adjacency.specs.lsdb.Copies.{Database, mark_sent}
@@ -13,7 +14,8 @@ use Rattle.adjacency.specs.Neighbors.{Neighbor, is_exchange_or_later}
 use Rattle.adjacency.specs.Retransmissions.{add_retransmission, remove_retransmission}
 use Rattle.received.specs.Flooding.{flood_to, is_sender, passes, request_of, without_met_request}
 use Rattle.received.specs.Links.{Link}
-use Rattle.received.specs.Outcomes.{Send, Stepping, marked_database, sent_on, step_on, stepped_links, stepping_sends}
+use Rattle.received.specs.Outcomes.{Send, Stepping, marked_database, sent_on, step_on}
+use Rattle.received.specs.Outcomes.{stepped_links, stepping_sends}
 use Rattle.flooding.specs.Drafted.{drafted_from}
 use Rattle.flooding.specs.Links.{present, with_neighbor}
 use Rattle.flooding.proofs.Finish.{Finishes, finish_counts, finish_drafts, items_all}
@@ -22,26 +24,37 @@ use Rattle.flooding.proofs.Marks.{marks_all}
 
 -- ---- a neighbor's step is that of the definition, by whether the link is the sender's
 
-pub flooded_to : (moment : ℕ) (sender : Option ℕ) (lsa : Lsa) (number : ℕ) (link : Link) (n : Neighbor)
-    → flood_to moment sender lsa number link n ≡ flood_step moment (is_sender sender number) lsa n
+pub flooded_to : (moment : ℕ) (sender : Option ℕ) (lsa : Lsa) (number : ℕ) (link : Link)
+    (n : Neighbor) → flood_to moment sender lsa number link n
+    ≡ flood_step moment (is_sender sender number) lsa n
 unfolding flood_step
 flooded_to moment sender lsa number link n = refl
 
-pub step_is : (moment : ℕ) (sender : Option ℕ) (lsa : Lsa) (number : ℕ) (link : Link) (o : Option Neighbor)
-    → neighbor.step_on (flood_step moment (is_sender sender number) lsa) o ≡ step_on (flood_to moment sender lsa number link) o
+pub step_is : (moment : ℕ) (sender : Option ℕ) (lsa : Lsa) (number : ℕ) (link : Link)
+    (o : Option Neighbor) → neighbor.step_on (flood_step moment (is_sender sender number) lsa) o
+    ≡ step_on (flood_to moment sender lsa number link) o
 step_is moment sender lsa number link None = refl
-step_is moment sender lsa number link (Some n) = ap (λ (s : Step). Some s.neighbor) (sym (flooded_to moment sender lsa number link n))
+step_is moment sender lsa number link (Some n) =
+    ap (λ (s : Step). Some s.neighbor) (sym (flooded_to moment sender lsa number link n))
 
-pub sent_is : (moment : ℕ) (sender : Option ℕ) (lsa : Lsa) (number : ℕ) (link : Link) (o : Option Neighbor)
-    → neighbor.sent_on (flood_step moment (is_sender sender number) lsa) o ≡ sent_on (flood_to moment sender lsa number link) o
+pub sent_is : (moment : ℕ) (sender : Option ℕ) (lsa : Lsa) (number : ℕ) (link : Link)
+    (o : Option Neighbor) → neighbor.sent_on (flood_step moment (is_sender sender number) lsa) o
+    ≡ sent_on (flood_to moment sender lsa number link) o
 sent_is moment sender lsa number link None = refl
-sent_is moment sender lsa number link (Some n) = ap (λ (s : Step). s.sends) (sym (flooded_to moment sender lsa number link n))
+sent_is moment sender lsa number link (Some n) =
+    ap (λ (s : Step). s.sends) (sym (flooded_to moment sender lsa number link n))
 
 -- ---- a Link State Update to each neighbor, or nothing
 
 one_by : (lsa : Lsa) (n m r : Neighbor) (part gets : Bool)
-    → (cond part (cond gets (record { neighbor = m; sends = Updates lsa ∷ [] }) (no_sends r)) (no_sends n)).sends
-    ≡ cond (is_any (cond part (cond gets (record { neighbor = m; sends = Updates lsa ∷ [] }) (no_sends r)) (no_sends n)).sends) (Updates lsa ∷ []) []
+    → (cond part (cond gets (record {
+      neighbor = m;
+      sends = Updates lsa ∷ [];
+    }) (no_sends r)) (no_sends n)).sends
+    ≡ cond (is_any (cond part (cond gets (record {
+      neighbor = m;
+      sends = Updates lsa ∷ [];
+    }) (no_sends r)) (no_sends n)).sends) (Updates lsa ∷ []) []
 one_by lsa n m r true true = refl
 one_by lsa n m r true false = refl
 one_by lsa n m r false gets = refl
@@ -62,31 +75,44 @@ module _ (moment : ℕ) (sender : Option ℕ) (lsa : Lsa) where
   abbrev pub counts : ℕ → Link → Bool
   counts n l = is_any (sent_at n l)
 
-  one_on : (number : ℕ) (link : Link) (o : Option Neighbor) → sent_on (step number link) o ≡ cond (is_any (sent_on (step number link) o)) (Updates lsa ∷ []) []
+  one_on : (number : ℕ) (link : Link) (o : Option Neighbor)
+      → sent_on (step number link) o ≡ cond (is_any (sent_on (step number link) o))
+      (Updates lsa ∷ []) []
   one_on number link None = refl
   one_on number link (Some n) =
       let m = without_met_request moment lsa n in
-      one_by lsa n (add_retransmission moment lsa.header m) (remove_retransmission (lsa_key lsa) m) (is_exchange_or_later n.state) (not (is_sender sender number) && passes moment lsa (request_of n lsa))
+      one_by lsa n (add_retransmission moment lsa.header m) (remove_retransmission (lsa_key lsa) m)
+      (is_exchange_or_later n.state) (not (is_sender sender number) && passes moment lsa
+      (request_of n lsa))
 
   -- a Link State Update to each neighbor, or nothing
-  pub one : (number : ℕ) (link : Link) → sent_at number link ≡ cond (is_any (sent_at number link)) (Updates lsa ∷ []) []
+  pub one : (number : ℕ) (link : Link)
+      → sent_at number link ≡ cond (is_any (sent_at number link)) (Updates lsa ∷ []) []
   one number link = one_on number link link.neighbor
 
-  drafts_all : (n : ℕ) (xs : List (Kept Link)) (ds : List Drafted) → finish_drafts present after_step after_draft counts 0 n xs ds ≡ draft_from sent_at n (map present xs) ds
+  drafts_all : (n : ℕ) (xs : List (Kept Link)) (ds : List Drafted)
+      → finish_drafts present after_step after_draft counts 0 n xs ds
+      ≡ draft_from sent_at n (map present xs) ds
   drafts_all n [] ds = refl
   drafts_all n (x ∷ xs) [] = refl
-  drafts_all n (x ∷ xs) (d ∷ ds) = ap (λ zs. after_draft n (present x) d ∷ zs) (drafts_all (n + 1) xs ds)
+  drafts_all n (x ∷ xs) (d ∷ ds) = ap (λ zs. after_draft n (present x) d ∷ zs)
+      (drafts_all (n + 1) xs ds)
 
-  counts_all : (n : ℕ) (xs : List (Kept Link)) → finish_counts present after_step after_draft counts 0 n xs ≡ any_from sent_at n (map present xs)
+  counts_all : (n : ℕ) (xs : List (Kept Link))
+      → finish_counts present after_step after_draft counts 0 n xs
+      ≡ any_from sent_at n (map present xs)
   counts_all n [] = refl
   counts_all n (x ∷ xs) = ap (λ b. counts n (present x) || b) (counts_all (n + 1) xs)
 
   -- before the first step
   abbrev pub Floods : ℕ → List (Kept Link) → List Drafted → Bool → List Link → List Drafted → Type 0
   Floods i xs ds sent olds drafts =
-      Finishes present after_step after_draft counts i xs ds sent (stepped_links step olds) (drafted_from 1 (stepping_sends step olds) olds drafts) (is_any (stepping_sends step olds))
+      Finishes present after_step after_draft counts i xs ds sent (stepped_links step olds)
+      (drafted_from 1 (stepping_sends step olds) olds drafts)
+      (is_any (stepping_sends step olds))
 
-  pub begins : (xs : List (Kept Link)) (ds : List Drafted) → Floods 0 xs ds false (map present xs) ds
+  pub begins : (xs : List (Kept Link)) (ds : List Drafted)
+      → Floods 0 xs ds false (map present xs) ds
   begins xs ds = record {
     items_is = items_all present after_step after_draft counts 1 xs;
     drafts_is = drafts_all 1 xs ds ∙ sym (drafts_are sent_at (map present xs) ds);
@@ -95,5 +121,7 @@ module _ (moment : ℕ) (sender : Option ℕ) (lsa : Lsa) where
 
   -- the marks of all Link State Updates are one mark
   pub marks_once : (links : List Link) (d : Database)
-      → fold (λ (db : Database) (s : Send). marked_database moment db s.content) d (stepping_sends step links) ≡ cond (is_any (stepping_sends step links)) (mark_sent moment (lsa_key lsa) d) d
+      → fold (λ (db : Database) (s : Send). marked_database moment db s.content) d
+      (stepping_sends step links) ≡ cond (is_any (stepping_sends step links))
+      (mark_sent moment (lsa_key lsa) d) d
   marks_once links d = marks_all sent_at moment lsa one 1 links d

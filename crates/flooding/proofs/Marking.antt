@@ -1,5 +1,6 @@
 -- What is sent at one interface, and its marks.
-use Rattle.std.proofs.Common.{◌≡◌, ℕ, ◌+◌, ◌<◌, Bool, true, false, cond, List, [], ◌∷◌, length, map, get_or, refl, sym, ap, ◌∙◌, arith}
+use Rattle.std.proofs.Common.{◌≡◌, ℕ, ◌+◌, ◌<◌, Bool, true, false, cond, List, [], ◌∷◌, length, map}
+use Rattle.std.proofs.Common.{get_or, refl, sym, ap, ◌∙◌, arith}
 use Rattle.std.specs.List.{fold}
 use Rattle.std.specs.Prelude.{Option, None, Some}
 use Rattle.words.specs.declared.key.Key.{Key}
@@ -16,35 +17,47 @@ use Rattle.flooding.specs.Links.{present}
 use Rattle.flooding.proofs.Only.{sends_stepped}
 
 abbrev pub marks : ℕ → Database → List Send → Database
-marks moment db sends = fold (λ (d : Database) (s : Send). marked_database moment d s.content) db sends
+marks moment db sends = fold (λ (d : Database) (s : Send). marked_database moment d s.content) db
+    sends
 
-by_state : (moment k : ℕ) (db : Database) (n : Neighbor) (b : Bool) → marks moment db (sends_at k (cond b (enter_exstart moment n) (no_sends n)).sends) ≡ db
+by_state : (moment k : ℕ) (db : Database) (n : Neighbor) (b : Bool)
+    → marks moment db (sends_at k (cond b (enter_exstart moment n) (no_sends n)).sends) ≡ db
 by_state moment k db n true = refl
 by_state moment k db n false = refl
 
-by_neighbor : (moment k : ℕ) (db : Database) (o : Option Neighbor) → marks moment db (sends_at k (neighbor.sent_on (mismatch_step moment) o)) ≡ db
+by_neighbor : (moment k : ℕ) (db : Database) (o : Option Neighbor)
+    → marks moment db (sends_at k (neighbor.sent_on (mismatch_step moment) o)) ≡ db
 by_neighbor moment k db None = refl
 by_neighbor moment k db (Some n) = by_state moment k db n (is_exchange_or_later n.state)
 
 -- a mismatch marks nothing
-pub mismatch_marks : (ls : List (Kept Link)) (i k : ℕ) → i < length ls → k ≡ 1 + i → (moment : ℕ) (db : Database)
-    → db ≡ marks moment db (stepping_sends (only_at k (mismatch_step moment)) (map present ls))
+pub mismatch_marks : (ls : List (Kept Link)) (i k : ℕ) → i < length ls → k ≡ 1 + i
+    → (moment : ℕ) (db : Database) → db
+    ≡ marks moment db (stepping_sends (only_at k (mismatch_step moment)) (map present ls))
 mismatch_marks [] i k lt at moment db = absurd (omega (arith, lt))
 mismatch_marks (l ∷ ls) i k lt at moment db =
     let f = mismatch_step moment in
     sym (by_neighbor moment k db (get_or (l ∷ ls) i l).present.neighbor)
     ∙ ap (marks moment db) (sends_stepped (l ∷ ls) i k l l lt at f)
 
-silent : (key : Key) (k : ℕ) (o : Option Neighbor) → [] ≡ sends_at k (neighbor.sent_on (λ (n : Neighbor). no_sends (remove_retransmission key n)) o)
+silent : (key : Key) (k : ℕ) (o : Option Neighbor)
+    → [] ≡ sends_at k (neighbor.sent_on (λ (n : Neighbor). no_sends (remove_retransmission key n))
+    o)
 silent key k None = refl
 silent key k (Some n) = refl
 
 -- a release sends nothing
 pub release_sends : (ls : List (Kept Link)) (i k : ℕ) → i < length ls → k ≡ 1 + i → (key : Key)
-    → [] ≡ stepping_sends (only_at k (λ (n : Neighbor). no_sends (remove_retransmission key n))) (map present ls)
+    → [] ≡ stepping_sends (only_at k (λ (n : Neighbor). no_sends (remove_retransmission key n)))
+    (map present ls)
 release_sends [] i k lt at key = absurd (omega (arith, lt))
 release_sends (l ∷ ls) i k lt at key =
-    silent key k (get_or (l ∷ ls) i l).present.neighbor ∙ sends_stepped (l ∷ ls) i k l l lt at (λ (n : Neighbor). no_sends (remove_retransmission key n))
+    silent key k (get_or (l ∷ ls) i l).present.neighbor
+    ∙ sends_stepped (l ∷ ls) i k l l lt at
+    (λ (n : Neighbor). no_sends (remove_retransmission key n))
 
-pub area_is : {ls ms : List Link} {d e : Database} → ls ≡ ms → d ≡ e → ◌≡◌ {A = Area} (record { links = ls; database = d }) (record { links = ms; database = e })
+pub area_is : {ls ms : List Link} {d e : Database} → ls ≡ ms → d ≡ e → ◌≡◌ {A = Area} (record {
+  links = ls;
+  database = d;
+}) (record { links = ms; database = e })
 area_is ls d i = record { links = ls i; database = d i }

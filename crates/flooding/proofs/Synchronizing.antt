@@ -1,27 +1,34 @@
 -- The neighbor's state in a link's view, as the definitions read it.
-use Rattle.std.proofs.Common.{◌≡◌, ℕ, zero, suc, ◌+◌, ◌<◌, List, [], ◌∷◌, ◌||◌, length, map, get_or, refl, ap, ◌∙◌, arith}
+use Rattle.std.proofs.Common.{◌≡◌, ℕ, zero, suc, ◌+◌, ◌<◌, List, [], ◌∷◌, ◌||◌, length, map, get_or}
+use Rattle.std.proofs.Common.{refl, ap, ◌∙◌, arith}
 use Rattle.std.specs.List.{list_any, slice_get}
 use Rattle.std.specs.Prelude.{Option, None, Some}
 use Rattle.adjacency.specs.Kept.{Kept}
 use Rattle.adjacency.specs.Neighbors.{Neighbor}
 use Rattle.adjacency.specs.Asked as neighbor
-use Rattle.received.specs.Links.{Link, any_exchange_or_loading, neighbor_at, neighbor_is_exchange_or_loading, neighbor_on}
+use Rattle.received.specs.Links.{Link, any_exchange_or_loading, neighbor_at}
+use Rattle.received.specs.Links.{neighbor_is_exchange_or_loading, neighbor_on}
 use Rattle.flooding.specs.Links.{present}
 
-same_state : (o : Option Neighbor) → neighbor.any_exchange_or_loading o ≡ neighbor_is_exchange_or_loading o
+same_state : (o : Option Neighbor)
+    → neighbor.any_exchange_or_loading o ≡ neighbor_is_exchange_or_loading o
 same_state None = refl
 same_state (Some n) = refl
 
-pub shown_any : (ls : List (Kept Link)) → list_any (λ (l : Kept Link). neighbor.any_exchange_or_loading l.present.neighbor) ls ≡ any_exchange_or_loading (map present ls)
+pub shown_any : (ls : List (Kept Link))
+    → list_any (λ (l : Kept Link). neighbor.any_exchange_or_loading l.present.neighbor) ls
+    ≡ any_exchange_or_loading (map present ls)
 shown_any [] = refl
 shown_any (l ∷ ls) = λ i. same_state l.present.neighbor i || shown_any ls i
 
-shown_get : (ls : List (Kept Link)) (i : ℕ) (d : Kept Link) → i < length ls → Some (get_or ls i d).present ≡ slice_get (map present ls) i
+shown_get : (ls : List (Kept Link)) (i : ℕ) (d : Kept Link) → i < length ls
+    → Some (get_or ls i d).present ≡ slice_get (map present ls) i
 shown_get [] i d lt = absurd (omega (arith, lt))
 shown_get (l ∷ ls) zero d lt = refl
 shown_get (l ∷ ls) (suc i) d lt = shown_get ls i d (omega (arith, lt))
 
-pub shown_neighbor : (ls : List (Kept Link)) (i k : ℕ) (d : Kept Link) → i < length ls → k ≡ 1 + i → (get_or ls i d).present.neighbor ≡ neighbor_at k (map present ls)
+pub shown_neighbor : (ls : List (Kept Link)) (i k : ℕ) (d : Kept Link) → i < length ls → k ≡ 1 + i
+    → (get_or ls i d).present.neighbor ≡ neighbor_at k (map present ls)
 shown_neighbor ls i k d lt at =
     let next : suc i ≡ k = omega (arith, at) in
     ap neighbor_on (shown_get ls i d lt) ∙ ap (λ m. neighbor_at m (map present ls)) next

@@ -1,10 +1,12 @@
 -- The marks of what is sent are those of the keys that were added to the draft.
-use Rattle.std.proofs.Common.{◌≡◌, ℕ, zero, suc, ◌+◌, ◌<◌, ◌≤◌, List, [], ◌∷◌, ◌++◌, drop, length, map, get_or, refl, sym, ap, ◌∙◌, arith, append_assoc}
+use Rattle.std.proofs.Common.{◌≡◌, ℕ, zero, suc, ◌+◌, ◌<◌, ◌≤◌, List, [], ◌∷◌, ◌++◌, drop, length}
+use Rattle.std.proofs.Common.{map, get_or, refl, sym, ap, ◌∙◌, arith, append_assoc}
 use Rattle.std.specs.List.{slice_get}
 use Rattle.std.specs.Prelude.{Some}
 use Rattle.adjacency.specs.lsdb.Copies.{Database, mark_sent}
 use Rattle.adjacency.specs.lsdb.Headers.{lsa_key}
-use Rattle.adjacency.specs.Contents.{Acknowledges, Content, Describes, Requests, SendsHello, Updates}
+use Rattle.adjacency.specs.Contents.{Acknowledges, Content, Describes, Requests, SendsHello}
+use Rattle.adjacency.specs.Contents.{Updates}
 use Rattle.adjacency.specs.Drafts.{Drafted, adds, drafting, update_of}
 use Rattle.adjacency.specs.Kept.{Kept}
 use Rattle.adjacency.specs.declared.draft.Update.{Update}
@@ -17,13 +19,15 @@ use Rattle.flooding.proofs.Sends.{append_none}
 
 -- ---- lists from an index on
 
-drop_step : {X : Type 0} (i : ℕ) (xs : List X) (d : X) → i < length xs → drop i xs ≡ get_or xs i d ∷ drop (suc i) xs
+drop_step : {X : Type 0} (i : ℕ) (xs : List X) (d : X) → i < length xs
+    → drop i xs ≡ get_or xs i d ∷ drop (suc i) xs
 drop_step zero [] d lt = absurd (omega (arith, lt))
 drop_step zero (x ∷ xs) d lt = refl
 drop_step (suc i) [] d lt = absurd (omega (arith, lt))
 drop_step (suc i) (x ∷ xs) d lt = drop_step i xs d (omega (arith, lt))
 
-pub drop_next : {X : Type 0} (i : ℕ) (xs : List X) (d : X) → i < length xs → drop i xs ≡ get_or xs i d ∷ drop (i + 1) xs
+pub drop_next : {X : Type 0} (i : ℕ) (xs : List X) (d : X) → i < length xs
+    → drop i xs ≡ get_or xs i d ∷ drop (i + 1) xs
 drop_next i xs d lt =
     let next : suc i ≡ i + 1 = omega arith in
     drop_step i xs d lt ∙ ap (λ j. get_or xs i d ∷ drop j xs) next
@@ -49,39 +53,53 @@ updates_of delay (Requests ks ∷ cs) = updates_of delay cs
 updates_of delay (Updates lsa ∷ cs) = update_of delay lsa ∷ updates_of delay cs
 updates_of delay (Acknowledges h ∷ cs) = updates_of delay cs
 
-updates_drafted : (delay : ℕ) (cs : List Content) (d : Drafted) → (drafting delay cs d).updates ≡ d.updates ++ updates_of delay cs
+updates_drafted : (delay : ℕ) (cs : List Content) (d : Drafted)
+    → (drafting delay cs d).updates ≡ d.updates ++ updates_of delay cs
 unfolding drafting
 updates_drafted delay [] d = sym (append_none d.updates)
 updates_drafted delay (SendsHello h ∷ cs) d = updates_drafted delay cs (adds delay d (SendsHello h))
 updates_drafted delay (Describes e ∷ cs) d = updates_drafted delay cs (adds delay d (Describes e))
 updates_drafted delay (Requests ks ∷ cs) d = updates_drafted delay cs (adds delay d (Requests ks))
-updates_drafted delay (Updates lsa ∷ cs) d = updates_drafted delay cs (adds delay d (Updates lsa)) ∙ append_assoc d.updates (update_of delay lsa ∷ []) (updates_of delay cs)
-updates_drafted delay (Acknowledges h ∷ cs) d = updates_drafted delay cs (adds delay d (Acknowledges h))
+updates_drafted delay (Updates lsa ∷ cs) d =
+    updates_drafted delay cs (adds delay d (Updates lsa))
+    ∙ append_assoc d.updates (update_of delay lsa ∷ []) (updates_of delay cs)
+updates_drafted delay (Acknowledges h ∷ cs) d =
+    updates_drafted delay cs (adds delay d (Acknowledges h))
 
-new_updates : (delay : ℕ) (cs : List Content) (d : Drafted) → drop (length d.updates) (drafting delay cs d).updates ≡ updates_of delay cs
-new_updates delay cs d = ap (drop (length d.updates)) (updates_drafted delay cs d) ∙ behind_all d.updates (updates_of delay cs)
+new_updates : (delay : ℕ) (cs : List Content) (d : Drafted)
+    → drop (length d.updates) (drafting delay cs d).updates ≡ updates_of delay cs
+new_updates delay cs d = ap (drop (length d.updates)) (updates_drafted delay cs d)
+    ∙ behind_all d.updates (updates_of delay cs)
 
-marks_of : (moment delay n : ℕ) (cs : List Content) (db : Database) → marks moment db (sends_at n cs) ≡ mark_each moment db (map key_of_update (updates_of delay cs))
+marks_of : (moment delay n : ℕ) (cs : List Content) (db : Database)
+    → marks moment db (sends_at n cs)
+    ≡ mark_each moment db (map key_of_update (updates_of delay cs))
 marks_of moment delay n [] db = refl
 marks_of moment delay n (SendsHello h ∷ cs) db = marks_of moment delay n cs db
 marks_of moment delay n (Describes e ∷ cs) db = marks_of moment delay n cs db
 marks_of moment delay n (Requests ks ∷ cs) db = marks_of moment delay n cs db
-marks_of moment delay n (Updates lsa ∷ cs) db = marks_of moment delay n cs (mark_sent moment (lsa_key lsa) db)
+marks_of moment delay n (Updates lsa ∷ cs) db =
+    marks_of moment delay n cs (mark_sent moment (lsa_key lsa) db)
 marks_of moment delay n (Acknowledges h ∷ cs) db = marks_of moment delay n cs db
 
 -- what was added to the draft
 pub marks_behind : (moment delay n : ℕ) (cs : List Content) (db : Database) (d : Drafted)
-    → mark_each moment db (map key_of_update (drop (length d.updates) (drafting delay cs d).updates)) ≡ marks moment db (sends_at n cs)
-marks_behind moment delay n cs db d = ap (λ us. mark_each moment db (map key_of_update us)) (new_updates delay cs d) ∙ sym (marks_of moment delay n cs db)
+    → mark_each moment db (map key_of_update
+    (drop (length d.updates) (drafting delay cs d).updates)) ≡ marks moment db (sends_at n cs)
+marks_behind moment delay n cs db d =
+    ap (λ us. mark_each moment db (map key_of_update us)) (new_updates delay cs d)
+    ∙ sym (marks_of moment delay n cs db)
 
 -- ---- the link with a number
 
-shown_get : (ls : List (Kept Link)) (i : ℕ) (d : Kept Link) → i < length ls → Some (get_or ls i d).present ≡ slice_get (map present ls) i
+shown_get : (ls : List (Kept Link)) (i : ℕ) (d : Kept Link) → i < length ls
+    → Some (get_or ls i d).present ≡ slice_get (map present ls) i
 shown_get [] i d lt = absurd (omega (arith, lt))
 shown_get (l ∷ ls) zero d lt = refl
 shown_get (l ∷ ls) (suc i) d lt = shown_get ls i d (omega (arith, lt))
 
-pub shown_link : (ls : List (Kept Link)) (i k : ℕ) (d : Kept Link) → i < length ls → k ≡ 1 + i → Some (get_or ls i d).present ≡ link_at k (map present ls)
+pub shown_link : (ls : List (Kept Link)) (i k : ℕ) (d : Kept Link) → i < length ls → k ≡ 1 + i
+    → Some (get_or ls i d).present ≡ link_at k (map present ls)
 shown_link ls i k d lt at =
     let next : suc i ≡ k = omega (arith, at) in
     shown_get ls i d lt ∙ ap (λ m. link_at m (map present ls)) next

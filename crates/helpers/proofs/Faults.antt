@@ -8,5 +8,6 @@ use Rattle.machine.specs.Faults.{commits, first_of, order_of}
 use Rattle.helpers.specs.Calls.{fault_of_call}
 
 pub first_of-call : (setting : Setting) (s : State) (number : ℤ)
-    → first_of (commits setting s (Call number)) (order_of (Call number)) ≡ fault_of_call (helper_of setting.hook number) (held s 1) (held s 2)
+    → first_of (commits setting s (Call number)) (order_of (Call number))
+    ≡ fault_of_call (helper_of setting.hook number) (held s 1) (held s 2)
 first_of-call setting s number = refl

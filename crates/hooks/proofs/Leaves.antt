@@ -1,5 +1,6 @@
 -- A program is attached at its own hook.
-use Rattle.std.proofs.Common.{◌≡◌, ℕ, ◌==◌, Bool, true, false, cond, List, [], ◌∷◌, ◌++◌, ◌≢◌, fold, Option, Some, None, IfSome, refl, sym, ap, ◌∙◌, subst, ⊎_elim}
+use Rattle.std.proofs.Common.{◌≡◌, ℕ, ◌==◌, Bool, true, false, cond, List, [], ◌∷◌, ◌++◌, ◌≢◌, fold}
+use Rattle.std.proofs.Common.{Option, Some, None, IfSome, refl, sym, ap, ◌∙◌, subst, ⊎_elim}
 use Rattle.std.proofs.lemmas.Bool.{eqb-true, eq-eqb}
 use Rattle.std.proofs.lemmas.Bool.Decides.{eqb_tells}
 use Rattle.std.proofs.lemmas.List.Sums.{fold-append}
@@ -31,14 +32,17 @@ outcome-at : (h : Hook) (op : Operation) → hook_of op ≡ h → AtHook h (outc
 outcome-at h (Attach a) e = e
 outcome-at h (Detach k) e = tt
 
-chosen : (b : Bool) (x y : Option Program) (h : Hook) → (b ≡ true → AtHook h x) → AtHook h y → AtHook h (cond b x y)
+chosen : (b : Bool) (x y : Option Program) (h : Hook) → (b ≡ true → AtHook h x) → AtHook h y
+    → AtHook h (cond b x y)
 chosen true x y h t f = t refl
 chosen false x y h t f = f
 
 after-at : (h : Hook) (o : Option Program) (op : Operation) → AtHook h o → AtHook h (after h o op)
-after-at h o op at = chosen (hook_number (hook_of op) == hook_number h) (outcome_of op) o h (λ t. outcome-at h op (number-injective (hook_of op) h (eqb-true _ _ t))) at
+after-at h o op at = chosen (hook_number (hook_of op) == hook_number h) (outcome_of op) o h
+    (λ t. outcome-at h op (number-injective (hook_of op) h (eqb-true _ _ t))) at
 
-fold-at : (h : Hook) (o : Option Program) (ops : List Operation) → AtHook h o → AtHook h (fold (after h) o ops)
+fold-at : (h : Hook) (o : Option Program) (ops : List Operation) → AtHook h o
+    → AtHook h (fold (after h) o ops)
 fold-at h o [] at = at
 fold-at h o (op ∷ ops) at = fold-at h (after h o op) ops (after-at h o op at)
 
@@ -48,7 +52,8 @@ at-leaves h ops = fold-at h None ops tt
 pub leaves-at : (h : Hook) (ops : List Operation) (p : Program) → leaves h ops ≡ Some p → p.hook ≡ h
 leaves-at h ops p e = subst (AtHook h) e (at-leaves h ops)
 
-leaves-snoc : (h : Hook) (ops : List Operation) (op : Operation) → leaves h (ops ++ op ∷ []) ≡ after h (leaves h ops) op
+leaves-snoc : (h : Hook) (ops : List Operation) (op : Operation)
+    → leaves h (ops ++ op ∷ []) ≡ after h (leaves h ops) op
 leaves-snoc h ops op = fold-append (after h) None ops (op ∷ [])
 
 -- the test of the two hooks' numbers
@@ -56,11 +61,15 @@ same_number : (h k : Hook) → h ≡ k → (hook_number h == hook_number k) ≡ 
 same_number h k e = eq-eqb (hook_number h) (hook_number k) (ap hook_number e)
 
 other_number : (h k : Hook) → h ≢ k → (hook_number h == hook_number k) ≡ false
-other_number h k n = ⊎_elim (λ (t : ((hook_number h == hook_number k) ≡ true) × (hook_number h ≡ hook_number k)). absurd (n (number-injective h k t.1)))
-    (λ (t : ((hook_number h == hook_number k) ≡ false) × (hook_number h ≢ hook_number k)). t.0) (eqb_tells (hook_number h) (hook_number k))
+other_number h k n = ⊎_elim (λ (t : ((hook_number h == hook_number k) ≡ true)
+    × (hook_number h ≡ hook_number k)). absurd (n (number-injective h k t.1)))
+    (λ (t : ((hook_number h == hook_number k) ≡ false) × (hook_number h ≢ hook_number k)). t.0)
+    (eqb_tells (hook_number h) (hook_number k))
 
 pub last_decides : LastDecides
 last_decides ops op h = (
-  (λ e. leaves-snoc h ops op ∙ ap (λ b. cond b (outcome_of op) (leaves h ops)) (same_number (hook_of op) h e)),
-  (λ n. leaves-snoc h ops op ∙ ap (λ b. cond b (outcome_of op) (leaves h ops)) (other_number (hook_of op) h n)),
+  (λ e. leaves-snoc h ops op ∙ ap (λ b. cond b (outcome_of op) (leaves h ops))
+      (same_number (hook_of op) h e)),
+  (λ n. leaves-snoc h ops op ∙ ap (λ b. cond b (outcome_of op) (leaves h ops))
+      (other_number (hook_of op) h n)),
 )

@@ -1,5 +1,6 @@
 -- How a hook without a program answers an input.
-use Rattle.std.proofs.Common.{◌≡◌, ℕ, ◌<◌, ◌^◌, List, [], Option, Some, None, MatchOption, refl, ◌∙◌, rules}
+use Rattle.std.proofs.Common.{◌≡◌, ℕ, ◌<◌, ◌^◌, List, [], Option, Some, None, MatchOption, refl}
+use Rattle.std.proofs.Common.{◌∙◌, rules}
 use mathlib.Core.List.{IsPrefix}
 use Rattle.isa.specs.declared.hook.Hook.{Hook}
 use Rattle.isa.specs.declared.hook.Hook.TheVariants.{Tag, Price, Veto}
@@ -17,13 +18,16 @@ use Rattle.hooks.specs.Operations.{Program, RunsTo, default_of, leaves}
 use Rattle.hooks.specs.Questions.{price_input, tag_input, veto_input}
 use Rattle.hooks.specs.Vacant.{IsAnsweredByNone, IsVacant}
 
-by_default : (hook : Hook) (input : Given) (word : ℕ) (labels : List Label) (o : Option Program) → o ≡ None → labels ≡ [] → word ≡ default_of hook input
-    → MatchOption o ((labels ≡ []) × (word ≡ default_of hook input)) (λ program. RunsTo program input labels word)
+by_default : (hook : Hook) (input : Given) (word : ℕ) (labels : List Label) (o : Option Program)
+    → o ≡ None → labels ≡ [] → word ≡ default_of hook input
+    → MatchOption o ((labels ≡ []) × (word ≡ default_of hook input))
+    (λ program. RunsTo program input labels word)
 by_default hook input word labels None vacant none is = (none, is)
 by_default hook input word labels (Some p) vacant none is = absurd (cc (vacant))
 
 pub answered_by_none : (hook : Hook) (before now : List Operation) (input : Given) (word : ℕ)
-    → IsPrefix before now → IsVacant hook now → IsOfHook hook input → word ≡ default_of hook input → IsAnsweredByNone before now input word
+    → IsPrefix before now → IsVacant hook now → IsOfHook hook input → word ≡ default_of hook input
+    → IsAnsweredByNone before now input word
 answered_by_none hook before now input word begins vacant asked is seat = record {
   labels = [];
   begins = begins;
@@ -34,26 +38,32 @@ answered_by_none hook before now input word begins vacant asked is seat = record
 defaults : DefaultsAreConfigured
 defaults external moment rows = search rules
 
-pub configured_tag : (external : External) (moment : Moment) (rows : List TableRow) → external.tag < 2 ^ 32
-    → external.tag ≡ default_of Tag (tag_input external moment rows)
+pub configured_tag : (external : External) (moment : Moment) (rows : List TableRow)
+    → external.tag < 2 ^ 32 → external.tag ≡ default_of Tag (tag_input external moment rows)
 configured_tag external moment rows fits = cc ((defaults external moment rows).0 fits)
 
-pub configured_metric : (external : External) (moment : Moment) (rows : List TableRow) → external.metric < 2 ^ 32
-    → external.metric ≡ default_of Price (price_input external moment rows)
+pub configured_metric : (external : External) (moment : Moment) (rows : List TableRow)
+    → external.metric < 2 ^ 32 → external.metric
+    ≡ default_of Price (price_input external moment rows)
 configured_metric external moment rows fits = cc ((defaults external moment rows).1 fits)
 
-module _ (before now : List Operation) (external : External) (moment : Moment) (begins : IsPrefix before now) where
+module _ (before now : List Operation) (external : External) (moment : Moment)
+    (begins : IsPrefix before now) where
   pub tag_by_none : (word : ℕ) → IsVacant Tag now → external.tag < 2 ^ 32 → word ≡ external.tag
       → (rows : List TableRow) → IsAnsweredByNone before now (tag_input external moment rows) word
   tag_by_none word vacant fits is rows =
-      answered_by_none Tag before now (tag_input external moment rows) word begins vacant refl (is ∙ configured_tag external moment rows fits)
+      answered_by_none Tag before now (tag_input external moment rows) word begins vacant refl
+      (is ∙ configured_tag external moment rows fits)
 
-  pub price_by_none : (word : ℕ) → IsVacant Price now → external.metric < 2 ^ 32 → word ≡ external.metric
-      → (rows : List TableRow) → IsAnsweredByNone before now (price_input external moment rows) word
+  pub price_by_none : (word : ℕ) → IsVacant Price now → external.metric < 2 ^ 32
+      → word ≡ external.metric → (rows : List TableRow)
+      → IsAnsweredByNone before now (price_input external moment rows) word
   price_by_none word vacant fits is rows =
-      answered_by_none Price before now (price_input external moment rows) word begins vacant refl (is ∙ configured_metric external moment rows fits)
+      answered_by_none Price before now (price_input external moment rows) word begins vacant refl
+      (is ∙ configured_metric external moment rows fits)
 
-pub veto_by_none : (before now : List Operation) (moment : Moment) → IsPrefix before now → IsVacant Veto now
-    → (route : Route) (rows : List TableRow) → IsAnsweredByNone before now (veto_input route moment rows) 0
+pub veto_by_none : (before now : List Operation) (moment : Moment) → IsPrefix before now
+    → IsVacant Veto now → (route : Route) (rows : List TableRow)
+    → IsAnsweredByNone before now (veto_input route moment rows) 0
 veto_by_none before now moment begins vacant route rows =
     answered_by_none Veto before now (veto_input route moment rows) 0 begins vacant refl refl

@@ -1,10 +1,13 @@
 -- Lines of functions and sections that were built, one behind the other.
-use Rattle.std.proofs.Common.{◌≡◌, ◌∙◌, ◌+◌, ◌||◌, ◌++◌, ap, subst, sym, refl, ℕ, List, [], Bool, true, false, Option, Some, None, Ok, Err, codes, inl, inr, length, add-one}
+use Rattle.std.proofs.Common.{◌≡◌, ◌∙◌, ◌+◌, ◌||◌, ◌++◌, ap, subst, sym, refl, ℕ, List, [], Bool}
+use Rattle.std.proofs.Common.{true, false, Option, Some, None, Ok, Err, codes, inl, inr, length}
+use Rattle.std.proofs.Common.{add-one}
 use Rattle.std.specs.Prelude.{◌⊎◌, IfOk, IfSome, Result, is_err, slice_get, string_bytes}
 use Rattle.annotations.specs.Annotated.{IsAnnotation, with_found}
 use Rattle.annotations.specs.declared.fuel.Fuel.{Fuel}
 use Rattle.elf.specs.Files.{IsObjectFile, section_count, section_name}
-use Rattle.elf.specs.Lists.{HasBytes, HasSymbol, functions_of, relocations_of, symbol_bytes, symbol_name}
+use Rattle.elf.specs.Lists.{HasBytes, HasSymbol, functions_of, relocations_of, symbol_bytes}
+use Rattle.elf.specs.Lists.{symbol_name}
 use Rattle.elf.specs.declared.lists.LinkedSymbol.{LinkedSymbol}
 use Rattle.explanations.specs.Told.{TellsVerdict}
 use Rattle.isa.specs.Hooks.{hook_name}
@@ -14,29 +17,37 @@ use Rattle.object_verdicts.specs.declared.error.VerifyError.{VerifyError}
 use Rattle.verifier.specs.Programs.{Program}
 use Rattle.isa.specs.declared.hook.Hook.{Hook}
 use Rattle.hooktool_commands.specs.Annotations.{fuel_for}
-use Rattle.hooktool_commands.specs.Builds.{AreBuiltFunctions, AreBuiltSections, IsBuilt, IsBuiltAt, IsBuiltFunction, IsBuiltSection, IsHookOf, TellsFunction, Wanted, built_text}
+use Rattle.hooktool_commands.specs.Builds.{AreBuiltFunctions, AreBuiltSections, IsBuilt, IsBuiltAt}
+use Rattle.hooktool_commands.specs.Builds.{IsBuiltFunction, IsBuiltSection, IsHookOf, TellsFunction}
+use Rattle.hooktool_commands.specs.Builds.{Wanted, built_text}
 use Rattle.hooktool_commands.specs.Explanations.{IsExplained}
 use Rattle.hooktool_commands.specs.Orders.{IsBuiltCode}
 use Rattle.hooktool_commands.specs.declared.report.Report.{Report}
 
 -- what is told of a function's code is told of the function
-pub function_built : (file : List ℕ) (wanted : Wanted) (hook : Hook) (function : LinkedSymbol) (name code : List ℕ) (report : Report)
-    → HasSymbol file function.table function.index → name ≡ symbol_name file function.table function.index → HasBytes file function.symbol
+pub function_built : (file : List ℕ) (wanted : Wanted) (hook : Hook) (function : LinkedSymbol)
+    (name code : List ℕ) (report : Report) → HasSymbol file function.table function.index
+    → name ≡ symbol_name file function.table function.index → HasBytes file function.symbol
     → code ≡ symbol_bytes file function.symbol → IsBuiltCode wanted hook name code report
-    → (report.is_refused ≡ true) ⊎ IsBuiltFunction file wanted hook function (string_bytes report.text)
-function_built file wanted hook function name code report named name_is has code_is built = elim built [
-  | inl refused ↦ inl refused
-  | inr found ↦ inr (record {
-    named = named;
-    has_code = has;
-    object = found.object;
-    bytes = found.bytes;
-    accepted = found.accepted;
-    found = found.found;
-    annotation = subst (λ (c : List ℕ). IsAnnotation hook (with_found (fuel_for hook wanted.fuel) found.found) c found.object found.bytes found.accepted) code_is found.annotation;
-    told = subst (λ (n : List ℕ). TellsFunction wanted.folder n (hook_name hook) found.accepted found.found (string_bytes report.text)) name_is found.told;
-  })
-]
+    → (report.is_refused ≡ true) ⊎ IsBuiltFunction file wanted hook function
+    (string_bytes report.text)
+function_built file wanted hook function name code report named name_is has code_is built =
+    elim built [
+      | inl refused ↦ inl refused
+      | inr found ↦ inr (record {
+        named = named;
+        has_code = has;
+        object = found.object;
+        bytes = found.bytes;
+        accepted = found.accepted;
+        found = found.found;
+        annotation = subst (λ (c : List ℕ). IsAnnotation hook
+            (with_found (fuel_for hook wanted.fuel) found.found) c found.object found.bytes
+            found.accepted) code_is found.annotation;
+        told = subst (λ (n : List ℕ). TellsFunction wanted.folder n (hook_name hook) found.accepted
+            found.found (string_bytes report.text)) name_is found.told;
+      })
+    ]
 
 first_true : (a b : Bool) → a ≡ true → (a || b) ≡ true
 first_true true b h = refl
@@ -47,105 +58,160 @@ second_true true b h = refl
 second_true false b h = h
 
 -- what was refused stays so with more
-pub still_refused : (before more after : Report) → before.is_refused ≡ true → after.is_refused ≡ (before.is_refused || more.is_refused) → after.is_refused ≡ true
-still_refused before more after was refused = refused ∙ first_true before.is_refused more.is_refused was
+pub still_refused : (before more after : Report) → before.is_refused ≡ true
+    → after.is_refused ≡ (before.is_refused || more.is_refused) → after.is_refused ≡ true
+still_refused before more after was refused =
+    refused ∙ first_true before.is_refused more.is_refused was
 
 -- a line more
-pub functions_more : (file : List ℕ) (wanted : Wanted) (hook : Hook) (functions : List LinkedSymbol) (function : LinkedSymbol) (n : ℕ) (before more after : Report)
-    → (before.is_refused ≡ true) ⊎ AreBuiltFunctions file wanted hook functions n (string_bytes before.text)
-    → (more.is_refused ≡ true) ⊎ IsBuiltFunction file wanted hook function (string_bytes more.text)
+pub functions_more : (file : List ℕ) (wanted : Wanted) (hook : Hook) (functions : List LinkedSymbol)
+    (function : LinkedSymbol) (n : ℕ) (before more after : Report)
+    → (before.is_refused ≡ true) ⊎ AreBuiltFunctions file wanted hook functions n
+    (string_bytes before.text) → (more.is_refused ≡ true)
+    ⊎ IsBuiltFunction file wanted hook function (string_bytes more.text)
     → slice_get functions n ≡ Some function
-    → string_bytes after.text ≡ string_bytes before.text ++ string_bytes more.text → after.is_refused ≡ (before.is_refused || more.is_refused)
-    → (after.is_refused ≡ true) ⊎ AreBuiltFunctions file wanted hook functions (n + 1) (string_bytes after.text)
-functions_more file wanted hook functions function n before more after so_far built at text refused = elim so_far [
-  | inl was ↦ inl (refused ∙ first_true before.is_refused more.is_refused was)
-  | inr lines ↦ elim built [
-    | inl is ↦ inl (refused ∙ second_true before.is_refused more.is_refused is)
-    | inr line ↦ inr (rw add-one (string_bytes before.text, string_bytes more.text, function, lines, at, line, text))
-  ]
-]
+    → string_bytes after.text ≡ string_bytes before.text
+    ++ string_bytes more.text
+    → after.is_refused ≡ (before.is_refused || more.is_refused)
+    → (after.is_refused ≡ true)
+    ⊎ AreBuiltFunctions file wanted hook functions (n + 1)
+    (string_bytes after.text)
+functions_more file wanted hook functions function n before more after so_far built at text refused
+    = elim so_far [
+      | inl was ↦ inl (refused ∙ first_true before.is_refused more.is_refused was)
+      | inr lines ↦ elim built [
+        | inl is ↦ inl (refused ∙ second_true before.is_refused more.is_refused is)
+        | inr line ↦ inr (rw add-one (
+          string_bytes before.text,
+          string_bytes more.text,
+          function,
+          lines,
+          at,
+          line,
+          text,
+        ))
+      ]
+    ]
 
 -- the lines of a section more
 pub sections_more : (file : List ℕ) (wanted : Wanted) (i : ℕ) (before more after : Report)
     → (before.is_refused ≡ true) ⊎ AreBuiltSections file wanted i (string_bytes before.text)
     → (more.is_refused ≡ true) ⊎ IsBuiltAt file wanted i (string_bytes more.text)
-    → string_bytes after.text ≡ string_bytes before.text ++ string_bytes more.text → after.is_refused ≡ (before.is_refused || more.is_refused)
-    → (after.is_refused ≡ true) ⊎ AreBuiltSections file wanted (i + 1) (string_bytes after.text)
+    → string_bytes after.text ≡ string_bytes before.text ++ string_bytes more.text
+    → after.is_refused ≡ (before.is_refused || more.is_refused)
+    → (after.is_refused ≡ true)
+    ⊎ AreBuiltSections file wanted (i + 1) (string_bytes after.text)
 sections_more file wanted i before more after so_far built text refused = elim so_far [
   | inl was ↦ inl (refused ∙ first_true before.is_refused more.is_refused was)
   | inr lines ↦ elim built [
     | inl is ↦ inl (refused ∙ second_true before.is_refused more.is_refused is)
-    | inr section ↦ inr (rw add-one (string_bytes before.text, string_bytes more.text, lines, section, text))
+    | inr section ↦ inr (rw add-one (
+      string_bytes before.text,
+      string_bytes more.text,
+      lines,
+      section,
+      text,
+    ))
   ]
 ]
 
 -- a section whose functions were built
-pub section_built : (file : List ℕ) (wanted : Wanted) (i : ℕ) (hook : Hook) (functions : List LinkedSymbol) (report : Report)
-    → IsHookOf wanted.hook (section_name file i) hook → relocations_of file i ≡ [] → functions ≡ functions_of file i
-    → (report.is_refused ≡ true) ⊎ AreBuiltFunctions file wanted hook functions (length functions) (string_bytes report.text)
-    → (report.is_refused ≡ true) ⊎ IsBuiltSection file wanted i (string_bytes report.text)
+pub section_built : (file : List ℕ) (wanted : Wanted) (i : ℕ) (hook : Hook)
+    (functions : List LinkedSymbol) (report : Report)
+    → IsHookOf wanted.hook (section_name file i) hook → relocations_of file i ≡ []
+    → functions ≡ functions_of file i
+    → (report.is_refused ≡ true) ⊎ AreBuiltFunctions file wanted hook functions
+    (length functions) (string_bytes report.text)
+    → (report.is_refused ≡ true)
+    ⊎ IsBuiltSection file wanted i (string_bytes report.text)
 section_built file wanted i hook functions report hook_is none are built = elim built [
   | inl refused ↦ inl refused
   | inr lines ↦ inr (record {
     hook = hook;
     hook_is = hook_is;
     relocations = none;
-    functions = subst (λ (fs : List LinkedSymbol). AreBuiltFunctions file wanted hook fs (length fs) (string_bytes report.text)) are lines;
+    functions = subst (λ (fs : List LinkedSymbol). AreBuiltFunctions file wanted hook fs (length fs)
+        (string_bytes report.text)) are lines;
   })
 ]
 
 -- what is told of a whole file
-pub file_built : (file bytes : List ℕ) (wanted : Wanted) (report : Report) → file ≡ bytes → IsObjectFile bytes
-    → (report.is_refused ≡ true) ⊎ AreBuiltSections file wanted (section_count file) (string_bytes report.text) → IsBuilt bytes wanted report
+pub file_built : (file bytes : List ℕ) (wanted : Wanted) (report : Report) → file ≡ bytes
+    → IsObjectFile bytes → (report.is_refused ≡ true)
+    ⊎ AreBuiltSections file wanted (section_count file) (string_bytes report.text)
+    → IsBuilt bytes wanted report
 file_built file bytes wanted report is object built = elim built [
   | inl refused ↦ inl refused
-  | inr sections ↦ inr (object, subst (λ (f : List ℕ). AreBuiltSections f wanted (section_count f) (string_bytes report.text)) is sections)
+  | inr sections ↦ inr (
+    object,
+    subst
+        (λ (f : List ℕ). AreBuiltSections f wanted (section_count f) (string_bytes report.text)) is
+        sections,
+  )
 ]
 
 -- the hook of .text is the asked one
-pub asked_hook : (asked : Option Hook) (section : List ℕ) → section ≡ codes ".text" → IfSome asked (IsHookOf asked section)
+pub asked_hook : (asked : Option Hook) (section : List ℕ) → section ≡ codes ".text"
+    → IfSome asked (IsHookOf asked section)
 asked_hook None section is = tt
 asked_hook (Some hook) section is = inr (is, refl)
 
-pub own_hook : (asked found : Option Hook) (section : List ℕ) → IfSome found (λ hook. section ≡ hook_name hook) → IfSome found (IsHookOf asked section)
+pub own_hook : (asked found : Option Hook) (section : List ℕ)
+    → IfSome found (λ hook. section ≡ hook_name hook) → IfSome found (IsHookOf asked section)
 own_hook asked None section is = tt
 own_hook asked (Some hook) section is = inl is
 
 -- the same of a name that is the section's
-pub hook_found : (asked found : Option Hook) (name section : List ℕ) → name ≡ section → IfSome found (IsHookOf asked name) → IfSome found (IsHookOf asked section)
-hook_found asked found name section is has = subst (λ (n : List ℕ). IfSome found (IsHookOf asked n)) is has
+pub hook_found : (asked found : Option Hook) (name section : List ℕ) → name ≡ section
+    → IfSome found (IsHookOf asked name) → IfSome found (IsHookOf asked section)
+hook_found asked found name section is has =
+    subst (λ (n : List ℕ). IfSome found (IsHookOf asked n)) is has
 
 -- behind the last function
-pub functions_all : (file : List ℕ) (wanted : Wanted) (hook : Hook) (functions : List LinkedSymbol) (n : ℕ) (report : Report) → n ≡ length functions
-    → (report.is_refused ≡ true) ⊎ AreBuiltFunctions file wanted hook functions n (string_bytes report.text)
-    → (report.is_refused ≡ true) ⊎ AreBuiltFunctions file wanted hook functions (length functions) (string_bytes report.text)
+pub functions_all : (file : List ℕ) (wanted : Wanted) (hook : Hook) (functions : List LinkedSymbol)
+    (n : ℕ) (report : Report) → n ≡ length functions
+    → (report.is_refused ≡ true) ⊎ AreBuiltFunctions file wanted hook functions n
+    (string_bytes report.text) → (report.is_refused ≡ true)
+    ⊎ AreBuiltFunctions file wanted hook functions (length functions)
+    (string_bytes report.text)
 functions_all file wanted hook functions n report all so_far =
-    subst (λ (m : ℕ). (report.is_refused ≡ true) ⊎ AreBuiltFunctions file wanted hook functions m (string_bytes report.text)) all so_far
+    subst (λ (m : ℕ). (report.is_refused ≡ true)
+    ⊎ AreBuiltFunctions file wanted hook functions m (string_bytes report.text)) all so_far
 
 -- behind the last section
-pub sections_all : (file : List ℕ) (wanted : Wanted) (n : ℕ) (report : Report) → n ≡ section_count file
-    → (report.is_refused ≡ true) ⊎ AreBuiltSections file wanted n (string_bytes report.text)
-    → (report.is_refused ≡ true) ⊎ AreBuiltSections file wanted (section_count file) (string_bytes report.text)
+pub sections_all : (file : List ℕ) (wanted : Wanted) (n : ℕ) (report : Report)
+    → n ≡ section_count file → (report.is_refused ≡ true)
+    ⊎ AreBuiltSections file wanted n (string_bytes report.text)
+    → (report.is_refused ≡ true) ⊎ AreBuiltSections file wanted (section_count file)
+    (string_bytes report.text)
 sections_all file wanted n report all so_far =
-    subst (λ (m : ℕ). (report.is_refused ≡ true) ⊎ AreBuiltSections file wanted m (string_bytes report.text)) all so_far
+    subst (λ (m : ℕ). (report.is_refused ≡ true)
+    ⊎ AreBuiltSections file wanted m (string_bytes report.text)) all so_far
 
 -- the code of a function whose object was written
-pub code_built : (wanted : Wanted) (hook : Hook) (folder shown name code : List ℕ) (object : ObjectParts) (bytes : List ℕ) (accepted : Program) (fuel : Fuel) (turns : Option ℕ) (report : Report)
-    → wanted.folder ≡ Some folder → fuel ≡ fuel_for hook wanted.fuel → IsAnnotation hook (with_found fuel turns) code object bytes accepted → shown ≡ name
-    → string_bytes report.text ≡ built_text folder shown (hook_name hook) accepted turns → IsBuiltCode wanted hook name code report
-code_built wanted hook folder shown name code object bytes accepted fuel turns report folder_is fuel_is annotation is told = inr (record {
-  object = object;
-  bytes = bytes;
-  accepted = accepted;
-  found = turns;
-  annotation = subst (λ (f : Fuel). IsAnnotation hook (with_found f turns) code object bytes accepted) fuel_is annotation;
-  told = subst (λ (f : Option (List ℕ)). TellsFunction f name (hook_name hook) accepted turns (string_bytes report.text)) (sym folder_is)
-      (told ∙ ap (λ (n : List ℕ). built_text folder n (hook_name hook) accepted turns) is);
-})
+pub code_built : (wanted : Wanted) (hook : Hook) (folder shown name code : List ℕ)
+    (object : ObjectParts) (bytes : List ℕ) (accepted : Program) (fuel : Fuel) (turns : Option ℕ)
+    (report : Report) → wanted.folder ≡ Some folder → fuel ≡ fuel_for hook wanted.fuel
+    → IsAnnotation hook (with_found fuel turns) code object bytes accepted → shown ≡ name
+    → string_bytes report.text ≡ built_text folder shown (hook_name hook) accepted turns
+    → IsBuiltCode wanted hook name code report
+code_built wanted hook folder shown name code object bytes accepted fuel turns report folder_is
+    fuel_is annotation is told = inr (record {
+      object = object;
+      bytes = bytes;
+      accepted = accepted;
+      found = turns;
+      annotation = subst (λ (f : Fuel). IsAnnotation hook (with_found f turns) code object bytes
+          accepted) fuel_is annotation;
+      told = subst (λ (f : Option (List ℕ)). TellsFunction f name (hook_name hook) accepted turns
+          (string_bytes report.text)) (sym folder_is)
+          (told ∙ ap (λ (n : List ℕ). built_text folder n (hook_name hook) accepted turns) is);
+    })
 
 -- another program that the verifier accepts in the same bytes
-accepted_too : (hook : Hook) (fuel : Fuel) (code : List ℕ) (object : ObjectParts) (bytes : List ℕ) (one other : Program)
-    → IsAnnotation hook fuel code object bytes one → Accepts bytes other → IsAnnotation hook fuel code object bytes other
+accepted_too : (hook : Hook) (fuel : Fuel) (code : List ℕ) (object : ObjectParts) (bytes : List ℕ)
+    (one other : Program) → IsAnnotation hook fuel code object bytes one → Accepts bytes other
+    → IsAnnotation hook fuel code object bytes other
 accepted_too hook fuel code object bytes one other is accepts = record {
   text = is.text;
   has_code = is.has_code;
@@ -158,24 +224,37 @@ accepted_too hook fuel code object bytes one other is accepts = record {
 }
 
 -- the code of a function that is explained, whose verdict is told at the end
-verdict_told : (wanted : Wanted) (hook : Hook) (name code : List ℕ) (object : ObjectParts) (bytes : List ℕ) (accepted : Program) (turns : Option ℕ) (report : Report)
+verdict_told : (wanted : Wanted) (hook : Hook) (name code : List ℕ) (object : ObjectParts)
+    (bytes : List ℕ) (accepted : Program) (turns : Option ℕ) (report : Report)
     (verdict : Result Program VerifyError) (before told : List ℕ) → wanted.folder ≡ None
-    → IsAnnotation hook (with_found (fuel_for hook wanted.fuel) turns) code object bytes accepted → IfOk verdict (Accepts bytes) → TellsVerdict verdict told
-    → string_bytes report.text ≡ before ++ told → report.is_refused ≡ is_err verdict → IsBuiltCode wanted hook name code report
-verdict_told wanted hook name code object bytes accepted turns report (Ok program) before told none annotation accepts tells text refused = inr (record {
-  object = object;
-  bytes = bytes;
-  accepted = program;
-  found = turns;
-  annotation = accepted_too hook (with_found (fuel_for hook wanted.fuel) turns) code object bytes accepted program annotation accepts;
-  told = subst (λ (f : Option (List ℕ)). TellsFunction f name (hook_name hook) program turns (string_bytes report.text)) (sym none)
-      (before, text ∙ ap (λ (t : List ℕ). before ++ t) tells);
-})
-verdict_told wanted hook name code object bytes accepted turns report (Err error) before told none annotation accepts tells text refused = inl refused
-
-pub code_explained : (wanted : Wanted) (hook : Hook) (name code : List ℕ) (object : ObjectParts) (bytes : List ℕ) (accepted : Program) (fuel : Fuel) (turns : Option ℕ) (report : Report)
-    → wanted.folder ≡ None → fuel ≡ fuel_for hook wanted.fuel → IsAnnotation hook (with_found fuel turns) code object bytes accepted → IsExplained bytes report
+    → IsAnnotation hook (with_found (fuel_for hook wanted.fuel) turns) code object bytes
+    accepted → IfOk verdict (Accepts bytes) → TellsVerdict verdict told
+    → string_bytes report.text ≡ before ++ told → report.is_refused ≡ is_err verdict
     → IsBuiltCode wanted hook name code report
-code_explained wanted hook name code object bytes accepted fuel turns report none fuel_is annotation is =
-    verdict_told wanted hook name code object bytes accepted turns report is.verdict is.before is.told none
-    (subst (λ (f : Fuel). IsAnnotation hook (with_found f turns) code object bytes accepted) fuel_is annotation) is.accepts is.tells is.text_is is.refused
+verdict_told wanted hook name code object bytes accepted turns report (Ok program) before told none
+    annotation accepts tells text refused = inr (record {
+      object = object;
+      bytes = bytes;
+      accepted = program;
+      found = turns;
+      annotation = accepted_too hook (with_found (fuel_for hook wanted.fuel) turns) code object
+          bytes
+          accepted program annotation accepts;
+      told = subst (λ (f : Option (List ℕ)). TellsFunction f name (hook_name hook) program turns
+          (string_bytes report.text)) (sym none)
+          (before, text ∙ ap (λ (t : List ℕ). before ++ t) tells);
+    })
+verdict_told wanted hook name code object bytes accepted turns report (Err error) before told none
+    annotation accepts tells text refused = inl refused
+
+pub code_explained : (wanted : Wanted) (hook : Hook) (name code : List ℕ) (object : ObjectParts)
+    (bytes : List ℕ) (accepted : Program) (fuel : Fuel) (turns : Option ℕ) (report : Report)
+    → wanted.folder ≡ None → fuel ≡ fuel_for hook wanted.fuel
+    → IsAnnotation hook (with_found fuel turns) code object bytes accepted
+    → IsExplained bytes report → IsBuiltCode wanted hook name code report
+code_explained wanted hook name code object bytes accepted fuel turns report none fuel_is annotation
+    is =
+    verdict_told wanted hook name code object bytes accepted turns report is.verdict is.before
+    is.told none
+    (subst (λ (f : Fuel). IsAnnotation hook (with_found f turns) code object bytes accepted) fuel_is
+    annotation) is.accepts is.tells is.text_is is.refused

@@ -9,9 +9,19 @@ use Rattle.hooktool_line.specs.declared.requests.FuelAsked.{FuelAsked}
 use Rattle.hooktool_commands.specs.Annotations.{IsAnnotated, accepted_text, fuel_for}
 use Rattle.hooktool_commands.specs.declared.report.Report.{Report}
 
-pub found : {E : Type 0} (hook : Hook) (fuel : FuelAsked) (file : List ℕ) (object : ObjectParts) (bytes : List ℕ) (accepted : Program) (turns : Option ℕ) (r : Result Report E)
-    → IsAnnotation hook (with_found (fuel_for hook fuel) turns) file object bytes accepted → IfOk r (λ report. string_bytes report.text ≡ accepted_text accepted turns)
+pub found : {E : Type 0} (hook : Hook) (fuel : FuelAsked) (file : List ℕ) (object : ObjectParts)
+    (bytes : List ℕ) (accepted : Program) (turns : Option ℕ) (r : Result Report E)
+    → IsAnnotation hook (with_found (fuel_for hook fuel) turns) file object bytes accepted
+    → IfOk r (λ report. string_bytes report.text ≡ accepted_text accepted turns)
     → IfOk r (λ report. report.is_refused ≡ false) → IfOk r (IsAnnotated hook fuel file)
 found {E} hook fuel file object bytes accepted turns (Ok report) is told done =
-    inl (record { object = object; bytes = bytes; accepted = accepted; found = turns; annotation = is; told = told; done = done })
+    inl (record {
+      object = object;
+      bytes = bytes;
+      accepted = accepted;
+      found = turns;
+      annotation = is;
+      told = told;
+      done = done;
+    })
 found {E} hook fuel file object bytes accepted turns (Err e) is told done = tt

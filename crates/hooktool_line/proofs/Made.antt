@@ -1,5 +1,6 @@
 -- Which requests a command makes of its words.
-use Rattle.std.proofs.Common.{◌≡◌, ◌≢◌, ◌∙◌, ap, ap₂, sym, subst, arith, ℕ, List, Option, Some, None, Ok, Err, codes, slice_index, inl, inr, refl}
+use Rattle.std.proofs.Common.{◌≡◌, ◌≢◌, ◌∙◌, ap, ap₂, sym, subst, arith, ℕ, List, Option, Some}
+use Rattle.std.proofs.Common.{None, Ok, Err, codes, slice_index, inl, inr, refl}
 use Rattle.std.specs.Borrow.{Bor}
 use Rattle.std.specs.Prelude.{Box, IfOk, IfErr, Result, option_map, ◌⊎◌}
 use Rattle.clap.specs.Matches.{found_of}
@@ -15,7 +16,8 @@ use Rattle.std.specs.Box.{box_value}
 use Rattle.isa.specs.Hooks.{hook_name}
 use Rattle.isa.specs.declared.hook.Hook.{Hook}
 use Rattle.hooktool_line.specs.Questions.{HasQuestion}
-use Rattle.hooktool_line.specs.Requests.{HasFuel, HasHook, HasWord, IsMade, IsWrong, IsWrongWord, MadeBy, Makes, MakesNone, command_of}
+use Rattle.hooktool_line.specs.Requests.{HasFuel, HasHook, HasWord, IsMade, IsWrong, IsWrongWord}
+use Rattle.hooktool_line.specs.Requests.{MadeBy, Makes, MakesNone, command_of}
 use Rattle.hooktool_line.specs.Words.{ReadsOrLacks}
 use Rattle.hooktool_line.specs.declared.requests.FuelAsked.{FuelAsked}
 use Rattle.hooktool_line.specs.declared.requests.Question.{Question}
@@ -31,96 +33,126 @@ pub some_is : {X : Type 0} {x y : X} → Some x ≡ Some y → x ≡ y
 some_is e = cc
 
 annotate≢build : codes "build" ≡ codes "annotate" → ⊥
-annotate≢build e = let bad : ◌≡◌ {A = ℕ} 98 97 = ap (λ (t : List ℕ). slice_index t 0) e in absurd (omega arith)
+annotate≢build e = let bad : ◌≡◌ {A = ℕ} 98 97 = ap (λ (t : List ℕ). slice_index t 0) e in
+    absurd (omega arith)
 
 build≢explain : codes "explain" ≡ codes "build" → ⊥
-build≢explain e = let bad : ◌≡◌ {A = ℕ} 101 98 = ap (λ (t : List ℕ). slice_index t 0) e in absurd (omega arith)
+build≢explain e = let bad : ◌≡◌ {A = ℕ} 101 98 = ap (λ (t : List ℕ). slice_index t 0) e in
+    absurd (omega arith)
 
 build≢try : codes "try" ≡ codes "build" → ⊥
-build≢try e = let bad : ◌≡◌ {A = ℕ} 116 98 = ap (λ (t : List ℕ). slice_index t 0) e in absurd (omega arith)
+build≢try e = let bad : ◌≡◌ {A = ℕ} 116 98 = ap (λ (t : List ℕ). slice_index t 0) e in
+    absurd (omega arith)
 
 annotate≢explain : codes "explain" ≡ codes "annotate" → ⊥
-annotate≢explain e = let bad : ◌≡◌ {A = ℕ} 101 97 = ap (λ (t : List ℕ). slice_index t 0) e in absurd (omega arith)
+annotate≢explain e = let bad : ◌≡◌ {A = ℕ} 101 97 = ap (λ (t : List ℕ). slice_index t 0) e in
+    absurd (omega arith)
 
 annotate≢try : codes "try" ≡ codes "annotate" → ⊥
-annotate≢try e = let bad : ◌≡◌ {A = ℕ} 116 97 = ap (λ (t : List ℕ). slice_index t 0) e in absurd (omega arith)
+annotate≢try e = let bad : ◌≡◌ {A = ℕ} 116 97 = ap (λ (t : List ℕ). slice_index t 0) e in
+    absurd (omega arith)
 
 explain≢try : codes "try" ≡ codes "explain" → ⊥
-explain≢try e = let bad : ◌≡◌ {A = ℕ} 116 101 = ap (λ (t : List ℕ). slice_index t 0) e in absurd (omega arith)
+explain≢try e = let bad : ◌≡◌ {A = ℕ} 116 101 = ap (λ (t : List ℕ). slice_index t 0) e in
+    absurd (omega arith)
 
 annotate≢test : codes "test" ≡ codes "annotate" → ⊥
-annotate≢test e = let bad : ◌≡◌ {A = ℕ} 116 97 = ap (λ (t : List ℕ). slice_index t 0) e in absurd (omega arith)
+annotate≢test e = let bad : ◌≡◌ {A = ℕ} 116 97 = ap (λ (t : List ℕ). slice_index t 0) e in
+    absurd (omega arith)
 
 build≢test : codes "test" ≡ codes "build" → ⊥
-build≢test e = let bad : ◌≡◌ {A = ℕ} 116 98 = ap (λ (t : List ℕ). slice_index t 0) e in absurd (omega arith)
+build≢test e = let bad : ◌≡◌ {A = ℕ} 116 98 = ap (λ (t : List ℕ). slice_index t 0) e in
+    absurd (omega arith)
 
 explain≢test : codes "test" ≡ codes "explain" → ⊥
-explain≢test e = let bad : ◌≡◌ {A = ℕ} 116 101 = ap (λ (t : List ℕ). slice_index t 0) e in absurd (omega arith)
+explain≢test e = let bad : ◌≡◌ {A = ℕ} 116 101 = ap (λ (t : List ℕ). slice_index t 0) e in
+    absurd (omega arith)
 
 try≢test : codes "test" ≡ codes "try" → ⊥
-try≢test e = let bad : ◌≡◌ {A = ℕ} 101 114 = ap (λ (t : List ℕ). slice_index t 1) e in absurd (omega arith)
+try≢test e = let bad : ◌≡◌ {A = ℕ} 101 114 = ap (λ (t : List ℕ). slice_index t 1) e in
+    absurd (omega arith)
 
 pub no_annotate : (rows : List Row)
-    → ((hook : Hook) (code object : Text) (fuel : FuelAsked) → HasWord rows (codes "HOOK") (hook_name hook) → HasWord rows (codes "CODE") code
+    → ((hook : Hook) (code object : Text) (fuel : FuelAsked)
+    → HasWord rows (codes "HOOK") (hook_name hook) → HasWord rows (codes "CODE") code
     → HasWord rows (codes "OBJECT") object → HasFuel rows fuel → ⊥)
     → MadeBy (codes "annotate") rows None
-no_annotate rows none (requests.Annotate hook code object fuel) named has = none hook code.now object.now fuel has.0 has.1 has.2 has.3
-no_annotate rows none (requests.Build file folder hook fuel) named has = absurd (annotate≢build named)
+no_annotate rows none (requests.Annotate hook code object fuel) named has =
+    none hook code.now object.now fuel has.0 has.1 has.2 has.3
+no_annotate rows none (requests.Build file folder hook fuel) named has =
+    absurd (annotate≢build named)
 no_annotate rows none (requests.Explain object) named has = absurd (annotate≢explain named)
 no_annotate rows none (requests.Try object question) named has = absurd (annotate≢try named)
 no_annotate rows none (requests.Test file) named has = absurd (annotate≢test named)
 
-pub no_build : (rows : List Row)
-    → ((file folder : Text) (hook : Option Hook) (fuel : FuelAsked) → HasWord rows (codes "FILE") file → HasWord rows (codes "FOLDER") folder
-    → HasHook rows hook → HasFuel rows fuel → ⊥)
+pub no_build : (rows : List Row) →
+    ((file folder : Text) (hook : Option Hook) (fuel : FuelAsked) → HasWord rows (codes "FILE") file
+    → HasWord rows (codes "FOLDER") folder → HasHook rows hook → HasFuel rows fuel → ⊥)
     → MadeBy (codes "build") rows None
-no_build rows none (requests.Annotate hook code object fuel) named has = absurd (annotate≢build (sym named))
-no_build rows none (requests.Build file folder hook fuel) named has = none file.now folder.now hook fuel has.0 has.1 has.2 has.3
+no_build rows none (requests.Annotate hook code object fuel) named has =
+    absurd (annotate≢build (sym named))
+no_build rows none (requests.Build file folder hook fuel) named has =
+    none file.now folder.now hook fuel has.0 has.1 has.2 has.3
 no_build rows none (requests.Explain object) named has = absurd (build≢explain named)
 no_build rows none (requests.Try object question) named has = absurd (build≢try named)
 no_build rows none (requests.Test file) named has = absurd (build≢test named)
 
-pub no_explain : (rows : List Row) → ((object : Text) → HasWord rows (codes "OBJECT") object → ⊥) → MadeBy (codes "explain") rows None
-no_explain rows none (requests.Annotate hook code object fuel) named has = absurd (annotate≢explain (sym named))
-no_explain rows none (requests.Build file folder hook fuel) named has = absurd (build≢explain (sym named))
+pub no_explain : (rows : List Row) → ((object : Text) → HasWord rows (codes "OBJECT") object → ⊥)
+    → MadeBy (codes "explain") rows None
+no_explain rows none (requests.Annotate hook code object fuel) named has =
+    absurd (annotate≢explain (sym named))
+no_explain rows none (requests.Build file folder hook fuel) named has =
+    absurd (build≢explain (sym named))
 no_explain rows none (requests.Explain object) named has = none object.now has
 no_explain rows none (requests.Try object question) named has = absurd (explain≢try named)
 no_explain rows none (requests.Test file) named has = absurd (explain≢test named)
 
-pub no_try : (rows : List Row) → ((object : Text) (question : Question) → HasWord rows (codes "OBJECT") object → HasQuestion rows question → ⊥)
+pub no_try : (rows : List Row) → ((object : Text) (question : Question)
+    → HasWord rows (codes "OBJECT") object → HasQuestion rows question → ⊥)
     → MadeBy (codes "try") rows None
-no_try rows none (requests.Annotate hook code object fuel) named has = absurd (annotate≢try (sym named))
+no_try rows none (requests.Annotate hook code object fuel) named has =
+    absurd (annotate≢try (sym named))
 no_try rows none (requests.Build file folder hook fuel) named has = absurd (build≢try (sym named))
 no_try rows none (requests.Explain object) named has = absurd (explain≢try (sym named))
 no_try rows none (requests.Try object question) named has = none object.now question has.0 has.1
 no_try rows none (requests.Test file) named has = absurd (try≢test named)
 
-pub no_test : (rows : List Row) → ((file : Text) → HasWord rows (codes "FILE") file → ⊥) → MadeBy (codes "test") rows None
-no_test rows none (requests.Annotate hook code object fuel) named has = absurd (annotate≢test (sym named))
+pub no_test : (rows : List Row) → ((file : Text) → HasWord rows (codes "FILE") file → ⊥)
+    → MadeBy (codes "test") rows None
+no_test rows none (requests.Annotate hook code object fuel) named has =
+    absurd (annotate≢test (sym named))
 no_test rows none (requests.Build file folder hook fuel) named has = absurd (build≢test (sym named))
 no_test rows none (requests.Explain object) named has = absurd (explain≢test (sym named))
 no_test rows none (requests.Try object question) named has = absurd (try≢test (sym named))
 no_test rows none (requests.Test file) named has = none file.now has
 
 -- without a question there is no request
-pub no_question : (rows : List Row) (lack : NotRead) → ReadsOrLacks (HasQuestion rows) (Err lack) → IsMade (codes "try") rows (Err lack)
-no_question rows not_read.Meaningless none = no_try rows (λ object question a has. none question has)
+pub no_question : (rows : List Row) (lack : NotRead) → ReadsOrLacks (HasQuestion rows) (Err lack)
+    → IsMade (codes "try") rows (Err lack)
+no_question rows not_read.Meaningless none =
+    no_try rows (λ object question a has. none question has)
 no_question rows not_read.OutOfMemory none = tt
 
 -- a command of another name makes nothing
-pub no_other : (rows : List Row) (name : Text) → name ≢ codes "annotate" → name ≢ codes "build" → name ≢ codes "explain" → name ≢ codes "try" → name ≢ codes "test"
-    → MadeBy name rows None
-no_other rows name annotate build explain try test (requests.Annotate hook code object fuel) named has = annotate (sym named)
-no_other rows name annotate build explain try test (requests.Build file folder hook fuel) named has = build (sym named)
-no_other rows name annotate build explain try test (requests.Explain object) named has = explain (sym named)
-no_other rows name annotate build explain try test (requests.Try object question) named has = try (sym named)
+pub no_other : (rows : List Row) (name : Text) → name ≢ codes "annotate" → name ≢ codes "build"
+    → name ≢ codes "explain" → name ≢ codes "try" → name ≢ codes "test" → MadeBy name rows None
+no_other rows name annotate build explain try test (requests.Annotate hook code object fuel) named
+    has = annotate (sym named)
+no_other rows name annotate build explain try test (requests.Build file folder hook fuel) named has
+    = build (sym named)
+no_other rows name annotate build explain try test (requests.Explain object) named has =
+    explain (sym named)
+no_other rows name annotate build explain try test (requests.Try object question) named has =
+    try (sym named)
 no_other rows name annotate build explain try test (requests.Test file) named has = test (sym named)
 
 -- what the command makes that was named
-pub named_makes : (name : Text) (rows : List Row) (request : Request) → MadeBy name rows (Some request) → Makes (Some (name, rows)) request
+pub named_makes : (name : Text) (rows : List Row) (request : Request)
+    → MadeBy name rows (Some request) → Makes (Some (name, rows)) request
 named_makes name rows request made = (rows, ap (λ (t : Text). Some (t, rows)) (sym made.0), made.1)
 
-pub named_makes_none : (name : Text) (rows : List Row) → MadeBy name rows None → MakesNone (Some (name, rows))
+pub named_makes_none : (name : Text) (rows : List Row) → MadeBy name rows None
+    → MakesNone (Some (name, rows))
 named_makes_none name rows none request makes =
     let both = some_is makes.1 in
     let names : name ≡ command_of request = ap (λ (p : Text × List Row). p.0) both in
@@ -128,53 +160,67 @@ named_makes_none name rows none request makes =
     none request (sym names) (rw same makes.2)
 
 -- what a parse entered, read as a reference, and its rows
-pub named_rows : {Z : Type 0} (sub : Option (Box SubCommand Z)) (r : Option (Bor Text × Bor ArgMatches)) (p : Bor Text × Bor ArgMatches) → r ≡ Some p
-    → option_map (λ p. p.0.now) r ≡ option_map (λ b. (out-SubCommand (box_value b)).name.now) sub
-    → option_map (λ p. rows_of (found_of p.1.now)) r ≡ option_map (λ p. p.1) (subcommand_rows sub)
+pub named_rows : {Z : Type 0} (sub : Option (Box SubCommand Z))
+    (r : Option (Bor Text × Bor ArgMatches)) (p : Bor Text × Bor ArgMatches) → r ≡ Some p
+    → option_map (λ p. p.0.now) r ≡ option_map (λ b. (out-SubCommand (box_value b)).name.now)
+    sub → option_map (λ p. rows_of (found_of p.1.now)) r
+    ≡ option_map (λ p. p.1) (subcommand_rows sub)
     → subcommand_rows sub ≡ Some (p.0.now, rows_of (found_of p.1.now))
 named_rows {Z} sub None p is name rows = absurd (some≢none p (sym is))
 named_rows {Z} None (Some q) p is name rows = absurd (some≢none _ name)
 named_rows {Z} (Some b) (Some q) p is name rows =
     ap₂ (λ (n : Text) (r : List Row). Some (n, r))
     (sym (some_is name) ∙ ap (λ (x : Bor Text × Bor ArgMatches). x.0.now) (some_is is))
-    (sym (some_is rows) ∙ ap (λ (x : Bor Text × Bor ArgMatches). rows_of (found_of x.1.now)) (some_is is))
+    (sym (some_is rows) ∙ ap (λ (x : Bor Text × Bor ArgMatches). rows_of (found_of x.1.now))
+    (some_is is))
 
 -- what is made of the words of the command that was named
-pub all_made : (named : Option (Text × List Row)) (name : Text) (rows : List Row) (r : Result Request Error) → named ≡ Some (name, rows)
+pub all_made : (named : Option (Text × List Row)) (name : Text) (rows : List Row)
+    (r : Result Request Error) → named ≡ Some (name, rows)
     → IfOk r (λ request. MadeBy name rows (Some request)) → IfOk r (Makes named)
-all_made named name rows (Ok request) is made = subst (λ (n : Option (Text × List Row)). Makes n request) (sym is) (named_makes name rows request made)
+all_made named name rows (Ok request) is made =
+    subst (λ (n : Option (Text × List Row)). Makes n request) (sym is)
+    (named_makes name rows request made)
 all_made named name rows (Err e) is made = tt
 
-pub all_wrong : (named : Option (Text × List Row)) (name : Text) (rows : List Row) (r : Result Request Error) → named ≡ Some (name, rows)
-    → IfErr r (IsWrong name rows) → IfErr r (λ e. (kind_of e ≡ kinds.OutOfMemory) ⊎ IsWrongWord named e)
+pub all_wrong : (named : Option (Text × List Row)) (name : Text) (rows : List Row)
+    (r : Result Request Error) → named ≡ Some (name, rows) → IfErr r (IsWrong name rows)
+    → IfErr r (λ e. (kind_of e ≡ kinds.OutOfMemory) ⊎ IsWrongWord named e)
 all_wrong named name rows (Ok request) is wrong = tt
 all_wrong named name rows (Err e) is wrong = elim wrong [
   | inl memory ↦ inl memory
-  | inr value ↦ inr (subst (λ (n : Option (Text × List Row)). IsWrongWord n e) (sym is) (value.0, named_makes_none name rows value.1))
+  | inr value ↦ inr (subst (λ (n : Option (Text × List Row)). IsWrongWord n e) (sym is)
+      (value.0, named_makes_none name rows value.1))
 ]
 
 pub none_makes_none : MakesNone None
 none_makes_none request makes = some≢none _ (sym makes.1)
 
 -- what there is under a name, read as a reference
-pub has_word : (rows : List Row) (name : Text) (word : Bor Text) → Rattle.std.specs.Option.option_map (λ (w : Bor Text). w.now) (Some word) ≡ first_of name rows
+pub has_word : (rows : List Row) (name : Text) (word : Bor Text)
+    → Rattle.std.specs.Option.option_map (λ (w : Bor Text). w.now) (Some word) ≡ first_of name rows
     → HasWord rows name word.now
 has_word rows name word e = sym e
 
-pub has_none : (rows : List Row) (name : Text) → None ≡ first_of name rows → (word : Text) → HasWord rows name word → ⊥
+pub has_none : (rows : List Row) (name : Text) → None ≡ first_of name rows → (word : Text)
+    → HasWord rows name word → ⊥
 has_none rows name none word has = some≢none word (sym has ∙ sym none)
 
 -- the words name no command
 pub all_unnamed : (named : Option (Text × List Row)) (e : Error) → named ≡ None
-    → (kind_of e ≡ kinds.OutOfMemory) ⊎ (kind_of e ≡ kinds.MissingSubcommand) → (kind_of e ≡ kinds.OutOfMemory) ⊎ IsWrongWord named e
+    → (kind_of e ≡ kinds.OutOfMemory) ⊎ (kind_of e ≡ kinds.MissingSubcommand)
+    → (kind_of e ≡ kinds.OutOfMemory) ⊎ IsWrongWord named e
 all_unnamed named e is kind = elim kind [
   | inl memory ↦ inl memory
-  | inr missing ↦ inr (subst (λ (n : Option (Text × List Row)). IsWrongWord n e) (sym is) (missing, none_makes_none))
+  | inr missing ↦ inr (subst (λ (n : Option (Text × List Row)). IsWrongWord n e) (sym is)
+      (missing, none_makes_none))
 ]
 
 -- nothing was entered
-pub no_rows : {Z : Type 0} (sub : Option (Box SubCommand Z)) (r : Option (Bor Text × Bor ArgMatches)) → r ≡ None
-    → option_map (λ p. p.0.now) r ≡ option_map (λ b. (out-SubCommand (box_value b)).name.now) sub → subcommand_rows sub ≡ None
+pub no_rows : {Z : Type 0} (sub : Option (Box SubCommand Z))
+    (r : Option (Bor Text × Bor ArgMatches)) → r ≡ None
+    → option_map (λ p. p.0.now) r ≡ option_map (λ b. (out-SubCommand (box_value b)).name.now)
+    sub → subcommand_rows sub ≡ None
 no_rows {Z} None r is name = refl
 no_rows {Z} (Some b) None is name = absurd (some≢none _ (sym name))
 no_rows {Z} (Some b) (Some q) is name = absurd (some≢none q is)

@@ -1,5 +1,6 @@
 -- Packets that are read of words.
-use Rattle.std.proofs.Common.{◌≡◌, ◌≢◌, ◌∙◌, ◌+◌, ℕ, List, ◌∷◌, Option, Some, None, Ok, Err, sym, subst, lit<, length, drop, inl, inr, refl}
+use Rattle.std.proofs.Common.{◌≡◌, ◌≢◌, ◌∙◌, ◌+◌, ℕ, List, ◌∷◌, Option, Some, None, Ok, Err, sym}
+use Rattle.std.proofs.Common.{subst, lit<, length, drop, inl, inr, refl}
 use Rattle.std.specs.Prelude.{◌⊎◌, MatchOption, Result}
 use Rattle.std.specs.Str.Pattern.{FindsCharPrefix}
 use Rattle.std.proofs.lemmas.Str.Pattern.{strip_prefix_char}
@@ -14,25 +15,33 @@ use Rattle.hooktool_line.specs.declared.values.NotRead.TheVariants as not_read
 use denote.Ref.{Bor}
 
 abbrev pub Strips : List ℕ → Option (Bor (List ℕ)) → Type 0
-Strips w r = MatchOption r (FindsCharPrefix 64 w None) (λ x. (n : ℕ) × FindsCharPrefix 64 w (Some n) × (x.now ≡ drop n w) × (length x.now + n ≡ length w))
+Strips w r = MatchOption r (FindsCharPrefix 64 w None)
+    (λ x. (n : ℕ) × FindsCharPrefix 64 w (Some n) × (x.now ≡ drop n w)
+    × (length x.now + n ≡ length w))
 
-pub of_file : (w : List ℕ) (r : Option (Bor (List ℕ))) (path : Bor (List ℕ)) → Strips w r → r ≡ Some path → w ≡ 64 ∷ path.now
+pub of_file : (w : List ℕ) (r : Option (Bor (List ℕ))) (path : Bor (List ℕ)) → Strips w r
+    → r ≡ Some path → w ≡ 64 ∷ path.now
 of_file w r path strips some =
-    subst (λ (q : Option (Bor (List ℕ))). MatchOption q ((rest : List ℕ) → w ≢ 64 ∷ rest) (λ x. w ≡ 64 ∷ x.now)) some (strip_prefix_char 64 w r strips (lit< tt))
+    subst (λ (q : Option (Bor (List ℕ))). MatchOption q ((rest : List ℕ) → w ≢ 64 ∷ rest)
+    (λ x. w ≡ 64 ∷ x.now)) some (strip_prefix_char 64 w r strips (lit< tt))
 
-pub of_no_file : (w : List ℕ) (r : Option (Bor (List ℕ))) → Strips w r → r ≡ None → (rest : List ℕ) → w ≢ 64 ∷ rest
+pub of_no_file : (w : List ℕ) (r : Option (Bor (List ℕ))) → Strips w r → r ≡ None → (rest : List ℕ)
+    → w ≢ 64 ∷ rest
 of_no_file w r strips none =
-    subst (λ (q : Option (Bor (List ℕ))). MatchOption q ((rest : List ℕ) → w ≢ 64 ∷ rest) (λ x. w ≡ 64 ∷ x.now)) none (strip_prefix_char 64 w r strips (lit< tt))
+    subst (λ (q : Option (Bor (List ℕ))). MatchOption q ((rest : List ℕ) → w ≢ 64 ∷ rest)
+    (λ x. w ≡ 64 ∷ x.now)) none (strip_prefix_char 64 w r strips (lit< tt))
 
 err≢ok : {X E : Type 0} (x : X) (e : E) → ◌≡◌ {A = Result X E} (Err e) (Ok x) → ⊥
 err≢ok x e h = cc
 
-pub no_packet : (w : List ℕ) (e : FromHexError) → ((rest : List ℕ) → w ≢ 64 ∷ rest) → decode_of w ≡ Err e → (packet : Packet) → IsPacket w packet → ⊥
+pub no_packet : (w : List ℕ) (e : FromHexError) → ((rest : List ℕ) → w ≢ 64 ∷ rest)
+    → decode_of w ≡ Err e → (packet : Packet) → IsPacket w packet → ⊥
 no_packet w e plain bad (packets.Bytes bytes) has = err≢ok bytes.items e (sym bad ∙ has.1)
 no_packet w e plain bad (packets.File path) has = plain path.now has
 
 pub lacks : (w : List ℕ) (e : FromHexError) (lack : NotRead) → ((rest : List ℕ) → w ≢ 64 ∷ rest)
-    → (e ≡ OutOfMemory) ⊎ (decode_of w ≡ Err e) → (lack ≡ not_read.Meaningless → e ≢ OutOfMemory) → ReadsOrLacks (IsPacket w) (Err lack)
+    → (e ≡ OutOfMemory) ⊎ (decode_of w ≡ Err e) → (lack ≡ not_read.Meaningless → e ≢ OutOfMemory)
+    → ReadsOrLacks (IsPacket w) (Err lack)
 lacks w e not_read.Meaningless plain bad other = elim bad [
   | inl memory ↦ absurd (other refl memory)
   | inr refused ↦ no_packet w e plain refused

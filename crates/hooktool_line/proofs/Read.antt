@@ -1,5 +1,6 @@
 -- What is read of words.
-use Rattle.std.proofs.Common.{◌≡◌, refl, sym, subst, List, [], Option, Ok, Err, MatchResult, inl, inr, true}
+use Rattle.std.proofs.Common.{◌≡◌, refl, sym, subst, List, [], Option, Ok, Err, MatchResult, inl}
+use Rattle.std.proofs.Common.{inr, true}
 use Rattle.std.specs.Prelude.{Result, IfOk, IfErr, ◌⊎◌}
 use Rattle.clap.specs.Faults.{fault_of, is_simple_and_free}
 use Rattle.clap.specs.Kinds.{FailsBy, HasKind}
@@ -31,29 +32,42 @@ mistaken words e has = elim has [
 ]
 
 -- what a command takes that is the line
-pub own_taken : (a : App) (words : List Text) (r : Result ArgMatches Error) → a ≡ line → FailsBy (fault_of a words) r → IfOk r (HasMatchesOf a words)
+pub own_taken : (a : App) (words : List Text) (r : Result ArgMatches Error) → a ≡ line
+    → FailsBy (fault_of a words) r → IfOk r (HasMatchesOf a words)
     → MatchResult r (IsTaken words) (IsRefusal words)
 own_taken a words (Ok m) own fails has = (
   subst (λ (x : App). fault_of x words ≡ []) own fails,
   subst (λ (x : App). HasMatchesOf x words m) own has,
 )
-own_taken a words (Err e) own fails has = mistaken words e (subst (λ (x : App). HasKind (fault_of x words) e) own fails)
+own_taken a words (Err e) own fails has =
+    mistaken words e (subst (λ (x : App). HasKind (fault_of x words) e) own fails)
 
 -- what was entered is the subcommand of the words
-entered : (words : List Text) (m : ArgMatches) → HasMatchesOf line words m → subcommand_rows_of m ≡ subcommand_of line words
+entered : (words : List Text) (m : ArgMatches) → HasMatchesOf line words m
+    → subcommand_rows_of m ≡ subcommand_of line words
 entered words m has = (has refl).1
 
 -- a wrong word of the command that is named, or want of memory
-wrong_word : (words : List Text) (m : ArgMatches) (e : Error) → HasMatchesOf line words m → fault_of line words ≡ []
-    → (kind_of e ≡ kinds.OutOfMemory) ⊎ IsWrongWord (subcommand_rows_of m) e → IsRefusal words e
+wrong_word : (words : List Text) (m : ArgMatches) (e : Error) → HasMatchesOf line words m
+    → fault_of line words ≡ [] → (kind_of e ≡ kinds.OutOfMemory)
+    ⊎ IsWrongWord (subcommand_rows_of m) e → IsRefusal words e
 wrong_word words m e has taken given = elim given [
   | inl memory ↦ inl memory
-  | inr wrong ↦ inr (inr (taken, subst (λ (named : Option (Text × List Row)). IsWrongWord named e) (entered words m has) wrong))
+  | inr wrong ↦ inr (inr (
+    taken,
+    subst (λ (named : Option (Text × List Row)). IsWrongWord named e)
+        (entered words m has) wrong,
+  ))
 ]
 
 -- what is made of the words that were taken, or what is wrong with them
-pub read : (words : List Text) (m : ArgMatches) (r : Result Request Error) → HasMatchesOf line words m → fault_of line words ≡ []
-    → IfOk r (Makes (subcommand_rows_of m)) → IfErr r (λ e. (kind_of e ≡ kinds.OutOfMemory) ⊎ IsWrongWord (subcommand_rows_of m) e) → Answers words r
-read words m (Ok request) has taken makes wrong =
-    (taken, subst (λ (named : Option (Text × List Row)). Makes named request) (entered words m has) makes)
+pub read : (words : List Text) (m : ArgMatches) (r : Result Request Error)
+    → HasMatchesOf line words m → fault_of line words ≡ [] → IfOk r (Makes (subcommand_rows_of m))
+    → IfErr r (λ e. (kind_of e ≡ kinds.OutOfMemory) ⊎ IsWrongWord (subcommand_rows_of m) e)
+    → Answers words r
+read words m (Ok request) has taken makes wrong = (
+  taken,
+  subst (λ (named : Option (Text × List Row)). Makes named request) (entered words m has)
+      makes,
+)
 read words m (Err e) has taken makes wrong = wrong_word words m e has taken wrong

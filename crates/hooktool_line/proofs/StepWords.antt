@@ -1,5 +1,7 @@
 -- The lines of a test, word by word.
-use Rattle.std.proofs.Common.{◌≡◌, ◌∙◌, ◌+◌, ◌<◌, ◌≤◌, ◌^◌, ℕ, List, [], ◌∷◌, ◌++◌, Option, Some, None, Ok, Err, ap, arith, get_or, inl, inr, length, refl, subst, sym, take, true, false}
+use Rattle.std.proofs.Common.{◌≡◌, ◌∙◌, ◌+◌, ◌<◌, ◌≤◌, ◌^◌, ℕ, List, [], ◌∷◌, ◌++◌, Option, Some}
+use Rattle.std.proofs.Common.{None, Ok, Err, ap, arith, get_or, inl, inr, length, refl, subst, sym}
+use Rattle.std.proofs.Common.{take, true, false}
 use Rattle.std.proofs.lemmas.Fmt.{decimal_injective}
 use Rattle.std.proofs.lemmas.List.{length-map, length-take-le, take_all, take_more}
 use Rattle.std.specs.Borrow.{Bor}
@@ -11,7 +13,8 @@ use Rattle.clap.specs.Walk.{Row, Text, first_of}
 use Rattle.clap.specs.declared.parser.matches.ArgMatches.{ArgMatches}
 use Rattle.hooktool_line.specs.CommandLine.{ask}
 use Rattle.hooktool_line.specs.Questions.{HasNumber}
-use Rattle.hooktool_line.specs.Steps.{AddsLine, AreLines, IsLine, IsTakenAs, is_blank, views, words_of}
+use Rattle.hooktool_line.specs.Steps.{AddsLine, AreLines, IsLine, IsTakenAs, is_blank, views}
+use Rattle.hooktool_line.specs.Steps.{words_of}
 use Rattle.hooktool_line.specs.Words.{IsNumber, OrElse}
 use Rattle.hooktool_line.specs.declared.steps.Line.{Line}
 
@@ -20,39 +23,56 @@ use Rattle.hooktool_line.specs.declared.steps.Line.{Line}
 pub free : (a : App) → a ≡ ask → is_simple_and_free a ≡ true
 free a own = subst (λ (x : App). is_simple_and_free x ≡ true) (sym own) refl
 
-pub taken : (a : App) (words : List Text) (m : ArgMatches) → a ≡ ask → fault_of a words ≡ [] → HasMatchesOf a words m → IsTakenAs ask words m
+pub taken : (a : App) (words : List Text) (m : ArgMatches) → a ≡ ask → fault_of a words ≡ []
+    → HasMatchesOf a words m → IsTakenAs ask words m
 taken a words m own none has =
     let asked : HasMatchesOf ask words m = subst (λ (x : App). HasMatchesOf x words m) own has in
     (subst (λ (x : App). fault_of x words ≡ []) own none, (asked refl).0)
 
 -- ---- a number is the only one of its word
 
-one_number : (found : Option Text) (least most usual n m : ℕ) → most < 2 ^ 64 → OrElse found (n ≡ usual) (λ word. IsNumber least most word n)
+one_number : (found : Option Text) (least most usual n m : ℕ) → most < 2 ^ 64
+    → OrElse found (n ≡ usual) (λ word. IsNumber least most word n)
     → OrElse found (m ≡ usual) (λ word. IsNumber least most word m) → n ≡ m
 one_number None least most usual n m small is also = is ∙ sym also
-one_number (Some word) least most usual n m small is also = decimal_injective n m (omega (arith, is.2)) (omega (arith, also.2)) (sym is.0 ∙ also.0)
+one_number (Some word) least most usual n m small is also =
+    decimal_injective n m (omega (arith, is.2)) (omega (arith, also.2)) (sym is.0 ∙ also.0)
 
-pub same_number : (rows : List Row) (name : Text) (usual least most n m : ℕ) → most < 2 ^ 64 → HasNumber rows name usual least most n
-    → HasNumber rows name usual least most m → n ≡ m
-same_number rows name usual least most n m small is also = one_number (first_of name rows) least most usual n m small is also
+pub same_number : (rows : List Row) (name : Text) (usual least most n m : ℕ) → most < 2 ^ 64
+    → HasNumber rows name usual least most n → HasNumber rows name usual least most m → n ≡ m
+same_number rows name usual least most n m small is also =
+    one_number (first_of name rows) least most usual n m small is also
 
 -- ---- lines
 
-one_blank : (number : ℕ) (before : List (List Text)) (words : List Text) (lines : List Line) → is_blank words ≡ true → AreLines number before lines
+one_blank : (number : ℕ) (before : List (List Text)) (words : List Text) (lines : List Line)
+    → is_blank words ≡ true → AreLines number before lines
     → AreLines number (before ++ words ∷ []) lines
 one_blank number [] words lines blank are = inl (blank, are)
-one_blank number (first ∷ others) words lines blank (inl skipped) = inl (skipped.0, one_blank (number + 1) others words lines blank skipped.1)
+one_blank number (first ∷ others) words lines blank (inl skipped) =
+    inl (skipped.0, one_blank (number + 1) others words lines blank skipped.1)
 one_blank number (first ∷ others) words lines blank (inr (line, rest, is, said, more)) =
     inr (line, rest, is, said, one_blank (number + 1) others words rest blank more)
 
-one_line : (number : ℕ) (before : List (List Text)) (words : List Text) (lines : List Line) (line : Line) → IsLine (number + length before) words line
-    → AreLines number before lines → AreLines number (before ++ words ∷ []) (lines ++ line ∷ [])
+one_line : (number : ℕ) (before : List (List Text)) (words : List Text) (lines : List Line)
+    (line : Line) → IsLine (number + length before) words line → AreLines number before lines
+    → AreLines number (before ++ words ∷ []) (lines ++ line ∷ [])
 one_line number [] words lines line is are =
     let here : number + length {A = List Text} [] ≡ number = omega arith in
-    inr (line, [], ap (λ (xs : List Line). xs ++ line ∷ []) are, subst (λ n. IsLine n words line) here is, refl)
+    inr (
+      line,
+      [],
+      ap (λ (xs : List Line). xs ++ line ∷ []) are,
+      subst (λ n. IsLine n words line) here is,
+      refl,
+    )
 one_line number (first ∷ others) words lines line is (inl skipped) =
     let later : number + length (first ∷ others) ≡ (number + 1) + length others = omega arith in
-    inl (skipped.0, one_line (number + 1) others words lines line (subst (λ n. IsLine n words line) later is) skipped.1)
+    inl (
+      skipped.0,
+      one_line (number + 1) others words lines line
+          (subst (λ n. IsLine n words line) later is) skipped.1,
+    )
 one_line number (first ∷ others) words lines line is (inr (head, rest, are, said, more)) =
     let later : number + length (first ∷ others) ≡ (number + 1) + length others = omega arith in
     inr (
@@ -63,28 +83,41 @@ one_line number (first ∷ others) words lines line is (inr (head, rest, are, sa
       one_line (number + 1) others words rest line (subst (λ n. IsLine n words line) later is) more,
     )
 
-one_more : (number : ℕ) (before : List (List Text)) (words : List Text) (old new : List Line) → AddsLine (number + length before) words old new
-    → AreLines number before old → AreLines number (before ++ words ∷ []) new
+one_more : (number : ℕ) (before : List (List Text)) (words : List Text) (old new : List Line)
+    → AddsLine (number + length before) words old new → AreLines number before old
+    → AreLines number (before ++ words ∷ []) new
 one_more number before words old new (inl (blank, same)) are =
-    subst (λ (xs : List Line). AreLines number (before ++ words ∷ []) xs) (sym same) (one_blank number before words old blank are)
+    subst (λ (xs : List Line). AreLines number (before ++ words ∷ []) xs) (sym same)
+    (one_blank number before words old blank are)
 one_more number before words old new (inr (line, is, added)) are =
-    subst (λ (xs : List Line). AreLines number (before ++ words ∷ []) xs) (sym added) (one_line number before words old line is are)
+    subst (λ (xs : List Line). AreLines number (before ++ words ∷ []) xs) (sym added)
+    (one_line number before words old line is are)
 
-words_append : (lines : List (Vec (Bor Text))) (line : Vec (Bor Text)) → words_of (lines ++ line ∷ []) ≡ words_of lines ++ views line.items ∷ []
+words_append : (lines : List (Vec (Bor Text))) (line : Vec (Bor Text))
+    → words_of (lines ++ line ∷ []) ≡ words_of lines ++ views line.items ∷ []
 words_append [] line = refl
-words_append (first ∷ others) line = ap (λ (xs : List (List Text)). views first.items ∷ xs) (words_append others line)
+words_append (first ∷ others) line =
+    ap (λ (xs : List (List Text)). views first.items ∷ xs) (words_append others line)
 
-words_length : (lines : List (Vec (Bor Text))) (i : ℕ) → i ≤ length lines → length (words_of (take i lines)) ≡ i
-words_length lines i le = length-map (take i lines) (λ (line : Vec (Bor Text)). views line.items) ∙ length-take-le i lines le
+words_length : (lines : List (Vec (Bor Text))) (i : ℕ) → i ≤ length lines
+    → length (words_of (take i lines)) ≡ i
+words_length lines i le = length-map (take i lines) (λ (line : Vec (Bor Text)). views line.items)
+    ∙ length-take-le i lines le
 
-pub lines_more : (lines : List (Vec (Bor Text))) (i : ℕ) (d : Vec (Bor Text)) (old new : List Line) → i < length lines
-    → AreLines 1 (words_of (take i lines)) old → AddsLine (i + 1) (views (get_or lines i d).items) old new → AreLines 1 (words_of (take (i + 1) lines)) new
+pub lines_more : (lines : List (Vec (Bor Text))) (i : ℕ) (d : Vec (Bor Text)) (old new : List Line)
+    → i < length lines → AreLines 1 (words_of (take i lines)) old
+    → AddsLine (i + 1) (views (get_or lines i d).items) old new
+    → AreLines 1 (words_of (take (i + 1) lines)) new
 lines_more lines i d old new lt are adds =
-    let place : i + 1 ≡ 1 + length (words_of (take i lines)) = omega (arith, words_length lines i (omega arith)) in
+    let place : i + 1 ≡ 1 + length (words_of (take i lines)) =
+    omega (arith, words_length lines i (omega arith)) in
     let more = one_more 1 (words_of (take i lines)) (views (get_or lines i d).items) old new
     (subst (λ n. AddsLine n (views (get_or lines i d).items) old new) place adds) are in
-    subst (λ (ws : List (List Text)). AreLines 1 ws new) (sym (ap words_of (take_more lines i d lt) ∙ words_append (take i lines) (get_or lines i d))) more
+    subst (λ (ws : List (List Text)). AreLines 1 ws new)
+    (sym (ap words_of (take_more lines i d lt)
+    ∙ words_append (take i lines) (get_or lines i d))) more
 
-pub lines_all : (lines : List (Vec (Bor Text))) (i : ℕ) (read : List Line) → length lines ≤ i → AreLines 1 (words_of (take i lines)) read
-    → AreLines 1 (words_of lines) read
-lines_all lines i read le are = subst (λ (xs : List (Vec (Bor Text))). AreLines 1 (words_of xs) read) (take_all i lines le) are
+pub lines_all : (lines : List (Vec (Bor Text))) (i : ℕ) (read : List Line) → length lines ≤ i
+    → AreLines 1 (words_of (take i lines)) read → AreLines 1 (words_of lines) read
+lines_all lines i read le are = subst
+    (λ (xs : List (Vec (Bor Text))). AreLines 1 (words_of xs) read) (take_all i lines le) are

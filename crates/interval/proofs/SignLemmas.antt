@@ -11,15 +11,23 @@ use Rattle.interval.specs.Signs.{biased_number}
 pub biased_twice : (n : ℕ) → n < 2 ^ 64 → biased_number (biased_number n) ≡ n
 biased_twice n small = omega arith
 
-pub meets_biased : (w : Width) (test : Test) (a b : ℕ) → a < 2 ^ 64 → b < 2 ^ 64 → IsTrue (test_holds w test (low w a) (low w b)) → IsTrue (test_holds w test (low w (biased_number (biased_number a))) (low w (biased_number (biased_number b))))
+pub meets_biased : (w : Width) (test : Test) (a b : ℕ) → a < 2 ^ 64 → b < 2 ^ 64
+    → IsTrue (test_holds w test (low w a) (low w b))
+    → IsTrue (test_holds w test (low w (biased_number (biased_number a)))
+    (low w (biased_number (biased_number b))))
 meets_biased w test a b small small' meets =
-    subst (λ x. IsTrue (test_holds w test (low w x) (low w (biased_number (biased_number b))))) (sym (biased_twice a small))
-    (subst (λ y. IsTrue (test_holds w test (low w a) (low w y))) (sym (biased_twice b small')) meets)
+    subst (λ x. IsTrue (test_holds w test (low w x) (low w (biased_number (biased_number b)))))
+    (sym (biased_twice a small))
+    (subst (λ y. IsTrue (test_holds w test (low w a) (low w y))) (sym (biased_twice b small'))
+    meets)
 
-pub sum_biased : (a b : ℕ) → (biased_number a + biased_number b + 2 ^ 63) % 2 ^ 64 ≡ biased_number (low Bits64 (a + b))
+pub sum_biased : (a b : ℕ) → (biased_number a + biased_number b + 2 ^ 63) % 2 ^ 64
+    ≡ biased_number (low Bits64 (a + b))
 sum_biased a b = omega arith
 
-pub difference_biased : (a b : ℕ) → b < 2 ^ 64 → (biased_number a + (3 * 2 ^ 63 - biased_number b)) % 2 ^ 64 ≡ biased_number (low Bits64 (a + (2 ^ 64 - b)))
+pub difference_biased : (a b : ℕ) → b < 2 ^ 64
+    → (biased_number a + (3 * 2 ^ 63 - biased_number b)) % 2 ^ 64
+    ≡ biased_number (low Bits64 (a + (2 ^ 64 - b)))
 difference_biased a b small = omega arith
 
 pub sum_most : (k a b x y : ℕ) → a ≤ x → b ≤ y → a + b + k ≤ x + y + k

@@ -22,20 +22,23 @@ second_none false = refl
 bytes_at-one : (i : Instruction) → flat_map bytes_at (slots_of i) ≡ bytes_of i
 bytes_at-one i = ap (λ xs. bytes_of i ++ xs) (second_none (is_wide i)) ∙ append-nil (bytes_of i)
 
-pub bytes_at-all : (is : List Instruction) → flat_map bytes_at (flat_map slots_of is) ≡ flat_map bytes_of is
+pub bytes_at-all : (is : List Instruction)
+    → flat_map bytes_at (flat_map slots_of is) ≡ flat_map bytes_of is
 bytes_at-all [] = refl
 bytes_at-all (i ∷ is) =
     flat_map-append bytes_at (slots_of i) (flat_map slots_of is)
     ∙ ap (λ xs. xs ++ flat_map bytes_at (flat_map slots_of is)) (bytes_at-one i)
     ∙ ap (λ xs. bytes_of i ++ xs) (bytes_at-all is)
 
-pub spelled_so : (code : List Slot) (bytes : List ℕ) → IsCode code → bytes ≡ flat_map bytes_at code → Spells bytes code
+pub spelled_so : (code : List Slot) (bytes : List ℕ) → IsCode code → bytes ≡ flat_map bytes_at code
+    → Spells bytes code
 spelled_so code bytes is e = record {
   spelled = record {
     instructions = is.whole.instructions;
     each = is.whole.each;
     slots_are = is.whole.slots_are;
-    bytes_are = e ∙ ap (λ xs. flat_map bytes_at xs) is.whole.slots_are ∙ bytes_at-all is.whole.instructions;
+    bytes_are = e ∙ ap (λ xs. flat_map bytes_at xs) is.whole.slots_are
+        ∙ bytes_at-all is.whole.instructions;
   };
   code_is = is;
 }

@@ -12,7 +12,8 @@ use Rattle.routes.specs.Offers.{Attaches, OffersWithin, ReachesBoundaryRouter}
 use Rattle.routes.specs.Paths.{IsWay, Way}
 use Rattle.routes.specs.Routes.{IsForwarded, IsRouteAmong}
 use Rattle.routes.specs.Said.{Said}
-use Rattle.routes.specs.Summaries.{CountsAsSummary, IsBoundaryWay, IsToldOf, IsWayBetween, OffersBetween, OffersInside, ReachesBorderRouter, summary_key}
+use Rattle.routes.specs.Summaries.{CountsAsSummary, IsBoundaryWay, IsToldOf, IsWayBetween}
+use Rattle.routes.specs.Summaries.{OffersBetween, OffersInside, ReachesBorderRouter, summary_key}
 use Rattle.routes.specs.Summaries.IsBoundaryWay.{Inside, Outside}
 use Rattle.routes.specs.declared.node.Node.{Node}
 use Rattle.routes.specs.declared.node.Node.TheVariants.{ANetwork, ARouter}
@@ -31,13 +32,26 @@ turned old new same key low = sym (same key low)
 -- ---- one direction
 
 module _ (old new : Said) (same : AgreeInside old new) (root : Root) where
-  way : (node : Node) (w : Way) → IsWay (Leads old root) (ARouter root.router) node w → IsWay (Leads new root) (ARouter root.router) node w
-  way node w is = carried old new root (λ key low. same key (omega (arith, low))) (ARouter root.router) node w is
+  way : (node : Node) (w : Way) → IsWay (Leads old root) (ARouter root.router) node w
+      → IsWay (Leads new root) (ARouter root.router) node w
+  way node w is = carried old new root (λ key low. same key (omega (arith, low)))
+      (ARouter root.router) node w is
 
-  attaches : (node : Node) (prefix : Network) (more : ℕ) → Attaches old node prefix more → Attaches new node prefix more
-  attaches (ANetwork id by) prefix more a = (a.0, sym (same (network_key id by) (omega arith)) ∙ a.1, a.2, a.3)
-  attaches (ARouter router) prefix more a =
-      (a.0, record { lsa = a.1.lsa; its = sym (same (router_key router) (omega arith)) ∙ a.1.its; among = a.1.among }, a.2, a.3, a.4)
+  attaches : (node : Node) (prefix : Network) (more : ℕ) → Attaches old node prefix more
+      → Attaches new node prefix more
+  attaches (ANetwork id by) prefix more a =
+      (a.0, sym (same (network_key id by) (omega arith)) ∙ a.1, a.2, a.3)
+  attaches (ARouter router) prefix more a = (
+    a.0,
+    record {
+      lsa = a.1.lsa;
+      its = sym (same (router_key router) (omega arith)) ∙ a.1.its;
+      among = a.1.among;
+    },
+    a.2,
+    a.3,
+    a.4,
+  )
 
   within : (o : Offer) → OffersWithin old root o → OffersWithin new root o
   within o k = record {
@@ -53,7 +67,8 @@ module _ (old new : Said) (same : AgreeInside old new) (root : Root) where
     is = k.is;
   }
 
-  border : (router : ℕ) (w : Way) → ReachesBorderRouter old root router w → ReachesBorderRouter new root router w
+  border : (router : ℕ) (w : Way) → ReachesBorderRouter old root router w
+      → ReachesBorderRouter new root router w
   border router w k = record {
     lsa = k.lsa;
     its = sym (same (router_key router) (omega arith)) ∙ k.its;
@@ -61,8 +76,13 @@ module _ (old new : Said) (same : AgreeInside old new) (root : Root) where
     reached = way (ARouter router) w k.reached;
   }
 
-  counts : (originator : ℕ) (lsa : SummaryLsa) (w : Way) → CountsAsSummary old root originator lsa w → CountsAsSummary new root originator lsa w
-  counts originator lsa w k = record { reachable = k.reachable; of_another = k.of_another; reaches = border originator w k.reaches }
+  counts : (originator : ℕ) (lsa : SummaryLsa) (w : Way) → CountsAsSummary old root originator lsa w
+      → CountsAsSummary new root originator lsa w
+  counts originator lsa w k = record {
+    reachable = k.reachable;
+    of_another = k.of_another;
+    reaches = border originator w k.reaches;
+  }
 
   between : (o : Offer) → OffersBetween old root o → OffersBetween new root o
   between o k = record {
@@ -81,7 +101,8 @@ module _ (old new : Said) (same : AgreeInside old new) (root : Root) where
   inside o (inl k) = inl (within o k)
   inside o (inr k) = inr (between o k)
 
-  boundary_inside : (router : ℕ) (w : Way) → ReachesBoundaryRouter old root router w → ReachesBoundaryRouter new root router w
+  boundary_inside : (router : ℕ) (w : Way) → ReachesBoundaryRouter old root router w
+      → ReachesBoundaryRouter new root router w
   boundary_inside router w k = record {
     lsa = k.lsa;
     its = sym (same (router_key router) (omega arith)) ∙ k.its;
@@ -89,7 +110,8 @@ module _ (old new : Said) (same : AgreeInside old new) (root : Root) where
     reached = way (ARouter router) w k.reached;
   }
 
-  told : (router distance : ℕ) (w : Way) → IsToldOf old root router distance w → IsToldOf new root router distance w
+  told : (router distance : ℕ) (w : Way) → IsToldOf old root router distance w
+      → IsToldOf new root router distance w
   told router distance w k = record {
     originator = k.originator;
     lsa = k.lsa;
@@ -104,31 +126,40 @@ module _ (old new : Said) (same : AgreeInside old new) (root : Root) where
   abbrev back : AgreeInside new old
   back = turned old new same
 
-  way_between : (router : ℕ) (w : Way) → IsWayBetween old root router w → IsWayBetween new root router w
+  way_between : (router : ℕ) (w : Way) → IsWayBetween old root router w
+      → IsWayBetween new root router w
   way_between router w k = record {
     border = k.border;
     told = told old new same root router w.distance k.border k.told;
-    least = λ distance other t. k.least distance other (told new old back root router distance other t);
+    least = λ distance other t. k.least distance other
+        (told new old back root router distance other t);
     hops = λ i. (
       (λ t. let h = (k.hops i).0 t in (h.0, told old new same root router w.distance h.0 h.1, h.2)),
       (λ h. (k.hops i).1 (h.0, told new old back root router w.distance h.0 h.1, h.2)),
     );
   }
 
-  pub boundary : (router : ℕ) (w : Way) → IsBoundaryWay old root router w → IsBoundaryWay new root router w
+  pub boundary : (router : ℕ) (w : Way) → IsBoundaryWay old root router w
+      → IsBoundaryWay new root router w
   boundary router w (Inside k) = Inside (boundary_inside old new same root router w k)
   boundary router w (Outside none k) =
-      Outside (λ other k. none other (boundary_inside new old back root router other k)) (way_between router w k)
+      Outside (λ other k. none other (boundary_inside new old back root router other k))
+      (way_between router w k)
 
-  route : (r : Route) → IsRouteAmong (OffersInside old root) r → IsRouteAmong (OffersInside new root) r
+  route : (r : Route) → IsRouteAmong (OffersInside old root) r
+      → IsRouteAmong (OffersInside new root) r
   route r k =
-      same_offers (OffersInside old root) (OffersInside new root) r (λ o _. inside old new same root o) (λ o _. inside new old back root o) k
+      same_offers (OffersInside old root) (OffersInside new root) r
+      (λ o _. inside old new same root o) (λ o _. inside new old back root o) k
 
-  route_back : (r : Route) → IsRouteAmong (OffersInside new root) r → IsRouteAmong (OffersInside old root) r
+  route_back : (r : Route) → IsRouteAmong (OffersInside new root) r
+      → IsRouteAmong (OffersInside old root) r
   route_back r k =
-      same_offers (OffersInside new root) (OffersInside old root) r (λ o _. inside new old back root o) (λ o _. inside old new same root o) k
+      same_offers (OffersInside new root) (OffersInside old root) r
+      (λ o _. inside new old back root o) (λ o _. inside old new same root o) k
 
-  forwarded : (address : ℕ) (w : Way) → IsForwarded (OffersInside old root) address w → IsForwarded (OffersInside new root) address w
+  forwarded : (address : ℕ) (w : Way) → IsForwarded (OffersInside old root) address w
+      → IsForwarded (OffersInside new root) address w
   forwarded address w k = record {
     by = k.by;
     is_route = route k.by k.is_route;
@@ -137,7 +168,8 @@ module _ (old new : Said) (same : AgreeInside old new) (root : Root) where
     is = k.is;
   }
 
-  pub external_way : (originator : ℕ) (lsa : ExternalLsa) (w : Way) → IsExternalWay old root originator lsa w → IsExternalWay new root originator lsa w
+  pub external_way : (originator : ℕ) (lsa : ExternalLsa) (w : Way)
+      → IsExternalWay old root originator lsa w → IsExternalWay new root originator lsa w
   external_way originator lsa w k = record {
     boundary = k.boundary;
     reaches = boundary originator k.boundary k.reaches;

@@ -16,14 +16,21 @@ use Rattle.kept_routes.specs.Laws.{RoutesAreKept, WalksAreKept}
 use Rattle.kept_routes.specs.Sameness.{SayTheSame}
 
 module _ (old new : Said) (root : Root) (same : SayTheSame (Some 2) old new) where
-  walked_before : (from : Node) (walk : List (Step Node)) (to : Node) → IsWalk (Leads new root) from walk to → IsWalk (Leads old root) from walk to
+  walked_before : (from : Node) (walk : List (Step Node)) (to : Node)
+      → IsWalk (Leads new root) from walk to → IsWalk (Leads old root) from walk to
   walked_before from [] to is = is
-  walked_before from (s ∷ walk) to is =
-      (leads new old (λ key low. sym (same key low)) root from s.target s.price s.exit is.0, walked_before s.target walk to is.1)
+  walked_before from (s ∷ walk) to is = (
+    leads new old (λ key low. sym (same key low)) root from s.target s.price s.exit is.0,
+    walked_before s.target walk to is.1,
+  )
 
-  answer : (node : Node) (way : Option Way) → IsNodeAnswer old root node way → IsNodeAnswer new root node way
+  answer : (node : Node) (way : Option Way) → IsNodeAnswer old root node way
+      → IsNodeAnswer new root node way
   answer node None none = λ walk is. none walk (walked_before (ARouter root.router) walk node is)
-  answer node (Some way) is = carried old new root same (ARouter root.router) node (record { distance = way.distance; hops = way.hops }) is
+  answer node (Some way) is = carried old new root same (ARouter root.router) node (record {
+    distance = way.distance;
+    hops = way.hops;
+  }) is
 
 pub walks_kept : WalksAreKept
 walks_kept old new kept same is = record {
@@ -36,8 +43,10 @@ equal old new same = λ i key. same key tt i
 
 pub routes_kept : RoutesAreKept
 routes_kept = record {
-  candidates = λ old new root routes same is. subst (λ (s : Said). AreCandidates s root routes) (equal old new same) is;
-  table = λ old new root answers table same is. subst (λ (s : Said). IsTable s root answers table) (equal old new same) is;
+  candidates = λ old new root routes same is. subst (λ (s : Said). AreCandidates s root routes)
+      (equal old new same) is;
+  table = λ old new root answers table same is. subst (λ (s : Said). IsTable s root answers table)
+      (equal old new same) is;
   stale = λ old new root answers same. (
     (λ is. subst (λ (s : Said). IsStale s root answers) (equal old new same) is),
     (λ is. subst (λ (s : Said). IsStale s root answers) (sym (equal old new same)) is),

@@ -26,7 +26,8 @@ use Rattle.candidates.specs.Ways.{AreWays, Ways}
 use Rattle.candidates.specs.Reached.{way_in}
 use Rattle.routes.specs.lsdb.Changes.{SaysTheSame}
 use Rattle.routes.specs.lsdb.Silence.{SaysNoMore}
-use Rattle.kept_routes.specs.Externals.{AreOldOrLeftOut, IsUnreached, LeaveCandidates, OfferTheSame, OffersNothing}
+use Rattle.kept_routes.specs.Externals.{AreOldOrLeftOut, IsUnreached, LeaveCandidates, OfferTheSame}
+use Rattle.kept_routes.specs.Externals.{OffersNothing}
 use Rattle.kept_routes.specs.Laws.{CandidatesAreKept}
 use Rattle.kept_routes.specs.Kept.{IsWalkOf, KeptWalk}
 use Rattle.kept_routes.proofs.Aging.{all_old_within, among_aged, says_same}
@@ -34,17 +35,23 @@ use Rattle.kept_routes.proofs.KeptLaws.{walks_kept}
 use Rattle.kept_routes.proofs.Inner.{boundary, external_way, inside}
 
 -- the same in the other direction
-pub turned_offers : (old new : Said) (root : Root) → OfferTheSame old new root → OfferTheSame new old root
+pub turned_offers : (old new : Said) (root : Root) → OfferTheSame old new root
+    → OfferTheSame new old root
 turned_offers old new root same = record {
   inner = λ key low. sym (same.inner key low);
-  outer = λ key way other is. sym (same.outer key way other (boundary old new same.inner root key.advertising_router way is));
+  outer = λ key way other is. sym (same.outer key way other
+      (boundary old new same.inner root key.advertising_router way is));
 }
 
 module _ (old new : Said) (root : Root) (same : OfferTheSame old new root) where
   external : (o : Offer) → OffersExternal old root o → OffersExternal new root o
   external o k =
       let way = boundary old new same.inner root k.originator k.is_way.boundary k.is_way.reaches in
-      let key : Key = record { ls_type = 5; link_state_id = k.id; advertising_router = k.originator } in
+      let key : Key = record {
+        ls_type = 5;
+        link_state_id = k.id;
+        advertising_router = k.originator;
+      } in
       record {
         id = k.id;
         originator = k.originator;
@@ -79,21 +86,39 @@ module _ (old new : Said) (root : Root) (same : OfferTheSame old new root) where
   back : (o : Offer) → Offers new root o → Offers old root o
   back = offers new old root (turned_offers old new root same)
 
-  pub candidates_stay : (routes : List Route) → AreCandidates old root routes → AreCandidates new root routes
-  candidates_stay routes are = routes_among (Offers old root) (Offers new root) routes forth back are
+  pub candidates_stay : (routes : List Route) → AreCandidates old root routes
+      → AreCandidates new root routes
+  candidates_stay routes are = routes_among (Offers old root) (Offers new root) routes forth back
+      are
 
-  pub nothing_comes_stale : (answers : Answers) → IsStale new root answers → IsStale old root answers
-  nothing_comes_stale answers stale =
-      (stale.0, same_offers (Offers new root) (Offers old root) stale.0 (λ o _. back o) (λ o _. forth o) stale.1, stale.2)
+  pub nothing_comes_stale : (answers : Answers) → IsStale new root answers
+      → IsStale old root answers
+  nothing_comes_stale answers stale = (
+    stale.0,
+    same_offers (Offers new root) (Offers old root) stale.0 (λ o _. back o)
+        (λ o _. forth o) stale.1,
+    stale.2,
+  )
 
 -- the ways lead to each AS boundary router that is reached
-flagged : (said : Said) (root : Root) (ways : Ways) → AreWays said root ways → (router : ℕ) (way : Way) → ReachesBoundaryRouter said root router way
+flagged : (said : Said) (root : Root) (ways : Ways) → AreWays said root ways
+    → (router : ℕ) (way : Way) → ReachesBoundaryRouter said root router way
     → (w : WayTo) × IsFlagged said ways router 2 w
 flagged said root ways are router way k = by (ways (ARouter router)) refl (are (ARouter router))
   where
-    by : (answer : Option WayTo) → ways (ARouter router) ≡ answer → IsNodeAnswer said root (ARouter router) answer → (w : WayTo) × IsFlagged said ways router 2 w
+    by : (answer : Option WayTo) → ways (ARouter router) ≡ answer
+        → IsNodeAnswer said root (ARouter router) answer
+        → (w : WayTo) × IsFlagged said ways router 2 w
     by None here none = absurd (none k.reached.distance.0 k.reached.distance.1.is_walk)
-    by (Some w) here is = (w, record { lsa = k.lsa; its = k.its; has_flag = k.has_e; reached = here })
+    by (Some w) here is = (
+      w,
+      record {
+        lsa = k.lsa;
+        its = k.its;
+        has_flag = k.has_e;
+        reached = here;
+      },
+    )
 
 -- ---- what is unchanged
 
@@ -107,13 +132,17 @@ module _ (before moment : ℕ) (old new : Database) (walk : KeptWalk) where
   abbrev Counts : Key → Type 0
   Counts key = OffersNothing moment new walk key → ⊥
 
-  module _ (order : before ≤ moment) (says : (key : Key) → Counts key → SaysNoMore before moment (finite.get old key) (finite.get new key))
+  module _ (order : before ≤ moment)
+      (says : (key : Key) → Counts key
+      → SaysNoMore before moment (finite.get old key) (finite.get new key))
       (aged : AreOldOrLeftOut before moment new walk (aged_keys moment new)) where
     counted : (key : Key) → Counts key → was key ≡ is key
     counted key counts =
         elim (says key counts) [
-          | inl same ↦ says_same before moment order (finite.get old key) (finite.get new key) same (λ copy here old_now.
-              aged key (among_aged moment key copy old_now (finite.entries new) (sym (finite.get-entries new key) ∙ here)) counts copy tt here old_now)
+          | inl same ↦ says_same before moment order (finite.get old key) (finite.get new key) same
+              (λ copy here old_now.
+              aged key (among_aged moment key copy old_now (finite.entries new)
+              (sym (finite.get-entries new key) ∙ here)) counts copy tt here old_now)
           | inr silent ↦ silent.was ∙ sym silent.is
         ]
 
@@ -124,7 +153,8 @@ module _ (before moment : ℕ) (old new : Database) (walk : KeptWalk) where
       walks : IsWalkOf is walk
       walks = walks_kept was is walk (λ key low. inner key (omega (arith, low))) walked
 
-      unreached : (router : ℕ) (way : Way) → IsBoundaryWay is walk.root router way → IsUnreached moment new walk router → ⊥
+      unreached : (router : ℕ) (way : Way) → IsBoundaryWay is walk.root router way
+          → IsUnreached moment new walk router → ⊥
       unreached router way (Inside k) un =
           let f = flagged is walk.root (way_in walk.reached) walks.ways router way k in
           un.inside f.0 f.1
@@ -132,11 +162,13 @@ module _ (before moment : ℕ) (old new : Database) (walk : KeptWalk) where
           let key = summary_key 4 router k.told.originator in
           un.outside (key, there (finite.get new key) _ k.told.its, (refl, refl))
         where
-          there : (o : Option DatabaseCopy) (b : Body) → said_by moment o ≡ Some b → is_some o ≡ true
+          there : (o : Option DatabaseCopy) (b : Body) → said_by moment o ≡ Some b
+              → is_some o ≡ true
           there None b it = absurd cc
           there (Some copy) b it = refl
 
-      outer : (key : Key) (way : Way) → key.advertising_router ≢ walk.root.router → IsBoundaryWay is walk.root key.advertising_router way → was key ≡ is key
+      outer : (key : Key) (way : Way) → key.advertising_router ≢ walk.root.router
+          → IsBoundaryWay is walk.root key.advertising_router way → was key ≡ is key
       outer key way other reaches =
           counted key (λ it.
           elim it.of_no_account [
@@ -149,13 +181,17 @@ module _ (before moment : ℕ) (old new : Database) (walk : KeptWalk) where
 
   -- ---- what the code looks at
 
-  pub within_one_moment : (keys : List Key) → before ≡ moment → AreOldOrLeftOut before moment new walk keys
-  within_one_moment keys same key among counts = all_old_within None before moment new keys same key among
+  pub within_one_moment : (keys : List Key) → before ≡ moment
+      → AreOldOrLeftOut before moment new walk keys
+  within_one_moment keys same key among counts =
+      all_old_within None before moment new keys same key among
 
-  pub others_keep : LeaveCandidates before moment old new walk → (key : Key) → Counts key → SaysTheSame moment (finite.get old key) (finite.get new key)
+  pub others_keep : LeaveCandidates before moment old new walk → (key : Key) → Counts key
+      → SaysTheSame moment (finite.get old key) (finite.get new key)
   others_keep left key counts = (left key counts).same
 
-  pub others_are_old : (keys : List Key) → LeaveCandidates before moment old new walk → AreOldOrLeftOut before moment new walk keys
+  pub others_are_old : (keys : List Key) → LeaveCandidates before moment old new walk
+      → AreOldOrLeftOut before moment new walk keys
   others_are_old keys left key among counts copy of here = (left key counts).old_copy copy here
 
 pub candidates_kept : CandidatesAreKept

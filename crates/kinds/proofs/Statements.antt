@@ -9,21 +9,29 @@ use Rattle.kinds.specs.declared.state.Kind.{Kind}
 use Rattle.kinds.specs.declared.state.Kind.TheVariants.{Empty}
 use Rattle.kinds.specs.declared.statement.Target.{Target}
 use Rattle.kinds.specs.Meaning.{KindHolds, TargetHolds}
-use Rattle.kinds.specs.Stated.{GivesStated, HoldsStatement, IsAsStated, IsRead, MeetsStated, MeetsStatement}
+use Rattle.kinds.specs.Stated.{GivesStated, HoldsStatement, IsAsStated, IsRead, MeetsStated}
+use Rattle.kinds.specs.Stated.{MeetsStatement}
 
 -- the kind is what is stated, in both directions
-pub record IsKindOf {D : Type 0} (contains : D → ℕ → Type 0) (gives : GivesStated D) (stated : Stated) (kind : Kind D) : Type 0 where
+pub record IsKindOf {D : Type 0} (contains : D → ℕ → Type 0) (gives : GivesStated D)
+    (stated : Stated) (kind : Kind D) : Type 0 where
   pub read : IsRead contains stated kind
   pub holds : (content : Content) → IsAsStated stated content → KindHolds contains kind content
-  pub meets : (content : Content) → KindHolds contains kind content → MeetsStated contains gives stated content
+  pub meets : (content : Content) → KindHolds contains kind content
+      → MeetsStated contains gives stated content
 
 -- the kinds of r0 to r9 are those of the statement
-abbrev pub AreKindsOf : {D : Type 0} → (D → ℕ → Type 0) → GivesStated D → StatementParts → Target D → Type 0
+abbrev pub AreKindsOf : {D : Type 0} → (D → ℕ → Type 0) → GivesStated D → StatementParts → Target D
+    → Type 0
 AreKindsOf contains gives statement target =
-    (r : ℕ) → r < 10 → IsKindOf contains gives (get_or statement.kinds r said.Empty) (get_or target.kinds.items r Empty)
+    (r : ℕ) → r < 10 → IsKindOf contains gives (get_or statement.kinds r said.Empty)
+    (get_or target.kinds.items r Empty)
 
-module _ {D : Type 0} (contains : D → ℕ → Type 0) (gives : GivesStated D) (statement : StatementParts) (target : Target D) (same : target.statement.now ≡ statement) (are : AreKindsOf contains gives statement target) where
-  pub target_holds : (machine : Machine) → HoldsStatement statement machine → TargetHolds contains target machine
+module _ {D : Type 0} (contains : D → ℕ → Type 0) (gives : GivesStated D)
+    (statement : StatementParts) (target : Target D) (same : target.statement.now ≡ statement)
+    (are : AreKindsOf contains gives statement target) where
+  pub target_holds : (machine : Machine) → HoldsStatement statement machine
+      → TargetHolds contains target machine
   target_holds machine is = record {
     eleven = is.eleven;
     whole = is.whole;
@@ -32,7 +40,8 @@ module _ {D : Type 0} (contains : D → ℕ → Type 0) (gives : GivesStated D) 
     stack = rw same is.stack;
   }
 
-  pub target_meets : (machine : Machine) → TargetHolds contains target machine → MeetsStatement contains gives statement machine
+  pub target_meets : (machine : Machine) → TargetHolds contains target machine
+      → MeetsStatement contains gives statement machine
   target_meets machine holds = record {
     registers = λ r low. (are r low).meets _ (holds.registers r low);
     stack = rw same at holds.stack;

@@ -44,37 +44,59 @@ low_low Bits64 n = omega arith
 pub low_sum : (w : Width) (x y : ℕ) → low w ((x + y) % 2 ^ 64) ≡ low w (x + y)
 low_sum w x y = low_of_word w (x + y)
 
-pub low_difference : (w : Width) (x y : ℕ) → y < 2 ^ bits w → low w ((x + (2 ^ 64 - y)) % 2 ^ 64) ≡ low w (x + (2 ^ bits w - y))
+pub low_difference : (w : Width) (x y : ℕ) → y < 2 ^ bits w
+    → low w ((x + (2 ^ 64 - y)) % 2 ^ 64) ≡ low w (x + (2 ^ bits w - y))
 low_difference Bits32 x y small = omega arith
 low_difference Bits64 x y small = omega arith
 
 -- if all bits are known, the number is the value
-pub single_value : (known : KnownBits) (n : ℕ) → known.mask ≡ 18446744073709551615 → HasBits known n → known.value ≡ n
-single_value known n whole inside = sym inside.bits ∙ ap (bit_and n) whole ∙ and_mask n 64 ∙ mod-eq_of_lt inside.small
+pub single_value : (known : KnownBits) (n : ℕ) → known.mask ≡ 18446744073709551615 → HasBits known n
+    → known.value ≡ n
+single_value known n whole inside =
+    sym inside.bits ∙ ap (bit_and n) whole ∙ and_mask n 64 ∙ mod-eq_of_lt inside.small
 
 pub whole_known : (known : KnownBits) → known.mask ≡ 18446744073709551615 → KnowsBelow known 64
 whole_known known whole = λ i below. ap (λ m. bit_at m i) whole ∙ bit_at_ones 64 i below
 
 -- an instruction that reads one number reads its low bits alone
-pub unary_low : (operation : UnaryOperation) (n : ℕ) → unary_result operation (low (unary_width operation) n) ≡ unary_result operation n
+pub unary_low : (operation : UnaryOperation) (n : ℕ)
+    → unary_result operation (low (unary_width operation) n) ≡ unary_result operation n
 unary_low (Negate Bits32) n = omega arith
 unary_low (Negate Bits64) n = omega arith
-unary_low (Extend (extensions.Byte Bits32)) n = let same : n % 2 ^ 32 % 2 ^ 8 ≡ n % 2 ^ 8 = omega arith in rw same refl
-unary_low (Extend (extensions.Byte Bits64)) n = let same : n % 2 ^ 64 % 2 ^ 8 ≡ n % 2 ^ 8 = omega arith in rw same refl
-unary_low (Extend (extensions.Half Bits32)) n = let same : n % 2 ^ 32 % 2 ^ 16 ≡ n % 2 ^ 16 = omega arith in rw same refl
-unary_low (Extend (extensions.Half Bits64)) n = let same : n % 2 ^ 64 % 2 ^ 16 ≡ n % 2 ^ 16 = omega arith in rw same refl
-unary_low (Extend extensions.Word) n = let same : n % 2 ^ 64 % 2 ^ 32 ≡ n % 2 ^ 32 = omega arith in rw same refl
-unary_low (Reorder orders.Little swaps.Bits16) n = let same : n % 2 ^ 32 % 2 ^ 16 ≡ n % 2 ^ 16 = omega arith in rw same refl
-unary_low (Reorder orders.Big swaps.Bits16) n = let same : n % 2 ^ 32 % 2 ^ 16 ≡ n % 2 ^ 16 = omega arith in rw same refl
-unary_low (Reorder orders.Swap swaps.Bits16) n = let same : n % 2 ^ 32 % 2 ^ 16 ≡ n % 2 ^ 16 = omega arith in rw same refl
-unary_low (Reorder orders.Little swaps.Bits32) n = let same : n % 2 ^ 32 % 2 ^ 32 ≡ n % 2 ^ 32 = omega arith in rw same refl
-unary_low (Reorder orders.Big swaps.Bits32) n = let same : n % 2 ^ 32 % 2 ^ 32 ≡ n % 2 ^ 32 = omega arith in rw same refl
-unary_low (Reorder orders.Swap swaps.Bits32) n = let same : n % 2 ^ 32 % 2 ^ 32 ≡ n % 2 ^ 32 = omega arith in rw same refl
-unary_low (Reorder orders.Little swaps.Bits64) n = let same : n % 2 ^ 64 % 2 ^ 64 ≡ n % 2 ^ 64 = omega arith in rw same refl
-unary_low (Reorder orders.Big swaps.Bits64) n = let same : n % 2 ^ 64 % 2 ^ 64 ≡ n % 2 ^ 64 = omega arith in rw same refl
-unary_low (Reorder orders.Swap swaps.Bits64) n = let same : n % 2 ^ 64 % 2 ^ 64 ≡ n % 2 ^ 64 = omega arith in rw same refl
+unary_low (Extend (extensions.Byte Bits32)) n = let same : n % 2 ^ 32 % 2 ^ 8 ≡ n % 2 ^ 8 =
+    omega arith in rw same refl
+unary_low (Extend (extensions.Byte Bits64)) n = let same : n % 2 ^ 64 % 2 ^ 8 ≡ n % 2 ^ 8 =
+    omega arith in rw same refl
+unary_low (Extend (extensions.Half Bits32)) n = let same : n % 2 ^ 32 % 2 ^ 16 ≡ n % 2 ^ 16 =
+    omega arith in rw same refl
+unary_low (Extend (extensions.Half Bits64)) n = let same : n % 2 ^ 64 % 2 ^ 16 ≡ n % 2 ^ 16 =
+    omega arith in rw same refl
+unary_low (Extend extensions.Word) n = let same : n % 2 ^ 64 % 2 ^ 32 ≡ n % 2 ^ 32 = omega arith in
+    rw same refl
+unary_low (Reorder orders.Little swaps.Bits16) n = let same : n % 2 ^ 32 % 2 ^ 16 ≡ n % 2 ^ 16 =
+    omega arith in rw same refl
+unary_low (Reorder orders.Big swaps.Bits16) n = let same : n % 2 ^ 32 % 2 ^ 16 ≡ n % 2 ^ 16 =
+    omega arith in rw same refl
+unary_low (Reorder orders.Swap swaps.Bits16) n = let same : n % 2 ^ 32 % 2 ^ 16 ≡ n % 2 ^ 16 =
+    omega arith in rw same refl
+unary_low (Reorder orders.Little swaps.Bits32) n = let same : n % 2 ^ 32 % 2 ^ 32 ≡ n % 2 ^ 32 =
+    omega arith in rw same refl
+unary_low (Reorder orders.Big swaps.Bits32) n = let same : n % 2 ^ 32 % 2 ^ 32 ≡ n % 2 ^ 32 =
+    omega arith in rw same refl
+unary_low (Reorder orders.Swap swaps.Bits32) n = let same : n % 2 ^ 32 % 2 ^ 32 ≡ n % 2 ^ 32 =
+    omega arith in rw same refl
+unary_low (Reorder orders.Little swaps.Bits64) n = let same : n % 2 ^ 64 % 2 ^ 64 ≡ n % 2 ^ 64 =
+    omega arith in rw same refl
+unary_low (Reorder orders.Big swaps.Bits64) n = let same : n % 2 ^ 64 % 2 ^ 64 ≡ n % 2 ^ 64 =
+    omega arith in rw same refl
+unary_low (Reorder orders.Swap swaps.Bits64) n = let same : n % 2 ^ 64 % 2 ^ 64 ≡ n % 2 ^ 64 =
+    omega arith in rw same refl
 
 -- a low bit that is known to be 1 is still so in what is known of the low bits
-pub shared_one : (w : Width) (known : KnownBits) (i : ℕ) → i < bits w → KnowsOne known i → KnowsOne (shared_known w known) i
-shared_one Bits32 known i below one = (both_known known.mask 4294967295 i one.0 (bit_at_ones 32 i below), both_known known.value 4294967295 i one.1 (bit_at_ones 32 i below))
+pub shared_one : (w : Width) (known : KnownBits) (i : ℕ) → i < bits w → KnowsOne known i
+    → KnowsOne (shared_known w known) i
+shared_one Bits32 known i below one = (
+  both_known known.mask 4294967295 i one.0 (bit_at_ones 32 i below),
+  both_known known.value 4294967295 i one.1 (bit_at_ones 32 i below),
+)
 shared_one Bits64 known i below one = one

@@ -1,5 +1,6 @@
 -- LSAs of one LS type whose bytes after their headers are the same have one body.
-use Rattle.std.proofs.Common.{◌≡◌, ℕ, ◌≤◌, List, ◌++◌, length, drop, refl, sym, ap, ◌∙◌, arith, length-append}
+use Rattle.std.proofs.Common.{◌≡◌, ℕ, ◌≤◌, List, ◌++◌, length, drop, refl, sym, ap, ◌∙◌, arith}
+use Rattle.std.proofs.Common.{length-append}
 use Rattle.std.proofs.lemmas.List.{drop_at}
 use Rattle.lsa.specs.Headers.{header_text}
 use Rattle.lsa.specs.Laws.{OneLsa}
@@ -10,7 +11,8 @@ module _ (xs : List ℕ) (a : Lsa) (at : LsaText xs a) where
   -- an LSA has at least the bytes of its header
   pub long : 20 ≤ length xs
   long =
-      let size : length xs ≡ length (header_text a.header ++ body_text a.body) = ap length at.spelled in
+      let size : length xs ≡ length (header_text a.header ++ body_text a.body) =
+      ap length at.spelled in
       let wide : length (header_text a.header) ≡ 20 = refl in
       omega (arith, size, wide, length-append (header_text a.header) (body_text a.body))
 
@@ -19,7 +21,8 @@ module _ (xs : List ℕ) (a : Lsa) (at : LsaText xs a) where
 
 module _ (xs ys : List ℕ) (a b : Lsa) (at : LsaText xs a) (bt : LsaText ys b) where
   -- the second bytes also encode the LSA with its header and the body of the first
-  exchanged : a.header.ls_type ≡ b.header.ls_type → body_text a.body ≡ body_text b.body → LsaText ys (record { header = b.header; body = a.body })
+  exchanged : a.header.ls_type ≡ b.header.ls_type → body_text a.body ≡ body_text b.body
+      → LsaText ys (record { header = b.header; body = a.body })
   exchanged types same = record {
     is_lsa = record {
       header = bt.is_lsa.header;
@@ -33,10 +36,15 @@ module _ (xs ys : List ℕ) (a b : Lsa) (at : LsaText xs a) (bt : LsaText ys b) 
     checksum = bt.checksum;
   }
 
-  pub one_body : OneLsa → a.header.ls_type ≡ b.header.ls_type → drop 20 xs ≡ drop 20 ys → a.body ≡ b.body
+  pub one_body : OneLsa → a.header.ls_type ≡ b.header.ls_type → drop 20 xs ≡ drop 20 ys
+      → a.body ≡ b.body
   one_body one types rest =
-      let same : body_text a.body ≡ body_text b.body = sym (behind xs a at) ∙ rest ∙ behind ys b bt in
-      ap (λ (l : Lsa). l.body) (one ys (record { header = b.header; body = a.body }) b (exchanged types same) bt)
+      let same : body_text a.body ≡ body_text b.body =
+      sym (behind xs a at) ∙ rest ∙ behind ys b bt in
+      ap (λ (l : Lsa). l.body) (one ys (record {
+        header = b.header;
+        body = a.body;
+      }) b (exchanged types same) bt)
 
   pub one_type : a.body ≡ b.body → a.header.ls_type ≡ b.header.ls_type
   one_type is = at.is_lsa.ls_type ∙ ap type_of is ∙ sym bt.is_lsa.ls_type

@@ -15,13 +15,16 @@ abbrev changed_at : Key → (DatabaseCopy → DatabaseCopy) → Database → Opt
 changed_at k change d None = d
 changed_at k change d (Some c) = finite.insert d k (change c)
 
-change_is : (k : Key) (change : DatabaseCopy → DatabaseCopy) (d : Database) (o : Option DatabaseCopy) → finite.get d k ≡ o
+change_is : (k : Key) (change : DatabaseCopy → DatabaseCopy) (d : Database)
+    (o : Option DatabaseCopy) → finite.get d k ≡ o
     → change_copy k change d ≡ changed_at k change d o
 change_is k change d o is = ap (changed_at k change d) is
 
 module _ (moment : ℕ) (k : Key) (d : Database) where
   -- the copy is marked as sent
-  pub marks : (c : DatabaseCopy) → finite.get d k ≡ Some c → finite.insert d k (record c { sent = Some moment }) ≡ mark_sent moment k d
+  pub marks : (c : DatabaseCopy) → finite.get d k ≡ Some c → finite.insert d k (record c {
+    sent = Some moment;
+  }) ≡ mark_sent moment k d
   marks c some = sym (change_is k (λ c. record c { sent = Some moment }) d (Some c) some)
 
   pub marks_none : finite.get d k ≡ None → d ≡ mark_sent moment k d
@@ -29,12 +32,25 @@ module _ (moment : ℕ) (k : Key) (d : Database) where
 
   -- the copy has MaxAge from now on
   pub ages : (c : DatabaseCopy) → finite.get d k ≡ Some c
-      → finite.insert d k (record c { lsa = lsa_aged 3600 c.lsa; stored = moment }) ≡ age_out moment k d
-  ages c some = sym (change_is k (λ c. record c { lsa = lsa_aged 3600 c.lsa; stored = moment }) d (Some c) some)
+      → finite.insert d k (record c {
+        lsa = lsa_aged 3600 c.lsa;
+        stored = moment;
+      }) ≡ age_out moment k d
+  ages c some = sym (change_is k (λ c. record c {
+    lsa = lsa_aged 3600 c.lsa;
+    stored = moment;
+  }) d (Some c) some)
 
   pub ages_none : finite.get d k ≡ None → d ≡ age_out moment k d
-  ages_none none = sym (change_is k (λ c. record c { lsa = lsa_aged 3600 c.lsa; stored = moment }) d None none)
+  ages_none none = sym (change_is k (λ c. record c {
+    lsa = lsa_aged 3600 c.lsa;
+    stored = moment;
+  }) d None none)
 
 pub database_is : {r : ℕ} {p q s t : Database} → p ≡ q → s ≡ t
-    → ◌≡◌ {A = RouterDatabase} (record { router = r; present = p; settled = s }) (record { router = r; present = q; settled = t })
+    → ◌≡◌ {A = RouterDatabase} (record {
+      router = r;
+      present = p;
+      settled = s;
+    }) (record { router = r; present = q; settled = t })
 database_is {r} a b i = record { router = r; present = a i; settled = b i }

@@ -1,5 +1,6 @@
 -- The entries of a map, as a list in the order of their keys.
-use Rattle.std.proofs.Common.{◌≡◌, zero, suc, ◌⊎◌, inl, inr, Bool, true, false, cond, T, ◌&&◌, List, [], ◌∷◌, Some, refl, sym, ◌∙◌, ap, subst, arith}
+use Rattle.std.proofs.Common.{◌≡◌, zero, suc, ◌⊎◌, inl, inr, Bool, true, false, cond, T, ◌&&◌, List}
+use Rattle.std.proofs.Common.{[], ◌∷◌, Some, refl, sym, ◌∙◌, ap, subst, arith}
 use Rattle.std.proofs.lemmas.Option.{none-some, same_Some}
 use Rattle.std.specs.Cmp.{tied_itself}
 use Rattle.std.specs.List.{Contains, filter}
@@ -29,7 +30,8 @@ module _ {X : Type 0} where
   of_empty y (k, within, is) = omega (arith, within)
 
   -- tests that answer the same for each item select the same items
-  pub filter_alike : (p q : X → Bool) (xs : List X) → ((x : X) → Contains xs x → p x ≡ q x) → filter p xs ≡ filter q xs
+  pub filter_alike : (p q : X → Bool) (xs : List X) → ((x : X) → Contains xs x → p x ≡ q x)
+      → filter p xs ≡ filter q xs
   filter_alike p q [] alike = refl
   filter_alike p q (x ∷ xs) alike =
       let rest = filter_alike p q xs (λ y t. alike y (later_is x xs y t)) in
@@ -51,43 +53,54 @@ less Equal p = absurd p
 less Greater p = absurd p
 
 module _ {X : Type 0} where
-  pub below : (key : Key) (es : List (Key × X)) (x : Key × X) → T (below_all key_cmp key es) → Contains es x → key_cmp key x.0 ≡ Less
+  pub below : (key : Key) (es : List (Key × X)) (x : Key × X) → T (below_all key_cmp key es)
+      → Contains es x → key_cmp key x.0 ≡ Less
   below key [] x all among = absurd (of_empty x among)
   below key (e ∷ es) x all among =
       elim (of_cons e es x among) [
-        | inl here ↦ let P : Key × X → Type 0 = λ y. key_cmp key y.0 ≡ Less in subst P here (less _ (first _ _ all))
+        | inl here ↦ let P : Key × X → Type 0 = λ y. key_cmp key y.0 ≡ Less in
+            subst P here (less _ (first _ _ all))
         | inr later ↦ below key es x (second _ _ all) later
       ]
 
-  pub found_in : (es : List (Key × X)) (q : Key) (l : X) → finite.find key_cmp q es ≡ Some l → Contains es (q, l)
+  pub found_in : (es : List (Key × X)) (q : Key) (l : X) → finite.find key_cmp q es ≡ Some l
+      → Contains es (q, l)
   found_in [] q l is = absurd (none-some l is)
   found_in (e ∷ es) q l is =
-      elim (eq_by_cmp key_cmp q e.0) as (λ b. eq_by_cmp key_cmp q e.0 ≡ b → cond b (Some e.1) (finite.find key_cmp q es) ≡ Some l → Contains (e ∷ es) (q, l)) [
+      elim (eq_by_cmp key_cmp q e.0) as
+      (λ b. eq_by_cmp key_cmp q e.0 ≡ b → cond b (Some e.1) (finite.find key_cmp q es) ≡ Some l
+      → Contains (e ∷ es) (q, l)) [
         | true ↦ λ same some.
             let P : Key → X → Type 0 = λ k x. Contains (e ∷ es) (k, x) in
-            subst (λ k. P k l) (sym (tied q e.0 same)) (subst (λ x. P e.0 x) (same_Some e.1 l some) (first_is e es))
+            subst (λ k. P k l) (sym (tied q e.0 same))
+            (subst (λ x. P e.0 x) (same_Some e.1 l some) (first_is e es))
         | false ↦ λ other some. later_is e es (q, l) (found_in es q l some)
       ] refl is
 
-  pub found_at : (es : List (Key × X)) → T (is_sorted key_cmp es) → (q : Key) (l : X) → Contains es (q, l) → finite.find key_cmp q es ≡ Some l
+  pub found_at : (es : List (Key × X)) → T (is_sorted key_cmp es) → (q : Key) (l : X)
+      → Contains es (q, l) → finite.find key_cmp q es ≡ Some l
   found_at [] sorted q l among = absurd (of_empty (q, l) among)
   found_at (e ∷ es) sorted q l among =
       let P : Bool → Type 0 = λ b. cond b (Some e.1) (finite.find key_cmp q es) ≡ Some l in
       elim (of_cons e es (q, l) among) [
         | inl here ↦
             let same : e.0 ≡ q = ap (λ (x : Key × X). x.0) here in
-            let is : eq_by_cmp key_cmp q e.0 ≡ true = ap (λ k. eq_by_cmp key_cmp q k) same ∙ ap is_eq (tied_itself keys_total q) in
+            let is : eq_by_cmp key_cmp q e.0 ≡ true =
+            ap (λ k. eq_by_cmp key_cmp q k) same ∙ ap is_eq (tied_itself keys_total q) in
             subst P (sym is) (ap (λ (x : Key × X). Some x.1) here)
         | inr later ↦
             let before : key_cmp e.0 q ≡ Less = below e.0 es (q, l) (first _ _ sorted) later in
             elim (eq_by_cmp key_cmp q e.0) as (λ b. eq_by_cmp key_cmp q e.0 ≡ b → P b) [
               | true ↦ λ same.
-                  let no : Equal ≡ Less = sym (tied_itself keys_total e.0) ∙ ap (λ k. key_cmp e.0 k) (sym (tied q e.0 same)) ∙ before in
+                  let no : Equal ≡ Less = sym (tied_itself keys_total e.0)
+                  ∙ ap (λ k. key_cmp e.0 k) (sym (tied q e.0 same)) ∙ before in
                   absurd (cc)
               | false ↦ λ other. found_at es (second _ _ sorted) q l later
             ] refl
       ]
 
   -- what is among the entries is what the map has
-  pub entry_found : (m : ByKey X) (e : Key × X) → Contains (finite.entries m) e → finite.get m e.0 ≡ Some e.1
-  entry_found m e among = finite.get-entries m e.0 ∙ found_at (finite.entries m) (finite.entries_sorted m) e.0 e.1 among
+  pub entry_found : (m : ByKey X) (e : Key × X) → Contains (finite.entries m) e
+      → finite.get m e.0 ≡ Some e.1
+  entry_found m e among = finite.get-entries m e.0
+      ∙ found_at (finite.entries m) (finite.entries_sorted m) e.0 e.1 among

@@ -1,5 +1,6 @@
 -- The number of keys of self-originated AS-external-LSAs in a map after an edit.
-use Rattle.std.proofs.Common.{◌≡◌, ℕ, ◌+◌, ◌-◌, ◌≤◌, Bool, true, false, cond, not, nat_lt, List, [], ◌∷◌, Some, None, ◌&&◌, ◌||◌, length, map, refl, sym, ap, ◌∙◌, arith}
+use Rattle.std.proofs.Common.{◌≡◌, ℕ, ◌+◌, ◌-◌, ◌≤◌, Bool, true, false, cond, not, nat_lt, List, []}
+use Rattle.std.proofs.Common.{◌∷◌, Some, None, ◌&&◌, ◌||◌, length, map, refl, sym, ap, ◌∙◌, arith}
 use Rattle.std.specs.Prelude.{Option, is_some}
 use Rattle.std.specs.declared.cmp.Ordering.TheVariants.{Equal}
 use Rattle.keyed_map.specs.Slots.{count_after_change}
@@ -10,7 +11,8 @@ use Rattle.std.specs.Ordering.{eq_by_cmp}
 use Rattle.words.specs.declared.key.Key.{Key}
 use Rattle.lsdb.specs.Copies.{Database}
 use Rattle.lsdb.specs.Keys.{ByKey, key_cmp}
-use Rattle.lsdb.specs.Limits.{count_own_externals, exceeds, has_room, is_own_external, own_externals}
+use Rattle.lsdb.specs.Limits.{count_own_externals, exceeds, has_room, is_own_external}
+use Rattle.lsdb.specs.Limits.{own_externals}
 use Rattle.lsdb.proofs.Empty.{retained_none}
 use Rattle.lsdb.proofs.Keys.{keys_exact, keys_total, same, tied}
 
@@ -32,17 +34,20 @@ alike : (p : Key → Bool) (q x : Key) → key_cmp q x ≡ Equal → p x ≡ p q
 alike p q x e = ap p (sym (keys_exact q x e))
 
 module _ {X : Type 0} (p : Key → Bool) where
-  get-kept : (m : ByKey X) (q : Key) → finite.get (finite.retain_keys m p) q ≡ cond (p q) (finite.get m q) None
+  get-kept : (m : ByKey X) (q : Key)
+      → finite.get (finite.retain_keys m p) q ≡ cond (p q) (finite.get m q) None
   get-kept m q = finite.get-retain_keys m p q (alike p q)
 
   -- the entries that are left, as a list
-  pub entries_kept : (m : ByKey X) → finite.entries (finite.retain_keys m p) ≡ where_key key_cmp p (finite.entries m)
+  pub entries_kept : (m : ByKey X) → finite.entries (finite.retain_keys m p)
+      ≡ where_key key_cmp p (finite.entries m)
   entries_kept m =
       let es = where_key key_cmp p (finite.entries m) in
       let sorted = is_sorted-where_key key_cmp p (finite.entries m) (finite.entries_sorted m) in
       let is : finite.retain_keys m p ≡ finite.from_sorted {R = key_cmp} es =
       same _ _ (λ q. get-kept m q ∙ ap (λ o. cond (p q) o None) (finite.get-entries m q)
-      ∙ sym (finite.get-from_sorted key_cmp es q sorted ∙ find-where_key key_cmp p q (alike p q) (finite.entries m))) in
+      ∙ sym (finite.get-from_sorted key_cmp es q sorted
+      ∙ find-where_key key_cmp p q (alike p q) (finite.entries m))) in
       ap finite.entries is ∙ finite.entries-from_sorted key_cmp es sorted
 
   put_among : (e r : Bool) (x : X) (g : Option X) → (e ≡ true → r ≡ true)
@@ -52,10 +57,12 @@ module _ {X : Type 0} (p : Key → Bool) where
 
   put_beside : (e r : Bool) (x : X) (g : Option X) → (e ≡ true → r ≡ false)
       → cond r (cond e (Some x) g) None ≡ cond r g None
-  put_beside true r x g is = ap (λ b. cond b (Some x) None) (is refl) ∙ sym (ap (λ b. cond b g None) (is refl))
+  put_beside true r x g is = ap (λ b. cond b (Some x) None) (is refl)
+      ∙ sym (ap (λ b. cond b g None) (is refl))
   put_beside false r x g is = refl
 
-  taken_among : (e r : Bool) (g : Option X) → cond r (cond e None g) None ≡ cond e None (cond r g None)
+  taken_among : (e r : Bool) (g : Option X)
+      → cond r (cond e None g) None ≡ cond e None (cond r g None)
   taken_among true true g = refl
   taken_among true false g = refl
   taken_among false r g = refl
@@ -97,34 +104,43 @@ module _ {X : Type 0} (p : Key → Bool) where
 
   len_put_kept : (m : ByKey X) (k : Key) (x : X) (b : Bool) → p k ≡ b
       → finite.len (cond b (finite.insert (finite.retain_keys m p) k x) (finite.retain_keys m p))
-      ≡ cond b (count_after_change (finite.contains_key m k) true (finite.len (finite.retain_keys m p))) (finite.len (finite.retain_keys m p))
+      ≡ cond b (count_after_change (finite.contains_key m k) true
+      (finite.len (finite.retain_keys m p))) (finite.len (finite.retain_keys m p))
   len_put_kept m k x true is =
       finite.len-insert keys_total (finite.retain_keys m p) k x
-      ∙ ap (λ c. cond c (finite.len (finite.retain_keys m p)) (finite.len (finite.retain_keys m p) + 1))
-      (contains_kept m k ∙ ap (λ b. finite.contains_key m k && b) is ∙ and_true (finite.contains_key m k))
+      ∙ ap (λ c. cond c (finite.len (finite.retain_keys m p))
+      (finite.len (finite.retain_keys m p) + 1))
+      (contains_kept m k ∙ ap (λ b. finite.contains_key m k && b) is
+      ∙ and_true (finite.contains_key m k))
   len_put_kept m k x false is = refl
 
   pub count_put : (m : ByKey X) (k : Key) (x : X)
       → finite.len (finite.retain_keys (finite.insert m k x) p)
-      ≡ cond (p k) (count_after_change (finite.contains_key m k) true (finite.len (finite.retain_keys m p))) (finite.len (finite.retain_keys m p))
+      ≡ cond (p k) (count_after_change (finite.contains_key m k) true
+      (finite.len (finite.retain_keys m p))) (finite.len (finite.retain_keys m p))
   count_put m k x = ap finite.len (put_kept m k x (p k) refl) ∙ len_put_kept m k x (p k) refl
 
   -- another value of a key that the map has changes no number
   pub count_change : (m : ByKey X) (k : Key) (x : X) → finite.contains_key m k ≡ true
-      → finite.len (finite.retain_keys (finite.insert m k x) p) ≡ finite.len (finite.retain_keys m p)
+      → finite.len (finite.retain_keys (finite.insert m k x) p)
+      ≡ finite.len (finite.retain_keys m p)
   count_change m k x there =
       let n = finite.len (finite.retain_keys m p) in
       count_put m k x ∙ ap (λ c. cond (p k) (count_after_change c true n) n) there ∙ still (p k) n
 
   pub count_remove : (m : ByKey X) (k : Key)
       → finite.len (finite.retain_keys (finite.remove m k) p)
-      ≡ cond (p k) (count_after_change (finite.contains_key m k) false (finite.len (finite.retain_keys m p))) (finite.len (finite.retain_keys m p))
+      ≡ cond (p k) (count_after_change (finite.contains_key m k) false
+      (finite.len (finite.retain_keys m p))) (finite.len (finite.retain_keys m p))
   count_remove m k =
       ap finite.len (remove_kept m k) ∙ finite.len-remove keys_total (finite.retain_keys m p) k
-      ∙ ap (λ c. cond c (finite.len (finite.retain_keys m p) - 1) (finite.len (finite.retain_keys m p))) (contains_kept m k)
-      ∙ apart (finite.contains_key m k) (p k) (finite.len (finite.retain_keys m p) - 1) (finite.len (finite.retain_keys m p))
+      ∙ ap (λ c. cond c (finite.len (finite.retain_keys m p) - 1)
+      (finite.len (finite.retain_keys m p))) (contains_kept m k)
+      ∙ apart (finite.contains_key m k) (p k) (finite.len (finite.retain_keys m p) - 1)
+      (finite.len (finite.retain_keys m p))
 
-  length_chosen : (b : Bool) (e : Key × X) (es fs : List (Key × X)) → length es ≤ length fs → length (cond b (e ∷ es) es) ≤ length (e ∷ fs)
+  length_chosen : (b : Bool) (e : Key × X) (es fs : List (Key × X)) → length es ≤ length fs
+      → length (cond b (e ∷ es) es) ≤ length (e ∷ fs)
   length_chosen true e es fs le = omega (arith, le)
   length_chosen false e es fs le = omega (arith, le)
 
@@ -134,30 +150,43 @@ module _ {X : Type 0} (p : Key → Bool) where
 
   pub count_most : (m : ByKey X) → finite.len (finite.retain_keys m p) ≤ finite.len m
   count_most m =
-      omega (arith, finite.len-entries (finite.retain_keys m p), ap length (entries_kept m), fewer (finite.entries m), finite.len-entries m)
+      omega (
+        arith,
+        finite.len-entries (finite.retain_keys m p),
+        ap length (entries_kept m),
+        fewer (finite.entries m),
+        finite.len-entries m,
+      )
 
-  keys_chosen : (b : Bool) (e : Key × X) (ks : List Key) (es : List (Key × X)) → length ks ≡ length es
-      → length (cond b (e.0 ∷ ks) ks) ≡ length (cond b (e ∷ es) es)
+  keys_chosen : (b : Bool) (e : Key × X) (ks : List Key) (es : List (Key × X))
+      → length ks ≡ length es → length (cond b (e.0 ∷ ks) ks) ≡ length (cond b (e ∷ es) es)
   keys_chosen true e ks es is = omega (arith, is)
   keys_chosen false e ks es is = is
 
-  keys_where_key : (es : List (Key × X)) → length (filter p (map (λ e. e.0) es)) ≡ length (where_key key_cmp p es)
+  keys_where_key : (es : List (Key × X))
+      → length (filter p (map (λ e. e.0) es)) ≡ length (where_key key_cmp p es)
   keys_where_key [] = refl
-  keys_where_key (e ∷ es) = keys_chosen (p e.0) e (filter p (map (λ f. f.0) es)) (where_key key_cmp p es) (keys_where_key es)
+  keys_where_key (e ∷ es) = keys_chosen (p e.0) e (filter p (map (λ f. f.0) es))
+      (where_key key_cmp p es) (keys_where_key es)
 
-  pub count_keys : (m : ByKey X) → length (filter p (finite.keys m)) ≡ finite.len (finite.retain_keys m p)
-  count_keys m = keys_where_key (finite.entries m) ∙ sym (finite.len-entries (finite.retain_keys m p) ∙ ap length (entries_kept m))
+  pub count_keys : (m : ByKey X) → length (filter p (finite.keys m))
+      ≡ finite.len (finite.retain_keys m p)
+  count_keys m = keys_where_key (finite.entries m)
+      ∙ sym (finite.len-entries (finite.retain_keys m p) ∙ ap length (entries_kept m))
 
-pub count_empty : (X : Type 0) (p : Key → Bool) → finite.len (finite.retain_keys (finite.empty {X = X} {R = key_cmp}) p) ≡ 0
+pub count_empty : (X : Type 0) (p : Key → Bool)
+    → finite.len (finite.retain_keys (finite.empty {X = X} {R = key_cmp}) p) ≡ 0
 count_empty X p = ap finite.len (retained_none p) ∙ finite.len-empty key_cmp X
 
 -- they are the self-originated AS-external-LSAs of the database
-pub own_counted : (router : ℕ) (d : Database) → count_own_externals router d ≡ own_externals router d
+pub own_counted : (router : ℕ) (d : Database)
+    → count_own_externals router d ≡ own_externals router d
 own_counted router d = sym (count_keys (is_own_external router) d)
 
 -- the number changes only with the keys of self-originated AS-external-LSAs
 pub counts_if_own : (own there holds : Bool) (n : ℕ)
-    → cond own (count_after_change there holds n) n ≡ cond own (count_after_change (cond own there false) holds n) n
+    → cond own (count_after_change there holds n) n
+    ≡ cond own (count_after_change (cond own there false) holds n) n
 counts_if_own true there holds n = refl
 counts_if_own false there holds n = refl
 
@@ -186,8 +215,9 @@ module _ (router : ℕ) (d : Database) (n e : ℕ)
       let own = externals ∙ own_counted router d in
       λ i. nat_lt 16384 (number i) || nat_lt 4096 (own i)
 
-  pub room_counted : (k : Key) (c o : Bool) → c ≡ finite.contains_key d k → o ≡ is_own_external router k
-      → (c || (nat_lt n 16384 && (not o || nat_lt e 4096))) ≡ has_room router k d
+  pub room_counted : (k : Key) (c o : Bool) → c ≡ finite.contains_key d k
+      → o ≡ is_own_external router k → (c || (nat_lt n 16384 && (not o || nat_lt e 4096)))
+      ≡ has_room router k d
   room_counted k c o there is =
       let own = externals ∙ own_counted router d in
       λ i. there i || (nat_lt (number i) 16384 && (not (is i) || nat_lt (own i) 4096))

@@ -12,13 +12,45 @@ adding-ends input = record {
   steps = refl;
   leads = (
     _,
-    record { instruction = _; at = refl; does = record { filling = _; gives = refl; writable = omega arith; silent = refl; after = refl } },
+    record {
+      instruction = _;
+      at = refl;
+      does = record {
+        filling = _;
+        gives = refl;
+        writable = omega arith;
+        silent = refl;
+        after = refl;
+      };
+    },
     (
       _,
-      record { instruction = _; at = refl; does = record { filling = _; gives = refl; writable = omega arith; silent = refl; after = refl } },
+      record {
+        instruction = _;
+        at = refl;
+        does = record {
+          filling = _;
+          gives = refl;
+          writable = omega arith;
+          silent = refl;
+          after = refl;
+        };
+      },
       (
         _,
-        record { instruction = _; at = refl; does = record { answer = 0; answered = record { helper = CounterAdd; known = refl; answers = (lit< tt, lit< tt, inl (refl, refl)) }; after = refl } },
+        record {
+          instruction = _;
+          at = refl;
+          does = record {
+            answer = 0;
+            answered = record {
+              helper = CounterAdd;
+              known = refl;
+              answers = (lit< tt, lit< tt, inl (refl, refl));
+            };
+            after = refl;
+          };
+        },
         refl,
       ),
     ),

@@ -1,5 +1,6 @@
 -- A step of one link by itself is a step of one neighbor.
-use Rattle.std.proofs.Common.{◌≡◌, ◌≢◌, ℕ, zero, suc, ◌-◌, ◌<◌, ◌≤◌, ◌==◌, cond, List, [], ◌∷◌, length, get_or, set, refl, sym, ap, ◌∙◌, arith}
+use Rattle.std.proofs.Common.{◌≡◌, ◌≢◌, ℕ, zero, suc, ◌-◌, ◌<◌, ◌≤◌, ◌==◌, cond, List, [], ◌∷◌}
+use Rattle.std.proofs.Common.{length, get_or, set, refl, sym, ap, ◌∙◌, arith}
 use Rattle.std.proofs.lemmas.List.{set-get_or}
 use Rattle.std.specs.List.{slice_get}
 use Rattle.std.specs.Prelude.{Option, None, Some}
@@ -8,7 +9,8 @@ use Rattle.flooding.specs.adjacency.Contents.{Content, Step, no_sends}
 use Rattle.flooding.specs.adjacency.Contents as neighbor
 use Rattle.flooding.specs.adjacency.Neighbors.{Neighbor}
 use Rattle.flooding.specs.received.Links.{Area, Link, change_link, link_at}
-use Rattle.flooding.specs.received.Outcomes.{Outcome, sends_at, one_neighbor, only_at, sending, sent_on, step_on, stepped_links, stepping_sends}
+use Rattle.flooding.specs.received.Outcomes.{Outcome, sends_at, one_neighbor, only_at, sending}
+use Rattle.flooding.specs.received.Outcomes.{sent_on, step_on, stepped_links, stepping_sends}
 use Rattle.flooding.specs.Links.{start, with_neighbor}
 use Rattle.flooding.specs.Steps.{one_link, sent_by}
 use Rattle.flooding.proofs.Only.{sends_only, set_only}
@@ -16,19 +18,24 @@ use Rattle.flooding.proofs.Sends.{other_number, same_number}
 
 -- ---- a step of one neighbor
 
-step_rests : (f : Neighbor → Step) (k p : ℕ) (l : Link) (o : Option Neighbor) → p ≢ k → step_on (only_at k f p l) o ≡ o
+step_rests : (f : Neighbor → Step) (k p : ℕ) (l : Link) (o : Option Neighbor) → p ≢ k
+    → step_on (only_at k f p l) o ≡ o
 step_rests f k p l None ne = refl
-step_rests f k p l (Some n) ne = ap (λ b. Some (cond b (f n) (no_sends n)).neighbor) (other_number p k ne)
+step_rests f k p l (Some n) ne = ap (λ b. Some (cond b (f n) (no_sends n)).neighbor)
+    (other_number p k ne)
 
-step_acts : (f : Neighbor → Step) (k : ℕ) (l : Link) (o : Option Neighbor) → neighbor.step_on f o ≡ step_on (only_at k f k l) o
+step_acts : (f : Neighbor → Step) (k : ℕ) (l : Link) (o : Option Neighbor)
+    → neighbor.step_on f o ≡ step_on (only_at k f k l) o
 step_acts f k l None = refl
 step_acts f k l (Some n) = sym (ap (λ b. Some (cond b (f n) (no_sends n)).neighbor) (same_number k))
 
-sent_rests : (f : Neighbor → Step) (k p : ℕ) (l : Link) (o : Option Neighbor) → p ≢ k → sent_on (only_at k f p l) o ≡ []
+sent_rests : (f : Neighbor → Step) (k p : ℕ) (l : Link) (o : Option Neighbor) → p ≢ k
+    → sent_on (only_at k f p l) o ≡ []
 sent_rests f k p l None ne = refl
 sent_rests f k p l (Some n) ne = ap (λ b. (cond b (f n) (no_sends n)).sends) (other_number p k ne)
 
-sent_acts : (f : Neighbor → Step) (k : ℕ) (l : Link) (o : Option Neighbor) → neighbor.sent_on f o ≡ sent_on (only_at k f k l) o
+sent_acts : (f : Neighbor → Step) (k : ℕ) (l : Link) (o : Option Neighbor)
+    → neighbor.sent_on f o ≡ sent_on (only_at k f k l) o
 sent_acts f k l None = refl
 sent_acts f k l (Some n) = sym (ap (λ b. (cond b (f n) (no_sends n)).sends) (same_number k))
 
@@ -53,51 +60,87 @@ module _ (moment k : ℕ) (a : Area) (first : 1 ≤ k) (last : k ≤ length a.li
   pub link_is : link_at k a.links ≡ Some link
   link_is =
       let next : k ≡ suc (k - 1) = omega (arith, first) in
-      ap (λ m. link_at m a.links) next ∙ found a.links (k - 1) (first_of a.links some) (omega (arith, first, last))
+      ap (λ m. link_at m a.links) next
+      ∙ found a.links (k - 1) (first_of a.links some) (omega (arith, first, last))
 
   -- this is sent at the interface, and this is the link afterwards
   abbrev pub leaves : List Content → Link → Outcome
-  leaves cs l = sending moment (sends_at k cs) (record { area = record { links = set a.links (k - 1) l; database = a.database }; sends = [] })
+  leaves cs l = sending moment (sends_at k cs) (record {
+    area = record { links = set a.links (k - 1) l; database = a.database };
+    sends = [];
+  })
 
   pub stays : (cs : List Content) → leaves cs link ≡ sending moment (sends_at k cs) (start a)
   stays cs =
-      ap (λ (ls : List Link). sending moment (sends_at k cs) (record { area = record { links = ls; database = a.database }; sends = [] }))
+      ap (λ (ls : List Link). sending moment (sends_at k cs) (record {
+        area = record { links = ls; database = a.database };
+        sends = [];
+      }))
       (set-get_or a.links (k - 1) (first_of a.links some))
 
-  changed : (change : Link → Link) → change_link k change a.links ≡ set a.links (k - 1) (change link)
+  changed : (change : Link → Link) → change_link k change a.links
+      ≡ set a.links (k - 1) (change link)
   changed change =
       let g : ℕ → Link → Link = λ p l. cond (p == k) (change l) l in
-      sym (set_only g k (λ p l ne. ap (λ b. cond b (change l) l) (other_number p k ne)) (k - 1) 1 a.links (change link) (first_of a.links some)
-      (omega (arith, first, last)) (omega (arith, first)) (sym (ap (λ b. cond b (change link) link) (same_number k))))
+      sym (set_only g k (λ p l ne. ap (λ b. cond b (change l) l) (other_number p k ne)) (k - 1) 1
+      a.links (change link) (first_of a.links some)
+      (omega (arith, first, last)) (omega (arith, first))
+      (sym (ap (λ b. cond b (change link) link) (same_number k))))
 
-  pub one_link_is : (A : Database → Link → Link) (S : Database → Link → List Content) → one_link moment k A S (start a) ≡ leaves (S a.database link) (A a.database link)
+  pub one_link_is : (A : Database → Link → Link) (S : Database → Link → List Content)
+      → one_link moment k A S (start a) ≡ leaves (S a.database link) (A a.database link)
   one_link_is A S = λ i.
-      sending moment (sends_at k (sent_by (S a.database) (link_is i))) (record { area = record { links = changed (A a.database) i; database = a.database }; sends = [] })
+      sending moment (sends_at k (sent_by (S a.database) (link_is i))) (record {
+        area = record { links = changed (A a.database) i; database = a.database };
+        sends = [];
+      })
 
-  step_links : (f : Neighbor → Step) → stepped_links (only_at k f) a.links ≡ set a.links (k - 1) (with_neighbor (neighbor.step_on f link.neighbor) link)
+  step_links : (f : Neighbor → Step)
+      → stepped_links (only_at k f) a.links
+      ≡ set a.links (k - 1) (with_neighbor (neighbor.step_on f link.neighbor) link)
   step_links f =
       let g : ℕ → Link → Link = λ p l. with_neighbor (step_on (only_at k f p l) l.neighbor) l in
-      sym (set_only g k (λ p l ne. ap (λ o. with_neighbor o l) (step_rests f k p l l.neighbor ne)) (k - 1) 1 a.links (with_neighbor (neighbor.step_on f link.neighbor) link) (first_of a.links some)
-      (omega (arith, first, last)) (omega (arith, first)) (ap (λ o. with_neighbor o link) (step_acts f k link link.neighbor)))
+      sym (set_only g k (λ p l ne. ap (λ o. with_neighbor o l) (step_rests f k p l l.neighbor ne))
+      (k - 1) 1 a.links (with_neighbor (neighbor.step_on f link.neighbor) link)
+      (first_of a.links some)
+      (omega (arith, first, last)) (omega (arith, first))
+      (ap (λ o. with_neighbor o link) (step_acts f k link link.neighbor)))
 
-  step_sends : (f : Neighbor → Step) → stepping_sends (only_at k f) a.links ≡ sends_at k (neighbor.sent_on f link.neighbor)
+  step_sends : (f : Neighbor → Step)
+      → stepping_sends (only_at k f) a.links ≡ sends_at k (neighbor.sent_on f link.neighbor)
   step_sends f =
       let S : ℕ → Link → List Content = λ p l. sent_on (only_at k f p l) l.neighbor in
-      sends_only S k (λ p l ne. sent_rests f k p l l.neighbor ne) (k - 1) 1 a.links (first_of a.links some) (omega (arith, first, last)) (omega (arith, first))
+      sends_only S k (λ p l ne. sent_rests f k p l l.neighbor ne) (k - 1) 1 a.links
+      (first_of a.links some) (omega (arith, first, last)) (omega (arith, first))
       ∙ ap (sends_at k) (sym (sent_acts f k link link.neighbor))
 
-  pub one_neighbor_is : (f : Neighbor → Step) → one_neighbor moment k f (start a) ≡ leaves (neighbor.sent_on f link.neighbor) (with_neighbor (neighbor.step_on f link.neighbor) link)
+  pub one_neighbor_is : (f : Neighbor → Step)
+      → one_neighbor moment k f (start a)
+      ≡ leaves (neighbor.sent_on f link.neighbor)
+      (with_neighbor (neighbor.step_on f link.neighbor) link)
   one_neighbor_is f = λ i.
-      sending moment (step_sends f i) (record { area = record { links = step_links f i; database = a.database }; sends = [] })
+      sending moment (step_sends f i) (record {
+        area = record { links = step_links f i; database = a.database };
+        sends = [];
+      })
 
   -- a step of the neighbor that may read the database
   pub steps : (f : Database → Neighbor → Step)
-      → one_link moment k (λ db l. with_neighbor (neighbor.step_on (f db) l.neighbor) l) (λ db l. neighbor.sent_on (f db) l.neighbor) (start a) ≡ one_neighbor moment k (f a.database) (start a)
+      → one_link moment k (λ db l. with_neighbor (neighbor.step_on (f db) l.neighbor) l)
+      (λ db l. neighbor.sent_on (f db) l.neighbor) (start a)
+      ≡ one_neighbor moment k (f a.database) (start a)
   steps f =
-      one_link_is (λ db l. with_neighbor (neighbor.step_on (f db) l.neighbor) l) (λ db l. neighbor.sent_on (f db) l.neighbor) ∙ sym (one_neighbor_is (f a.database))
+      one_link_is (λ db l. with_neighbor (neighbor.step_on (f db) l.neighbor) l)
+      (λ db l. neighbor.sent_on (f db) l.neighbor) ∙ sym (one_neighbor_is (f a.database))
 
   -- the changes of this one link
   pub changes_one : (change : Link → Link) (cs : List Content)
-      → leaves cs (change link) ≡ sending moment (sends_at k cs) (record { area = record { links = change_link k change a.links; database = a.database }; sends = [] })
+      → leaves cs (change link) ≡ sending moment (sends_at k cs) (record {
+        area = record { links = change_link k change a.links; database = a.database };
+        sends = [];
+      })
   changes_one change cs =
-      ap (λ (ls : List Link). sending moment (sends_at k cs) (record { area = record { links = ls; database = a.database }; sends = [] })) (sym (changed change))
+      ap (λ (ls : List Link). sending moment (sends_at k cs) (record {
+        area = record { links = ls; database = a.database };
+        sends = [];
+      })) (sym (changed change))

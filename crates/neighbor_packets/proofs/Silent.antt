@@ -6,6 +6,7 @@ use Rattle.flooding.specs.adjacency.Drafts.{Drafted, drafting}
 use Rattle.flooding.specs.adjacency.Neighbors.{Neighbor}
 use Rattle.flooding.proofs.adjacency.Floods.{drafting-none}
 
-pub silent : (f : Neighbor → Neighbor) (o : Option Neighbor) (delay : ℕ) (d : Drafted) → d ≡ drafting delay (sent_on (λ n. no_sends (f n)) o) d
+pub silent : (f : Neighbor → Neighbor) (o : Option Neighbor) (delay : ℕ) (d : Drafted)
+    → d ≡ drafting delay (sent_on (λ n. no_sends (f n)) o) d
 silent f None delay d = drafting-none delay d
 silent f (Some n) delay d = drafting-none delay d

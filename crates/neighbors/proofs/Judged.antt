@@ -10,7 +10,8 @@ use Rattle.adjacency.specs.Exchanges.{verdict_of_description, standing_of}
 use Rattle.adjacency.specs.Neighbors.{Neighbor}
 use Rattle.adjacency.specs.Views.{neighbor_of}
 
-module _ {X : Type 0} (s : Standing) (des : Option Description) (sum req : ByKey ListEntry) (out : ByKey X) (retr : ByKey ListEntry) where
+module _ {X : Type 0} (s : Standing) (des : Option Description) (sum req : ByKey ListEntry)
+    (out : ByKey X) (retr : ByKey ListEntry) where
   pub stands_now : s ≡ standing_of (neighbor_of s des sum req out retr)
   unfolding neighbor_of
   stands_now = refl
@@ -19,7 +20,8 @@ module _ {X : Type 0} (s : Standing) (des : Option Description) (sum req : ByKey
   unfolding neighbor_of
   described_now = refl
 
-pub judged_in : (own : ℕ) (n : Neighbor) (d : Description) (s : State) → n.state ≡ s → verdict_in s own n d ≡ verdict_of_description own n d
+pub judged_in : (own : ℕ) (n : Neighbor) (d : Description) (s : State) → n.state ≡ s
+    → verdict_in s own n d ≡ verdict_of_description own n d
 unfolding verdict_of_description
 judged_in own n d s is = sym (ap (λ t. verdict_in t own n d) is)
 

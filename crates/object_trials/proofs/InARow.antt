@@ -5,8 +5,9 @@ use Rattle.maps.specs.Words.{SeatView}
 use Rattle.object_trials.specs.Runs.{RunsInARow, RunsOnce}
 use Rattle.object_trials.specs.declared.runs.Ending.{Ending}
 
-pub one_more : (bytes : List ℕ) (input : Given) (seat next last : SeatView) (endings : List Ending) (ending : Ending)
-    → RunsInARow bytes input seat endings next → RunsOnce bytes input next ending last
+pub one_more : (bytes : List ℕ) (input : Given) (seat next last : SeatView) (endings : List Ending)
+    (ending : Ending) → RunsInARow bytes input seat endings next
+    → RunsOnce bytes input next ending last
     → RunsInARow bytes input seat (endings ++ ending ∷ []) last
 one_more bytes input seat next last [] ending same once =
     (last, subst (λ (s : SeatView). RunsOnce bytes input s ending last) (sym same) once, refl)

@@ -5,18 +5,22 @@ use Rattle.maps.specs.declared.access.Access.TheVariants.{Read}
 use Rattle.operator.specs.Shown.{after_reads}
 
 one_more : (seat : SeatView) (first : ℕ) (sums : List ℕ) (sum : ℕ)
-    → after_reads seat first (sums ++ sum ∷ []) ≡ seat_after (after_reads seat first sums) (Read (first + length sums) sum)
+    → after_reads seat first (sums ++ sum ∷ [])
+    ≡ seat_after (after_reads seat first sums) (Read (first + length sums) sum)
 one_more seat first [] sum =
     let here : first ≡ first + 0 = omega arith in
     ap (λ n. seat_after seat (Read n sum)) here
 one_more seat first (s ∷ sums) sum =
     let here : suc first + length sums ≡ first + length (s ∷ sums) = omega arith in
     let rest = after_reads (seat_after seat (Read first s)) (suc first) sums in
-    one_more (seat_after seat (Read first s)) (suc first) sums sum ∙ ap (λ n. seat_after rest (Read n sum)) here
+    one_more (seat_after seat (Read first s)) (suc first) sums sum
+    ∙ ap (λ n. seat_after rest (Read n sum)) here
 
-pub read_more : (before now after : SeatView) (sums items : List ℕ) (index sum : ℕ) → now ≡ after_reads before 0 sums
-    → index ≡ length sums → items ≡ sums ++ sum ∷ [] → after ≡ seat_after now (Read index sum) → after ≡ after_reads before 0 items
+pub read_more : (before now after : SeatView) (sums items : List ℕ) (index sum : ℕ)
+    → now ≡ after_reads before 0 sums → index ≡ length sums → items ≡ sums ++ sum ∷ []
+    → after ≡ seat_after now (Read index sum) → after ≡ after_reads before 0 items
 read_more before now after sums items index sum same many grown last =
     let here : index ≡ 0 + length sums = omega (arith, many) in
-    last ∙ ap (λ s. seat_after s (Read index sum)) same ∙ ap (λ n. seat_after (after_reads before 0 sums) (Read n sum)) here
+    last ∙ ap (λ s. seat_after s (Read index sum)) same
+    ∙ ap (λ n. seat_after (after_reads before 0 sums) (Read n sum)) here
     ∙ sym (one_more before 0 sums sum) ∙ ap (λ l. after_reads before 0 l) (sym grown)

@@ -8,11 +8,13 @@ use Rattle.events.specs.EventState.{EventState, on_router}
 use Rattle.events.specs.Originations.{flush, has_max_sequence, may_originate, new_instance, wait}
 use Rattle.originations.specs.Decisions.{after_origination}
 use Rattle.originations.specs.Laws.{OriginationsAreTheRules}
-use Rattle.originations.specs.declared.origination.Origination.TheVariants.{Flushes, Waits, Originates}
+use Rattle.originations.specs.declared.origination.Origination.TheVariants.{Flushes, Waits}
+use Rattle.originations.specs.declared.origination.Origination.TheVariants.{Originates}
 
 done_by : (flushed now : Bool) (moment : ℕ) (key : Key) (lsa : Lsa) (p : EventState)
     → after_origination moment key (cond flushed Flushes (cond now (Originates lsa) Waits)) p
-    ≡ cond flushed (flush moment key p) (cond now (after_origination moment key (Originates lsa) p) (on_router (wait key) p))
+    ≡ cond flushed (flush moment key p)
+    (cond now (after_origination moment key (Originates lsa) p) (on_router (wait key) p))
 done_by true now moment key lsa p = refl
 done_by false true moment key lsa p = refl
 done_by false false moment key lsa p = refl
@@ -20,4 +22,5 @@ done_by false false moment key lsa p = refl
 pub are_the_rules : OriginationsAreTheRules
 are_the_rules may_now moment key says p =
     let copy : Option DatabaseCopy = finite.get p.router.area.database key in
-    done_by (has_max_sequence copy) (may_now && may_originate moment key p.router) moment key (new_instance key copy says) p
+    done_by (has_max_sequence copy) (may_now && may_originate moment key p.router) moment key
+    (new_instance key copy says) p

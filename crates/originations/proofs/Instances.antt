@@ -24,12 +24,13 @@ made key sequence says = sealed_lsa (record {
 })
 
 -- the LS type is that of the body
-made_is : (key : Key) (copy : Option DatabaseCopy) (says : Body) → made key (next_sequence copy) says ≡ new_instance key copy says
+made_is : (key : Key) (copy : Option DatabaseCopy) (says : Body)
+    → made key (next_sequence copy) says ≡ new_instance key copy says
 unfolding made sealed_lsa
 made_is key copy says = refl
 
-pub instance_is : (key : Key) (copy : Option DatabaseCopy) (says : Body) (sequence : ℤ) (lsa : Lsa) → Some sequence ≡ next_number copy
-    → lsa ≡ sealed_lsa (record {
+pub instance_is : (key : Key) (copy : Option DatabaseCopy) (says : Body) (sequence : ℤ) (lsa : Lsa)
+    → Some sequence ≡ next_number copy → lsa ≡ sealed_lsa (record {
       header = record {
         age = 0;
         options = 2;
@@ -49,7 +50,9 @@ instance_is key copy says sequence lsa number is = by_number (has_max_sequence c
     the_same : (m n : ℤ) → Some m ≡ Some n → m ≡ n
     the_same m n e = cc
 
-    by_number : (b : Bool) → Some sequence ≡ cond b None (Some (next_sequence copy)) → Some lsa ≡ cond b None (Some (new_instance key copy says))
+    by_number : (b : Bool) → Some sequence ≡ cond b None (Some (next_sequence copy))
+        → Some lsa ≡ cond b None (Some (new_instance key copy says))
     by_number true e = absurd (cc)
     by_number false e =
-        ap (λ l. Some l) (is ∙ ap (λ n. made key n says) (the_same sequence (next_sequence copy) e) ∙ made_is key copy says)
+        ap (λ l. Some l) (is ∙ ap (λ n. made key n says) (the_same sequence (next_sequence copy) e)
+        ∙ made_is key copy says)

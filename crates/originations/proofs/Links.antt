@@ -1,5 +1,7 @@
 -- The links of the router-LSA.
-use Rattle.std.proofs.Common.{◌≡◌, ◌≤◌, ◌<◌, ℕ, ◌+◌, ◌*◌, Bool, true, false, cond, List, [], ◌∷◌, ◌++◌, map, length, get_or, take, Option, None, Some, sym, ap, ◌∙◌, arith, length-append, subst}
+use Rattle.std.proofs.Common.{◌≡◌, ◌≤◌, ◌<◌, ℕ, ◌+◌, ◌*◌, Bool, true, false, cond, List, [], ◌∷◌}
+use Rattle.std.proofs.Common.{◌++◌, map, length, get_or, take, Option, None, Some, sym, ap, ◌∙◌}
+use Rattle.std.proofs.Common.{arith, length-append, subst}
 use Rattle.std.specs.List.{AllByRecursion, flat_map}
 use Rattle.std.proofs.lemmas.List.{flat_map_more, length-map, take_all, take_more}
 use Rattle.std.proofs.lemmas.List.Folds.{flat_map-map}
@@ -18,24 +20,31 @@ use Rattle.flooding.specs.Links.{present}
 
 -- ---- one more interface
 
-pub more_said : (links : List (Kept Link)) (i : ℕ) (link : Kept Link) (said longer : List RouterLink) → i < length links → link ≡ get_or links i link
-    → said ≡ flat_map (λ (l : Kept Link). links_of l.present) (take i links) → longer ≡ said ++ links_of link.present
+pub more_said : (links : List (Kept Link)) (i : ℕ) (link : Kept Link)
+    (said longer : List RouterLink) → i < length links → link ≡ get_or links i link
+    → said ≡ flat_map (λ (l : Kept Link). links_of l.present) (take i links)
+    → longer ≡ said ++ links_of link.present
     → longer ≡ flat_map (λ (l : Kept Link). links_of l.present) (take (i + 1) links)
 more_said links i link said longer lt is before now =
-    now ∙ ap (λ ls. ls ++ links_of link.present) before ∙ flat_map_more (λ (l : Kept Link). links_of l.present) [] (take i links) link
-    ∙ ap (λ ls. flat_map (λ (l : Kept Link). links_of l.present) ls) (sym (take_more links i link lt ∙ ap (λ l. take i links ++ l ∷ []) (sym is)))
+    now ∙ ap (λ ls. ls ++ links_of link.present) before
+    ∙ flat_map_more (λ (l : Kept Link). links_of l.present) [] (take i links) link
+    ∙ ap (λ ls. flat_map (λ (l : Kept Link). links_of l.present) ls)
+    (sym (take_more links i link lt ∙ ap (λ l. take i links ++ l ∷ []) (sym is)))
 
-pub all_said : (links : List (Kept Link)) (i : ℕ) (said : List RouterLink) → said ≡ flat_map (λ (l : Kept Link). links_of l.present) (take i links) → length links ≤ i
+pub all_said : (links : List (Kept Link)) (i : ℕ) (said : List RouterLink)
+    → said ≡ flat_map (λ (l : Kept Link). links_of l.present) (take i links) → length links ≤ i
     → said ≡ flat_map links_of (map present links)
 all_said links i said is end =
-    is ∙ ap (λ ls. flat_map (λ (l : Kept Link). links_of l.present) ls) (take_all i links end) ∙ sym (flat_map-map links_of present links)
+    is ∙ ap (λ ls. flat_map (λ (l : Kept Link). links_of l.present) ls) (take_all i links end)
+    ∙ sym (flat_map-map links_of present links)
 
 -- ---- the links fit
 
 few_links : (link : Link) → length (links_of link) ≤ 2
 few_links link = by_neighbor link.neighbor
   where
-    by_neighbor : (o : Option Neighbor) → length (point_to_point link.interface o ++ stub link.interface ∷ []) ≤ 2
+    by_neighbor : (o : Option Neighbor)
+        → length (point_to_point link.interface o ++ stub link.interface ∷ []) ≤ 2
     by_neighbor None = omega arith
     by_neighbor (Some n) = by_state (is_full n.state)
       where
@@ -52,7 +61,8 @@ few_links link = by_neighbor link.neighbor
 links_fit : (link : Link) → AllByRecursion LinkFits (links_of link)
 links_fit link = by_neighbor link.neighbor
   where
-    by_neighbor : (o : Option Neighbor) → AllByRecursion LinkFits (point_to_point link.interface o ++ stub link.interface ∷ [])
+    by_neighbor : (o : Option Neighbor)
+        → AllByRecursion LinkFits (point_to_point link.interface o ++ stub link.interface ∷ [])
     by_neighbor None = (omega arith, tt)
     by_neighbor (Some n) = by_state (is_full n.state)
       where
@@ -72,16 +82,26 @@ all_fit (l ∷ ls) = both LinkFits (links_of l) (flat_map links_of ls) (links_fi
 
 all_few : (links : List Link) → length (flat_map links_of links) ≤ 2 * length links
 all_few [] = omega arith
-all_few (l ∷ ls) = omega (arith, length-append (links_of l) (flat_map links_of ls), few_links l, all_few ls)
+all_few (l ∷ ls) = omega (
+  arith,
+  length-append (links_of l) (flat_map links_of ls),
+  few_links l,
+  all_few ls,
+)
 
 -- for at most 63 interfaces
-pub router_fits : (links : List (Kept Link)) (says : Body) → says ≡ router_body (map present links) → length links ≤ 63 → BodyFits says
+pub router_fits : (links : List (Kept Link)) (says : Body) → says ≡ router_body (map present links)
+    → length links ≤ 63 → BodyFits says
 router_fits links says is few =
     let own : List Link = map present links in
-    let fits : BodyFits (router_body own) = record { count = omega (arith, all_few own, length-map links present, few); links = all_fit own } in
+    let fits : BodyFits (router_body own) = record {
+      count = omega (arith, all_few own, length-map links present, few);
+      links = all_fit own;
+    } in
     subst BodyFits (sym is) fits
 
-pub router_size : (links : List (Kept Link)) (says : Body) → says ≡ router_body (map present links) → length links ≤ 63 → length (body_text says) ≤ 65515
+pub router_size : (links : List (Kept Link)) (says : Body) → says ≡ router_body (map present links)
+    → length links ≤ 63 → length (body_text says) ≤ 65515
 router_size links says is few =
     let own : List Link = map present links in
     let fewer : length own ≤ 63 = omega (arith, length-map links present, few) in

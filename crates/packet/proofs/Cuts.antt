@@ -1,5 +1,7 @@
 -- LSAs taken off the front of a Link State Update's bytes, one by one.
-use Rattle.std.proofs.Common.{◌≡◌, ℕ, suc, ◌+◌, ◌-◌, ◌<◌, ◌≤◌, ◌⊎◌, inl, inr, Bool, true, false, ◌&&◌, leb, List, [], ◌∷◌, ◌++◌, length, take, drop, refl, sym, ap, ◌∙◌, append_assoc, arith}
+use Rattle.std.proofs.Common.{◌≡◌, ℕ, suc, ◌+◌, ◌-◌, ◌<◌, ◌≤◌, ◌⊎◌, inl, inr, Bool, true, false}
+use Rattle.std.proofs.Common.{◌&&◌, leb, List, [], ◌∷◌, ◌++◌, length, take, drop, refl, sym, ap}
+use Rattle.std.proofs.Common.{◌∙◌, append_assoc, arith}
 use Rattle.std.proofs.lemmas.Bool.{le-leb, leb-true, lt-leb}
 use Rattle.words.specs.Fields.{field}
 use Rattle.packet.specs.Reading.{are_lsas, lsas_of}
@@ -9,28 +11,41 @@ size_of bytes = field bytes 18 2
 
 -- one more LSA
 more : (n i : ℕ) (bytes : List ℕ) → i < n
-    → are_lsas (n - i) bytes ≡ (leb 20 (length bytes) && leb 20 (size_of bytes) && leb (size_of bytes) (length bytes) && are_lsas (n - (i + 1)) (drop (size_of bytes) bytes))
+    → are_lsas (n - i) bytes ≡ (leb 20 (length bytes) && leb 20 (size_of bytes) && leb
+    (size_of bytes) (length bytes) && are_lsas (n - (i + 1)) (drop (size_of bytes) bytes))
 more n i bytes lt =
     let k : n - i ≡ suc (n - (i + 1)) = omega arith in
     ap (λ m. are_lsas m bytes) k
 
-pub lsas_short : (n i : ℕ) (bytes : List ℕ) → i < n → length bytes < 20 → are_lsas (n - i) bytes ≡ false
-lsas_short n i bytes lt short = more n i bytes lt ∙ ap (λ b. b && leb 20 (size_of bytes) && leb (size_of bytes) (length bytes) && are_lsas (n - (i + 1)) (drop (size_of bytes) bytes)) (lt-leb 20 (length bytes) short)
+pub lsas_short : (n i : ℕ) (bytes : List ℕ) → i < n → length bytes < 20
+    → are_lsas (n - i) bytes ≡ false
+lsas_short n i bytes lt short = more n i bytes lt
+    ∙ ap (λ b. b && leb 20 (size_of bytes) && leb (size_of bytes) (length bytes) && are_lsas
+    (n - (i + 1)) (drop (size_of bytes) bytes)) (lt-leb 20 (length bytes) short)
 
 and_false : (a b : Bool) → a ≡ false → (b && a) ≡ false
 and_false a true e = e
 and_false a false e = refl
 
-pub lsas_cut : (n i : ℕ) (bytes : List ℕ) → i < n → (size_of bytes < 20) ⊎ (length bytes < size_of bytes) → are_lsas (n - i) bytes ≡ false
+pub lsas_cut : (n i : ℕ) (bytes : List ℕ) → i < n
+    → (size_of bytes < 20) ⊎ (length bytes < size_of bytes) → are_lsas (n - i) bytes ≡ false
 lsas_cut n i bytes lt (inl small) =
-    more n i bytes lt ∙ ap (λ b. b && leb (size_of bytes) (length bytes) && are_lsas (n - (i + 1)) (drop (size_of bytes) bytes)) (and_false (leb 20 (size_of bytes)) (leb 20 (length bytes)) (lt-leb 20 (size_of bytes) small))
+    more n i bytes lt ∙ ap (λ b. b && leb (size_of bytes) (length bytes) && are_lsas (n - (i + 1))
+    (drop (size_of bytes) bytes)) (and_false (leb 20 (size_of bytes)) (leb 20 (length bytes))
+    (lt-leb 20 (size_of bytes) small))
 lsas_cut n i bytes lt (inr long) =
-    more n i bytes lt ∙ ap (λ b. b && are_lsas (n - (i + 1)) (drop (size_of bytes) bytes)) (and_false (leb (size_of bytes) (length bytes)) (leb 20 (length bytes) && leb 20 (size_of bytes)) (lt-leb (size_of bytes) (length bytes) long))
+    more n i bytes lt ∙ ap (λ b. b && are_lsas (n - (i + 1)) (drop (size_of bytes) bytes))
+    (and_false (leb (size_of bytes) (length bytes))
+    (leb 20 (length bytes) && leb 20 (size_of bytes))
+    (lt-leb (size_of bytes) (length bytes) long))
 
-pub lsas_on : (n i : ℕ) (bytes : List ℕ) → i < n → 20 ≤ length bytes → 20 ≤ size_of bytes → size_of bytes ≤ length bytes
-    → are_lsas (n - i) bytes ≡ are_lsas (n - (i + 1)) (drop (size_of bytes) bytes)
+pub lsas_on : (n i : ℕ) (bytes : List ℕ) → i < n → 20 ≤ length bytes → 20 ≤ size_of bytes
+    → size_of bytes ≤ length bytes → are_lsas (n - i) bytes
+    ≡ are_lsas (n - (i + 1)) (drop (size_of bytes) bytes)
 lsas_on n i bytes lt room least fits =
-    more n i bytes lt ∙ (λ j. le-leb 20 (length bytes) room j && le-leb 20 (size_of bytes) least j && le-leb (size_of bytes) (length bytes) fits j && are_lsas (n - (i + 1)) (drop (size_of bytes) bytes))
+    more n i bytes lt ∙ (λ j. le-leb 20 (length bytes) room j && le-leb 20 (size_of bytes) least j
+    && le-leb (size_of bytes) (length bytes) fits j && are_lsas (n - (i + 1))
+    (drop (size_of bytes) bytes))
 
 -- what is known about the next LSA
 pub record IsNext (n i : ℕ) (bytes : List ℕ) : Type 0 where
@@ -43,10 +58,14 @@ and_parts : (a b : Bool) → (a && b) ≡ true → (a ≡ true) × (b ≡ true)
 and_parts true b e = (refl, e)
 and_parts false b e = absurd cc
 
-pub lsas_next : (n i : ℕ) (bytes : List ℕ) → i < n → are_lsas (n - i) bytes ≡ true → IsNext n i bytes
+pub lsas_next : (n i : ℕ) (bytes : List ℕ) → i < n → are_lsas (n - i) bytes ≡ true
+    → IsNext n i bytes
 lsas_next n i bytes lt whole =
-    let a = and_parts (leb 20 (length bytes) && leb 20 (size_of bytes) && leb (size_of bytes) (length bytes)) (are_lsas (n - (i + 1)) (drop (size_of bytes) bytes)) (sym (more n i bytes lt) ∙ whole) in
-    let b = and_parts (leb 20 (length bytes) && leb 20 (size_of bytes)) (leb (size_of bytes) (length bytes)) a.0 in
+    let a = and_parts (leb 20 (length bytes) && leb 20 (size_of bytes) && leb (size_of bytes)
+    (length bytes)) (are_lsas (n - (i + 1)) (drop (size_of bytes) bytes))
+    (sym (more n i bytes lt) ∙ whole) in
+    let b = and_parts (leb 20 (length bytes) && leb 20 (size_of bytes))
+    (leb (size_of bytes) (length bytes)) a.0 in
     let d = and_parts (leb 20 (length bytes)) (leb 20 (size_of bytes)) b.0 in
     record {
       room = leb-true 20 (length bytes) d.0;
@@ -57,7 +76,8 @@ lsas_next n i bytes lt whole =
 
 -- a loop that has taken off one more LSA
 pub cut_step : (n i : ℕ) (bytes : List ℕ) (front after total : List (List ℕ)) (lsa : List ℕ) → i < n
-    → lsa ≡ take (size_of bytes) bytes → after ≡ front ++ lsa ∷ [] → front ++ lsas_of (n - i) bytes ≡ total
+    → lsa ≡ take (size_of bytes) bytes → after ≡ front ++ lsa ∷ []
+    → front ++ lsas_of (n - i) bytes ≡ total
     → after ++ lsas_of (n - (i + 1)) (drop (size_of bytes) bytes) ≡ total
 cut_step n i bytes front after total lsa lt is pushed so_far =
     let k : n - i ≡ suc (n - (i + 1)) = omega arith in
@@ -79,4 +99,9 @@ lsas_first n bytes whole =
     let none : suc n - 0 ≡ suc n = omega arith in
     let less : suc n - (0 + 1) ≡ n = omega arith in
     let next = lsas_next (suc n) 0 bytes (omega arith) (ap (λ m. are_lsas m bytes) none ∙ whole) in
-    record { room = next.room; least = next.least; fits = next.fits; after = ap (λ m. are_lsas m (drop (size_of bytes) bytes)) (sym less) ∙ next.after }
+    record {
+      room = next.room;
+      least = next.least;
+      fits = next.fits;
+      after = ap (λ m. are_lsas m (drop (size_of bytes) bytes)) (sym less) ∙ next.after;
+    }

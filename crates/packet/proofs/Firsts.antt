@@ -1,5 +1,6 @@
 -- The first of some checks that applies.
-use Rattle.std.proofs.Common.{◌≡◌, ℕ, Bool, true, false, not, cond, eqb, List, [], ◌∷◌, Some, None, refl, ap, ◌∙◌, arith}
+use Rattle.std.proofs.Common.{◌≡◌, ℕ, Bool, true, false, not, cond, eqb, List, [], ◌∷◌, Some, None}
+use Rattle.std.proofs.Common.{refl, ap, ◌∙◌, arith}
 use Rattle.std.specs.List.{AllByRecursion}
 use Rattle.std.proofs.lemmas.Bool.{eqb-true}
 use Rattle.packet.specs.declared.refusal.Fault.{Fault}
@@ -11,7 +12,8 @@ Fails t = t.0 ≡ false
 pub all_fail : (ts : List (Bool × Fault)) → first_of ts ≡ None → AllByRecursion Fails ts
 all_fail [] e = tt
 all_fail (t ∷ ts) e =
-    elim t.0 as (λ b. t.0 ≡ b → cond b (Some t.1) (first_of ts) ≡ None → AllByRecursion Fails (t ∷ ts)) [
+    elim t.0 as (λ b. t.0 ≡ b → cond b (Some t.1) (first_of ts) ≡ None
+    → AllByRecursion Fails (t ∷ ts)) [
       | true ↦ λ is e. absurd cc
       | false ↦ λ is e. (is, all_fail ts e)
     ] refl e

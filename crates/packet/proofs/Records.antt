@@ -3,7 +3,8 @@
 use Rattle.std.proofs.Common.{◌≡◌, ℕ, ◌+◌, List, [], ◌∷◌, ◌++◌, get_or, refl, ap}
 use Rattle.words.specs.Fields.{field}
 use Rattle.words.proofs.Bytes.{fields-read_from, read_from, read_from-fields}
-use Rattle.words.proofs.Records.{IsLocal, IsWide, ReadsBack, ReadsFitting, Spells, field-local, reads_back-in_front, spells-in_front}
+use Rattle.words.proofs.Records.{IsLocal, IsWide, ReadsBack, ReadsFitting, Spells, field-local}
+use Rattle.words.proofs.Records.{reads_back-in_front, spells-in_front}
 use Rattle.lsa.proofs.Headers.{field-below}
 use Rattle.packet.specs.Reading.{key_at, router_at}
 use Rattle.packet.specs.Text.{IsKey, IsRouter, key_fields, key_text, router_text}
@@ -19,7 +20,8 @@ pub router-spells : Spells router_at router_text 4
 router-spells bytes at fits le = fields-read_from (4 ∷ []) bytes at fits le
 
 pub router-reads_back : ReadsBack router_at router_text IsRouter
-router-reads_back r before rest fits = ap (value 0) (read_from-fields ((4, r) ∷ []) before rest (fits, tt))
+router-reads_back r before rest fits =
+    ap (value 0) (read_from-fields ((4, r) ∷ []) before rest (fits, tt))
 
 pub router-fits : ReadsFitting router_at IsRouter
 router-fits bytes at fits = field-below bytes at 4 fits
@@ -28,15 +30,26 @@ pub key-wide : IsWide key_text 12
 key-wide k = refl
 
 key-local : IsLocal key_at
-key-local bytes at = λ i. record { ls_type = field bytes at 4; link_state_id = field-local bytes at 4 4 i; advertising_router = field-local bytes at 8 4 i }
+key-local bytes at = λ i. record {
+  ls_type = field bytes at 4;
+  link_state_id = field-local bytes at 4 4 i;
+  advertising_router = field-local bytes at 8 4 i;
+}
 
 pub key-spells : Spells key_at key_text 12
-key-spells = spells-in_front key_at key_text 12 key-local (λ bytes fits le. fields-read_from (4 ∷ 4 ∷ 4 ∷ []) bytes 0 fits le)
+key-spells = spells-in_front key_at key_text 12 key-local
+    (λ bytes fits le. fields-read_from (4 ∷ 4 ∷ 4 ∷ []) bytes 0 fits le)
 
 pub key-reads_back : ReadsBack key_at key_text IsKey
 key-reads_back = reads_back-in_front key_at key_text IsKey key-local (λ k rest is.
-    let back : read_from (key_text k ++ rest) 0 (4 ∷ 4 ∷ 4 ∷ []) ≡ key_fields k = read_from-fields (key_fields k) [] rest (is.ls_type, (is.link_state_id, (is.advertising_router, tt))) in
-    λ i. record { ls_type = ap (value 0) back i; link_state_id = ap (value 1) back i; advertising_router = ap (value 2) back i })
+    let back : read_from (key_text k ++ rest) 0 (4 ∷ 4 ∷ 4 ∷ []) ≡ key_fields k =
+    read_from-fields (key_fields k) [] rest
+    (is.ls_type, (is.link_state_id, (is.advertising_router, tt))) in
+    λ i. record {
+      ls_type = ap (value 0) back i;
+      link_state_id = ap (value 1) back i;
+      advertising_router = ap (value 2) back i;
+    })
 
 pub key-fits : ReadsFitting key_at IsKey
 key-fits bytes at fits = record {

@@ -16,7 +16,8 @@ is_body : (b : Body) → BodyIsTyped b → LsasAreWhole b → IsBody b
 is_body (body.Hello h) typed whole = typed
 is_body (body.Description d) typed whole = typed
 is_body (body.Request keys) typed whole = typed
-is_body (body.Update lsas) typed whole = each_both AreBytes IsWhole IsUnread is_unread lsas typed whole
+is_body (body.Update lsas) typed whole =
+    each_both AreBytes IsWhole IsUnread is_unread lsas typed whole
 is_body (body.Acknowledgment headers) typed whole = typed
 
 pub is_packet : (p : Packet) → PacketIsTyped p → LsasAreWhole p.body → IsPacket p

@@ -1,5 +1,6 @@
 -- A packet that is parsed can be written.
-use Rattle.std.proofs.Common.{◌≡◌, ℕ, ◌+◌, ◌^◌, ◌<◌, ◌≤◌, List, length, Result, Ok, Err, refl, ap, arith}
+use Rattle.std.proofs.Common.{◌≡◌, ℕ, ◌+◌, ◌^◌, ◌<◌, ◌≤◌, List, length, Result, Ok, Err, refl, ap}
+use Rattle.std.proofs.Common.{arith}
 use Rattle.std.specs.Prelude.{IfOk}
 use Rattle.packet.specs.declared.model.Body.{Body}
 use Rattle.packet.specs.declared.model.Body.TheVariants as body
@@ -28,11 +29,16 @@ IsWritable p = (length (text closed_fields 0 p) ≤ 8192) × (lsa_count p.body <
 
 pub text_is_writable : (bytes : List ℕ) (p : Packet) → PacketText bytes p → IsWritable p
 text_is_writable bytes p t =
-    let long : length bytes ≡ 24 + length (body_text t.filler p.body) = omega (arith, ap length t.spelled) in
+    let long : length bytes ≡ 24 + length (body_text t.filler p.body) =
+    omega (arith, ap length t.spelled) in
     let same = same_length t.filler p.body in
-    let whole : length (text closed_fields 0 p) ≡ 24 + length (body_text closed_fields p.body) = omega arith in
-    (omega (arith, t.size, long, same, whole), few t.filler p.body t.is_packet.body (omega (arith, t.size, long)))
+    let whole : length (text closed_fields 0 p) ≡ 24 + length (body_text closed_fields p.body) =
+    omega arith in (
+      omega (arith, t.size, long, same, whole),
+      few t.filler p.body t.is_packet.body (omega (arith, t.size, long)),
+    )
 
-pub is_writable : (bytes : List ℕ) (r : Result Packet ReadError) → IfOk r (λ p. PacketText bytes p) → IfOk r (λ p. IsWritable p)
+pub is_writable : (bytes : List ℕ) (r : Result Packet ReadError) → IfOk r (λ p. PacketText bytes p)
+    → IfOk r (λ p. IsWritable p)
 is_writable bytes (Ok p) t = text_is_writable bytes p t
 is_writable bytes (Err e) t = tt

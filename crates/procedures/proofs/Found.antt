@@ -1,5 +1,6 @@
 -- The decision about a self-originated LSA, and carrying it out.
-use Rattle.std.proofs.Common.{◌≡◌, ℕ, Bool, true, false, cond, List, Option, None, Some, sym, ap, ◌∙◌}
+use Rattle.std.proofs.Common.{◌≡◌, ℕ, Bool, true, false, cond, List, Option, None, Some, sym, ap}
+use Rattle.std.proofs.Common.{◌∙◌}
 use Rattle.std.specs.FinMap as finite
 use Rattle.words.specs.declared.key.Key.{Key}
 use Rattle.words.specs.declared.route.External.{External}
@@ -8,7 +9,8 @@ use Rattle.lsa.specs.declared.body.Body.{Body}
 use Rattle.adjacency.specs.lsdb.Copies.{Database}
 use Rattle.events.specs.received.Links.{Link}
 use Rattle.events.specs.EventState.{EventState}
-use Rattle.events.specs.Originations.{announced_body, external_body, external_key, originate_body, router_body, router_key, wanted_body}
+use Rattle.events.specs.Originations.{announced_body, external_body, external_key, originate_body}
+use Rattle.events.specs.Originations.{router_body, router_key, wanted_body}
 use Rattle.events.specs.Routers.{Router}
 use Rattle.originations.proofs.Decided.{are_the_rules}
 use Rattle.originations.specs.Decisions.{after_origination, origination}
@@ -20,28 +22,39 @@ use Rattle.procedures.proofs.Keys.{tied_key}
 -- ---- which LSAs are wanted
 
 abbrev wanted_by : Router → Key → Bool → Option Body
-wanted_by r key b = cond b (Some (router_body r.area.links)) (announced_body (finite.get r.announced key))
+wanted_by r key b = cond b (Some (router_body r.area.links))
+    (announced_body (finite.get r.announced key))
 
-by_own_id : (r : Router) (key : Key) (own : ℕ) (b : Bool) → own ≡ r.id → same_key key (router_key own) ≡ b → wanted_by r key b ≡ wanted_body r key
-by_own_id r key own b id test = sym (ap (wanted_by r key) (ap (λ n. same_key key (router_key n)) (sym id) ∙ test))
+by_own_id : (r : Router) (key : Key) (own : ℕ) (b : Bool) → own ≡ r.id
+    → same_key key (router_key own) ≡ b → wanted_by r key b ≡ wanted_body r key
+by_own_id r key own b id test = sym
+    (ap (wanted_by r key) (ap (λ n. same_key key (router_key n)) (sym id) ∙ test))
 
-pub found_router : (may_now : Bool) (moment : ℕ) (key : Key) (r : Router) (own : ℕ) (links : List Link) (d : Database) (last : Option ℕ) (found : Origination)
-    → own ≡ r.id → same_key key (router_key own) ≡ true → links ≡ r.area.links → d ≡ r.area.database → last ≡ finite.get r.originated key
-    → found ≡ origination may_now moment (router_key own) (router_body links) (finite.get d (router_key own)) last
+pub found_router : (may_now : Bool) (moment : ℕ) (key : Key) (r : Router) (own : ℕ)
+    (links : List Link) (d : Database) (last : Option ℕ) (found : Origination) → own ≡ r.id
+    → same_key key (router_key own) ≡ true → links ≡ r.area.links → d ≡ r.area.database
+    → last ≡ finite.get r.originated key
+    → found ≡ origination may_now moment (router_key own) (router_body links)
+    (finite.get d (router_key own)) last
     → Some found ≡ wanted_origination may_now moment key r (wanted_body r key)
 found_router may_now moment key r own links d last found id test these there at is =
     let named = sym (tied_key key (router_key own) test) in
-    let here = is ∙ (λ i. origination may_now moment (named i) (router_body (these i)) (finite.get (there i) (named i)) (at i)) in
-    ap (λ x. Some x) here ∙ ap (wanted_origination may_now moment key r) (by_own_id r key own true id test)
+    let here = is ∙ (λ i. origination may_now moment (named i) (router_body (these i))
+    (finite.get (there i) (named i)) (at i)) in
+    ap (λ x. Some x) here ∙ ap (wanted_origination may_now moment key r)
+    (by_own_id r key own true id test)
 
-pub found_external : (may_now : Bool) (moment : ℕ) (key : Key) (r : Router) (own : ℕ) (e : External) (d : Database) (last : Option ℕ) (found : Origination)
-    → own ≡ r.id → same_key key (router_key own) ≡ false → finite.get r.announced key ≡ Some e → AreOwn r.id r.announced → d ≡ r.area.database
-    → last ≡ finite.get r.originated key
-    → found ≡ origination may_now moment (external_key own e.prefix) (external_body e) (finite.get d (external_key own e.prefix)) last
+pub found_external : (may_now : Bool) (moment : ℕ) (key : Key) (r : Router) (own : ℕ) (e : External)
+    (d : Database) (last : Option ℕ) (found : Origination) → own ≡ r.id
+    → same_key key (router_key own) ≡ false → finite.get r.announced key ≡ Some e
+    → AreOwn r.id r.announced → d ≡ r.area.database → last ≡ finite.get r.originated key
+    → found ≡ origination may_now moment (external_key own e.prefix) (external_body e)
+    (finite.get d (external_key own e.prefix)) last
     → Some found ≡ wanted_origination may_now moment key r (wanted_body r key)
 found_external may_now moment key r own e d last found id test announced own_keys there at is =
     let named = ap (λ n. external_key n e.prefix) id ∙ sym (own_keys key e announced).key in
-    let here = is ∙ (λ i. origination may_now moment (named i) (external_body e) (finite.get (there i) (named i)) (at i)) in
+    let here = is ∙ (λ i. origination may_now moment (named i) (external_body e)
+    (finite.get (there i) (named i)) (at i)) in
     ap (λ x. Some x) here
     ∙ ap (λ o. wanted_origination may_now moment key r (announced_body o)) (sym announced)
     ∙ ap (wanted_origination may_now moment key r) (by_own_id r key own false id test)
@@ -52,17 +65,21 @@ same_found : (a b : Origination) → Some a ≡ Some b → a ≡ b
 same_found a b e = cc
 
 -- for a given router
-at_router : (may_now : Bool) (moment : ℕ) (key : Key) (p : EventState) (found : Origination) (wanted : Option Body)
-    → Some found ≡ wanted_origination may_now moment key p.router wanted
+at_router : (may_now : Bool) (moment : ℕ) (key : Key) (p : EventState) (found : Origination)
+    (wanted : Option Body) → Some found ≡ wanted_origination may_now moment key p.router wanted
     → after_origination moment key found p ≡ originate_body may_now moment key wanted p
 at_router may_now moment key p found None is = absurd cc
 at_router may_now moment key p found (Some says) is =
-    let what = origination may_now moment key says (finite.get p.router.area.database key) (finite.get p.router.originated key) in
-    ap (λ f. after_origination moment key f p) (same_found found what is) ∙ are_the_rules may_now moment key says p
+    let what = origination may_now moment key says (finite.get p.router.area.database key)
+    (finite.get p.router.originated key) in
+    ap (λ f. after_origination moment key f p) (same_found found what is)
+    ∙ are_the_rules may_now moment key says p
 
 pub done_as_found : (may_now : Bool) (moment : ℕ) (key : Key) (old : Router) (found : Origination)
-    → Some found ≡ wanted_origination may_now moment key old (wanted_body old key) → (p : EventState) → p.router ≡ old
+    → Some found ≡ wanted_origination may_now moment key old (wanted_body old key)
+    → (p : EventState) → p.router ≡ old
     → after_origination moment key found p ≡ originate_wanted may_now moment key p
 done_as_found may_now moment key old found is p same =
     at_router may_now moment key p found (wanted_body p.router key)
-    (is ∙ ap (λ (r : Router). wanted_origination may_now moment key r (wanted_body r key)) (sym same))
+    (is ∙ ap (λ (r : Router). wanted_origination may_now moment key r (wanted_body r key))
+    (sym same))

@@ -15,21 +15,32 @@ use Rattle.adjacency.specs.Retransmissions.{add_retransmission, remove_retransmi
 use Rattle.received.specs.Flooding.{gets, without_met_request}
 use Rattle.received.specs.Laws.{FloodingReplacesOlderInstances}
 
-inserted : (m : ByKey ListEntry) (k : Key) (x : ListEntry) → finite.get (finite.insert m k x) k ≡ Some x
-inserted m k x = finite.get-insert keys_total m k x k ∙ ap (λ (o : Ordering). cond (is_eq o) (Some x) (finite.get m k)) (tied_itself keys_total k)
+inserted : (m : ByKey ListEntry) (k : Key) (x : ListEntry)
+    → finite.get (finite.insert m k x) k ≡ Some x
+inserted m k x = finite.get-insert keys_total m k x k
+    ∙ ap (λ (o : Ordering). cond (is_eq o) (Some x) (finite.get m k)) (tied_itself keys_total k)
 
 pub removed : (m : ByKey ListEntry) (k : Key) → finite.get (finite.remove m k) k ≡ None
-removed m k = finite.get-remove keys_total m k k ∙ ap (λ (o : Ordering). cond (is_eq o) None (finite.get m k)) (tied_itself keys_total k)
+removed m k = finite.get-remove keys_total m k k
+    ∙ ap (λ (o : Ordering). cond (is_eq o) None (finite.get m k)) (tied_itself keys_total k)
 
 by_gets : (moment : ℕ) (lsa : Lsa) (m : Neighbor) (sends : Step) (b : Bool)
-    → finite.get (cond b (record { neighbor = add_retransmission moment lsa.header m; sends = sends.sends }) (no_sends (remove_retransmission (lsa_key lsa) m))).neighbor.retransmissions (lsa_key lsa)
+    → finite.get (cond b (record {
+      neighbor = add_retransmission moment lsa.header m;
+      sends = sends.sends;
+    }) (no_sends (remove_retransmission (lsa_key lsa) m))).neighbor.retransmissions (lsa_key lsa)
     ≡ cond b (Some (record { header = lsa.header; at = moment })) None
-by_gets moment lsa m sends true = inserted (finite.remove m.retransmissions (lsa_key lsa)) (lsa_key lsa) (record { header = lsa.header; at = moment })
+by_gets moment lsa m sends true = inserted (finite.remove m.retransmissions (lsa_key lsa))
+    (lsa_key lsa) (record { header = lsa.header; at = moment })
 by_gets moment lsa m sends false = removed m.retransmissions (lsa_key lsa)
 
 pub replaces_older : FloodingReplacesOlderInstances
 replaces_older moment sender lsa number link n part =
     let m = without_met_request moment lsa n in
     let sent : Step = record { neighbor = m; sends = Updates lsa ∷ [] } in
-    ap (λ (b : Bool). finite.get (cond b (cond (gets moment sender number lsa n) (record { neighbor = add_retransmission moment lsa.header m; sends = sent.sends }) (no_sends (remove_retransmission (lsa_key lsa) m))) (no_sends n)).neighbor.retransmissions (lsa_key lsa)) part
+    ap (λ (b : Bool). finite.get (cond b (cond (gets moment sender number lsa n) (record {
+      neighbor = add_retransmission moment lsa.header m;
+      sends = sent.sends;
+    }) (no_sends (remove_retransmission (lsa_key lsa) m))) (no_sends n)).neighbor.retransmissions
+    (lsa_key lsa)) part
     ∙ by_gets moment lsa m sent (gets moment sender number lsa n)

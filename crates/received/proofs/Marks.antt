@@ -1,5 +1,6 @@
 -- What is sent marks the copies sent in Link State Updates as sent, and changes nothing else.
-use Rattle.std.proofs.Common.{◌≡◌, ℕ, Bool, true, false, cond, List, [], ◌∷◌, Option, None, Some, refl, sym, ap, ◌∙◌, true≢false}
+use Rattle.std.proofs.Common.{◌≡◌, ℕ, Bool, true, false, cond, List, [], ◌∷◌, Option, None, Some}
+use Rattle.std.proofs.Common.{refl, sym, ap, ◌∙◌, true≢false}
 use Rattle.std.specs.List.{fold}
 use Rattle.std.specs.FinMap as finite
 use Rattle.std.specs.Ordering.{eq_by_cmp, is_eq}
@@ -18,7 +19,8 @@ tied Less e = absurd (true≢false (sym e))
 tied Equal e = refl
 tied Greater e = absurd (true≢false (sym e))
 
-abbrev pub changed_by : Key → (DatabaseCopy → DatabaseCopy) → Database → Option DatabaseCopy → Database
+abbrev pub changed_by : Key → (DatabaseCopy → DatabaseCopy) → Database → Option DatabaseCopy
+    → Database
 changed_by key change db None = db
 changed_by key change db (Some c) = finite.insert db key (change c)
 
@@ -33,17 +35,19 @@ marks moment (Some c) = Some (sent_then moment c)
 abbrev pub IsStill : Database → Key → DatabaseCopy → Type 0
 IsStill db key c = (sent : Option ℕ) × (finite.get db key ≡ Some (record c { sent = sent }))
 
-pub marked_once : (moment : ℕ) (other key : Key) (c : DatabaseCopy) (db : Database) → finite.get db key ≡ Some c
-    → IsStill (mark_sent moment other db) key c
+pub marked_once : (moment : ℕ) (other key : Key) (c : DatabaseCopy) (db : Database)
+    → finite.get db key ≡ Some c → IsStill (mark_sent moment other db) key c
 marked_once moment other key c db there = by_found (finite.get db other) refl
   where
-    by_same : (d : DatabaseCopy) → finite.get db other ≡ Some d → (b : Bool) → eq_by_cmp key_cmp key other ≡ b
+    by_same : (d : DatabaseCopy) → finite.get db other ≡ Some d → (b : Bool)
+        → eq_by_cmp key_cmp key other ≡ b
         → IsStill (finite.insert db other (sent_then moment d)) key c
     by_same d e true is = (
       Some moment,
       finite.get-insert keys_total db other (sent_then moment d) key
           ∙ ap (λ b. cond b (Some (sent_then moment d)) (finite.get db key)) is
-          ∙ ap (marks moment) (sym e ∙ finite.get_tied keys_total db key other (tied (key_cmp key other) is) ∙ there),
+          ∙ ap (marks moment) (sym e ∙ finite.get_tied keys_total db key other
+          (tied (key_cmp key other) is) ∙ there),
     )
     by_same d e false is = (
       c.sent,
@@ -52,21 +56,25 @@ marked_once moment other key c db there = by_found (finite.get db other) refl
           ∙ there,
     )
 
-    by_found : (o : Option DatabaseCopy) → finite.get db other ≡ o → IsStill (changed_by other (sent_then moment) db o) key c
+    by_found : (o : Option DatabaseCopy) → finite.get db other ≡ o
+        → IsStill (changed_by other (sent_then moment) db o) key c
     by_found None e = (c.sent, there)
     by_found (Some d) e = by_same d e (eq_by_cmp key_cmp key other) refl
 
-mark_one : (moment : ℕ) (says : Content) (key : Key) (c : DatabaseCopy) (db : Database) → finite.get db key ≡ Some c
-    → IsStill (marked_database moment db says) key c
+mark_one : (moment : ℕ) (says : Content) (key : Key) (c : DatabaseCopy) (db : Database)
+    → finite.get db key ≡ Some c → IsStill (marked_database moment db says) key c
 mark_one moment (Content.SendsHello h) key c db there = (c.sent, there)
 mark_one moment (Content.Describes d) key c db there = (c.sent, there)
 mark_one moment (Content.Requests keys) key c db there = (c.sent, there)
-mark_one moment (Content.Updates lsa) key c db there = marked_once moment (lsa_key lsa) key c db there
+mark_one moment (Content.Updates lsa) key c db there =
+    marked_once moment (lsa_key lsa) key c db there
 mark_one moment (Content.Acknowledges h) key c db there = (c.sent, there)
 
-pub mark_all : (moment : ℕ) (more : List Send) (key : Key) (c : DatabaseCopy) (db : Database) → finite.get db key ≡ Some c
-    → IsStill (fold (λ (d : Database) (s : Send). marked_database moment d s.content) db more) key c
+pub mark_all : (moment : ℕ) (more : List Send) (key : Key) (c : DatabaseCopy) (db : Database)
+    → finite.get db key ≡ Some c → IsStill
+    (fold (λ (d : Database) (s : Send). marked_database moment d s.content) db more) key c
 mark_all moment [] key c db there = (c.sent, there)
 mark_all moment (s ∷ more) key c db there =
-    let one : IsStill (marked_database moment db s.content) key c = mark_one moment s.content key c db there in
+    let one : IsStill (marked_database moment db s.content) key c =
+    mark_one moment s.content key c db there in
     mark_all moment more key (record c { sent = one.0 }) (marked_database moment db s.content) one.1

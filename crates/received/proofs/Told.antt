@@ -1,7 +1,8 @@
 -- A property of all that is held and sent still holds after sending, steps of the neighbors,
 -- flooding and a received LSA: of the copies of the database, the retransmission lists, the delayed
 -- acknowledgments, and what is sent.
-use Rattle.std.proofs.Common.{◌≡◌, ℕ, zero, suc, ◌+◌, ◌==◌, cond, List, [], ◌∷◌, ◌++◌, map, length, Option, None, Some, ◌∙◌}
+use Rattle.std.proofs.Common.{◌≡◌, ℕ, zero, suc, ◌+◌, ◌==◌, cond, List, [], ◌∷◌, ◌++◌, map, length}
+use Rattle.std.proofs.Common.{Option, None, Some, ◌∙◌}
 use Rattle.std.specs.Prelude.{slice_get}
 use Rattle.std.specs.FinMap as finite
 use Rattle.std.specs.List.{AllByRecursion, enumerate_from, flat_map, fold}
@@ -15,11 +16,15 @@ use Rattle.adjacency.specs.Requests.{without_request}
 use Rattle.adjacency.specs.Retransmissions.{add_retransmission, remove_retransmission}
 use Rattle.adjacency.proofs.Kept.{chosen}
 use Rattle.adjacency.proofs.Maps.{AllIn, IfThere, inserted_in}
-use Rattle.adjacency.proofs.Told.{OfContent, OfCopies, OfCopy, OfOwed, OfOwedIfAny, OfStep, Telling, lsa_now_told, mismatched_told, owed_told, quiet_told, released_told}
+use Rattle.adjacency.proofs.Told.{OfContent, OfCopies, OfCopy, OfOwed, OfOwedIfAny, OfStep, Telling}
+use Rattle.adjacency.proofs.Told.{lsa_now_told, mismatched_told, owed_told, quiet_told}
+use Rattle.adjacency.proofs.Told.{released_told}
 use Rattle.received.specs.Cases.{Case}
 use Rattle.received.specs.Flooding.{flood, flood_to, gets, meets, request_of, without_met_request}
 use Rattle.received.specs.Links.{Area, Link, acknowledge_later, change_link, link_at, neighbor_on}
-use Rattle.received.specs.Outcomes.{Outcome, Send, Stepping, each_neighbor, marked_database, sends_at, on_database, on_links, one_neighbor, only_at, sending, sent_on, step_on, stepped_links}
+use Rattle.received.specs.Outcomes.{Outcome, Send, Stepping, each_neighbor, marked_database}
+use Rattle.received.specs.Outcomes.{sends_at, on_database, on_links, one_neighbor, only_at, sending}
+use Rattle.received.specs.Outcomes.{sent_on, step_on, stepped_links}
 use Rattle.received.specs.Updates.{acknowledge_at_once, after_case, copy_of, install, send_copy}
 use Rattle.received.proofs.Roomy.{same_number}
 
@@ -48,44 +53,56 @@ pub record OfArea (t : Telling) (a : Area) (sends : List Send) : Type 0 where
 abbrev pub OfOutcome : Telling → Outcome → Type 0
 OfOutcome t o = OfArea t o.area o.sends
 
-pub joined : {X : Type 0} (P : X → Type 0) (xs ys : List X) → AllByRecursion P xs → AllByRecursion P ys → AllByRecursion P (xs ++ ys)
+pub joined : {X : Type 0} (P : X → Type 0) (xs ys : List X) → AllByRecursion P xs
+    → AllByRecursion P ys → AllByRecursion P (xs ++ ys)
 joined P [] ys p q = q
 joined P (x ∷ xs) ys p q = (p.0, joined P xs ys p.1 q)
 
 module _ (t : Telling) where
   -- ---- databases
 
-  abbrev changed_by : Key → (DatabaseCopy → DatabaseCopy) → Database → Option DatabaseCopy → Database
+  abbrev changed_by : Key → (DatabaseCopy → DatabaseCopy) → Database → Option DatabaseCopy
+      → Database
   changed_by key change db None = db
   changed_by key change db (Some c) = finite.insert db key (change c)
 
   -- a change of a copy
-  pub changed_told : (key : Key) (change : DatabaseCopy → DatabaseCopy) → ((c : DatabaseCopy) → t.of_lsa c.lsa → t.of_lsa (change c).lsa)
-      → (db : Database) → OfCopies t db → OfCopies t (changed_by key change db (finite.get db key))
+  pub changed_told : (key : Key) (change : DatabaseCopy → DatabaseCopy)
+      → ((c : DatabaseCopy) → t.of_lsa c.lsa → t.of_lsa (change c).lsa) → (db : Database)
+      → OfCopies t db → OfCopies t (changed_by key change db (finite.get db key))
   changed_told key change keeps db all = by_copy (finite.get db key) (all key)
     where
-      by_copy : (o : Option DatabaseCopy) → IfThere (OfCopy t) key o → OfCopies t (changed_by key change db o)
+      by_copy : (o : Option DatabaseCopy) → IfThere (OfCopy t) key o
+          → OfCopies t (changed_by key change db o)
       by_copy None so = all
       by_copy (Some c) so = inserted_in (OfCopy t) db key (change c) all (keeps c so)
 
-  marked_told : (moment : ℕ) (says : Content) (db : Database) → OfCopies t db → OfCopies t (marked_database moment db says)
+  marked_told : (moment : ℕ) (says : Content) (db : Database) → OfCopies t db
+      → OfCopies t (marked_database moment db says)
   marked_told moment (Content.SendsHello h) db all = all
   marked_told moment (Content.Describes d) db all = all
   marked_told moment (Content.Requests keys) db all = all
-  marked_told moment (Content.Updates lsa) db all = changed_told (lsa_key lsa) (λ c. record c { sent = Some moment }) (λ c so. so) db all
+  marked_told moment (Content.Updates lsa) db all = changed_told (lsa_key lsa) (λ c. record c {
+    sent = Some moment;
+  }) (λ c so. so) db all
   marked_told moment (Content.Acknowledges h) db all = all
 
-  all_marked : (moment : ℕ) (more : List Send) (db : Database) → OfCopies t db → OfCopies t (fold (λ (d : Database) (s : Send). marked_database moment d s.content) db more)
+  all_marked : (moment : ℕ) (more : List Send) (db : Database) → OfCopies t db
+      → OfCopies t (fold (λ (d : Database) (s : Send). marked_database moment d s.content) db more)
   all_marked moment [] db all = all
-  all_marked moment (s ∷ more) db all = all_marked moment more (marked_database moment db s.content) (marked_told moment s.content db all)
+  all_marked moment (s ∷ more) db all =
+      all_marked moment more (marked_database moment db s.content)
+      (marked_told moment s.content db all)
 
   -- ---- what is sent
 
-  pub numbered_told : (number : ℕ) (cs : List Content) → AllByRecursion (OfContent t) cs → AllByRecursion (OfSend t) (sends_at number cs)
+  pub numbered_told : (number : ℕ) (cs : List Content) → AllByRecursion (OfContent t) cs
+      → AllByRecursion (OfSend t) (sends_at number cs)
   numbered_told number [] h = tt
   numbered_told number (c ∷ cs) h = (h.0, numbered_told number cs h.1)
 
-  pub sending_told : (moment : ℕ) (more : List Send) (o : Outcome) → AllByRecursion (OfSend t) more → OfOutcome t o → OfOutcome t (sending moment more o)
+  pub sending_told : (moment : ℕ) (more : List Send) (o : Outcome) → AllByRecursion (OfSend t) more
+      → OfOutcome t o → OfOutcome t (sending moment more o)
   sending_told moment more o so h = record {
     copies = all_marked moment more o.area.database h.copies;
     links = h.links;
@@ -95,126 +112,188 @@ module _ (t : Telling) where
 
   -- ---- links and the database
 
-  pub on_links_told : (f : List Link → List Link) (o : Outcome) → OfLinks t (f o.area.links) → length (f o.area.links) ≡ length o.area.links
-      → OfOutcome t o → OfOutcome t (on_links f o)
-  on_links_told f o links same h = record { copies = h.copies; links = links; few = same ∙ h.few; sent = h.sent }
+  pub on_links_told : (f : List Link → List Link) (o : Outcome) → OfLinks t (f o.area.links)
+      → length (f o.area.links) ≡ length o.area.links → OfOutcome t o → OfOutcome t (on_links f o)
+  on_links_told f o links same h = record {
+    copies = h.copies;
+    links = links;
+    few = same ∙ h.few;
+    sent = h.sent;
+  }
 
-  pub on_database_told : (f : Database → Database) (o : Outcome) → OfCopies t (f o.area.database) → OfOutcome t o → OfOutcome t (on_database f o)
-  on_database_told f o copies h = record { copies = copies; links = h.links; few = h.few; sent = h.sent }
+  pub on_database_told : (f : Database → Database) (o : Outcome) → OfCopies t (f o.area.database)
+      → OfOutcome t o → OfOutcome t (on_database f o)
+  on_database_told f o copies h = record {
+    copies = copies;
+    links = h.links;
+    few = h.few;
+    sent = h.sent;
+  }
 
   -- a change of every link, by its number
-  links_told : (g : (ℕ × Link) → Link) → ((number : ℕ) (link : Link) → OfLink t link → OfLink t (g (number, link)))
+  links_told : (g : (ℕ × Link) → Link)
+      → ((number : ℕ) (link : Link) → OfLink t link → OfLink t (g (number, link)))
       → (k : ℕ) (xs : List Link) → OfLinks t xs → OfLinks t (map g (enumerate_from k xs))
   links_told g keeps k [] h = tt
   links_told g keeps k (x ∷ xs) h = (keeps k x h.0, links_told g keeps (k + 1) xs h.1)
 
-  pub each_link_told : (g : Link → Link) → ((link : Link) → OfLink t link → OfLink t (g link)) → (xs : List Link) → OfLinks t xs → OfLinks t (map g xs)
+  pub each_link_told : (g : Link → Link) → ((link : Link) → OfLink t link → OfLink t (g link))
+      → (xs : List Link) → OfLinks t xs → OfLinks t (map g xs)
   each_link_told g keeps [] h = tt
   each_link_told g keeps (x ∷ xs) h = (keeps x h.0, each_link_told g keeps xs h.1)
 
-  pub change_told : (number : ℕ) (change : Link → Link) → ((link : Link) → OfLink t link → OfLink t (change link))
-      → (o : Outcome) → OfOutcome t o → OfOutcome t (on_links (change_link number change) o)
+  pub change_told : (number : ℕ) (change : Link → Link)
+      → ((link : Link) → OfLink t link → OfLink t (change link)) → (o : Outcome) → OfOutcome t o
+      → OfOutcome t (on_links (change_link number change) o)
   change_told number change keeps o h =
       on_links_told (change_link number change) o
       (links_told (λ (e : ℕ × Link). cond (e.0 == number) (change e.1) e.1)
-      (λ k link at. chosen (OfLink t) (k == number) (change link) link (λ is. keeps link at) (λ is. at)) 1 o.area.links h.links)
+      (λ k link at. chosen (OfLink t) (k == number) (change link) link (λ is. keeps link at)
+      (λ is. at)) 1 o.area.links h.links)
       (same_number (λ (e : ℕ × Link). cond (e.0 == number) (change e.1) e.1) o.area.links) h
 
-  place_told : (xs : List Link) (i : ℕ) → OfLinks t xs → OfOwedIfAny t (neighbor_on (slice_get xs i))
+  place_told : (xs : List Link) (i : ℕ) → OfLinks t xs
+      → OfOwedIfAny t (neighbor_on (slice_get xs i))
   place_told [] i h = tt
   place_told (x ∷ xs) zero h = h.0.neighbor
   place_told (x ∷ xs) (suc i) h = place_told xs i h.1
 
   -- the neighbor at one interface has the property
-  pub one_told : (number : ℕ) (xs : List Link) → OfLinks t xs → OfOwedIfAny t (neighbor_on (link_at number xs))
+  pub one_told : (number : ℕ) (xs : List Link) → OfLinks t xs
+      → OfOwedIfAny t (neighbor_on (link_at number xs))
   one_told zero xs h = tt
   one_told (suc i) xs h = place_told xs i h
 
   -- ---- steps of the neighbors
 
-  step_told : (f : Neighbor → Step) → ((n : Neighbor) → OfOwed t n → OfStep t (f n)) → (o : Option Neighbor) → OfOwedIfAny t o → OfOwedIfAny t (step_on f o)
+  step_told : (f : Neighbor → Step) → ((n : Neighbor) → OfOwed t n → OfStep t (f n))
+      → (o : Option Neighbor) → OfOwedIfAny t o → OfOwedIfAny t (step_on f o)
   step_told f keeps None h = tt
   step_told f keeps (Some n) h = (keeps n h).neighbor
 
-  sent_on_told : (f : Neighbor → Step) → ((n : Neighbor) → OfOwed t n → OfStep t (f n)) → (o : Option Neighbor) → OfOwedIfAny t o
-      → AllByRecursion (OfContent t) (sent_on f o)
+  sent_on_told : (f : Neighbor → Step) → ((n : Neighbor) → OfOwed t n → OfStep t (f n))
+      → (o : Option Neighbor) → OfOwedIfAny t o → AllByRecursion (OfContent t) (sent_on f o)
   sent_on_told f keeps None h = tt
   sent_on_told f keeps (Some n) h = (keeps n h).sends
 
-  steps_told : (f : Stepping) → ((number : ℕ) (link : Link) (n : Neighbor) → OfOwed t n → OfStep t (f number link n))
-      → (k : ℕ) (xs : List Link) → OfLinks t xs
-      → AllByRecursion (OfSend t) (flat_map (λ (e : ℕ × Link). sends_at e.0 (sent_on (f e.0 e.1) e.1.neighbor)) (enumerate_from k xs))
+  steps_told : (f : Stepping) → ((number : ℕ) (link : Link) (n : Neighbor) → OfOwed t n
+      → OfStep t (f number link n)) → (k : ℕ) (xs : List Link) → OfLinks t xs
+      → AllByRecursion (OfSend t) (flat_map
+      (λ (e : ℕ × Link). sends_at e.0 (sent_on (f e.0 e.1) e.1.neighbor))
+      (enumerate_from k xs))
   steps_told f keeps k [] h = tt
   steps_told f keeps k (x ∷ xs) h =
-      joined (OfSend t) (sends_at k (sent_on (f k x) x.neighbor)) (flat_map (λ (e : ℕ × Link). sends_at e.0 (sent_on (f e.0 e.1) e.1.neighbor)) (enumerate_from (k + 1) xs))
-      (numbered_told k (sent_on (f k x) x.neighbor) (sent_on_told (f k x) (keeps k x) x.neighbor h.0.neighbor))
+      joined (OfSend t) (sends_at k (sent_on (f k x) x.neighbor))
+      (flat_map (λ (e : ℕ × Link). sends_at e.0 (sent_on (f e.0 e.1) e.1.neighbor))
+      (enumerate_from (k + 1) xs))
+      (numbered_told k (sent_on (f k x) x.neighbor)
+      (sent_on_told (f k x) (keeps k x) x.neighbor h.0.neighbor))
       (steps_told f keeps (k + 1) xs h.1)
 
-  pub each_told : (moment : ℕ) (f : Stepping) → ((number : ℕ) (link : Link) (n : Neighbor) → OfOwed t n → OfStep t (f number link n))
+  pub each_told : (moment : ℕ) (f : Stepping)
+      → ((number : ℕ) (link : Link) (n : Neighbor) → OfOwed t n → OfStep t (f number link n))
       → (o : Outcome) → OfOutcome t o → OfOutcome t (each_neighbor moment f o)
   each_told moment f keeps o h =
-      sending_told moment _ (on_links (stepped_links f) o) (steps_told f keeps 1 o.area.links h.links)
+      sending_told moment _ (on_links (stepped_links f) o)
+      (steps_told f keeps 1 o.area.links h.links)
       (on_links_told (stepped_links f) o
       (links_told (λ (e : ℕ × Link). record e.1 { neighbor = step_on (f e.0 e.1) e.1.neighbor })
-      (λ k link at. record { neighbor = step_told (f k link) (keeps k link) link.neighbor at.neighbor; acknowledgments = at.acknowledgments }) 1 o.area.links h.links)
-      (same_number (λ (e : ℕ × Link). record e.1 { neighbor = step_on (f e.0 e.1) e.1.neighbor }) o.area.links) h)
+      (λ k link at. record {
+        neighbor = step_told (f k link) (keeps k link) link.neighbor at.neighbor;
+        acknowledgments = at.acknowledgments;
+      }) 1 o.area.links h.links)
+      (same_number (λ (e : ℕ × Link). record e.1 { neighbor = step_on (f e.0 e.1) e.1.neighbor })
+      o.area.links) h)
 
-  pub one_neighbor_told : (moment number : ℕ) (f : Neighbor → Step) → ((n : Neighbor) → OfOwed t n → OfStep t (f n))
-      → (o : Outcome) → OfOutcome t o → OfOutcome t (one_neighbor moment number f o)
+  pub one_neighbor_told : (moment number : ℕ) (f : Neighbor → Step)
+      → ((n : Neighbor) → OfOwed t n → OfStep t (f n)) → (o : Outcome) → OfOutcome t o
+      → OfOutcome t (one_neighbor moment number f o)
   one_neighbor_told moment number f keeps o h =
       each_told moment (only_at number f)
-      (λ place link n at. chosen (OfStep t) (place == number) (f n) (record { neighbor = n; sends = [] }) (λ is. keeps n at) (λ is. quiet_told t n at)) o h
+      (λ place link n at. chosen (OfStep t) (place == number) (f n) (record {
+        neighbor = n;
+        sends = [];
+      }) (λ is. keeps n at) (λ is. quiet_told t n at)) o h
 
   -- ---- flooding
 
-  flood_to_told : (moment : ℕ) (sender : Option ℕ) (lsa : Lsa) → t.of_lsa lsa → (number : ℕ) (link : Link) (n : Neighbor) → OfOwed t n
+  flood_to_told : (moment : ℕ) (sender : Option ℕ) (lsa : Lsa) → t.of_lsa lsa
+      → (number : ℕ) (link : Link) (n : Neighbor) → OfOwed t n
       → OfStep t (flood_to moment sender lsa number link n)
   flood_to_told moment sender lsa so number link n h =
       let m : Neighbor = without_met_request moment lsa n in
-      let got : Step = record { neighbor = add_retransmission moment lsa.header m; sends = Updates lsa ∷ [] } in
+      let got : Step = record {
+        neighbor = add_retransmission moment lsa.header m;
+        sends = Updates lsa ∷ [];
+      } in
       let not_got : Step = no_sends (remove_retransmission (lsa_key lsa) m) in
-      let met : OfOwed t m = chosen (OfOwed t) (meets moment lsa (request_of n lsa)) (without_request (lsa_key lsa) n) n (λ is. h) (λ is. h) in
-      chosen (OfStep t) (is_exchange_or_later n.state) (cond (gets moment sender number lsa n) got not_got) (no_sends n)
+      let met : OfOwed t m = chosen (OfOwed t) (meets moment lsa (request_of n lsa))
+      (without_request (lsa_key lsa) n) n (λ is. h) (λ is. h) in
+      chosen (OfStep t) (is_exchange_or_later n.state)
+      (cond (gets moment sender number lsa n) got not_got) (no_sends n)
       (λ part.
       chosen (OfStep t) (gets moment sender number lsa n) got not_got
-      (λ is. record { neighbor = owed_told t moment lsa.header m (t.header lsa so) met; sends = (so, tt) })
-      (λ is. quiet_told t (remove_retransmission (lsa_key lsa) m) (released_told t (lsa_key lsa) m met)))
+      (λ is. record {
+        neighbor = owed_told t moment lsa.header m (t.header lsa so) met;
+        sends = (so, tt);
+      })
+      (λ is. quiet_told t (remove_retransmission (lsa_key lsa) m)
+      (released_told t (lsa_key lsa) m met)))
       (λ part. quiet_told t n h)
 
-  pub flood_told : (moment : ℕ) (sender : Option ℕ) (lsa : Lsa) (o : Outcome) → t.of_lsa lsa → OfOutcome t o → OfOutcome t (flood moment sender lsa o)
-  flood_told moment sender lsa o so h = each_told moment (flood_to moment sender lsa) (flood_to_told moment sender lsa so) o h
+  pub flood_told : (moment : ℕ) (sender : Option ℕ) (lsa : Lsa) (o : Outcome) → t.of_lsa lsa
+      → OfOutcome t o → OfOutcome t (flood moment sender lsa o)
+  flood_told moment sender lsa o so h =
+      each_told moment (flood_to moment sender lsa) (flood_to_told moment sender lsa so) o h
 
   -- ---- a received LSA
 
-  at_once_told : (moment number : ℕ) (lsa : Lsa) (o : Outcome) → t.of_lsa lsa → OfOutcome t o → OfOutcome t (acknowledge_at_once moment number lsa.header o)
-  at_once_told moment number lsa o so h = sending_told moment (sends_at number (Acknowledges lsa.header ∷ [])) o (t.header lsa so, tt) h
+  at_once_told : (moment number : ℕ) (lsa : Lsa) (o : Outcome) → t.of_lsa lsa → OfOutcome t o
+      → OfOutcome t (acknowledge_at_once moment number lsa.header o)
+  at_once_told moment number lsa o so h =
+      sending_told moment (sends_at number (Acknowledges lsa.header ∷ [])) o (t.header lsa so, tt) h
 
-  install_told : (moment number : ℕ) (lsa : Lsa) (o : Outcome) → t.of_lsa lsa → OfOutcome t o → OfOutcome t (install moment number lsa o)
+  install_told : (moment number : ℕ) (lsa : Lsa) (o : Outcome) → t.of_lsa lsa → OfOutcome t o
+      → OfOutcome t (install moment number lsa o)
   install_told moment number lsa o so h =
       let p : Outcome = on_database (install_flooded moment lsa) o in
       let installed : OfOutcome t p =
       on_database_told (install_flooded moment lsa) o
-      (inserted_in (OfCopy t) o.area.database (lsa_key lsa) (record { lsa = lsa; stored = moment; installed = Some moment; sent = None }) h.copies so) h in
+      (inserted_in (OfCopy t) o.area.database (lsa_key lsa) (record {
+        lsa = lsa;
+        stored = moment;
+        installed = Some moment;
+        sent = None;
+      }) h.copies so) h in
       change_told number (acknowledge_later lsa.header)
       (λ link at. record {
         neighbor = at.neighbor;
-        acknowledgments = inserted_in (OfWaiting t) link.acknowledgments (key_of lsa.header) lsa.header at.acknowledgments (t.header lsa so);
+        acknowledgments = inserted_in (OfWaiting t) link.acknowledgments (key_of lsa.header)
+            lsa.header at.acknowledgments (t.header lsa so);
       })
       (flood moment (Some number) lsa p) (flood_told moment (Some number) lsa p so installed)
 
-  copy_told : (moment number : ℕ) (key : Key) (c : Option DatabaseCopy) (o : Outcome) → IfThere (OfCopy t) key c → OfOutcome t o → OfOutcome t (send_copy moment number c o)
+  copy_told : (moment number : ℕ) (key : Key) (c : Option DatabaseCopy) (o : Outcome)
+      → IfThere (OfCopy t) key c → OfOutcome t o → OfOutcome t (send_copy moment number c o)
   copy_told moment number key None o so h = h
-  copy_told moment number key (Some c) o so h = sending_told moment (sends_at number (Updates (lsa_now moment c) ∷ [])) o (lsa_now_told t moment c so, tt) h
+  copy_told moment number key (Some c) o so h =
+      sending_told moment (sends_at number (Updates (lsa_now moment c) ∷ [])) o
+      (lsa_now_told t moment c so, tt) h
 
-  pub case_told : (case : Case) (moment number : ℕ) (lsa : Lsa) (o : Outcome) → t.of_lsa lsa → OfOutcome t o → OfOutcome t (after_case case moment number lsa o)
+  pub case_told : (case : Case) (moment number : ℕ) (lsa : Lsa) (o : Outcome) → t.of_lsa lsa
+      → OfOutcome t o → OfOutcome t (after_case case moment number lsa o)
   case_told Case.Unreadable moment number lsa o so h = h
   case_told Case.NothingToFlush moment number lsa o so h = at_once_told moment number lsa o so h
   case_told Case.TooSoon moment number lsa o so h = h
   case_told Case.Newer moment number lsa o so h = install_told moment number lsa o so h
-  case_told Case.BadRequest moment number lsa o so h = one_neighbor_told moment number (mismatch_step moment) (mismatched_told t moment) o h
+  case_told Case.BadRequest moment number lsa o so h =
+      one_neighbor_told moment number (mismatch_step moment) (mismatched_told t moment) o h
   case_told Case.ImpliedAcknowledgment moment number lsa o so h =
-      one_neighbor_told moment number (λ n. no_sends (remove_retransmission (lsa_key lsa) n)) (λ n at. quiet_told t (remove_retransmission (lsa_key lsa) n) (released_told t (lsa_key lsa) n at)) o h
+      one_neighbor_told moment number (λ n. no_sends (remove_retransmission (lsa_key lsa) n))
+      (λ n at. quiet_told t (remove_retransmission (lsa_key lsa) n)
+      (released_told t (lsa_key lsa) n at)) o h
   case_told Case.Duplicate moment number lsa o so h = at_once_told moment number lsa o so h
   case_told Case.SequenceWraps moment number lsa o so h = h
   case_told Case.SentJustNow moment number lsa o so h = h
-  case_told Case.Older moment number lsa o so h = copy_told moment number (lsa_key lsa) (copy_of lsa o.area) o (h.copies (lsa_key lsa)) h
+  case_told Case.Older moment number lsa o so h =
+      copy_told moment number (lsa_key lsa) (copy_of lsa o.area) o (h.copies (lsa_key lsa)) h

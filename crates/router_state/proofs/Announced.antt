@@ -1,5 +1,6 @@
 -- Announced destinations have their own keys, also after each edit.
-use Rattle.std.proofs.Common.{◌≡◌, T, Bool, true, false, cond, not, ◌&&◌, Option, None, Some, refl, sym, ap, subst, ◌∙◌}
+use Rattle.std.proofs.Common.{◌≡◌, T, Bool, true, false, cond, not, ◌&&◌, Option, None, Some, refl}
+use Rattle.std.proofs.Common.{sym, ap, subst, ◌∙◌}
 use mathlib.Core.Bool.{false≢true}
 use Rattle.std.specs.Prelude.{is_some}
 use Rattle.std.specs.FinMap as finite
@@ -33,20 +34,29 @@ module _ (id : RouterNumber) where
   pub none_own : AreOwn id finite.empty
   none_own k e is = absurd (false≢true (ap is_some (sym (finite.get-empty key_cmp k) ∙ is)))
 
-  by_key : (m : ByKey External) (key k : Key) (e x : External) (b : Bool) → AreOwn id m → IsOwn id key e → eq_by_cmp key_cmp k key ≡ b → cond b (Some e) (finite.get m k) ≡ Some x → IsOwn id k x
+  by_key : (m : ByKey External) (key k : Key) (e x : External) (b : Bool) → AreOwn id m
+      → IsOwn id key e → eq_by_cmp key_cmp k key ≡ b → cond b (Some e) (finite.get m k) ≡ Some x
+      → IsOwn id k x
   by_key m key k e x true own here tied is =
-      subst (λ (y : External). IsOwn id k y) (value_is e x is) (subst (λ (q : Key). IsOwn id q e) (sym (keys_exact k key (equal (key_cmp k key) tied))) here)
+      subst (λ (y : External). IsOwn id k y) (value_is e x is)
+      (subst (λ (q : Key). IsOwn id q e) (sym (keys_exact k key (equal (key_cmp k key) tied)))
+      here)
   by_key m key k e x false own here tied is = own k x is
 
-  pub insert_own : (m : ByKey External) (key : Key) (e : External) → AreOwn id m → IsOwn id key e → AreOwn id (finite.insert m key e)
-  insert_own m key e own here k x is = by_key m key k e x (eq_by_cmp key_cmp k key) own here refl (sym (finite.get-insert keys_total m key e k) ∙ is)
+  pub insert_own : (m : ByKey External) (key : Key) (e : External) → AreOwn id m → IsOwn id key e
+      → AreOwn id (finite.insert m key e)
+  insert_own m key e own here k x is =
+      by_key m key k e x (eq_by_cmp key_cmp k key) own here refl
+      (sym (finite.get-insert keys_total m key e k) ∙ is)
 
-  kept : (m : ByKey External) (k : Key) (x : External) (b : Bool) → AreOwn id m → cond b None (finite.get m k) ≡ Some x → IsOwn id k x
+  kept : (m : ByKey External) (k : Key) (x : External) (b : Bool) → AreOwn id m
+      → cond b None (finite.get m k) ≡ Some x → IsOwn id k x
   kept m k x true own is = absurd (false≢true (ap is_some is))
   kept m k x false own is = own k x is
 
   pub remove_own : (m : ByKey External) (key : Key) → AreOwn id m → AreOwn id (finite.remove m key)
-  remove_own m key own k x is = kept m k x (eq_by_cmp key_cmp k key) own (sym (finite.get-remove keys_total m key k) ∙ is)
+  remove_own m key own k x is = kept m k x (eq_by_cmp key_cmp k key) own
+      (sym (finite.get-remove keys_total m key k) ∙ is)
 
 -- ---- sets that are kept as maps
 
@@ -54,7 +64,11 @@ gone_or : {X : Type 0} (b : Bool) (o : Option X) → is_some (cond b None o) ≡
 gone_or true o = refl
 gone_or false o = refl
 
-pub keys_remove : {X : Type 0} (m : ByKey X) (k : Key) → keys_of (finite.remove m k) ≡ set.remove (keys_of m) k
-keys_remove m k = set.same_set keys_total keys_exact (keys_of (finite.remove m k)) (set.remove (keys_of m) k) (λ q.
-    contains_key_of (finite.remove m k) q ∙ ap is_some (finite.get-remove keys_total m k q) ∙ gone_or (eq_by_cmp key_cmp q k) (finite.get m q)
-    ∙ ap (λ b. not (eq_by_cmp key_cmp q k) && b) (sym (contains_key_of m q)) ∙ sym (set.contains-remove keys_total (keys_of m) k q))
+pub keys_remove : {X : Type 0} (m : ByKey X) (k : Key)
+    → keys_of (finite.remove m k) ≡ set.remove (keys_of m) k
+keys_remove m k = set.same_set keys_total keys_exact (keys_of (finite.remove m k))
+    (set.remove (keys_of m) k) (λ q.
+    contains_key_of (finite.remove m k) q ∙ ap is_some (finite.get-remove keys_total m k q)
+    ∙ gone_or (eq_by_cmp key_cmp q k) (finite.get m q)
+    ∙ ap (λ b. not (eq_by_cmp key_cmp q k) && b) (sym (contains_key_of m q))
+    ∙ sym (set.contains-remove keys_total (keys_of m) k q))

@@ -16,7 +16,8 @@ use Rattle.timers.specs.adjacency.Retransmissions.{after_acknowledgment}
 use Rattle.timers.specs.received.Links.{Area, Link, link_at}
 use Rattle.timers.specs.received.Outcomes.{Outcome, sends_at, one_neighbor, only_at, sending}
 use Rattle.timers.specs.events.Hellos.{accepts, names}
-use Rattle.timers.specs.events.Packets.{acknowledged_by, after_hello, describe_to, hear, heard_on, is_there, requested_from, requested_lsas, with_neighbor}
+use Rattle.timers.specs.events.Packets.{acknowledged_by, after_hello, describe_to, hear, heard_on}
+use Rattle.timers.specs.events.Packets.{is_there, requested_from, requested_lsas, with_neighbor}
 use Rattle.timers.specs.flooding.Links.{start}
 use Rattle.timers.specs.Aging.{outcomes_in_turn}
 use Rattle.router_state.specs.Making.{interfaces_of}
@@ -29,22 +30,30 @@ module _ (own moment number from : ℕ) (h : Hello) where
   abbrev heard : Link → Step
   heard l = adjacencies.after_hello moment from (names own h) l.neighbor
 
-  accepted_after : (s : Step) (o : Outcome) (b : Bool) → cond b (hear moment number s o) o ≡ outcomes_in_turn o (cond b (hear moment number s (start o.area)) (start o.area))
+  accepted_after : (s : Step) (o : Outcome) (b : Bool)
+      → cond b (hear moment number s o) o
+      ≡ outcomes_in_turn o (cond b (hear moment number s (start o.area)) (start o.area))
   accepted_after s o true = refl
   accepted_after s o false = appends_nothing o
 
-  heard_after : (l : Option Link) (o : Outcome) → heard_on own moment number from h l o ≡ outcomes_in_turn o (heard_on own moment number from h l (start o.area))
+  heard_after : (l : Option Link) (o : Outcome)
+      → heard_on own moment number from h l o
+      ≡ outcomes_in_turn o (heard_on own moment number from h l (start o.area))
   heard_after None o = appends_nothing o
   heard_after (Some l) o = accepted_after (heard l) o (accepts own from h l)
 
   pub appends_hello : Appends (after_hello own moment number from h)
   appends_hello o = heard_after (link_at number o.area.links) o
 
-  accepted_keeps : (s : Step) (a : Area) (b : Bool) → interfaces_of (cond b (hear moment number s (start a)) (start a)).area.links ≡ interfaces_of a.links
+  accepted_keeps : (s : Step) (a : Area) (b : Bool)
+      → interfaces_of (cond b (hear moment number s (start a)) (start a)).area.links
+      ≡ interfaces_of a.links
   accepted_keeps s a true = change_interfaces number (with_neighbor s.neighbor) (λ l. refl) a.links
   accepted_keeps s a false = refl
 
-  heard_keeps : (l : Option Link) (a : Area) → interfaces_of (heard_on own moment number from h l (start a)).area.links ≡ interfaces_of a.links
+  heard_keeps : (l : Option Link) (a : Area)
+      → interfaces_of (heard_on own moment number from h l (start a)).area.links
+      ≡ interfaces_of a.links
   heard_keeps None a = refl
   heard_keeps (Some l) a = accepted_keeps (heard l) a (accepts own from h l)
 
@@ -58,7 +67,8 @@ module _ (own moment number : ℕ) (d : Description) where
   appends_description o = refl
 
   pub keeps_description : KeepsInterfaces (describe_to own moment number d)
-  keeps_description a = keeps_neighbors moment (only_at number (after_description own moment a.database d)) a
+  keeps_description a = keeps_neighbors moment
+      (only_at number (after_description own moment a.database d)) a
 
 -- ---- Link State Requests
 
@@ -68,7 +78,8 @@ module _ (moment number : ℕ) (keys : List Key) where
 
   requested_after : (o : Outcome) (b : Bool)
       → cond b (sent o.area.database o) (one_neighbor moment number (mismatch_step moment) o)
-      ≡ outcomes_in_turn o (cond b (sent o.area.database (start o.area)) (one_neighbor moment number (mismatch_step moment) (start o.area)))
+      ≡ outcomes_in_turn o (cond b (sent o.area.database (start o.area))
+      (one_neighbor moment number (mismatch_step moment) (start o.area)))
   requested_after o true = refl
   requested_after o false = refl
 
@@ -76,7 +87,9 @@ module _ (moment number : ℕ) (keys : List Key) where
   appends_request o = requested_after o (list_all (is_there o.area.database) keys)
 
   requested_keeps : (a : Area) (b : Bool)
-      → interfaces_of (cond b (sent a.database (start a)) (one_neighbor moment number (mismatch_step moment) (start a))).area.links ≡ interfaces_of a.links
+      → interfaces_of (cond b (sent a.database (start a))
+      (one_neighbor moment number (mismatch_step moment) (start a))).area.links
+      ≡ interfaces_of a.links
   requested_keeps a true = refl
   requested_keeps a false = keeps_neighbors moment (only_at number (mismatch_step moment)) a
 
@@ -90,4 +103,5 @@ module _ (moment number : ℕ) (headers : List Header) where
   appends_acknowledgment o = refl
 
   pub keeps_acknowledgment : KeepsInterfaces (acknowledged_by moment number headers)
-  keeps_acknowledgment a = keeps_neighbors moment (only_at number (λ n. no_sends (after_acknowledgment moment headers n))) a
+  keeps_acknowledgment a = keeps_neighbors moment
+      (only_at number (λ n. no_sends (after_acknowledgment moment headers n))) a

@@ -1,5 +1,6 @@
 -- What is sent later is drafted later, and drafts depend only on the interface of a link.
-use Rattle.std.proofs.Common.{◌≡◌, ℕ, ◌+◌, ◌==◌, Bool, true, false, cond, List, [], ◌∷◌, ◌++◌, None, Some, refl, sym, ap, ◌∙◌}
+use Rattle.std.proofs.Common.{◌≡◌, ℕ, ◌+◌, ◌==◌, Bool, true, false, cond, List, [], ◌∷◌, ◌++◌, None}
+use Rattle.std.proofs.Common.{Some, refl, sym, ap, ◌∙◌}
 use Rattle.std.specs.List.{cons_option, filter_map}
 use Rattle.timers.specs.adjacency.Contents.{Content}
 use Rattle.timers.specs.adjacency.Drafts.{Drafted, adds, drafting}
@@ -9,15 +10,21 @@ use Rattle.timers.specs.received.Outcomes.{Send}
 use Rattle.timers.specs.flooding.Drafted.{at_interface, drafts_with, drafted_from}
 use Rattle.router_state.specs.Making.{interfaces_of}
 
-by_number : (k : ℕ) (x : Send) (b : Bool) (whole front back : List Content) → whole ≡ front ++ back → cons_option (cond b (Some x.content) None) whole ≡ cons_option (cond b (Some x.content) None) front ++ back
+by_number : (k : ℕ) (x : Send) (b : Bool) (whole front back : List Content) → whole ≡ front ++ back
+    → cons_option (cond b (Some x.content) None) whole
+    ≡ cons_option (cond b (Some x.content) None) front ++ back
 by_number k x true whole front back is = ap (λ zs. x.content ∷ zs) is
 by_number k x false whole front back is = is
 
-picked_append : (k : ℕ) (xs ys : List Send) → filter_map (at_interface k) (xs ++ ys) ≡ filter_map (at_interface k) xs ++ filter_map (at_interface k) ys
+picked_append : (k : ℕ) (xs ys : List Send)
+    → filter_map (at_interface k) (xs ++ ys) ≡ filter_map (at_interface k) xs
+    ++ filter_map (at_interface k) ys
 picked_append k [] ys = refl
-picked_append k (x ∷ xs) ys = by_number k x (x.number == k) (filter_map (at_interface k) (xs ++ ys)) (filter_map (at_interface k) xs) (filter_map (at_interface k) ys) (picked_append k xs ys)
+picked_append k (x ∷ xs) ys = by_number k x (x.number == k) (filter_map (at_interface k) (xs ++ ys))
+    (filter_map (at_interface k) xs) (filter_map (at_interface k) ys) (picked_append k xs ys)
 
-drafting_append : (delay : ℕ) (xs ys : List Content) (d : Drafted) → drafting delay ys (drafting delay xs d) ≡ drafting delay (xs ++ ys) d
+drafting_append : (delay : ℕ) (xs ys : List Content) (d : Drafted)
+    → drafting delay ys (drafting delay xs d) ≡ drafting delay (xs ++ ys) d
 unfolding drafting
 drafting_append delay [] ys d = refl
 drafting_append delay (x ∷ xs) ys d = drafting_append delay xs ys (adds delay d x)
@@ -28,19 +35,27 @@ drafted_append n xs ys [] ds = refl
 drafted_append n xs ys (l ∷ ls) [] = refl
 drafted_append n xs ys (l ∷ ls) (d ∷ ds) =
     let delay = l.interface.delay in
-    let here = drafting_append delay (filter_map (at_interface n) xs) (filter_map (at_interface n) ys) d ∙ ap (λ cs. drafting delay cs d) (sym (picked_append n xs ys)) in
+    let here = drafting_append delay (filter_map (at_interface n) xs)
+    (filter_map (at_interface n) ys) d
+    ∙ ap (λ cs. drafting delay cs d) (sym (picked_append n xs ys)) in
     λ i. here i ∷ drafted_append (n + 1) xs ys ls ds i
 
 abbrev drafted_by : ℕ → List Send → List Interface → List Drafted → List Drafted
 drafted_by n sends [] ds = ds
 drafted_by n sends (x ∷ xs) [] = []
-drafted_by n sends (x ∷ xs) (d ∷ ds) = drafting x.delay (filter_map (at_interface n) sends) d ∷ drafted_by (n + 1) sends xs ds
+drafted_by n sends (x ∷ xs) (d ∷ ds) =
+    drafting x.delay (filter_map (at_interface n) sends) d ∷ drafted_by (n + 1) sends xs ds
 
-by_interfaces : (n : ℕ) (sends : List Send) (ls : List Link) (ds : List Drafted) → drafted_from n sends ls ds ≡ drafted_by n sends (interfaces_of ls) ds
+by_interfaces : (n : ℕ) (sends : List Send) (ls : List Link) (ds : List Drafted)
+    → drafted_from n sends ls ds ≡ drafted_by n sends (interfaces_of ls) ds
 by_interfaces n sends [] ds = refl
 by_interfaces n sends (l ∷ ls) [] = refl
-by_interfaces n sends (l ∷ ls) (d ∷ ds) = λ i. drafting l.interface.delay (filter_map (at_interface n) sends) d ∷ by_interfaces (n + 1) sends ls ds i
+by_interfaces n sends (l ∷ ls) (d ∷ ds) =
+    λ i. drafting l.interface.delay (filter_map (at_interface n) sends) d
+    ∷ by_interfaces (n + 1) sends ls ds i
 
-pub drafted_same : (sends : List Send) (ls ms : List Link) (ds : List Drafted) → interfaces_of ls ≡ interfaces_of ms → drafts_with sends ls ds ≡ drafts_with sends ms ds
+pub drafted_same : (sends : List Send) (ls ms : List Link) (ds : List Drafted)
+    → interfaces_of ls ≡ interfaces_of ms → drafts_with sends ls ds ≡ drafts_with sends ms ds
 drafted_same sends ls ms ds same =
-    by_interfaces 1 sends ls ds ∙ ap (λ is. drafted_by 1 sends is ds) same ∙ sym (by_interfaces 1 sends ms ds)
+    by_interfaces 1 sends ls ds ∙ ap (λ is. drafted_by 1 sends is ds) same
+    ∙ sym (by_interfaces 1 sends ms ds)

@@ -10,17 +10,33 @@ use Rattle.timers.specs.events.Originations.{as_originated, forget_originations,
 use Rattle.timers.specs.events.Routers.{Router}
 
 module _ (shown old : Router) (key : Key) where
-  pub waits : (w : KeySet) → shown ≡ old → w ≡ set.insert shown.waiting key → ◌≡◌ {A = Router} (record shown { waiting = w }) (wait key old)
+  pub waits : (w : KeySet) → shown ≡ old → w ≡ set.insert shown.waiting key
+      → ◌≡◌ {A = Router} (record shown { waiting = w }) (wait key old)
   waits w view is = (λ i. record shown { waiting = is i }) ∙ ap (wait key) view
 
-  pub withdraws : (m : ByKey External) (w : KeySet) → shown ≡ old → m ≡ finite.remove shown.announced key → w ≡ set.remove shown.waiting key
+  pub withdraws : (m : ByKey External) (w : KeySet) → shown ≡ old
+      → m ≡ finite.remove shown.announced key → w ≡ set.remove shown.waiting key
       → ◌≡◌ {A = Router} (record shown { announced = m; waiting = w }) (unannounce key old)
-  withdraws m w view gone is = (λ i. record shown { announced = gone i; waiting = is i }) ∙ ap (unannounce key) view
+  withdraws m w view gone is = (λ i. record shown {
+    announced = gone i;
+    waiting = is i;
+  }) ∙ ap (unannounce key) view
 
-  pub notes : (moment : ℕ) (w : KeySet) (m : ByKey ℕ) → shown ≡ old → w ≡ set.remove shown.waiting key → m ≡ finite.insert shown.originated key moment
-      → ◌≡◌ {A = Router} (record shown { waiting = w; originated = m }) (as_originated moment key old)
-  notes moment w m view gone is = (λ i. record shown { waiting = gone i; originated = is i }) ∙ ap (as_originated moment key) view
+  pub notes : (moment : ℕ) (w : KeySet) (m : ByKey ℕ) → shown ≡ old
+      → w ≡ set.remove shown.waiting key → m ≡ finite.insert shown.originated key moment
+      → ◌≡◌ {A = Router} (record shown {
+        waiting = w;
+        originated = m;
+      }) (as_originated moment key old)
+  notes moment w m view gone is = (λ i. record shown {
+    waiting = gone i;
+    originated = is i;
+  }) ∙ ap (as_originated moment key) view
 
-pub forgets : (shown old : Router) (moment : ℕ) (m : ByKey ℕ) → shown ≡ old → m ≡ finite.retain_keys shown.originated (λ key. is_recent moment (finite.get shown.originated key))
+pub forgets : (shown old : Router) (moment : ℕ) (m : ByKey ℕ) → shown ≡ old
+    → m ≡ finite.retain_keys shown.originated
+    (λ key. is_recent moment (finite.get shown.originated key))
     → ◌≡◌ {A = Router} (record shown { originated = m }) (forget_originations moment old)
-forgets shown old moment m view is = (λ i. record shown { originated = is i }) ∙ ap (forget_originations moment) view
+forgets shown old moment m view is = (λ i. record shown {
+  originated = is i;
+}) ∙ ap (forget_originations moment) view

@@ -1,6 +1,7 @@
 -- Without the keys since whose origination MinLSInterval has passed, the originations are the
 -- recent ones.
-use Rattle.std.proofs.Common.{◌≡◌, ℕ, T, Bool, true, false, cond, not, ◌&&◌, ◌||◌, List, [], ◌∷◌, map, Option, None, Some, refl, sym, ap, subst, ◌∙◌}
+use Rattle.std.proofs.Common.{◌≡◌, ℕ, T, Bool, true, false, cond, not, ◌&&◌, ◌||◌, List, [], ◌∷◌}
+use Rattle.std.proofs.Common.{map, Option, None, Some, refl, sym, ap, subst, ◌∙◌}
 use Rattle.std.specs.List.{filter, fold, list_any}
 use Rattle.std.specs.FinMap as finite
 use Rattle.std.specs.FinMap.Entries.{below_all, is_sorted}
@@ -33,10 +34,13 @@ equal Greater p = absurd (subst T (sym p) tt)
 
 module _ {X : Type 0} where
   -- a key that is equal to one below all others isn't among them
-  absent : (q k : Key) (es : List (Key × X)) → key_cmp q k ≡ Equal → T (below_all key_cmp k es) → finite.find key_cmp q es ≡ None
+  absent : (q k : Key) (es : List (Key × X)) → key_cmp q k ≡ Equal → T (below_all key_cmp k es)
+      → finite.find key_cmp q es ≡ None
   absent q k [] same all = refl
   absent q k (e ∷ es) same all =
-      ap (λ r. cond (is_eq r) (Some e.1) (finite.find key_cmp q es)) (keys_total.congr q k e.0 same ∙ less (key_cmp k e.0) (first (is_lt (key_cmp k e.0)) (below_all key_cmp k es) all))
+      ap (λ r. cond (is_eq r) (Some e.1) (finite.find key_cmp q es))
+      (keys_total.congr q k e.0 same ∙ less (key_cmp k e.0)
+      (first (is_lt (key_cmp k e.0)) (below_all key_cmp k es) all))
       ∙ absent q k es same (second (is_lt (key_cmp k e.0)) (below_all key_cmp k es) all)
 
   abbrev pub passes : (X → Bool) → Option X → Bool
@@ -47,32 +51,46 @@ module _ {X : Type 0} where
     abbrev pub among : List (Key × X) → Bool
     among es = list_any (eq_by_cmp key_cmp q) (keys_where (λ k x. t x) es)
 
-    by_test : (e : Key × X) (es : List (Key × X)) (tied passed : Bool) (rest : Option X) → t e.1 ≡ passed → eq_by_cmp key_cmp q e.0 ≡ tied
-        → among es ≡ passes t rest → (tied ≡ true → rest ≡ None) → among (e ∷ es) ≡ passes t (cond tied (Some e.1) rest)
+    by_test : (e : Key × X) (es : List (Key × X)) (tied passed : Bool) (rest : Option X)
+        → t e.1 ≡ passed → eq_by_cmp key_cmp q e.0 ≡ tied → among es ≡ passes t rest
+        → (tied ≡ true → rest ≡ None) → among (e ∷ es) ≡ passes t (cond tied (Some e.1) rest)
     by_test e es true true rest passed tied so none =
-        ap (λ b. list_any (eq_by_cmp key_cmp q) (map (λ f. f.0) (cond b (e ∷ filter (λ f. t f.1) es) (filter (λ f. t f.1) es)))) passed ∙ ap (λ b. b || among es) tied ∙ sym passed
+        ap (λ b. list_any (eq_by_cmp key_cmp q)
+        (map (λ f. f.0) (cond b (e ∷ filter (λ f. t f.1) es) (filter (λ f. t f.1) es)))) passed
+        ∙ ap (λ b. b || among es) tied ∙ sym passed
     by_test e es true false rest passed tied so none =
-        ap (λ b. list_any (eq_by_cmp key_cmp q) (map (λ f. f.0) (cond b (e ∷ filter (λ f. t f.1) es) (filter (λ f. t f.1) es)))) passed ∙ so ∙ ap (passes t) (none refl) ∙ sym passed
+        ap (λ b. list_any (eq_by_cmp key_cmp q)
+        (map (λ f. f.0) (cond b (e ∷ filter (λ f. t f.1) es) (filter (λ f. t f.1) es)))) passed
+        ∙ so ∙ ap (passes t) (none refl) ∙ sym passed
     by_test e es false true rest passed tied so none =
-        ap (λ b. list_any (eq_by_cmp key_cmp q) (map (λ f. f.0) (cond b (e ∷ filter (λ f. t f.1) es) (filter (λ f. t f.1) es)))) passed ∙ ap (λ b. b || among es) tied ∙ so
+        ap (λ b. list_any (eq_by_cmp key_cmp q)
+        (map (λ f. f.0) (cond b (e ∷ filter (λ f. t f.1) es) (filter (λ f. t f.1) es)))) passed
+        ∙ ap (λ b. b || among es) tied ∙ so
     by_test e es false false rest passed tied so none =
-        ap (λ b. list_any (eq_by_cmp key_cmp q) (map (λ f. f.0) (cond b (e ∷ filter (λ f. t f.1) es) (filter (λ f. t f.1) es)))) passed ∙ so
+        ap (λ b. list_any (eq_by_cmp key_cmp q)
+        (map (λ f. f.0) (cond b (e ∷ filter (λ f. t f.1) es) (filter (λ f. t f.1) es)))) passed
+        ∙ so
 
-    pub among_is : (es : List (Key × X)) → T (is_sorted key_cmp es) → among es ≡ passes t (finite.find key_cmp q es)
+    pub among_is : (es : List (Key × X)) → T (is_sorted key_cmp es)
+        → among es ≡ passes t (finite.find key_cmp q es)
     among_is [] sorted = refl
     among_is (e ∷ es) sorted =
         by_test e es (eq_by_cmp key_cmp q e.0) (t e.1) (finite.find key_cmp q es) refl refl
         (among_is es (second (below_all key_cmp e.0 es) (is_sorted key_cmp es) sorted))
-        (λ tied. absent q e.0 es (equal (key_cmp q e.0) tied) (first (below_all key_cmp e.0 es) (is_sorted key_cmp es) sorted))
+        (λ tied. absent q e.0 es (equal (key_cmp q e.0) tied)
+        (first (below_all key_cmp e.0 es) (is_sorted key_cmp es) sorted))
 
-  again : (tied later : Bool) (o : Option X) → cond later None (cond tied None o) ≡ cond (tied || later) None o
+  again : (tied later : Bool) (o : Option X)
+      → cond later None (cond tied None o) ≡ cond (tied || later) None o
   again true true o = refl
   again true false o = refl
   again false true o = refl
   again false false o = refl
 
   -- a key is removed if it is among them
-  pub left : (q : Key) (keys : List Key) (m : ByKey X) → finite.get (fold finite.remove m keys) q ≡ cond (list_any (eq_by_cmp key_cmp q) keys) None (finite.get m q)
+  pub left : (q : Key) (keys : List Key) (m : ByKey X)
+      → finite.get (fold finite.remove m keys) q
+      ≡ cond (list_any (eq_by_cmp key_cmp q) keys) None (finite.get m q)
   left q [] m = refl
   left q (k ∷ ks) m =
       left q ks (finite.remove m k)
@@ -82,7 +100,8 @@ module _ {X : Type 0} where
 abbrev pub is_over : ℕ → ℕ → Bool
 is_over moment at = interval_is_over moment (Some at)
 
-by_origination : (moment : ℕ) (o : Option ℕ) → cond (passes (is_over moment) o) None o ≡ cond (is_recent moment o) o None
+by_origination : (moment : ℕ) (o : Option ℕ)
+    → cond (passes (is_over moment) o) None o ≡ cond (is_recent moment o) o None
 by_origination moment None = refl
 by_origination moment (Some at) = tests (is_over moment at)
   where
@@ -90,11 +109,15 @@ by_origination moment (Some at) = tests (is_over moment at)
     tests true = refl
     tests false = refl
 
-pub forgotten : (moment : ℕ) (m : ByKey ℕ) → fold finite.remove m (keys_where (λ k at. is_over moment at) (finite.entries m)) ≡ finite.retain_keys m (λ key. is_recent moment (finite.get m key))
+pub forgotten : (moment : ℕ) (m : ByKey ℕ)
+    → fold finite.remove m (keys_where (λ k at. is_over moment at) (finite.entries m))
+    ≡ finite.retain_keys m (λ key. is_recent moment (finite.get m key))
 forgotten moment m =
     let recent = λ (key : Key). is_recent moment (finite.get m key) in
     finite.same_map keys_total keys_exact _ _ (λ q.
     left q (keys_where (λ k at. is_over moment at) (finite.entries m)) m
-    ∙ ap (λ b. cond b None (finite.get m q)) (among_is (is_over moment) q (finite.entries m) (finite.entries_sorted m) ∙ ap (passes (is_over moment)) (sym (finite.get-entries m q)))
+    ∙ ap (λ b. cond b None (finite.get m q))
+    (among_is (is_over moment) q (finite.entries m) (finite.entries_sorted m)
+    ∙ ap (passes (is_over moment)) (sym (finite.get-entries m q)))
     ∙ by_origination moment (finite.get m q)
     ∙ sym (finite.get-retain_keys m recent q (λ x tied. ap recent (sym (keys_exact q x tied)))))

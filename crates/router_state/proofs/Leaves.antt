@@ -14,19 +14,23 @@ use Rattle.timers.specs.adjacency.Requests.{request_next}
 use Rattle.timers.specs.adjacency.Retransmissions.{remove_retransmission}
 use Rattle.timers.specs.received.Cases.{Case}
 use Rattle.timers.specs.received.Flooding.{flood_to}
-use Rattle.timers.specs.received.Links.{Area, acknowledge_later, any_exchange_or_loading, change_link}
+use Rattle.timers.specs.received.Links.{Area, acknowledge_later, any_exchange_or_loading}
+use Rattle.timers.specs.received.Links.{change_link}
 use Rattle.timers.specs.received.Outcomes.{Outcome, on_database, on_links, only_at, stepped_links}
 use Rattle.timers.specs.received.Updates.{after_case, copy_of, send_copy}
 use Rattle.timers.specs.events.Commands.{taken_down}
-use Rattle.timers.specs.events.Endings.{link_loading_done, remove_aged, request_all, stays, with_age, with_ages}
+use Rattle.timers.specs.events.Endings.{link_loading_done, remove_aged, request_all, stays}
+use Rattle.timers.specs.events.Endings.{with_age, with_ages}
 use Rattle.timers.specs.events.EventState.{flood_from_nobody}
 use Rattle.timers.specs.events.Originations.{flush_copy, install_and_flood}
-use Rattle.timers.specs.events.Ticks.{acknowledge_all, again, run_out, send_all_again, send_hellos, with_hello_sent, without_acknowledgments}
+use Rattle.timers.specs.events.Ticks.{acknowledge_all, again, run_out, send_all_again, send_hellos}
+use Rattle.timers.specs.events.Ticks.{with_hello_sent, without_acknowledgments}
 use Rattle.timers.specs.flooding.Links.{flushed_copy, start}
 use Rattle.timers.specs.Aging.{outcomes_in_turn}
 use Rattle.router_state.specs.Making.{interfaces_of}
 use Rattle.router_state.proofs.Making.{Appends, KeepsInterfaces}
-use Rattle.router_state.proofs.Areas.{appends_links, appends_nothing, appends_then, change_interfaces, keeps_neighbors, map_interfaces}
+use Rattle.router_state.proofs.Areas.{appends_links, appends_nothing, appends_then}
+use Rattle.router_state.proofs.Areas.{change_interfaces, keeps_neighbors, map_interfaces}
 
 -- ---- self-originated LSAs
 
@@ -38,9 +42,12 @@ keeps_install moment lsa a = keeps_neighbors moment (flood_to moment None lsa) a
 
 module _ (moment : ℕ) (key : Key) where
   abbrev aged_and_flooded : DatabaseCopy → Outcome → Outcome
-  aged_and_flooded c o = flood_from_nobody moment (lsa_aged max_age c.lsa) (on_database (age_out moment key) o)
+  aged_and_flooded c o = flood_from_nobody moment (lsa_aged max_age c.lsa)
+      (on_database (age_out moment key) o)
 
-  flush_by : (c : DatabaseCopy) (o : Outcome) (b : Bool) → cond b o (aged_and_flooded c o) ≡ outcomes_in_turn o (cond b (start o.area) (aged_and_flooded c (start o.area)))
+  flush_by : (c : DatabaseCopy) (o : Outcome) (b : Bool)
+      → cond b o (aged_and_flooded c o)
+      ≡ outcomes_in_turn o (cond b (start o.area) (aged_and_flooded c (start o.area)))
   flush_by c o true = appends_nothing o
   flush_by c o false = refl
 
@@ -48,7 +55,9 @@ module _ (moment : ℕ) (key : Key) where
   appends_flush None o = appends_nothing o
   appends_flush (Some c) o = flush_by c o (is_aged_out moment c)
 
-  kept_by : (c : DatabaseCopy) (a : Area) (b : Bool) → interfaces_of (cond b (start a) (aged_and_flooded c (start a))).area.links ≡ interfaces_of a.links
+  kept_by : (c : DatabaseCopy) (a : Area) (b : Bool)
+      → interfaces_of (cond b (start a) (aged_and_flooded c (start a))).area.links
+      ≡ interfaces_of a.links
   kept_by c a true = refl
   kept_by c a false = keeps_neighbors moment (flood_to moment None (lsa_aged max_age c.lsa)) a
 
@@ -56,14 +65,17 @@ module _ (moment : ℕ) (key : Key) where
   keeps_flush None a = refl
   keeps_flush (Some c) a = kept_by c a (is_aged_out moment c)
 
-  pub flushed_is : (copy : Option DatabaseCopy) (o : Outcome) → flushed_copy moment key copy o ≡ flush_copy moment key copy o
+  pub flushed_is : (copy : Option DatabaseCopy) (o : Outcome)
+      → flushed_copy moment key copy o ≡ flush_copy moment key copy o
   flushed_is None o = refl
   flushed_is (Some c) o = refl
 
 -- ---- received LSAs
 
 module _ (moment number : ℕ) (lsa : Lsa) where
-  appends_copy : (copy : Option DatabaseCopy) (o : Outcome) → send_copy moment number copy o ≡ outcomes_in_turn o (send_copy moment number copy (start o.area))
+  appends_copy : (copy : Option DatabaseCopy) (o : Outcome)
+      → send_copy moment number copy o
+      ≡ outcomes_in_turn o (send_copy moment number copy (start o.area))
   appends_copy None o = appends_nothing o
   appends_copy (Some c) o = refl
 
@@ -79,7 +91,8 @@ module _ (moment number : ℕ) (lsa : Lsa) where
   appends_case Case.SentJustNow o = appends_nothing o
   appends_case Case.Older o = appends_copy (copy_of lsa o.area) o
 
-  keeps_copy : (copy : Option DatabaseCopy) (a : Area) → interfaces_of (send_copy moment number copy (start a)).area.links ≡ interfaces_of a.links
+  keeps_copy : (copy : Option DatabaseCopy) (a : Area)
+      → interfaces_of (send_copy moment number copy (start a)).area.links ≡ interfaces_of a.links
   keeps_copy None a = refl
   keeps_copy (Some c) a = refl
 
@@ -88,10 +101,13 @@ module _ (moment number : ℕ) (lsa : Lsa) where
   keeps_case Case.NothingToFlush a = refl
   keeps_case Case.TooSoon a = refl
   keeps_case Case.Newer a =
-      change_interfaces number (acknowledge_later lsa.header) (λ l. refl) (stepped_links (flood_to moment (Some number) lsa) a.links)
+      change_interfaces number (acknowledge_later lsa.header) (λ l. refl)
+      (stepped_links (flood_to moment (Some number) lsa) a.links)
       ∙ keeps_neighbors moment (flood_to moment (Some number) lsa) a
   keeps_case Case.BadRequest a = keeps_neighbors moment (only_at number (mismatch_step moment)) a
-  keeps_case Case.ImpliedAcknowledgment a = keeps_neighbors moment (only_at number (λ n. no_sends (remove_retransmission (lsa_key lsa) n))) a
+  keeps_case Case.ImpliedAcknowledgment a =
+      keeps_neighbors moment (only_at number
+      (λ n. no_sends (remove_retransmission (lsa_key lsa) n))) a
   keeps_case Case.Duplicate a = refl
   keeps_case Case.SequenceWraps a = refl
   keeps_case Case.SentJustNow a = refl
@@ -107,24 +123,31 @@ module _ (before moment : ℕ) where
   all_aged es o = fold (with_age before moment) o es
 
   age_by : (e : Key × DatabaseCopy) (o : Outcome) (b : Bool)
-      → cond b (flood_from_nobody moment (lsa_now moment e.1) o) o ≡ outcomes_in_turn o (cond b (flood_from_nobody moment (lsa_now moment e.1) (start o.area)) (start o.area))
+      → cond b (flood_from_nobody moment (lsa_now moment e.1) o) o
+      ≡ outcomes_in_turn o (cond b (flood_from_nobody moment (lsa_now moment e.1)
+      (start o.area)) (start o.area))
   age_by e o true = refl
   age_by e o false = appends_nothing o
 
   appends_each : (es : List (Key × DatabaseCopy)) → Appends (all_aged es)
   appends_each [] o = appends_nothing o
-  appends_each (e ∷ es) o = appends_then (aged e) (all_aged es) (λ p. age_by e p (has_just_aged_out before moment e.1)) (appends_each es) o
+  appends_each (e ∷ es) o = appends_then (aged e) (all_aged es)
+      (λ p. age_by e p (has_just_aged_out before moment e.1)) (appends_each es) o
 
   pub appends_ages : Appends (with_ages before moment)
   appends_ages o = appends_each (finite.entries o.area.database) o
 
-  keeps_by : (e : Key × DatabaseCopy) (o : Outcome) (b : Bool) → interfaces_of (cond b (flood_from_nobody moment (lsa_now moment e.1) o) o).area.links ≡ interfaces_of o.area.links
+  keeps_by : (e : Key × DatabaseCopy) (o : Outcome) (b : Bool)
+      → interfaces_of (cond b (flood_from_nobody moment (lsa_now moment e.1) o) o).area.links
+      ≡ interfaces_of o.area.links
   keeps_by e o true = keeps_neighbors moment (flood_to moment None (lsa_now moment e.1)) o.area
   keeps_by e o false = refl
 
-  keeps_each : (es : List (Key × DatabaseCopy)) (o : Outcome) → interfaces_of (all_aged es o).area.links ≡ interfaces_of o.area.links
+  keeps_each : (es : List (Key × DatabaseCopy)) (o : Outcome)
+      → interfaces_of (all_aged es o).area.links ≡ interfaces_of o.area.links
   keeps_each [] o = refl
-  keeps_each (e ∷ es) o = keeps_each es (aged e o) ∙ keeps_by e o (has_just_aged_out before moment e.1)
+  keeps_each (e ∷ es) o = keeps_each es (aged e o)
+      ∙ keeps_by e o (has_just_aged_out before moment e.1)
 
   pub keeps_ages : KeepsInterfaces (with_ages before moment)
   keeps_ages a = keeps_each (finite.entries a.database) (start a)
@@ -159,14 +182,18 @@ module _ (moment : ℕ) where
   abbrev without_aged : Area → Outcome → Outcome
   without_aged a o = on_database (λ db. finite.retain_keys db (stays moment a)) o
 
-  removed_by : (o : Outcome) (b : Bool) → cond b o (without_aged o.area o) ≡ outcomes_in_turn o (cond b (start o.area) (without_aged o.area (start o.area)))
+  removed_by : (o : Outcome) (b : Bool)
+      → cond b o (without_aged o.area o)
+      ≡ outcomes_in_turn o (cond b (start o.area) (without_aged o.area (start o.area)))
   removed_by o true = appends_nothing o
   removed_by o false = appends_nothing (without_aged o.area o)
 
   pub appends_removal : Appends (remove_aged moment)
   appends_removal o = removed_by o (any_exchange_or_loading o.area.links)
 
-  remains_by : (a : Area) (b : Bool) → interfaces_of (cond b (start a) (without_aged a (start a))).area.links ≡ interfaces_of a.links
+  remains_by : (a : Area) (b : Bool)
+      → interfaces_of (cond b (start a) (without_aged a (start a))).area.links
+      ≡ interfaces_of a.links
   remains_by a true = refl
   remains_by a false = refl
 

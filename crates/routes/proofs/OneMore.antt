@@ -1,5 +1,6 @@
 -- One more offer, in order, for the routes of those before it.
-use Rattle.std.proofs.Common.{◌≡◌, ℕ, ◌<◌, ◌≤◌, ◌⊎◌, inl, inr, true, false, cond, nat_lt, nat_eq, ltb-false, eqb-true, IsTrue, arith, refl, sym, ◌∙◌, ap, subst}
+use Rattle.std.proofs.Common.{◌≡◌, ℕ, ◌<◌, ◌≤◌, ◌⊎◌, inl, inr, true, false, cond, nat_lt, nat_eq}
+use Rattle.std.proofs.Common.{ltb-false, eqb-true, IsTrue, arith, refl, sym, ◌∙◌, ap, subst}
 use Rattle.std.specs.Prelude.{bit_or}
 use Rattle.std.specs.Cmp.{IsTotalOrder, nat_cmp_total}
 use Rattle.std.specs.Ordering.{is_lt, nat_cmp, ordering_then}
@@ -10,40 +11,51 @@ use Rattle.std.proofs.lemmas.Bool.{eqb-false}
 use Rattle.words.specs.Interfaces.{has_interface}
 use Rattle.words.specs.Prefixes.{Network}
 use Rattle.words.specs.declared.route.Route.{Route}
-use Rattle.routes.specs.Best.{AsGood, cost_cmp, distance_cmp, joined_route, kind_cmp, offer_cmp, originator_cmp, route_of, tag_cmp}
+use Rattle.routes.specs.Best.{AsGood, cost_cmp, distance_cmp, joined_route, kind_cmp, offer_cmp}
+use Rattle.routes.specs.Best.{originator_cmp, route_of, tag_cmp}
 use Rattle.routes.specs.Routes.{IsBefore, IsBestAmong, IsNoLater, IsNoWorse, IsRouteAmong, rank}
 use Rattle.routes.specs.Routes.IsBefore.{ByAddress, ByLength}
 use Rattle.routes.specs.Routes.IsNoLater.{ByOriginator, ByTag}
 use Rattle.routes.specs.Routes.IsNoWorse.{ByCost, ByDistance, ByKind}
 use Rattle.routes.specs.declared.offer.Offer.{Offer}
 use Rattle.routes.proofs.Covers.{or_left, or_right, or_split}
-use Rattle.routes.proofs.Determined.{AreAlike, alike, as_good, bit_of_member, is_member, never_both, same_kind}
+use Rattle.routes.proofs.Determined.{AreAlike, alike, as_good, bit_of_member, is_member, never_both}
+use Rattle.routes.proofs.Determined.{same_kind}
 
 -- ---- the order of offers
 
 pub offers_total : IsTotalOrder offer_cmp
 offers_total =
     then_total
-    (then_total (on_total (λ (o : Offer). o.prefix.address) nat_cmp_total) (on_total (λ (o : Offer). o.prefix.length) nat_cmp_total))
+    (then_total (on_total (λ (o : Offer). o.prefix.address) nat_cmp_total)
+    (on_total (λ (o : Offer). o.prefix.length) nat_cmp_total))
     (then_total (on_total (λ (o : Offer). rank o.kind) nat_cmp_total)
     (then_total (on_total (λ (o : Offer). o.cost) nat_cmp_total)
     (then_total (on_total (λ (o : Offer). o.distance) nat_cmp_total)
     (then_total (on_total (λ (o : Offer). o.originator) nat_cmp_total)
-    (then_total (on_total (λ (o : Offer). o.tag) nat_cmp_total) (on_total (λ (o : Offer). o.hops) nat_cmp_total))))))
+    (then_total (on_total (λ (o : Offer). o.tag) nat_cmp_total)
+    (on_total (λ (o : Offer). o.hops) nat_cmp_total))))))
 
 -- not less by a number, then by something else
-not_less : (a b : ℕ) (r : Ordering) → is_lt (ordering_then (nat_cmp a b) r) ≡ false → (b < a) ⊎ ((b ≡ a) × (is_lt r ≡ false))
+not_less : (a b : ℕ) (r : Ordering) → is_lt (ordering_then (nat_cmp a b) r) ≡ false
+    → (b < a) ⊎ ((b ≡ a) × (is_lt r ≡ false))
 not_less a b r e =
-    elim (nat_lt a b) as (λ c. nat_lt a b ≡ c → is_lt (ordering_then (cond c Less (cond (nat_eq a b) Equal Greater)) r) ≡ false → (b < a) ⊎ ((b ≡ a) × (is_lt r ≡ false))) [
+    elim (nat_lt a b) as (λ c. nat_lt a b ≡ c
+    → is_lt (ordering_then (cond c Less (cond (nat_eq a b) Equal Greater)) r) ≡ false
+    → (b < a) ⊎ ((b ≡ a) × (is_lt r ≡ false))) [
       | true ↦ λ t f. absurd (let g : true ≡ false = f in cc)
       | false ↦ λ t f.
-          elim (nat_eq a b) as (λ d. nat_eq a b ≡ d → is_lt (ordering_then (cond d Equal Greater) r) ≡ false → (b < a) ⊎ ((b ≡ a) × (is_lt r ≡ false))) [
+          elim (nat_eq a b) as (λ d. nat_eq a b ≡ d
+          → is_lt (ordering_then (cond d Equal Greater) r) ≡ false
+          → (b < a) ⊎ ((b ≡ a) × (is_lt r ≡ false))) [
             | true ↦ λ u g. inr (sym (eqb-true a b u), g)
-            | false ↦ λ u g. inl (let low : b ≤ a = ltb-false a b t in let other : a ≡ b → ⊥ = eqb-false a b u in omega (arith, low, other))
+            | false ↦ λ u g. inl (let low : b ≤ a = ltb-false a b t in let other : a ≡ b → ⊥ =
+                eqb-false a b u in omega (arith, low, other))
           ] refl f
     ] refl e
 
-regroup : (a b c : Ordering) → ordering_then (ordering_then a b) c ≡ ordering_then a (ordering_then b c)
+regroup : (a b c : Ordering) → ordering_then (ordering_then a b) c
+    ≡ ordering_then a (ordering_then b c)
 regroup Less b c = refl
 regroup Equal b c = refl
 regroup Greater b c = refl
@@ -54,14 +66,17 @@ pub data UpTo (o n : Offer) : Type 0 where
   Before : IsBefore o.prefix n.prefix → UpTo o n
   Same : o.prefix ≡ n.prefix → IsNoWorse o n → (AreAlike o n → IsNoLater o n) → UpTo o n
 
-of_alike : (o n : Offer) → o.prefix ≡ n.prefix → rank o.kind ≡ rank n.kind → o.cost ≡ n.cost → o.distance ≡ n.distance → is_lt (originator_cmp n o) ≡ false → UpTo o n
+of_alike : (o n : Offer) → o.prefix ≡ n.prefix → rank o.kind ≡ rank n.kind → o.cost ≡ n.cost
+    → o.distance ≡ n.distance → is_lt (originator_cmp n o) ≡ false → UpTo o n
 of_alike o n p k c d e =
     elim (not_less n.originator o.originator (tag_cmp n o) e) [
       | inl less ↦ Same p (ByDistance k c (omega (arith, d))) (λ _. ByOriginator less)
       | inr more ↦
           elim (not_less n.tag o.tag (nat_cmp n.hops o.hops) more.1) [
-            | inl less ↦ Same p (ByDistance k c (omega (arith, d))) (λ _. ByTag more.0 (omega (arith, less)))
-            | inr same ↦ Same p (ByDistance k c (omega (arith, d))) (λ _. ByTag more.0 (omega (arith, same.0)))
+            | inl less ↦ Same p (ByDistance k c (omega (arith, d)))
+                (λ _. ByTag more.0 (omega (arith, less)))
+            | inr same ↦ Same p (ByDistance k c (omega (arith, d)))
+                (λ _. ByTag more.0 (omega (arith, same.0)))
           ]
     ]
 
@@ -71,10 +86,12 @@ of_prefix o n p e =
       | inl less ↦ Same p (ByKind (omega (arith, less))) (λ a. absurd (omega (arith, less, a.kind)))
       | inr k ↦
           elim (not_less n.cost o.cost (distance_cmp n o) k.1) [
-            | inl less ↦ Same p (ByCost k.0 (omega (arith, less))) (λ a. absurd (omega (arith, less, a.cost)))
+            | inl less ↦ Same p (ByCost k.0 (omega (arith, less)))
+                (λ a. absurd (omega (arith, less, a.cost)))
             | inr c ↦
                 elim (not_less n.distance o.distance (originator_cmp n o) c.1) [
-                  | inl less ↦ Same p (ByDistance k.0 c.0 (omega (arith, less))) (λ a. absurd (omega (arith, less, a.distance)))
+                  | inl less ↦ Same p (ByDistance k.0 c.0 (omega (arith, less)))
+                      (λ a. absurd (omega (arith, less, a.distance)))
                   | inr d ↦ of_alike o n p k.0 c.0 d.0 d.1
                 ]
           ]
@@ -84,9 +101,12 @@ pub up_to : (o n : Offer) → is_lt (offer_cmp n o) ≡ false → UpTo o n
 up_to o n e =
     let lengths : Ordering = nat_cmp n.prefix.length o.prefix.length in
     let P : Ordering → Type 0 = λ r. is_lt r ≡ false in
-    let flat : is_lt (ordering_then (nat_cmp n.prefix.address o.prefix.address) (ordering_then (nat_cmp n.prefix.length o.prefix.length) (kind_cmp n o))) ≡ false =
-    subst P (regroup (nat_cmp n.prefix.address o.prefix.address) (nat_cmp n.prefix.length o.prefix.length) (kind_cmp n o)) e in
-    elim (not_less n.prefix.address o.prefix.address (ordering_then (nat_cmp n.prefix.length o.prefix.length) (kind_cmp n o)) flat) [
+    let flat : is_lt (ordering_then (nat_cmp n.prefix.address o.prefix.address)
+    (ordering_then (nat_cmp n.prefix.length o.prefix.length) (kind_cmp n o))) ≡ false =
+    subst P (regroup (nat_cmp n.prefix.address o.prefix.address)
+    (nat_cmp n.prefix.length o.prefix.length) (kind_cmp n o)) e in
+    elim (not_less n.prefix.address o.prefix.address
+    (ordering_then (nat_cmp n.prefix.length o.prefix.length) (kind_cmp n o)) flat) [
       | inl less ↦ Before (ByAddress less)
       | inr a ↦
           elim (not_less n.prefix.length o.prefix.length (kind_cmp n o) a.1) [
@@ -101,15 +121,26 @@ pub no_worse_itself : (o : Offer) → IsNoWorse o o
 no_worse_itself o = ByDistance refl refl (omega arith)
 
 pub never_itself : (a b : Network) → a ≡ b → IsBefore a b → ⊥
-never_itself a b e p = let P : Network → Type 0 = λ x. IsBefore x b in let self : IsBefore b b = subst P e p in never_both b b self self
+never_itself a b e p = let P : Network → Type 0 = λ x. IsBefore x b in let self : IsBefore b b =
+    subst P e p in never_both b b self self
 
 -- a route depends on the offers for its prefix alone
-pub same_offers : (P Q : Offer → Type 0) (r : Route) → ((o : Offer) → o.prefix ≡ r.prefix → P o → Q o) → ((o : Offer) → o.prefix ≡ r.prefix → Q o → P o) → IsRouteAmong P r → IsRouteAmong Q r
+pub same_offers : (P Q : Offer → Type 0) (r : Route)
+    → ((o : Offer) → o.prefix ≡ r.prefix → P o → Q o)
+    → ((o : Offer) → o.prefix ≡ r.prefix → Q o → P o) → IsRouteAmong P r → IsRouteAmong Q r
 same_offers P Q r forth back k =
     let over : (o : Offer) → IsBestAmong P r.prefix o → IsBestAmong Q r.prefix o =
-    λ o b. record { offered = forth o b.is_for b.offered; is_for = b.is_for; best = λ x q e. b.best x (back x e q) e } in
+    λ o b. record {
+      offered = forth o b.is_for b.offered;
+      is_for = b.is_for;
+      best = λ x q e. b.best x (back x e q) e;
+    } in
     let under : (o : Offer) → IsBestAmong Q r.prefix o → IsBestAmong P r.prefix o =
-    λ o b. record { offered = back o b.is_for b.offered; is_for = b.is_for; best = λ x p e. b.best x (forth x e p) e } in
+    λ o b. record {
+      offered = back o b.is_for b.offered;
+      is_for = b.is_for;
+      best = λ x p e. b.best x (forth x e p) e;
+    } in
     record {
       first = k.first;
       is_best = over k.first k.is_best;
@@ -149,7 +180,11 @@ module _ (P : Offer → Type 0) (n : Offer) (up : (o : Offer) → P o → UpTo o
         | inl p ↦ absurd (none o p e)
         | inr is ↦ is
       ] in
-      let best : IsBestAmong WithIt n.prefix n = record { offered = inr refl; is_for = refl; best = λ o q e. subst Worse (is_it o q e) (no_worse_itself n) } in
+      let best : IsBestAmong WithIt n.prefix n = record {
+        offered = inr refl;
+        is_for = refl;
+        best = λ o q e. subst Worse (is_it o q e) (no_worse_itself n);
+      } in
       record {
         first = n;
         is_best = best;
@@ -160,7 +195,8 @@ module _ (P : Offer → Type 0) (n : Offer) (up : (o : Offer) → P o → UpTo o
         tag = refl;
         hops = λ i. (
           (λ t. (n, best, t)),
-          (λ h. let Has : Offer → Type 0 = λ x. IsTrue (has_interface x.hops i) in subst Has (sym (is_it h.0 h.1.offered h.1.is_for)) h.2),
+          (λ h. let Has : Offer → Type 0 = λ x. IsTrue (has_interface x.hops i) in
+              subst Has (sym (is_it h.0 h.1.offered h.1.is_for)) h.2),
         );
       }
 
@@ -179,7 +215,8 @@ module _ (P : Offer → Type 0) (n : Offer) (up : (o : Offer) → P o → UpTo o
       best = λ x q e.
           elim q [
             | inl p ↦ b.best x p e
-            | inr is ↦ let Worse : Offer → Type 0 = λ y. IsNoWorse o y in subst Worse is (of_same o b.offered (b.is_for ∙ same)).0
+            | inr is ↦ let Worse : Offer → Type 0 = λ y. IsNoWorse o y in
+                subst Worse is (of_same o b.offered (b.is_for ∙ same)).0
           ];
     }
 
@@ -195,11 +232,17 @@ module _ (P : Offer → Type 0) (n : Offer) (up : (o : Offer) → P o → UpTo o
         let before : IsNoWorse k.first n = (of_same k.first k.is_best.offered first_is).0 in
         let never : IsNoWorse n k.first → ⊥ = λ after.
         let a : AreAlike k.first n = alike k.first n before after in
-        not_as_good (record { kind = k.kind ∙ same_kind k.first.kind n.kind a.kind; cost = k.cost ∙ a.cost; distance = k.distance ∙ a.distance }) in
+        not_as_good (record {
+          kind = k.kind ∙ same_kind k.first.kind n.kind a.kind;
+          cost = k.cost ∙ a.cost;
+          distance = k.distance ∙ a.distance;
+        }) in
         let older : (o : Offer) → IsBestAmong WithIt r.prefix o → P o = λ o b.
         elim b.offered [
           | inl p ↦ p
-          | inr is ↦ let Worse : Offer → Type 0 = λ y. IsNoWorse y k.first in absurd (never (subst Worse (sym is) (b.best k.first (inl k.is_best.offered) k.is_best.is_for)))
+          | inr is ↦ let Worse : Offer → Type 0 = λ y. IsNoWorse y k.first in
+              absurd (never (subst Worse (sym is)
+              (b.best k.first (inl k.is_best.offered) k.is_best.is_for)))
         ] in
         record {
           first = k.first;
@@ -218,14 +261,19 @@ module _ (P : Offer → Type 0) (n : Offer) (up : (o : Offer) → P o → UpTo o
     -- it is equally good
     pub of_as_good : AsGood r n → IsRouteAmong WithIt (joined_route r n)
     of_as_good good =
-        let a : AreAlike k.first n = record { kind = ap rank (sym k.kind ∙ good.kind); cost = sym k.cost ∙ good.cost; distance = sym k.distance ∙ good.distance } in
+        let a : AreAlike k.first n = record {
+          kind = ap rank (sym k.kind ∙ good.kind);
+          cost = sym k.cost ∙ good.cost;
+          distance = sym k.distance ∙ good.distance;
+        } in
         let its_best : IsBestAmong WithIt r.prefix n = record {
           offered = inr refl;
           is_for = sym same;
           best = λ x q e.
               elim q [
                 | inl p ↦ as_good k.first n x a (k.is_best.best x p e)
-                | inr is ↦ let Worse : Offer → Type 0 = λ y. IsNoWorse n y in subst Worse is (no_worse_itself n)
+                | inr is ↦ let Worse : Offer → Type 0 = λ y. IsNoWorse n y in
+                    subst Worse is (no_worse_itself n)
               ];
         } in
         record {
@@ -234,7 +282,8 @@ module _ (P : Offer → Type 0) (n : Offer) (up : (o : Offer) → P o → UpTo o
           earliest = λ o b.
               elim b.offered [
                 | inl p ↦ k.earliest o (was o p b)
-                | inr is ↦ let Later : Offer → Type 0 = λ y. IsNoLater k.first y in subst Later is ((of_same k.first k.is_best.offered first_is).1 a)
+                | inr is ↦ let Later : Offer → Type 0 = λ y. IsNoLater k.first y in
+                    subst Later is ((of_same k.first k.is_best.offered first_is).1 a)
               ];
           kind = k.kind;
           cost = k.cost;
@@ -243,15 +292,20 @@ module _ (P : Offer → Type 0) (n : Offer) (up : (o : Offer) → P o → UpTo o
           hops = λ i. (
             (λ t.
                 elim (or_split r.hops n.hops i (bit_of_member (bit_or r.hops n.hops) i t)) [
-                  | inl old ↦ let h = (k.hops i).0 (is_member r.hops i old) in (h.0, still h.0 h.1, h.2)
+                  | inl old ↦ let h = (k.hops i).0 (is_member r.hops i old) in
+                      (h.0, still h.0 h.1, h.2)
                   | inr new ↦ (n, its_best, is_member n.hops i new)
                 ]),
             (λ h.
                 elim h.1.offered [
-                  | inl p ↦ is_member (bit_or r.hops n.hops) i (or_left r.hops n.hops i (bit_of_member r.hops i ((k.hops i).1 (h.0, was h.0 p h.1, h.2))))
+                  | inl p ↦ is_member (bit_or r.hops n.hops) i
+                      (or_left r.hops n.hops i (bit_of_member r.hops i
+                      ((k.hops i).1 (h.0, was h.0 p h.1, h.2))))
                   | inr is ↦
                       let Has : Offer → Type 0 = λ x. IsTrue (has_interface x.hops i) in
-                      is_member (bit_or r.hops n.hops) i (or_right r.hops n.hops i (bit_of_member n.hops i (subst Has (sym is) h.2)))
+                      is_member (bit_or r.hops n.hops) i
+                      (or_right r.hops n.hops i
+                      (bit_of_member n.hops i (subst Has (sym is) h.2)))
                 ]),
           );
         }

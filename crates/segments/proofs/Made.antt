@@ -1,5 +1,6 @@
 -- What the checks of a slot's jumps and statements show.
-use Rattle.std.proofs.Common.{◌≡◌, ℕ, ◌+◌, ◌<◌, ◌≤◌, true, List, Option, Some, None, ◌⊎◌, inl, ⊎_elim, refl, subst, length, arith}
+use Rattle.std.proofs.Common.{◌≡◌, ℕ, ◌+◌, ◌<◌, ◌≤◌, true, List, Option, Some, None, ◌⊎◌, inl}
+use Rattle.std.proofs.Common.{⊎_elim, refl, subst, length, arith}
 use Rattle.std.specs.Prelude.{IfSome, IsSome, IsSomeAnd, slice_get}
 use Rattle.std.proofs.lemmas.Bool.{cases_lt}
 use Rattle.std.proofs.lemmas.Option.{slice_get_past}
@@ -11,10 +12,12 @@ use Rattle.isa.specs.Flow.{Begins, BeginsAt, size, jump_target, slot_after}
 use Rattle.kinds.specs.declared.statement.Target.{Target}
 use Rattle.segments.specs.Places.{goes_on, target_at}
 use Rattle.segments.specs.Stated.{statement_at, AreTargets}
-use Rattle.segments.specs.Refusals.{JumpsNowhere, IsStray, IsBadTarget, FallsOff, IsCutOff, IsUnreached, IsUnstated}
+use Rattle.segments.specs.Refusals.{JumpsNowhere, IsStray, IsBadTarget, FallsOff, IsCutOff}
+use Rattle.segments.specs.Refusals.{IsUnreached, IsUnstated}
 use Rattle.segments.proofs.Targets.{unstated_of, stated_of}
 
-some_and : {A : Type 0} {P : A → Type 0} (o : Option A) → IsSomeAnd o P → (x : A) × (o ≡ Some x) × P x
+some_and : {A : Type 0} {P : A → Type 0} (o : Option A) → IsSomeAnd o P
+    → (x : A) × (o ≡ Some x) × P x
 some_and None p = absurd p
 some_and (Some x) p = (x, refl, p)
 
@@ -25,7 +28,8 @@ if_some P (Some y) x p some = let same : y ≡ x = cc in subst P same p
 none_is_some : {A : Type 0} {x : A} (o : Option A) → o ≡ None → o ≡ Some x → ⊥
 none_is_some o none some = cc
 
-same_instruction : (slot : Option Slot) (i j : Instruction) → slot ≡ Some (Start i) → slot ≡ Some (Start j) → j ≡ i
+same_instruction : (slot : Option Slot) (i j : Instruction) → slot ≡ Some (Start i)
+    → slot ≡ Some (Start j) → j ≡ i
 same_instruction slot i j a b = cc
 
 -- a slot where an instruction begins is in the code
@@ -33,20 +37,27 @@ pub inside_code : (code : List Slot) (slot : ℕ) → Begins code slot → slot 
 inside_code code slot begins =
     ⊎_elim
     (λ (inside : slot < length code). inside)
-    (λ (past : length code ≤ slot). absurd (none_is_some (slice_get code slot) (slice_get_past code slot past) begins.1))
+    (λ (past : length code ≤ slot). absurd
+    (none_is_some (slice_get code slot) (slice_get_past code slot past) begins.1))
     (cases_lt slot (length code))
 
 module _ (code : List Slot) (slot : ℕ) (i : Instruction) (here : BeginsAt i code slot) where
-  jump_of_one : (j : Instruction) (to : ℕ) → BeginsAt j code slot → jump_target slot j ≡ Some to → jump_target slot i ≡ Some to
-  jump_of_one j to at jumps = subst (λ k. jump_target slot k ≡ Some to) (same_instruction (slice_get code slot) i j here at) jumps
+  jump_of_one : (j : Instruction) (to : ℕ) → BeginsAt j code slot → jump_target slot j ≡ Some to
+      → jump_target slot i ≡ Some to
+  jump_of_one j to at jumps = subst (λ k. jump_target slot k ≡ Some to)
+      (same_instruction (slice_get code slot) i j here at) jumps
 
-  pub met_target : (statements : List StatementParts) → IfSome (jump_target slot i) (Begins code) → IsBadTarget code statements slot → ⊥
+  pub met_target : (statements : List StatementParts) → IfSome (jump_target slot i) (Begins code)
+      → IsBadTarget code statements slot → ⊥
   met_target statements begins =
       ⊎_elim
-      (λ (jump : JumpsNowhere code slot). jump.nowhere (if_some (Begins code) (jump_target slot i) jump.to begins (jump_of_one jump.instruction jump.to jump.at jump.jumps)))
+      (λ (jump : JumpsNowhere code slot). jump.nowhere
+      (if_some (Begins code) (jump_target slot i) jump.to begins
+      (jump_of_one jump.instruction jump.to jump.at jump.jumps)))
       (λ (stray : IsStray code statements slot). stray.nowhere (i, here))
 
-  pub bad_target : (statements : List StatementParts) → IsSomeAnd (jump_target slot i) (λ to. Begins code to → ⊥) → IsBadTarget code statements slot
+  pub bad_target : (statements : List StatementParts)
+      → IsSomeAnd (jump_target slot i) (λ to. Begins code to → ⊥) → IsBadTarget code statements slot
   bad_target statements nowhere =
       let found = some_and (jump_target slot i) nowhere in
       inl (record { instruction = i; at = here; to = found.0; jumps = found.1; nowhere = found.2 })
@@ -54,27 +65,45 @@ module _ (code : List Slot) (slot : ℕ) (i : Instruction) (here : BeginsAt i co
   pub met_ends : (goes_on i ≡ true → Begins code (slot + size i)) → FallsOff code slot → ⊥
   met_ends on off =
       let same = same_instruction (slice_get code slot) i off.instruction here off.at in
-      let last : slot_after slot i ≡ length code = subst (λ k. slot_after slot k ≡ length code) same off.last in
+      let last : slot_after slot i ≡ length code =
+      subst (λ k. slot_after slot k ≡ length code) same off.last in
       let goes : goes_on i ≡ true = subst (λ k. goes_on k ≡ true) same off.on in
       absurd (omega (arith, inside_code code (slot + size i) (on goes), last))
 
-  pub falls_off : (slot + size i ≡ length code) ⊎ Begins code (slot + size i) → goes_on i ≡ true → (Begins code (slot + size i) → ⊥) → FallsOff code slot
+  pub falls_off : (slot + size i ≡ length code) ⊎ Begins code (slot + size i) → goes_on i ≡ true
+      → (Begins code (slot + size i) → ⊥) → FallsOff code slot
   falls_off followed goes nowhere =
       ⊎_elim
-      (λ (last : slot + size i ≡ length code). record { instruction = i; at = here; last = last; on = goes })
+      (λ (last : slot + size i ≡ length code). record {
+        instruction = i;
+        at = here;
+        last = last;
+        on = goes;
+      })
       (λ (begins : Begins code (slot + size i)). absurd (nowhere begins))
       followed
 
-  pub unreached : (statements : List StatementParts) → IsCutOff code slot → statement_at statements slot ≡ None → IsUnreached code statements slot
+  pub unreached : (statements : List StatementParts) → IsCutOff code slot
+      → statement_at statements slot ≡ None → IsUnreached code statements slot
   unreached statements cut none = record { begins = (i, here); cut_off = cut; unstated = none }
 
-  module _ {D : Type 0} (contains : D → ℕ → Type 0) (statements : List StatementParts) (targets : List (Option (Target D))) (are : AreTargets contains statements targets) where
-    pub met_stated : IfSome (jump_target slot i) (λ to. IsSome (target_at targets to)) → IsUnstated code statements slot → ⊥
+  module _ {D : Type 0} (contains : D → ℕ → Type 0) (statements : List StatementParts)
+      (targets : List (Option (Target D))) (are : AreTargets contains statements targets) where
+    pub met_stated : IfSome (jump_target slot i) (λ to. IsSome (target_at targets to))
+        → IsUnstated code statements slot → ⊥
     met_stated stated bad =
         stated_of contains statements targets bad.to are
-        (if_some (λ to. IsSome (target_at targets to)) (jump_target slot i) bad.to stated (jump_of_one bad.instruction bad.to bad.at bad.jumps)) bad.unstated
+        (if_some (λ to. IsSome (target_at targets to)) (jump_target slot i) bad.to stated
+        (jump_of_one bad.instruction bad.to bad.at bad.jumps)) bad.unstated
 
-    pub jumps_unstated : IsSomeAnd (jump_target slot i) (λ to. target_at targets to ≡ None) → IsUnstated code statements slot
+    pub jumps_unstated : IsSomeAnd (jump_target slot i) (λ to. target_at targets to ≡ None)
+        → IsUnstated code statements slot
     jumps_unstated unstated =
         let found = some_and (jump_target slot i) unstated in
-        record { instruction = i; at = here; to = found.0; jumps = found.1; unstated = unstated_of contains statements targets found.0 are found.2 }
+        record {
+          instruction = i;
+          at = here;
+          to = found.0;
+          jumps = found.1;
+          unstated = unstated_of contains statements targets found.0 are found.2;
+        }

@@ -6,7 +6,8 @@ use Rattle.transfer.specs.declared.rule.Rule.TheVariants as rules
 use Rattle.transfer.specs.Rules.{MayName, IsOfUse, IsOfExit}
 use Rattle.segments.specs.Refusals.{IsOfEdge, MayFollow}
 
-pub edge_follows : (hook : Hook) (i : Instruction) (rule : Rule) → IsOfEdge rule → MayFollow hook i rule
+pub edge_follows : (hook : Hook) (i : Instruction) (rule : Rule) → IsOfEdge rule
+    → MayFollow hook i rule
 edge_follows hook i rules.Target is = is
 edge_follows hook i rules.FallsOff is = is
 edge_follows hook i rules.Unreached is = is
@@ -24,7 +25,8 @@ edge_follows hook i rules.ExitKind is = tt
 edge_follows hook i rules.Frame is = absurd is
 edge_follows hook i rules.Memory is = is
 
-pub use_follows : (hook : Hook) (i : Instruction) (rule : Rule) → IsOfUse rule → MayFollow hook i rule
+pub use_follows : (hook : Hook) (i : Instruction) (rule : Rule) → IsOfUse rule
+    → MayFollow hook i rule
 use_follows hook i rules.Target is = is
 use_follows hook i rules.FallsOff is = is
 use_follows hook i rules.Unreached is = is
@@ -42,7 +44,8 @@ use_follows hook i rules.ExitKind is = tt
 use_follows hook i rules.Frame is = absurd is
 use_follows hook i rules.Memory is = is
 
-pub named_follows : (hook : Hook) (i : Instruction) (rule : Rule) → MayName hook i rule → MayFollow hook i rule
+pub named_follows : (hook : Hook) (i : Instruction) (rule : Rule) → MayName hook i rule
+    → MayFollow hook i rule
 named_follows hook i rules.Target is = is
 named_follows hook i rules.FallsOff is = is
 named_follows hook i rules.Unreached is = is
@@ -60,7 +63,8 @@ named_follows hook i rules.ExitKind is = tt
 named_follows hook i rules.Frame is = is
 named_follows hook i rules.Memory is = is
 
-pub exit_follows : (hook : Hook) (i : Instruction) (rule : Rule) → IsOfExit rule → MayFollow hook i rule
+pub exit_follows : (hook : Hook) (i : Instruction) (rule : Rule) → IsOfExit rule
+    → MayFollow hook i rule
 exit_follows hook i rules.Target is = is
 exit_follows hook i rules.FallsOff is = is
 exit_follows hook i rules.Unreached is = is

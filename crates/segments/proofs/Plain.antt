@@ -1,5 +1,6 @@
 -- No rule refuses an instruction or edge of a plain program.
-use Rattle.std.proofs.Common.{◌≡◌, ℕ, ◌<◌, Bool, true, false, List, Option, Some, None, inl, inr, ⊎_elim, refl, sym, subst, ◌∙◌, length, arith}
+use Rattle.std.proofs.Common.{◌≡◌, ℕ, ◌<◌, Bool, true, false, List, Option, Some, None, inl, inr}
+use Rattle.std.proofs.Common.{⊎_elim, refl, sym, subst, ◌∙◌, length, arith}
 use Rattle.std.specs.Prelude.{IfErr, Result, Ok, Err, nat_le}
 use Rattle.std.specs.Result.{IsErrAnd}
 use Rattle.std.proofs.lemmas.Bool.Decides.{nat_tests}
@@ -23,20 +24,24 @@ use Rattle.segments.specs.Plain.{AsksAtMost, IsFilledBehind, IsPlainHere, KeepsN
 
 -- ---- what is required of registers
 
-admits_kind : {D : Type 0} (contains : D → ℕ → Type 0) (kind other : Kind D) → IsNumber kind → HasEveryNumber contains other → Admits contains kind other
+admits_kind : {D : Type 0} (contains : D → ℕ → Type 0) (kind other : Kind D) → IsNumber kind
+    → HasEveryNumber contains other → Admits contains kind other
 admits_kind contains kinds.Empty other number every = absurd number
 admits_kind contains (kinds.Number value) kinds.Empty number every = absurd every
 admits_kind contains (kinds.Number value) (kinds.Number wider) number every = every
 admits_kind contains (kinds.Number value) (kinds.Pointer place) number every = absurd every
 admits_kind contains (kinds.Pointer place) other number every = absurd number
 
-pub asks_admits : {D : Type 0} (contains : D → ℕ → Type 0) (state : State D) (r : ℕ) (other : Kind D) → AsksAtMost contains (IsFilled state r) other
+pub asks_admits : {D : Type 0} (contains : D → ℕ → Type 0) (state : State D) (r : ℕ)
+    (other : Kind D) → AsksAtMost contains (IsFilled state r) other
     → Admits contains (kind_in state.kinds.items r) other
 asks_admits contains state r kinds.Empty asks = tt
-asks_admits contains state r (kinds.Number wider) asks = admits_kind contains (kind_in state.kinds.items r) (kinds.Number wider) asks.1.number asks.0
+asks_admits contains state r (kinds.Number wider) asks =
+    admits_kind contains (kind_in state.kinds.items r) (kinds.Number wider) asks.1.number asks.0
 asks_admits contains state r (kinds.Pointer place) asks = absurd asks
 
-asks_more : {D : Type 0} (contains : D → ℕ → Type 0) (filled more : Type 0) (kind : Kind D) → (filled → more) → AsksAtMost contains filled kind → AsksAtMost contains more kind
+asks_more : {D : Type 0} (contains : D → ℕ → Type 0) (filled more : Type 0) (kind : Kind D)
+    → (filled → more) → AsksAtMost contains filled kind → AsksAtMost contains more kind
 asks_more contains filled more kinds.Empty grows asks = tt
 asks_more contains filled more (kinds.Number value) grows asks = (asks.0, grows asks.1)
 asks_more contains filled more (kinds.Pointer place) grows asks = absurd asks
@@ -54,46 +59,60 @@ never wrong = absurd (false_is_true wrong)
     false_is_true wrong = cc
 
 -- what a `?` passes on
-pub hands_on : {A T : Type 0} (result : Result A T) (error : T) (P : T → Type 0) → IsErrAnd result (λ e. e ≡ error) → P error → IfErr result P
+pub hands_on : {A T : Type 0} (result : Result A T) (error : T) (P : T → Type 0)
+    → IsErrAnd result (λ e. e ≡ error) → P error → IfErr result P
 hands_on (Ok value) error P is broken = absurd is
 hands_on (Err other) error P is broken = subst P (sym is) broken
 
 -- ---- edges
 
 -- an instruction that writes no register fills none
-pub beside : {D : Type 0} (i : Instruction) (state : State D) → register_written i ≡ None → (r : ℕ) → IsFilledBehind i state r → IsFilled state r
-beside i state none r = ⊎_elim (λ (filled : IsFilled state r). filled) (λ (written : register_written i ≡ Some r). absurd (none_is_some (register_written i) none written))
+pub beside : {D : Type 0} (i : Instruction) (state : State D) → register_written i ≡ None → (r : ℕ)
+    → IsFilledBehind i state r → IsFilled state r
+beside i state none r = ⊎_elim (λ (filled : IsFilled state r). filled)
+    (λ (written : register_written i ≡ Some r). absurd
+    (none_is_some (register_written i) none written))
 
-module _ {D : Type 0} (contains : D → ℕ → Type 0) (targets : List (Option (Target D))) (segment : Target D) where
+module _ {D : Type 0} (contains : D → ℕ → Type 0) (targets : List (Option (Target D)))
+    (segment : Target D) where
   -- if more is filled, the edge is plain too
-  pub enter_more : (back : Bool) (to : ℕ) (filled more : ℕ → Type 0) → ((r : ℕ) → filled r → more r) → MayEnter contains targets segment back to filled → MayEnter contains targets segment back to more
+  pub enter_more : (back : Bool) (to : ℕ) (filled more : ℕ → Type 0) → ((r : ℕ) → filled r → more r)
+      → MayEnter contains targets segment back to filled
+      → MayEnter contains targets segment back to more
   enter_more back to filled more grows may = λ target stated.
       let edge = may target stated in
       record {
-        asks = λ r. asks_more contains (filled r) (more r) (kind_in target.kinds.items r) (grows r) (edge.asks r);
+        asks = λ r. asks_more contains (filled r) (more r) (kind_in target.kinds.items r) (grows r)
+            (edge.asks r);
         no_bytes = edge.no_bytes;
         own = edge.own;
         constant = edge.constant;
         falls = edge.falls;
       }
 
-  module _ (slot : ℕ) (i : Instruction) (state : State D) (here : IsPlainHere contains targets segment slot i state) where
-    pub jump_edge : (to : ℕ) → jump_target slot i ≡ Some to → register_written i ≡ None → MayEnter contains targets segment (nat_le to slot) to (IsFilled state)
+  module _ (slot : ℕ) (i : Instruction) (state : State D)
+      (here : IsPlainHere contains targets segment slot i state) where
+    pub jump_edge : (to : ℕ) → jump_target slot i ≡ Some to → register_written i ≡ None
+        → MayEnter contains targets segment (nat_le to slot) to (IsFilled state)
     jump_edge to jumps none =
         enter_more (nat_le to slot) to (IsFilledBehind i state) (IsFilled state)
         (beside i state none)
         (here.edges to (inl jumps))
 
-    pub pass_edge : (after : State D) (next : ℕ) → slot < next → slot_after slot i ≡ next → goes_on i ≡ true → ((r : ℕ) → IsFilledBehind i state r → IsFilled after r) → MayEnter contains targets segment false next (IsFilled after)
+    pub pass_edge : (after : State D) (next : ℕ) → slot < next → slot_after slot i ≡ next
+        → goes_on i ≡ true → ((r : ℕ) → IsFilledBehind i state r → IsFilled after r)
+        → MayEnter contains targets segment false next (IsFilled after)
     pass_edge after next less behind on grows =
         let forward : nat_le next slot ≡ false = grind (arith, nat_tests) in
         enter_more false next (IsFilledBehind i state) (IsFilled after) grows
-        (subst (λ back. MayEnter contains targets segment back next (IsFilledBehind i state)) forward (here.edges next (inr (on, behind))))
+        (subst (λ back. MayEnter contains targets segment back next (IsFilledBehind i state))
+        forward (here.edges next (inr (on, behind))))
 
 -- ---- what remains known
 
 -- an instruction that writes no register
-pub kept_beside : {D : Type 0} (i : Instruction) (state after : State D) → register_written i ≡ None → length state.kinds.items ≡ 10 → KeepsNumbers state after → KeepsFilled i state after
+pub kept_beside : {D : Type 0} (i : Instruction) (state after : State D) → register_written i ≡ None
+    → length state.kinds.items ≡ 10 → KeepsNumbers state after → KeepsFilled i state after
 kept_beside i state after none ten kept = record {
   ten = kept.long ∙ ten;
   written = λ r written. absurd (none_is_some (register_written i) none written);
@@ -103,23 +122,29 @@ kept_beside i state after none ten kept = record {
 pub same_kept : {D : Type 0} (state after : State D) → after ≡ state → KeepsNumbers state after
 same_kept state after same = rw same (record { long = refl; others = λ r filled. filled })
 
-pub kept_on : {D : Type 0} (state there after : State D) → KeepsNumbers state there → after ≡ there → KeepsNumbers state after
+pub kept_on : {D : Type 0} (state there after : State D) → KeepsNumbers state there → after ≡ there
+    → KeepsNumbers state after
 kept_on state there after kept same = rw same kept
 
-pub kept_again : {D : Type 0} (state there after : State D) → KeepsNumbers state there → KeepsNumbers there after → KeepsNumbers state after
+pub kept_again : {D : Type 0} (state there after : State D) → KeepsNumbers state there
+    → KeepsNumbers there after → KeepsNumbers state after
 kept_again state there after first second = record {
   long = second.long ∙ first.long;
   others = λ r filled. second.others r (first.others r filled);
 }
 
 -- what was filled or is written
-pub filled_behind : {D : Type 0} (i : Instruction) (state after : State D) → KeepsFilled i state after → (r : ℕ) → IsFilledBehind i state r → IsFilled after r
-filled_behind i state after kept r = ⊎_elim (λ (filled : IsFilled state r). kept.others r filled) (λ (written : register_written i ≡ Some r). kept.written r written)
+pub filled_behind : {D : Type 0} (i : Instruction) (state after : State D)
+    → KeepsFilled i state after → (r : ℕ) → IsFilledBehind i state r → IsFilled after r
+filled_behind i state after kept r =
+    ⊎_elim (λ (filled : IsFilled state r). kept.others r filled)
+    (λ (written : register_written i ≡ Some r). kept.written r written)
 
 -- ---- rules
 
 -- the rule on r10 is named only if it is broken
-pub no_frame : (hook : Hook) (i : Instruction) (rule : Rule) → rule ≡ rules.Frame → MayName hook i rule → writes_frame i ≡ false → ⊥
+pub no_frame : (hook : Hook) (i : Instruction) (rule : Rule) → rule ≡ rules.Frame
+    → MayName hook i rule → writes_frame i ≡ false → ⊥
 no_frame hook i rule is named free =
     let writes : MayName hook i rules.Frame = subst (λ r. MayName hook i r) is named in
     true_is_false (writes_frame i) writes free

@@ -1,5 +1,7 @@
 -- The list of targets says what the statements say.
-use Rattle.std.proofs.Common.{◌≡◌, ◌≢◌, ℕ, zero, suc, ◌+◌, ◌<◌, ◌≤◌, true, false, List, [], ◌∷◌, ◌++◌, Option, Some, None, ⊎_elim, refl, sym, ◌∙◌, subst, get_or, set, length, arith, get_or-set_other, get_or-set_same, length-set}
+use Rattle.std.proofs.Common.{◌≡◌, ◌≢◌, ℕ, zero, suc, ◌+◌, ◌<◌, ◌≤◌, true, false, List, [], ◌∷◌}
+use Rattle.std.proofs.Common.{◌++◌, Option, Some, None, ⊎_elim, refl, sym, ◌∙◌, subst, get_or, set}
+use Rattle.std.proofs.Common.{length, arith, get_or-set_other, get_or-set_same, length-set}
 use Rattle.std.specs.Prelude.{IsSome, IsSomeAnd, nat_eq}
 use Rattle.std.proofs.lemmas.Bool.{cases_eq}
 use Rattle.std.proofs.lemmas.Bool.Decides.{nat_tests}
@@ -13,7 +15,8 @@ use Rattle.segments.specs.Places.{target_at}
 use Rattle.segments.specs.Stated.{statement_at, IsTargetOf, Agrees, AreTargets, MeetStatements}
 
 -- appending the default changes no element
-pub pushed_default : {A : Type 0} (xs : List A) (d : A) (r : ℕ) → get_or (xs ++ d ∷ []) r d ≡ get_or xs r d
+pub pushed_default : {A : Type 0} (xs : List A) (d : A) (r : ℕ)
+    → get_or (xs ++ d ∷ []) r d ≡ get_or xs r d
 pushed_default [] d zero = refl
 pushed_default [] d (suc r) = refl
 pushed_default (x ∷ xs) d zero = refl
@@ -28,20 +31,22 @@ none_isn't_some : {A : Type 0} (o : Option A) → o ≡ None → IsSome o → �
 none_isn't_some None none some = cc
 none_isn't_some (Some x) none some = cc
 
-stated_agrees : {D : Type 0} (contains : D → ℕ → Type 0) (stated : Option StatementParts) (found : Option (Target D))
-    → Agrees contains stated found → found ≡ None → stated ≡ None
+stated_agrees : {D : Type 0} (contains : D → ℕ → Type 0) (stated : Option StatementParts)
+    (found : Option (Target D)) → Agrees contains stated found → found ≡ None → stated ≡ None
 stated_agrees contains None found agrees none = refl
 stated_agrees contains (Some s) None agrees none = absurd agrees
 stated_agrees contains (Some s) (Some target) agrees none = cc
 
-found_agrees : {D : Type 0} (contains : D → ℕ → Type 0) (stated : Option StatementParts) (found : Option (Target D))
-    → Agrees contains stated found → stated ≡ None → found ≡ None
+found_agrees : {D : Type 0} (contains : D → ℕ → Type 0) (stated : Option StatementParts)
+    (found : Option (Target D)) → Agrees contains stated found → stated ≡ None → found ≡ None
 found_agrees contains None None agrees none = refl
 found_agrees contains None (Some target) agrees none = absurd agrees
 found_agrees contains (Some s) found agrees none = cc
 
-target_agrees : {D : Type 0} (contains : D → ℕ → Type 0) (stated : Option StatementParts) (found : Option (Target D)) (target : Target D)
-    → Agrees contains stated found → found ≡ Some target → (s : StatementParts) × (stated ≡ Some s) × IsTargetOf contains s target
+target_agrees : {D : Type 0} (contains : D → ℕ → Type 0) (stated : Option StatementParts)
+    (found : Option (Target D)) (target : Target D) → Agrees contains stated found
+    → found ≡ Some target → (s : StatementParts) × (stated ≡ Some s)
+    × IsTargetOf contains s target
 target_agrees contains None None target agrees some = cc
 target_agrees contains None (Some other) target agrees some = absurd agrees
 target_agrees contains (Some s) None target agrees some = cc
@@ -49,8 +54,10 @@ target_agrees contains (Some s) (Some other) target agrees some =
     let same : other ≡ target = cc in
     (s, refl, subst (λ t. IsTargetOf contains s t) same agrees)
 
-statement_agrees : {D : Type 0} (contains : D → ℕ → Type 0) (stated : Option StatementParts) (found : Option (Target D)) (s : StatementParts)
-    → Agrees contains stated found → stated ≡ Some s → (target : Target D) × (found ≡ Some target) × IsTargetOf contains s target
+statement_agrees : {D : Type 0} (contains : D → ℕ → Type 0) (stated : Option StatementParts)
+    (found : Option (Target D)) (s : StatementParts) → Agrees contains stated found
+    → stated ≡ Some s → (target : Target D) × (found ≡ Some target)
+    × IsTargetOf contains s target
 statement_agrees contains None found s agrees some = cc
 statement_agrees contains (Some other) None s agrees some = absurd agrees
 statement_agrees contains (Some other) (Some target) s agrees some =
@@ -58,60 +65,86 @@ statement_agrees contains (Some other) (Some target) s agrees some =
     (target, refl, subst (λ x. IsTargetOf contains x target) same agrees)
 
 -- the slot of a statement has its target
-pub target_stated : {D : Type 0} (contains : D → ℕ → Type 0) (statements : List StatementParts) (targets : List (Option (Target D))) (slot : ℕ) (s : StatementParts)
-    → AreTargets contains statements targets → statement_at statements slot ≡ Some s → (target : Target D) × (target_at targets slot ≡ Some target) × IsTargetOf contains s target
-target_stated contains statements targets slot s are some = statement_agrees contains (statement_at statements slot) (target_at targets slot) s (are slot) some
+pub target_stated : {D : Type 0} (contains : D → ℕ → Type 0) (statements : List StatementParts)
+    (targets : List (Option (Target D))) (slot : ℕ) (s : StatementParts)
+    → AreTargets contains statements targets → statement_at statements slot ≡ Some s
+    → (target : Target D) × (target_at targets slot ≡ Some target)
+    × IsTargetOf contains s target
+target_stated contains statements targets slot s are some =
+    statement_agrees contains (statement_at statements slot) (target_at targets slot) s (are slot)
+    some
 
-pub unstated_of : {D : Type 0} (contains : D → ℕ → Type 0) (statements : List StatementParts) (targets : List (Option (Target D))) (slot : ℕ)
-    → AreTargets contains statements targets → target_at targets slot ≡ None → statement_at statements slot ≡ None
-unstated_of contains statements targets slot are none = stated_agrees contains (statement_at statements slot) (target_at targets slot) (are slot) none
+pub unstated_of : {D : Type 0} (contains : D → ℕ → Type 0) (statements : List StatementParts)
+    (targets : List (Option (Target D))) (slot : ℕ) → AreTargets contains statements targets
+    → target_at targets slot ≡ None → statement_at statements slot ≡ None
+unstated_of contains statements targets slot are none =
+    stated_agrees contains (statement_at statements slot) (target_at targets slot) (are slot) none
 
-pub untargeted_of : {D : Type 0} (contains : D → ℕ → Type 0) (statements : List StatementParts) (targets : List (Option (Target D))) (slot : ℕ)
-    → AreTargets contains statements targets → statement_at statements slot ≡ None → target_at targets slot ≡ None
-untargeted_of contains statements targets slot are none = found_agrees contains (statement_at statements slot) (target_at targets slot) (are slot) none
+pub untargeted_of : {D : Type 0} (contains : D → ℕ → Type 0) (statements : List StatementParts)
+    (targets : List (Option (Target D))) (slot : ℕ) → AreTargets contains statements targets
+    → statement_at statements slot ≡ None → target_at targets slot ≡ None
+untargeted_of contains statements targets slot are none =
+    found_agrees contains (statement_at statements slot) (target_at targets slot) (are slot) none
 
-pub stated_of : {D : Type 0} (contains : D → ℕ → Type 0) (statements : List StatementParts) (targets : List (Option (Target D))) (slot : ℕ)
-    → AreTargets contains statements targets → IsSome (target_at targets slot) → statement_at statements slot ≡ None → ⊥
+pub stated_of : {D : Type 0} (contains : D → ℕ → Type 0) (statements : List StatementParts)
+    (targets : List (Option (Target D))) (slot : ℕ) → AreTargets contains statements targets
+    → IsSome (target_at targets slot) → statement_at statements slot ≡ None → ⊥
 stated_of contains statements targets slot are some none =
-    none_isn't_some (target_at targets slot) (untargeted_of contains statements targets slot are none) some
+    none_isn't_some (target_at targets slot)
+    (untargeted_of contains statements targets slot are none) some
 
-pub target_of_statement : {D : Type 0} (contains : D → ℕ → Type 0) (statements : List StatementParts) (targets : List (Option (Target D))) (slot : ℕ) (target : Target D)
-    → AreTargets contains statements targets → target_at targets slot ≡ Some target
-    → (s : StatementParts) × (statement_at statements slot ≡ Some s) × IsTargetOf contains s target
+pub target_of_statement : {D : Type 0} (contains : D → ℕ → Type 0)
+    (statements : List StatementParts) (targets : List (Option (Target D))) (slot : ℕ)
+    (target : Target D) → AreTargets contains statements targets
+    → target_at targets slot ≡ Some target
+    → (s : StatementParts) × (statement_at statements slot ≡ Some s)
+    × IsTargetOf contains s target
 target_of_statement contains statements targets slot target are some =
-    target_agrees contains (statement_at statements slot) (target_at targets slot) target (are slot) some
+    target_agrees contains (statement_at statements slot) (target_at targets slot) target (are slot)
+    some
 
 -- ---- the list as it grows
 
 -- the slot of a statement has its target; without one, what is stated is among the rest
-pub Found : {D : Type 0} → (D → ℕ → Type 0) → Option StatementParts → Option StatementParts → Option (Target D) → Type 0
+pub Found : {D : Type 0} → (D → ℕ → Type 0) → Option StatementParts → Option StatementParts
+    → Option (Target D) → Type 0
 Found contains whole rest None = whole ≡ rest
 Found contains whole rest (Some target) = IsSomeAnd whole (λ s. IsTargetOf contains s target)
 
-pub record AreFoundSoFar {D : Type 0} (contains : D → ℕ → Type 0) (gives : GivesStated D) (statements rest : List StatementParts) (size : ℕ) (targets : List (Option (Target D))) : Type 0 where
-  pub long : length targets ≡ size
-  pub found : (slot : ℕ) → Found contains (statement_at statements slot) (statement_at rest slot) (target_at targets slot)
-  pub least : ℕ
-  pub ordered : AreStatements least size rest
-  pub unfilled : (slot : ℕ) → least ≤ slot → target_at targets slot ≡ None
-  pub meet : MeetStatements contains gives targets
+pub record AreFoundSoFar {D : Type 0} (contains : D → ℕ → Type 0) (gives : GivesStated D)
+    (statements rest : List StatementParts) (size : ℕ) (targets : List (Option (Target D))) : Type 0
+  where
+    pub long : length targets ≡ size
+    pub found : (slot : ℕ) → Found contains (statement_at statements slot) (statement_at rest slot)
+        (target_at targets slot)
+    pub least : ℕ
+    pub ordered : AreStatements least size rest
+    pub unfilled : (slot : ℕ) → least ≤ slot → target_at targets slot ≡ None
+    pub meet : MeetStatements contains gives targets
 
-found_none : {D : Type 0} (contains : D → ℕ → Type 0) (whole rest : Option StatementParts) (found : Option (Target D)) → found ≡ None → whole ≡ rest → Found contains whole rest found
+found_none : {D : Type 0} (contains : D → ℕ → Type 0) (whole rest : Option StatementParts)
+    (found : Option (Target D)) → found ≡ None → whole ≡ rest → Found contains whole rest found
 unfolding Found
 found_none contains whole rest None none same = same
 found_none contains whole rest (Some target) none same = cc
 
-found_whole : {D : Type 0} (contains : D → ℕ → Type 0) (whole rest : Option StatementParts) (found : Option (Target D)) → found ≡ None → Found contains whole rest found → whole ≡ rest
+found_whole : {D : Type 0} (contains : D → ℕ → Type 0) (whole rest : Option StatementParts)
+    (found : Option (Target D)) → found ≡ None → Found contains whole rest found → whole ≡ rest
 unfolding Found
 found_whole contains whole rest None none same = same
 found_whole contains whole rest (Some target) none same = cc
 
-found_some : {D : Type 0} (contains : D → ℕ → Type 0) (whole rest : Option StatementParts) (s : StatementParts) (target : Target D) → whole ≡ Some s → IsTargetOf contains s target → Found contains whole rest (Some target)
+found_some : {D : Type 0} (contains : D → ℕ → Type 0) (whole rest : Option StatementParts)
+    (s : StatementParts) (target : Target D) → whole ≡ Some s → IsTargetOf contains s target
+    → Found contains whole rest (Some target)
 unfolding Found
 found_some contains whole rest s target same is = rw same is
 
-pub none_found : {D : Type 0} (contains : D → ℕ → Type 0) (gives : GivesStated D) (statements : List StatementParts) (size : ℕ) (targets : List (Option (Target D)))
-    → length targets ≡ size → ((slot : ℕ) → target_at targets slot ≡ None) → AreStatements 0 size statements → AreFoundSoFar contains gives statements statements size targets
+pub none_found : {D : Type 0} (contains : D → ℕ → Type 0) (gives : GivesStated D)
+    (statements : List StatementParts) (size : ℕ) (targets : List (Option (Target D)))
+    → length targets ≡ size → ((slot : ℕ) → target_at targets slot ≡ None)
+    → AreStatements 0 size statements
+    → AreFoundSoFar contains gives statements statements size targets
 none_found contains gives statements size targets long none ordered = record {
   long = long;
   found = λ slot. found_none contains _ _ (target_at targets slot) (none slot) refl;
@@ -121,67 +154,96 @@ none_found contains gives statements size targets long none ordered = record {
   meet = λ slot target is. absurd (none_is_some (target_at targets slot) (none slot) is);
 }
 
-agrees_at_end : {D : Type 0} (contains : D → ℕ → Type 0) (whole : Option StatementParts) (found : Option (Target D)) → Found contains whole None found → Agrees contains whole found
+agrees_at_end : {D : Type 0} (contains : D → ℕ → Type 0) (whole : Option StatementParts)
+    (found : Option (Target D)) → Found contains whole None found → Agrees contains whole found
 unfolding Found
 agrees_at_end contains None None is = tt
 agrees_at_end contains (Some s) None is = cc
 agrees_at_end contains None (Some target) is = absurd is
 agrees_at_end contains (Some s) (Some target) is = is
 
-pub all_found : {D : Type 0} (contains : D → ℕ → Type 0) (gives : GivesStated D) (statements rest : List StatementParts) (size : ℕ) (targets : List (Option (Target D)))
-    → AreFoundSoFar contains gives statements rest size targets → rest ≡ [] → AreTargets contains statements targets
+pub all_found : {D : Type 0} (contains : D → ℕ → Type 0) (gives : GivesStated D)
+    (statements rest : List StatementParts) (size : ℕ) (targets : List (Option (Target D)))
+    → AreFoundSoFar contains gives statements rest size targets → rest ≡ []
+    → AreTargets contains statements targets
 all_found contains gives statements rest size targets so_far none slot =
     agrees_at_end contains (statement_at statements slot) (target_at targets slot)
-    (subst (λ ss. Found contains (statement_at statements slot) (statement_at ss slot) (target_at targets slot)) none (so_far.found slot))
+    (subst (λ ss. Found contains (statement_at statements slot) (statement_at ss slot)
+    (target_at targets slot)) none (so_far.found slot))
 
-stated_here : (s : StatementParts) (ss : List StatementParts) → statement_at (s ∷ ss) s.slot ≡ Some s
+stated_here : (s : StatementParts) (ss : List StatementParts)
+    → statement_at (s ∷ ss) s.slot ≡ Some s
 stated_here s ss = let same : nat_eq s.slot s.slot ≡ true = grind (arith, nat_tests) in rw same refl
 
-stated_later : (s : StatementParts) (ss : List StatementParts) (slot : ℕ) → s.slot ≢ slot → statement_at (s ∷ ss) slot ≡ statement_at ss slot
-stated_later s ss slot other = let apart : nat_eq s.slot slot ≡ false = grind (arith, nat_tests) in rw apart refl
+stated_later : (s : StatementParts) (ss : List StatementParts) (slot : ℕ) → s.slot ≢ slot
+    → statement_at (s ∷ ss) slot ≡ statement_at ss slot
+stated_later s ss slot other = let apart : nat_eq s.slot slot ≡ false = grind (arith, nat_tests) in
+    rw apart refl
 
 some_is_one : {A : Type 0} {x y : A} (o : Option A) → o ≡ Some x → o ≡ Some y → x ≡ y
 some_is_one o first second = cc
 
-module _ {D : Type 0} (contains : D → ℕ → Type 0) (gives : GivesStated D) (statements : List StatementParts) (s : StatementParts) (ss : List StatementParts) (size : ℕ) (targets : List (Option (Target D))) (target : Target D) where
+module _ {D : Type 0} (contains : D → ℕ → Type 0) (gives : GivesStated D)
+    (statements : List StatementParts) (s : StatementParts) (ss : List StatementParts) (size : ℕ)
+    (targets : List (Option (Target D))) (target : Target D) where
   put : List (Option (Target D))
   put = set targets s.slot (Some target)
 
-  found_here : AreFoundSoFar contains gives statements (s ∷ ss) size targets → IsTargetOf contains s target → (slot : ℕ) → s.slot ≡ slot
-      → Found contains (statement_at statements slot) (statement_at ss slot) (target_at put slot)
+  found_here : AreFoundSoFar contains gives statements (s ∷ ss) size targets
+      → IsTargetOf contains s target → (slot : ℕ) → s.slot ≡ slot
+      → Found contains (statement_at statements slot) (statement_at ss slot)
+      (target_at put slot)
   unfolding put
   found_here so_far is slot same =
       let inside : s.slot < length targets = omega (arith, so_far.long, so_far.ordered.2) in
-      let before : statement_at statements s.slot ≡ Some s = found_whole contains _ _ (target_at targets s.slot) (so_far.unfilled s.slot so_far.ordered.1) (so_far.found s.slot) ∙ stated_here s ss in
-      let now : target_at (set targets s.slot (Some target)) s.slot ≡ Some target = get_or-set_same targets s.slot (Some target) None inside in
-      subst (λ at. Found contains (statement_at statements at) (statement_at ss at) (target_at (set targets s.slot (Some target)) at)) same
-      (subst (λ o. Found contains (statement_at statements s.slot) (statement_at ss s.slot) o) (sym now)
+      let before : statement_at statements s.slot ≡ Some s =
+      found_whole contains _ _ (target_at targets s.slot)
+      (so_far.unfilled s.slot so_far.ordered.1) (so_far.found s.slot) ∙ stated_here s ss in
+      let now : target_at (set targets s.slot (Some target)) s.slot ≡ Some target =
+      get_or-set_same targets s.slot (Some target) None inside in
+      subst (λ at. Found contains (statement_at statements at) (statement_at ss at)
+      (target_at (set targets s.slot (Some target)) at)) same
+      (subst (λ o. Found contains (statement_at statements s.slot) (statement_at ss s.slot) o)
+      (sym now)
       (found_some contains _ _ s target before is))
 
-  found_elsewhere : AreFoundSoFar contains gives statements (s ∷ ss) size targets → (slot : ℕ) → slot ≢ s.slot
-      → Found contains (statement_at statements slot) (statement_at ss slot) (target_at put slot)
+  found_elsewhere : AreFoundSoFar contains gives statements (s ∷ ss) size targets → (slot : ℕ)
+      → slot ≢ s.slot → Found contains (statement_at statements slot) (statement_at ss slot)
+      (target_at put slot)
   unfolding put
   found_elsewhere so_far slot other =
-      let now : target_at (set targets s.slot (Some target)) slot ≡ target_at targets slot = get_or-set_other targets s.slot slot (Some target) None other in
+      let now : target_at (set targets s.slot (Some target)) slot ≡ target_at targets slot =
+      get_or-set_other targets s.slot slot (Some target) None other in
       subst (λ o. Found contains (statement_at statements slot) (statement_at ss slot) o) (sym now)
-      (subst (λ o. Found contains (statement_at statements slot) o (target_at targets slot)) (stated_later s ss slot (λ e. other (sym e))) (so_far.found slot))
+      (subst (λ o. Found contains (statement_at statements slot) o (target_at targets slot))
+      (stated_later s ss slot (λ e. other (sym e))) (so_far.found slot))
 
-  meet_more : AreFoundSoFar contains gives statements (s ∷ ss) size targets → IsTargetOf contains s target
-      → ((machine : Machine) → TargetHolds contains target machine → MeetsStatement contains gives s machine) → MeetStatements contains gives put
+  meet_more : AreFoundSoFar contains gives statements (s ∷ ss) size targets
+      → IsTargetOf contains s target →
+      ((machine : Machine) → TargetHolds contains target machine
+      → MeetsStatement contains gives s machine) → MeetStatements contains gives put
   unfolding put
   meet_more so_far is meets slot other stated =
       ⊎_elim
       (λ (same : slot ≡ s.slot).
       let inside : s.slot < length targets = omega (arith, so_far.long, so_far.ordered.2) in
-      let there : target_at (set targets s.slot (Some target)) s.slot ≡ Some other = subst (λ at. target_at (set targets s.slot (Some target)) at ≡ Some other) same stated in
-      let one : target ≡ other = some_is_one _ (get_or-set_same targets s.slot (Some target) None inside) there in
-      subst (λ t. (machine : Machine) → TargetHolds contains t machine → MeetsStatement contains gives t.statement.now machine) one (λ machine holds. rw is.same (meets machine holds)))
-      (λ (apart : slot ≢ s.slot). so_far.meet slot other (sym (get_or-set_other targets s.slot slot (Some target) None apart) ∙ stated))
+      let there : target_at (set targets s.slot (Some target)) s.slot ≡ Some other =
+      subst (λ at. target_at (set targets s.slot (Some target)) at ≡ Some other) same stated in
+      let one : target ≡ other = some_is_one _
+      (get_or-set_same targets s.slot (Some target) None inside) there in
+      subst (λ t. (machine : Machine) → TargetHolds contains t machine
+      → MeetsStatement contains gives t.statement.now machine) one
+      (λ machine holds. rw is.same (meets machine holds)))
+      (λ (apart : slot ≢ s.slot). so_far.meet slot other
+      (sym (get_or-set_other targets s.slot slot (Some target) None apart) ∙ stated))
       (cases_eq slot s.slot)
 
-  pub one_more_found : AreFoundSoFar contains gives statements (s ∷ ss) size targets → IsTargetOf contains s target
-      → ((machine : Machine) → TargetHolds contains target machine → MeetsStatement contains gives s machine)
-      → AreFoundSoFar contains gives statements ss size (set targets s.slot (Some target))
+  pub one_more_found : AreFoundSoFar contains gives statements (s ∷ ss) size targets
+      → IsTargetOf contains s target →
+      ((machine : Machine) → TargetHolds contains target machine
+      → MeetsStatement contains gives s machine)
+      → AreFoundSoFar contains gives statements ss size
+      (set targets s.slot (Some target))
   unfolding put
   one_more_found so_far is meets = record {
     long = simp length-set so_far.long;

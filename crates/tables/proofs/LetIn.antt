@@ -1,9 +1,11 @@
 -- Which routes are let in or answered: one more after those before it, all of them, and candidates.
-use Rattle.std.proofs.Common.{◌≡◌, ℕ, Bool, IsTrue, ◌<◌, ◌+◌, ◌⊎◌, inl, inr, List, [], ◌∷◌, ◌++◌, length, get_or, arith, sym, ◌∙◌, ap, subst}
+use Rattle.std.proofs.Common.{◌≡◌, ℕ, Bool, IsTrue, ◌<◌, ◌+◌, ◌⊎◌, inl, inr, List, [], ◌∷◌, ◌++◌}
+use Rattle.std.proofs.Common.{length, get_or, arith, sym, ◌∙◌, ap, subst}
 use Rattle.std.specs.Prelude.{◌↔◌}
 use Rattle.std.specs.List.{Contains}
 use Rattle.std.proofs.lemmas.Bool.{cases_eq}
-use Rattle.std.proofs.lemmas.List.Elements.{Contains-append_left, Contains-push, Contains-push_cases}
+use Rattle.std.proofs.lemmas.List.Elements.{Contains-append_left, Contains-push}
+use Rattle.std.proofs.lemmas.List.Elements.{Contains-push_cases}
 use Rattle.std.proofs.lemmas.List.Quantifiers.{all_pairs_push}
 use Rattle.words.specs.declared.route.Route.{Route}
 use Rattle.routes.specs.Candidates.{AreCandidates}
@@ -18,9 +20,10 @@ use Rattle.tables.specs.Parts.{AreLetIn, Ascend, LacksAnswers}
 abbrev pub IsAmong : List Route → ℕ → Route → Type 0
 IsAmong routes n r = (k : ℕ) × (k < n) × (get_or routes k r ≡ r)
 
-pub record AreLetInOf (answers : Answers) (routes : List Route) (n : ℕ) (part : List Route) : Type 0 where
-  pub each : (r : Route) → Contains part r ↔ (IsAmong routes n r × IsLetIn answers r)
-  pub ascending : Ascend routes → Ascend part
+pub record AreLetInOf (answers : Answers) (routes : List Route) (n : ℕ) (part : List Route) : Type 0
+  where
+    pub each : (r : Route) → Contains part r ↔ (IsAmong routes n r × IsLetIn answers r)
+    pub ascending : Ascend routes → Ascend part
 
 pub none_yet : (answers : Answers) (routes : List Route) → AreLetInOf answers routes 0 []
 none_yet answers routes = record {
@@ -28,11 +31,13 @@ none_yet answers routes = record {
   ascending = λ up i j d before within. absurd (omega (arith, within));
 }
 
-module _ (answers : Answers) (routes : List Route) (n : ℕ) (route : Route) (within : n < length routes) (here : route ≡ get_or routes n route) where
+module _ (answers : Answers) (routes : List Route) (n : ℕ) (route : Route)
+    (within : n < length routes) (here : route ≡ get_or routes n route) where
   pub split : (r : Route) → IsAmong routes (n + 1) r → IsAmong routes n r ⊎ (route ≡ r)
   split r (k, low, is) =
       elim (cases_eq k n) [
-        | inl e ↦ inr (here ∙ other_default routes n route r within ∙ ap (λ i. get_or routes i r) (sym e) ∙ is)
+        | inl e ↦ inr (here ∙ other_default routes n route r within
+            ∙ ap (λ i. get_or routes i r) (sym e) ∙ is)
         | inr other ↦ inl (k, omega (arith, low, other), is)
       ]
 
@@ -42,7 +47,8 @@ module _ (answers : Answers) (routes : List Route) (n : ℕ) (route : Route) (wi
   last : (r : Route) → route ≡ r → IsAmong routes (n + 1) r
   last r e = subst (IsAmong routes (n + 1)) e (n, omega arith, sym here)
 
-  pub let_in_more : (part : List Route) → IsLetIn answers route → AreLetInOf answers routes n part → AreLetInOf answers routes (n + 1) (part ++ route ∷ [])
+  pub let_in_more : (part : List Route) → IsLetIn answers route → AreLetInOf answers routes n part
+      → AreLetInOf answers routes (n + 1) (part ++ route ∷ [])
   let_in_more part ok of = record {
     each = λ r. (
       (λ t. elim (Contains-push_cases part route r t) [
@@ -54,20 +60,24 @@ module _ (answers : Answers) (routes : List Route) (n : ℕ) (route : Route) (wi
         | inr e ↦ subst (Contains (part ++ route ∷ [])) e (Contains-push part route)
       ]),
     );
-    ascending = λ up. all_pairs_push (λ (a : Route) (b : Route). IsBefore a.prefix b.prefix) part route (of.ascending up) (λ k d low. before up k d low);
+    ascending = λ up. all_pairs_push (λ (a : Route) (b : Route). IsBefore a.prefix b.prefix) part
+        route (of.ascending up) (λ k d low. before up k d low);
   }
     where
       grown : (r : Route) → Contains part r → Contains (part ++ route ∷ []) r
       grown r t = Contains-append_left part (route ∷ []) r t
 
-      before : Ascend routes → (k : ℕ) (d : Route) → k < length part → IsBefore (get_or part k d).prefix route.prefix
+      before : Ascend routes → (k : ℕ) (d : Route) → k < length part
+          → IsBefore (get_or part k d).prefix route.prefix
       before up k d low =
           let r = get_or part k d in
           let h = (of.each r).0 (k, low, other_default part k r d low) in
           let R : Route → Route → Type 0 = λ a b. IsBefore a.prefix b.prefix in
-          subst (λ a. R a route) h.0.2 (subst (λ b. R (get_or routes h.0.0 r) b) (other_default routes n r route within ∙ sym here) (up h.0.0 n r h.0.1 within))
+          subst (λ a. R a route) h.0.2 (subst (λ b. R (get_or routes h.0.0 r) b)
+          (other_default routes n r route within ∙ sym here) (up h.0.0 n r h.0.1 within))
 
-  pub left_out : (part : List Route) → (IsLetIn answers route → ⊥) → AreLetInOf answers routes n part → AreLetInOf answers routes (n + 1) part
+  pub left_out : (part : List Route) → (IsLetIn answers route → ⊥)
+      → AreLetInOf answers routes n part → AreLetInOf answers routes (n + 1) part
   left_out part not of = record {
     each = λ r. (
       (λ t. let h = (of.each r).0 t in (widened r h.0, h.1)),
@@ -79,7 +89,9 @@ module _ (answers : Answers) (routes : List Route) (n : ℕ) (route : Route) (wi
     ascending = of.ascending;
   }
 
-  pub answered_more : IsAnswered answers route → ((r : Route) → IsAmong routes n r → IsAnswered answers r) → (r : Route) → IsAmong routes (n + 1) r → IsAnswered answers r
+  pub answered_more : IsAnswered answers route
+      → ((r : Route) → IsAmong routes n r → IsAnswered answers r) → (r : Route)
+      → IsAmong routes (n + 1) r → IsAnswered answers r
   answered_more ok all r h =
       elim (split r h) [
         | inl old ↦ all r old
@@ -88,16 +100,20 @@ module _ (answers : Answers) (routes : List Route) (n : ℕ) (route : Route) (wi
 
 -- ---- of all routes, and of candidates
 
-pub whole : (answers : Answers) (routes : List Route) (n : ℕ) (part : List Route) → n ≡ length routes → AreLetInOf answers routes n part → AreLetIn answers routes part
+pub whole : (answers : Answers) (routes : List Route) (n : ℕ) (part : List Route)
+    → n ≡ length routes → AreLetInOf answers routes n part → AreLetIn answers routes part
 whole answers routes n part is of =
-    let all : AreLetInOf answers routes (length routes) part = subst (λ k. AreLetInOf answers routes k part) is of in
+    let all : AreLetInOf answers routes (length routes) part =
+    subst (λ k. AreLetInOf answers routes k part) is of in
     record { each = all.each; ascending = all.ascending }
 
 -- the same answers in another order
 abbrev pub AreTheSame : Answers → Answers → Type 0
-AreTheSame made answers = (r : Route) (word : ℕ) → Contains made (r, word) ↔ Contains answers (r, word)
+AreTheSame made answers = (r : Route) (word : ℕ)
+    → Contains made (r, word) ↔ Contains answers (r, word)
 
-pub let_in_by : (made answers : Answers) (routes part : List Route) → AreTheSame made answers → AreLetIn made routes part → AreLetIn answers routes part
+pub let_in_by : (made answers : Answers) (routes part : List Route) → AreTheSame made answers
+    → AreLetIn made routes part → AreLetIn answers routes part
 let_in_by made answers routes part same of = record {
   each = λ r. (
     (λ t. let h = (of.each r).0 t in (h.0, (same r 0).0 h.1)),
@@ -106,13 +122,20 @@ let_in_by made answers routes part same of = record {
   ascending = of.ascending;
 }
 
-pub lack_by : (made answers : Answers) (routes : List Route) (b : Bool) → AreTheSame made answers → (IsTrue b ↔ LacksAnswers made routes) → (IsTrue b ↔ LacksAnswers answers routes)
+pub lack_by : (made answers : Answers) (routes : List Route) (b : Bool) → AreTheSame made answers
+    → (IsTrue b ↔ LacksAnswers made routes) → (IsTrue b ↔ LacksAnswers answers routes)
 lack_by made answers routes b same lacks = (
-  λ t. let h = lacks.0 t in (h.0, h.1, λ answered. h.2 (answered.0, (same h.0 answered.0).1 answered.1)),
+  λ t. let h = lacks.0 t in (
+    h.0,
+    h.1,
+    λ answered. h.2 (answered.0, (same h.0 answered.0).1 answered.1),
+  ),
   λ h. lacks.1 (h.0, h.1, λ answered. h.2 (answered.0, (same h.0 answered.0).0 answered.1)),
 )
 
-pub are_table : (answers : Answers) (candidates table : List Route) → AreLetIn answers candidates table → (said : Said) (root : Root) → AreCandidates said root candidates → IsTable said root answers table
+pub are_table : (answers : Answers) (candidates table : List Route)
+    → AreLetIn answers candidates table → (said : Said) (root : Root)
+    → AreCandidates said root candidates → IsTable said root answers table
 are_table answers candidates table of said root are = record {
   each = λ r. (
     (λ t. let h = (of.each r).0 t in ((are.each r).0 h.0, h.1)),
@@ -121,7 +144,9 @@ are_table answers candidates table of said root are = record {
   ascending = of.ascending are.ascending;
 }
 
-pub tells_stale : (answers : Answers) (candidates : List Route) (b : Bool) → (IsTrue b ↔ LacksAnswers answers candidates) → (said : Said) (root : Root) → AreCandidates said root candidates → (IsTrue b ↔ IsStale said root answers)
+pub tells_stale : (answers : Answers) (candidates : List Route) (b : Bool)
+    → (IsTrue b ↔ LacksAnswers answers candidates) → (said : Said) (root : Root)
+    → AreCandidates said root candidates → (IsTrue b ↔ IsStale said root answers)
 tells_stale answers candidates b lacks said root are = (
   λ t. let h = lacks.0 t in (h.0, (are.each h.0).0 h.1, h.2),
   λ stale. lacks.1 (stale.0, (are.each stale.0).1 stale.1, stale.2),

@@ -17,14 +17,17 @@ use Rattle.tables.specs.Orders.{answer_cmp, route_cmp}
 pub routes_total : IsTotalOrder route_cmp
 routes_total =
     then_total
-    (then_total (on_total (λ (r : Route). r.prefix.address) nat_cmp_total) (on_total (λ (r : Route). r.prefix.length) nat_cmp_total))
+    (then_total (on_total (λ (r : Route). r.prefix.address) nat_cmp_total)
+    (on_total (λ (r : Route). r.prefix.length) nat_cmp_total))
     (then_total (on_total (λ (r : Route). rank r.kind) nat_cmp_total)
     (then_total (on_total (λ (r : Route). r.cost) nat_cmp_total)
     (then_total (on_total (λ (r : Route). r.distance) nat_cmp_total)
-    (then_total (on_total (λ (r : Route). r.hops) nat_cmp_total) (on_total (λ (r : Route). r.tag) nat_cmp_total)))))
+    (then_total (on_total (λ (r : Route). r.hops) nat_cmp_total)
+    (on_total (λ (r : Route). r.tag) nat_cmp_total)))))
 
 pub answers_total : IsTotalOrder answer_cmp
-answers_total = then_total (on_total (λ (a : Route × ℕ). a.0) routes_total) (on_total (λ (a : Route × ℕ). a.1) nat_cmp_total)
+answers_total = then_total (on_total (λ (a : Route × ℕ). a.0) routes_total)
+    (on_total (λ (a : Route × ℕ). a.1) nat_cmp_total)
 
 -- ---- nothing else compares equal
 
@@ -46,7 +49,8 @@ kinds_exact a b e = ranked a ∙ ap kind_at (exact_unsigned (rank a) (rank b) e)
 
 networks_exact : (a b : Network) → network_cmp a b ≡ Equal → a ≡ b
 networks_exact a b e =
-    let same = exact_pairs nat_cmp nat_cmp exact_unsigned exact_unsigned (a.address, a.length) (b.address, b.length) e in
+    let same = exact_pairs nat_cmp nat_cmp exact_unsigned exact_unsigned (a.address, a.length)
+    (b.address, b.length) e in
     λ i. record { address = (same i).0; length = (same i).1 }
 
 abbrev Parts : Type 0
@@ -61,7 +65,8 @@ routes_exact a b e =
     let from_distance = exact_pairs nat_cmp _ exact_unsigned last in
     let from_cost = exact_pairs nat_cmp _ exact_unsigned from_distance in
     let from_kind = exact_pairs kind_cmp _ kinds_exact from_cost in
-    let same : parts a ≡ parts b = exact_pairs network_cmp _ networks_exact from_kind (parts a) (parts b) e in
+    let same : parts a ≡ parts b = exact_pairs network_cmp _ networks_exact from_kind (parts a)
+    (parts b) e in
     λ i. record {
       prefix = (same i).0;
       kind = (same i).1.0;
@@ -81,5 +86,6 @@ first_not_less Less s e = e
 first_not_less Equal s e = refl
 first_not_less Greater s e = refl
 
-pub by_route : (answers : List (Route × ℕ)) → IsSorted answer_cmp answers → IsSortedBy (λ (a : Route × ℕ) (b : Route × ℕ). is_lt (route_cmp a.0 b.0)) answers
+pub by_route : (answers : List (Route × ℕ)) → IsSorted answer_cmp answers
+    → IsSortedBy (λ (a : Route × ℕ) (b : Route × ℕ). is_lt (route_cmp a.0 b.0)) answers
 by_route answers up k d low high = first_not_less _ _ (up k d low high)

@@ -22,14 +22,19 @@ abbrev sends_by : Link → Bool → List Content
 sends_by l b = cond b (SendsHello (hello_on l) ∷ []) []
 
 module _ (moment : ℕ) (l : Link) where
-  pub greeted : hello_is_due moment l ≡ true → record l { last_hello_sent = Some moment } ≡ with_hello_sent moment l
+  pub greeted : hello_is_due moment l ≡ true → record l {
+    last_hello_sent = Some moment;
+  } ≡ with_hello_sent moment l
   greeted is = ap (link_by moment l) (sym is)
 
   pub silent : hello_is_due moment l ≡ false → l ≡ with_hello_sent moment l
   silent is = ap (link_by moment l) (sym is)
 
-  pub greeting_sent : (delay : ℕ) (d : Drafted) → hello_is_due moment l ≡ true → drafting delay (SendsHello (hello_on l) ∷ []) d ≡ drafting delay (hello_sent_on moment l) d
+  pub greeting_sent : (delay : ℕ) (d : Drafted) → hello_is_due moment l ≡ true
+      → drafting delay (SendsHello (hello_on l) ∷ []) d ≡ drafting delay (hello_sent_on moment l) d
   greeting_sent delay d is = ap (λ b. drafting delay (sends_by l b) d) (sym is)
 
-  pub nothing_sent : (delay : ℕ) (d : Drafted) → hello_is_due moment l ≡ false → d ≡ drafting delay (hello_sent_on moment l) d
-  nothing_sent delay d is = drafting-none delay d ∙ ap (λ b. drafting delay (sends_by l b) d) (sym is)
+  pub nothing_sent : (delay : ℕ) (d : Drafted) → hello_is_due moment l ≡ false
+      → d ≡ drafting delay (hello_sent_on moment l) d
+  nothing_sent delay d is = drafting-none delay d
+      ∙ ap (λ b. drafting delay (sends_by l b) d) (sym is)

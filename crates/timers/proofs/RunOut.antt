@@ -11,16 +11,23 @@ use Rattle.flooding.specs.Links.{with_neighbor}
 use Rattle.events.specs.Endings.{link_loading_done, loading_done_on}
 use Rattle.events.specs.Ticks.{run_out, settled_exchange}
 
-given_up : (moment dead : ℕ) (o : Option Neighbor) → step_on (λ m. no_sends (without_old_description moment dead m)) o ≡ settled_exchange moment dead o
+given_up : (moment dead : ℕ) (o : Option Neighbor)
+    → step_on (λ m. no_sends (without_old_description moment dead m)) o
+    ≡ settled_exchange moment dead o
 given_up moment dead None = refl
 given_up moment dead (Some n) = refl
 
-pub run_out_is : (moment : ℕ) (l : Link) → with_neighbor (neighbor.run_out moment l.interface.dead_interval l.neighbor) l ≡ run_out moment l
-run_out_is moment l = ap (λ o. with_neighbor o l) (given_up moment l.interface.dead_interval (after_inactivity_timer moment l.interface.dead_interval l.neighbor))
+pub run_out_is : (moment : ℕ) (l : Link)
+    → with_neighbor (neighbor.run_out moment l.interface.dead_interval l.neighbor) l
+    ≡ run_out moment l
+run_out_is moment l = ap (λ o. with_neighbor o l)
+    (given_up moment l.interface.dead_interval
+    (after_inactivity_timer moment l.interface.dead_interval l.neighbor))
 
 done_is : (o : Option Neighbor) → step_on (λ n. no_sends (loading_done n)) o ≡ loading_done_on o
 done_is None = refl
 done_is (Some n) = refl
 
-pub loading_done_is : (l : Link) → with_neighbor (step_on (λ n. no_sends (loading_done n)) l.neighbor) l ≡ link_loading_done l
+pub loading_done_is : (l : Link) → with_neighbor
+    (step_on (λ n. no_sends (loading_done n)) l.neighbor) l ≡ link_loading_done l
 loading_done_is l = ap (λ o. with_neighbor o l) (done_is l.neighbor)

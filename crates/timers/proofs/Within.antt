@@ -1,5 +1,6 @@
 -- If the moment is the same, no copy reaches MaxAge.
-use Rattle.std.proofs.Common.{◌≡◌, ℕ, Bool, true, false, not, ◌&&◌, cond, List, [], ◌∷◌, refl, subst, ap, ◌∙◌}
+use Rattle.std.proofs.Common.{◌≡◌, ℕ, Bool, true, false, not, ◌&&◌, cond, List, [], ◌∷◌, refl}
+use Rattle.std.proofs.Common.{subst, ap, ◌∙◌}
 use Rattle.std.specs.List.{fold}
 use Rattle.std.specs.FinMap as finite
 use Rattle.words.specs.declared.key.Key.{Key}
@@ -14,12 +15,14 @@ not_both false = refl
 
 module _ (moment : ℕ) where
   no_age : (e : Key × DatabaseCopy) (o : Outcome) → with_age moment moment o e ≡ o
-  no_age e o = ap (λ b. cond b (flood_from_nobody moment (lsa_now moment e.1) o) o) (not_both (is_aged_out moment e.1))
+  no_age e o = ap (λ b. cond b (flood_from_nobody moment (lsa_now moment e.1) o) o)
+      (not_both (is_aged_out moment e.1))
 
   no_ages : (es : List (Key × DatabaseCopy)) (o : Outcome) → fold (with_age moment moment) o es ≡ o
   no_ages [] o = refl
   no_ages (e ∷ es) o = ap (λ p. fold (with_age moment moment) p es) (no_age e o) ∙ no_ages es o
 
-pub nothing_ages : (before moment : ℕ) → before ≡ moment → (o : Outcome) → with_ages before moment o ≡ o
+pub nothing_ages : (before moment : ℕ) → before ≡ moment → (o : Outcome)
+    → with_ages before moment o ≡ o
 nothing_ages before moment same o =
     subst (λ m. with_ages before m o ≡ o) same (no_ages before (finite.entries o.area.database) o)

@@ -13,17 +13,24 @@ use Rattle.turns.specs.declared.turned.TurnError.TheVariants as turn_error
 use Rattle.turns.specs.declared.work.Work.TheVariants as work
 
 pub of_tag : (refuses : Refuses) (external : External) (moment : Moment) (rows : List TableRow)
-    → IsLacking refuses (Lack.Reading (tag_input external moment rows)) → IsUnaskedFor refuses (work.Add external) moment turn_error.Away
-of_tag refuses external moment rows lacking = inl (refl, (tag_input external moment rows, lacking, (rows, inl refl)))
+    → IsLacking refuses (Lack.Reading (tag_input external moment rows))
+    → IsUnaskedFor refuses (work.Add external) moment turn_error.Away
+of_tag refuses external moment rows lacking =
+    inl (refl, (tag_input external moment rows, lacking, (rows, inl refl)))
 
 pub of_price : (refuses : Refuses) (external : External) (moment : Moment) (rows : List TableRow)
-    → IsLacking refuses (Lack.Reading (price_input external moment rows)) → IsUnaskedFor refuses (work.Add external) moment turn_error.Away
-of_price refuses external moment rows lacking = inl (refl, (price_input external moment rows, lacking, (rows, inr refl)))
+    → IsLacking refuses (Lack.Reading (price_input external moment rows))
+    → IsUnaskedFor refuses (work.Add external) moment turn_error.Away
+of_price refuses external moment rows lacking =
+    inl (refl, (price_input external moment rows, lacking, (rows, inr refl)))
 
 pub of_veto : (refuses : Refuses) (route : Route) (moment : Moment) (rows : List TableRow)
-    → IsLacking refuses (Lack.Reading (veto_input route moment rows)) → IsUnaskedFor refuses work.Refresh moment turn_error.Away
-of_veto refuses route moment rows lacking = inl (refl, (veto_input route moment rows, lacking, (route, rows, refl)))
+    → IsLacking refuses (Lack.Reading (veto_input route moment rows))
+    → IsUnaskedFor refuses work.Refresh moment turn_error.Away
+of_veto refuses route moment rows lacking =
+    inl (refl, (veto_input route moment rows, lacking, (route, rows, refl)))
 
 -- what is known still begins with itself
 pub begins : (before now : List Operation) → now ≡ before → IsPrefix before now
-begins before now same = subst (λ (l : List Operation). IsPrefix before l) (sym same) (prefix_self before)
+begins before now same = subst (λ (l : List Operation). IsPrefix before l) (sym same)
+    (prefix_self before)

@@ -15,11 +15,16 @@ use Rattle.turns.specs.Laws.{AnswersAreBesideATable}
 use Rattle.turns.specs.Turns.{AreAsked, AreBeside, IsOfferedBySome, IsRedistribute, Offers}
 use Rattle.turns.proofs.Vetoes.{is_word}
 
-pub configured : (offers : Offers) (known now : List Operation) (seat : SeatView) (external : External) (moment : Moment) (tag price : ExternalAnswer)
-    → (tag.external ≡ external) × (tag.moment ≡ moment) → (price.external ≡ external) × (price.moment ≡ moment)
-    → ((rows : List TableRow) → IsAnsweredByNone known now (tag_input external moment rows) tag.word)
-    → ((rows : List TableRow) → IsAnsweredByNone known now (price_input external moment rows) price.word)
-    → IsRedistribute offers known external moment (event.Redistribute tag price)
+pub configured : (offers : Offers) (known now : List Operation) (seat : SeatView)
+    (external : External) (moment : Moment) (tag price : ExternalAnswer)
+    → (tag.external ≡ external) × (tag.moment ≡ moment)
+    → (price.external ≡ external) × (price.moment ≡ moment)
+    → ((rows : List TableRow) → IsAnsweredByNone known now
+    (tag_input external moment rows) tag.word)
+    → ((rows : List TableRow) → IsAnsweredByNone known now
+    (price_input external moment rows) price.word)
+    → IsRedistribute offers known external moment
+    (event.Redistribute tag price)
 configured offers known now seat external moment tag price on_tag on_price tagged priced = (
   tag,
   price,
@@ -30,12 +35,18 @@ configured offers known now seat external moment tag price on_tag on_price tagge
   refl,
 )
 
-asked_beside : (origin : Router) (known : List Operation) (moment : Moment) (external : External) (candidates : List Route) (rows : List TableRow) (tag price : ExternalAnswer)
-    → IsOfferedBySome origin candidates rows → AreAsked (IsOfferedBySome origin) known external moment tag price
-    → (candidates : List Route) × (rows : List TableRow) × IsOfferedBySome origin candidates rows × AreBeside known external moment rows tag price
+asked_beside : (origin : Router) (known : List Operation) (moment : Moment) (external : External)
+    (candidates : List Route) (rows : List TableRow) (tag price : ExternalAnswer)
+    → IsOfferedBySome origin candidates rows
+    → AreAsked (IsOfferedBySome origin) known external moment tag price
+    → (candidates : List Route) × (rows : List TableRow)
+    × IsOfferedBySome origin candidates rows
+    × AreBeside known external moment rows tag price
 asked_beside origin known moment external candidates rows tag price offered (inl beside) = beside
-asked_beside origin known moment external candidates rows tag price offered (inr beside) = (candidates, rows, offered, beside rows)
+asked_beside origin known moment external candidates rows tag price offered (inr beside) =
+    (candidates, rows, offered, beside rows)
 
 pub beside_a_table : AnswersAreBesideATable
 beside_a_table origin candidates rows known moment external e offered (tag, price, asked, is) =
-    let b = asked_beside origin known moment external candidates rows tag price offered asked in (b.0, b.1, tag, price, b.2, b.3, is)
+    let b = asked_beside origin known moment external candidates rows tag price offered asked in
+    (b.0, b.1, tag, price, b.2, b.3, is)

@@ -9,41 +9,53 @@ use Rattle.hooks.specs.Answered.{IsAnswered}
 use Rattle.hooks.specs.Questions.{count_input}
 use Rattle.book.specs.declared.error.BookError.TheVariants as book_error
 use Rattle.book.specs.Event.{Event}
-use Rattle.turns.specs.Turns.{CountsFor, IsCounted, IsFor, IsInstalling, IsUnaskedFor, Lack, Offers, Refuses}
+use Rattle.turns.specs.Turns.{CountsFor, IsCounted, IsFor, IsInstalling, IsUnaskedFor, Lack, Offers}
+use Rattle.turns.specs.Turns.{Refuses}
 use Rattle.turns.specs.declared.turned.TurnError.{TurnError}
 use Rattle.turns.specs.declared.turned.TurnError.TheVariants as turn_error
 use Rattle.turns.specs.declared.work.Work.{Work}
 use Rattle.turns.specs.declared.work.Work.TheVariants as work
 
-module _ {A : Type 0} (word : A → ℕ) (refuses : Refuses) (before now : List Operation) (old new : SeatView) (number : InterfaceNumber) (moment : Moment) (packet : List ℕ) where
-  counted : (r : Option A) → IfNone r ((now ≡ before) × (new ≡ old)) → IfNone r (refuses.lacks (Lack.Reading (count_input number moment packet)))
-      → IfSome r (λ a. IsAnswered before now old new (count_input number moment packet) (word a)) → IsCounted refuses before now old new number moment packet
+module _ {A : Type 0} (word : A → ℕ) (refuses : Refuses) (before now : List Operation)
+    (old new : SeatView) (number : InterfaceNumber) (moment : Moment) (packet : List ℕ) where
+  counted : (r : Option A) → IfNone r ((now ≡ before) × (new ≡ old))
+      → IfNone r (refuses.lacks (Lack.Reading (count_input number moment packet)))
+      → IfSome r (λ a. IsAnswered before now old new (count_input number moment packet)
+      (word a)) → IsCounted refuses before now old new number moment packet
   counted None unread lacking answered = inl (unread.0, unread.1, lacking)
   counted (Some a) unread lacking answered = inr (word a, answered)
 
-  pub counts : (r : Option A) (bytes : List ℕ) (w : Work) → packet ≡ bytes → w ≡ work.Datagram number bytes → IfNone r ((now ≡ before) × (new ≡ old))
+  pub counts : (r : Option A) (bytes : List ℕ) (w : Work) → packet ≡ bytes
+      → w ≡ work.Datagram number bytes → IfNone r ((now ≡ before) × (new ≡ old))
       → IfNone r (refuses.lacks (Lack.Reading (count_input number moment packet)))
-      → IfSome r (λ a. IsAnswered before now old new (count_input number moment packet) (word a)) → CountsFor refuses before now old new w moment
+      → IfSome r (λ a. IsAnswered before now old new (count_input number moment packet)
+      (word a)) → CountsFor refuses before now old new w moment
   counts r bytes w same is unread lacking answered =
       let P : List ℕ → Type 0 = λ p. IsCounted refuses before now old new number moment p in
       let Q : Work → Type 0 = λ x. CountsFor refuses before now old new x moment in
       subst Q (sym is) (subst P same (counted r unread lacking answered))
 
-pub installs : (offers : Offers) (known : List Operation) (w : Work) (moment : Moment) (e : Event) → IsFor offers known w moment e → w ≡ work.Refresh → IsInstalling e
+pub installs : (offers : Offers) (known : List Operation) (w : Work) (moment : Moment) (e : Event)
+    → IsFor offers known w moment e → w ≡ work.Refresh → IsInstalling e
 installs offers known w moment e is refresh =
     let i = subst (λ (x : Work). IsFor offers known x moment e) refresh is in (i.2, i.5)
 
 away_not_back : turn_error.Away ≡ turn_error.Book (book_error.Core core_error.ClockBack) → ⊥
 away_not_back same = cc
 
-memory_not_back : turn_error.Book (book_error.Core core_error.Memory) ≡ turn_error.Book (book_error.Core core_error.ClockBack) → ⊥
+memory_not_back : turn_error.Book (book_error.Core core_error.Memory)
+    ≡ turn_error.Book (book_error.Core core_error.ClockBack) → ⊥
 memory_not_back same = cc
 
-pub unasked : (refuses : Refuses) (w : Work) (moment : Moment) (e : TurnError) → IsUnaskedFor refuses w moment e → e ≡ turn_error.Book (book_error.Core core_error.ClockBack) → ⊥
-unasked refuses (work.Datagram number bytes) moment e short clock = memory_not_back (sym short.0 ∙ clock)
+pub unasked : (refuses : Refuses) (w : Work) (moment : Moment) (e : TurnError)
+    → IsUnaskedFor refuses w moment e → e ≡ turn_error.Book (book_error.Core core_error.ClockBack)
+    → ⊥
+unasked refuses (work.Datagram number bytes) moment e short clock =
+    memory_not_back (sym short.0 ∙ clock)
 unasked refuses work.Tick moment e never clock = never
 unasked refuses (work.Add external) moment e (inl away) clock = away_not_back (sym away.0 ∙ clock)
-unasked refuses (work.Add external) moment e (inr short) clock = memory_not_back (sym short.0 ∙ clock)
+unasked refuses (work.Add external) moment e (inr short) clock =
+    memory_not_back (sym short.0 ∙ clock)
 unasked refuses (work.Withdraw prefix) moment e never clock = never
 unasked refuses (work.Down number) moment e never clock = never
 unasked refuses work.Refresh moment e (inl away) clock = away_not_back (sym away.0 ∙ clock)

@@ -17,31 +17,45 @@ use Rattle.book.specs.Offers.{AreCandidatesNow, IsOffered, IsStaleNow}
 use Rattle.turns.specs.Turns.{IsOfferedBySome, IsRefusedBySome, RefusesAt, Sends, taken_at}
 use Rattle.turns.proofs.Tables.{rows_beside}
 
-pub sent_by_some : (origin : Router) (taken : ℕ) (moment at : Moment) (e : Event) (old new : Router) (outs : List Out) (stale : Option Bool)
-    → Leads origin taken old → at ≡ taken_at e moment old.moment → Happens old at (occurrence_of e) outs new
+pub sent_by_some : (origin : Router) (taken : ℕ) (moment at : Moment) (e : Event) (old new : Router)
+    (outs : List Out) (stale : Option Bool) → Leads origin taken old
+    → at ≡ taken_at e moment old.moment → Happens old at (occurrence_of e) outs new
     → IfSome stale (λ is. IsTrue is ↔ IsStaleNow new) → Sends origin moment e outs stale
-sent_by_some origin taken moment at e old new outs stale leads is h left =
-    (taken, old, new, leads, subst (λ (m : Moment). Happens old m (occurrence_of e) outs new) is h, left)
+sent_by_some origin taken moment at e old new outs stale leads is h left = (
+  taken,
+  old,
+  new,
+  leads,
+  subst (λ (m : Moment). Happens old m (occurrence_of e) outs new) is h,
+  left,
+)
 
 -- whether it is stale, where that was told
-pub left_stale : {E : Type 0} (new : Router) (told : Result Bool E) (stale : Option Bool) → IfOk told (λ is. IsTrue is ↔ IsStaleNow new)
-    → MatchResult told (λ is. stale ≡ Some is) (λ _. stale ≡ None) → IfSome stale (λ is. IsTrue is ↔ IsStaleNow new)
-left_stale new (Ok is) stale h same = subst (λ (o : Option Bool). IfSome o (λ is. IsTrue is ↔ IsStaleNow new)) (sym same) h
-left_stale new (Err e) stale h same = subst (λ (o : Option Bool). IfSome o (λ is. IsTrue is ↔ IsStaleNow new)) (sym same) tt
+pub left_stale : {E : Type 0} (new : Router) (told : Result Bool E) (stale : Option Bool)
+    → IfOk told (λ is. IsTrue is ↔ IsStaleNow new)
+    → MatchResult told (λ is. stale ≡ Some is) (λ _. stale ≡ None)
+    → IfSome stale (λ is. IsTrue is ↔ IsStaleNow new)
+left_stale new (Ok is) stale h same =
+    subst (λ (o : Option Bool). IfSome o (λ is. IsTrue is ↔ IsStaleNow new)) (sym same) h
+left_stale new (Err e) stale h same =
+    subst (λ (o : Option Bool). IfSome o (λ is. IsTrue is ↔ IsStaleNow new)) (sym same) tt
 
 pub taken_then : (moment at : Moment) (e : Event) (old new : Router) (outs : List Out)
     → at ≡ taken_at e moment old.moment → Happens old at (occurrence_of e) outs new
     → Happens old (taken_at e moment old.moment) (occurrence_of e) outs new
-taken_then moment at e old new outs is h = subst (λ (m : Moment). Happens old m (occurrence_of e) outs new) is h
+taken_then moment at e old new outs is h =
+    subst (λ (m : Moment). Happens old m (occurrence_of e) outs new) is h
 
-pub offered_by_some : {V E : Type 0} (candidates : V → List Route) (rows : V → List TableRow) (origin : Router) (taken : ℕ) (now : Router)
-    (r : Result V E) → Leads origin taken now
-    → IfOk r (λ o. IsOffered now (candidates o) (rows o)) → IfOk r (λ o. IsOfferedBySome origin (candidates o) (rows o))
+pub offered_by_some : {V E : Type 0} (candidates : V → List Route) (rows : V → List TableRow)
+    (origin : Router) (taken : ℕ) (now : Router) (r : Result V E) → Leads origin taken now
+    → IfOk r (λ o. IsOffered now (candidates o) (rows o))
+    → IfOk r (λ o. IsOfferedBySome origin (candidates o) (rows o))
 offered_by_some candidates rows origin taken now (Ok x) leads h = (taken, now, leads, h)
 offered_by_some candidates rows origin taken now (Err x) leads h = h
 
-pub candidates_of_some : {V E : Type 0} (candidates : V → List Route) (origin : Router) (taken : ℕ) (now : Router) (r : Result V E)
-    → Leads origin taken now → IfOk r (λ c. AreCandidatesNow now (candidates c))
+pub candidates_of_some : {V E : Type 0} (candidates : V → List Route) (origin : Router) (taken : ℕ)
+    (now : Router) (r : Result V E) → Leads origin taken now
+    → IfOk r (λ c. AreCandidatesNow now (candidates c))
     → IfOk r (λ c. (rows : List TableRow) × IsOfferedBySome origin (candidates c) rows)
 candidates_of_some candidates origin taken now (Ok x) leads h =
     let beside = rows_beside now (candidates x) h in (beside.0, (taken, now, leads, beside.1))
@@ -53,14 +67,18 @@ error_alone : (V : Type 0) (b : BookView) (moment : Moment) (e : Event) (why : B
 error_alone V b moment e refusing.Journal h = h
 error_alone V b moment e (refusing.Core x) h = h
 
-pub refused_now : {V : Type 0} (moment at : Moment) (e : Event) (b : BookView) (r : Result V BookError)
-    → at ≡ taken_at e moment b.current.moment → AnswersAnew b at e r → IfErr r (λ error. RefusesAt b moment e error)
+pub refused_now : {V : Type 0} (moment at : Moment) (e : Event) (b : BookView)
+    (r : Result V BookError) → at ≡ taken_at e moment b.current.moment → AnswersAnew b at e r
+    → IfErr r (λ error. RefusesAt b moment e error)
 refused_now moment at e b (Ok x) is h = tt
 refused_now {V = V} moment at e b (Err why) is h =
-    subst (λ (m : Moment). AnswersAnew {X = Unit {0}} b m e (Err why)) is (error_alone V b at e why h)
+    subst (λ (m : Moment). AnswersAnew {X = Unit {0}} b m e (Err why)) is
+    (error_alone V b at e why h)
 
-pub refused_by_some : {V : Type 0} (origin : Router) (moment at : Moment) (e : Event) (b : BookView) (r : Result V BookError)
-    → Leads origin b.taken b.current → at ≡ taken_at e moment b.current.moment → AnswersAnew b at e r
+pub refused_by_some : {V : Type 0} (origin : Router) (moment at : Moment) (e : Event) (b : BookView)
+    (r : Result V BookError) → Leads origin b.taken b.current
+    → at ≡ taken_at e moment b.current.moment → AnswersAnew b at e r
     → IfErr r (λ error. IsRefusedBySome origin moment e error)
 refused_by_some origin moment at e b (Ok x) leads is h = tt
-refused_by_some {V = V} origin moment at e b (Err why) leads is h = (b, leads, refused_now {V = V} moment at e b (Err why) is h)
+refused_by_some {V = V} origin moment at e b (Err why) leads is h =
+    (b, leads, refused_now {V = V} moment at e b (Err why) is h)

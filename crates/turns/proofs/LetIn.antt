@@ -11,17 +11,23 @@ use Rattle.hooks.specs.Vacant.{IsAnsweredByNone, let_in}
 use Rattle.turns.specs.Turns.{AreVetoes, IsVetoOn}
 use Rattle.turns.proofs.Vetoes.{is_word}
 
-routes_of : (moment : Moment) (routes : List Route) → map (λ a. a.route) (map (let_in moment) routes) ≡ routes
+routes_of : (moment : Moment) (routes : List Route)
+    → map (λ a. a.route) (map (let_in moment) routes) ≡ routes
 routes_of moment [] = refl
 routes_of moment (route ∷ routes) = ap (λ l. route ∷ l) (routes_of moment routes)
 
-pub all_let_in : (known now : List Operation) (seat : SeatView) (moment : Moment) (rows : List TableRow) (asked routes : List Route) (answers : List RouteAnswer)
-    → asked ≡ routes → answers ≡ map (let_in moment) asked
-    → ((route : Route) (rows : List TableRow) → IsAnsweredByNone known now (veto_input route moment rows) 0)
+pub all_let_in : (known now : List Operation) (seat : SeatView) (moment : Moment)
+    (rows : List TableRow) (asked routes : List Route) (answers : List RouteAnswer) → asked ≡ routes
+    → answers ≡ map (let_in moment) asked
+    → ((route : Route) (rows : List TableRow)
+    → IsAnsweredByNone known now (veto_input route moment rows) 0)
     → AreVetoes known moment rows routes answers
 all_let_in known now seat moment rows asked routes answers same are none =
     let on : (route : Route) → IsVetoOn known moment rows (let_in moment route) =
     λ route. record { asked = refl; answered = is_word (none route rows seat) } in
     let P : List RouteAnswer → Type 0 = λ l. AreVetoes known moment rows asked l in
     let Q : List Route → Type 0 = λ l. AreVetoes known moment rows l answers in
-    subst Q same (subst P (sym are) (routes_of moment asked, All-map (IsVetoOn known moment rows) (let_in moment) asked (λ k d low. on _)))
+    subst Q same (subst P (sym are) (
+      routes_of moment asked,
+      All-map (IsVetoOn known moment rows) (let_in moment) asked (λ k d low. on _),
+    ))

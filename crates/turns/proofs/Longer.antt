@@ -1,5 +1,6 @@
 -- What begins with a longer list begins with a shorter one.
-use Rattle.std.proofs.Common.{◌≡◌, ◌⊎◌, inl, inr, ◌∙◌, ℕ, ◌+◌, Bool, List, Option, None, Some, arith}
+use Rattle.std.proofs.Common.{◌≡◌, ◌⊎◌, inl, inr, ◌∙◌, ℕ, ◌+◌, Bool, List, Option, None, Some}
+use Rattle.std.proofs.Common.{arith}
 use Rattle.std.specs.Prelude.{IfNone, IfSome, MatchOption}
 use Rattle.std.specs.List.{All}
 use mathlib.Core.List.{IsPrefix}
@@ -13,24 +14,29 @@ use Rattle.hooks.specs.declared.operation.Operation.{Operation}
 use Rattle.hooks.specs.Questions.{ExternalAnswer, RouteAnswer}
 use Rattle.hooks.proofs.Fronts.{prefix_trans}
 use Rattle.book.specs.Event.{Event}
-use Rattle.turns.specs.Turns.{AreAsked, AreBeside, AreVetoes, IsChangedSince, IsFor, IsInstall, IsPriceOn, IsRedistribute, IsTagOn, IsTurned, IsUnrefreshed, IsVetoOn, IsWordOn, Offers, Refuses, RefusesFor, TakesFor, Took}
+use Rattle.turns.specs.Turns.{AreAsked, AreBeside, AreVetoes, IsChangedSince, IsFor, IsInstall}
+use Rattle.turns.specs.Turns.{IsPriceOn, IsRedistribute, IsTagOn, IsTurned, IsUnrefreshed, IsVetoOn}
+use Rattle.turns.specs.Turns.{IsWordOn, Offers, Refuses, RefusesFor, TakesFor, Took}
 use Rattle.turns.specs.declared.turned.Turned.{Turned}
 use Rattle.turns.specs.declared.turned.TurnError.{TurnError}
 use Rattle.turns.specs.declared.work.Work.{Work}
 use Rattle.turns.specs.declared.work.Work.TheVariants as work
 
 module _ (known more : List Operation) (longer : IsPrefix known more) where
-  pub word_longer : (input : Given) (word : ℕ) → IsWordOn more input word → IsWordOn known input word
+  pub word_longer : (input : Given) (word : ℕ) → IsWordOn more input word
+      → IsWordOn known input word
   word_longer input word (operations, labels, begins, answers) =
       (operations, labels, prefix_trans known more operations longer begins, answers)
 
-  pub tag_longer : (external : External) (moment : Moment) (rows : List TableRow) (a : ExternalAnswer)
-      → IsTagOn more external moment rows a → IsTagOn known external moment rows a
+  pub tag_longer : (external : External) (moment : Moment) (rows : List TableRow)
+      (a : ExternalAnswer) → IsTagOn more external moment rows a
+      → IsTagOn known external moment rows a
   tag_longer external moment rows a h =
       record { destination = h.destination; asked = h.asked; answered = word_longer _ _ h.answered }
 
-  pub price_longer : (external : External) (moment : Moment) (rows : List TableRow) (a : ExternalAnswer)
-      → IsPriceOn more external moment rows a → IsPriceOn known external moment rows a
+  pub price_longer : (external : External) (moment : Moment) (rows : List TableRow)
+      (a : ExternalAnswer) → IsPriceOn more external moment rows a
+      → IsPriceOn known external moment rows a
   price_longer external moment rows a h =
       record { destination = h.destination; asked = h.asked; answered = word_longer _ _ h.answered }
 
@@ -38,29 +44,38 @@ module _ (known more : List Operation) (longer : IsPrefix known more) where
       → IsVetoOn more moment rows a → IsVetoOn known moment rows a
   veto_longer moment rows a h = record { asked = h.asked; answered = word_longer _ _ h.answered }
 
-  pub vetoes_longer : (moment : Moment) (rows : List TableRow) (routes : List Route) (answers : List RouteAnswer)
-      → AreVetoes more moment rows routes answers → AreVetoes known moment rows routes answers
-  vetoes_longer moment rows routes answers h = (h.0, λ k d low. veto_longer moment rows _ (h.1 k d low))
+  pub vetoes_longer : (moment : Moment) (rows : List TableRow) (routes : List Route)
+      (answers : List RouteAnswer) → AreVetoes more moment rows routes answers
+      → AreVetoes known moment rows routes answers
+  vetoes_longer moment rows routes answers h =
+      (h.0, λ k d low. veto_longer moment rows _ (h.1 k d low))
 
-  pub install_longer : (offers : Offers) (moment : Moment) (e : Event) → IsInstall offers more moment e → IsInstall offers known moment e
+  pub install_longer : (offers : Offers) (moment : Moment) (e : Event)
+      → IsInstall offers more moment e → IsInstall offers known moment e
   install_longer offers moment e (candidates, rows, answers, offered, vetoes, is) =
       (candidates, rows, answers, offered, vetoes_longer moment rows candidates answers vetoes, is)
 
-  beside_longer : (external : External) (moment : Moment) (rows : List TableRow) (tag price : ExternalAnswer)
-      → AreBeside more external moment rows tag price → AreBeside known external moment rows tag price
-  beside_longer external moment rows tag price h = (tag_longer external moment rows tag h.0, price_longer external moment rows price h.1)
+  beside_longer : (external : External) (moment : Moment) (rows : List TableRow)
+      (tag price : ExternalAnswer) → AreBeside more external moment rows tag price
+      → AreBeside known external moment rows tag price
+  beside_longer external moment rows tag price h =
+      (tag_longer external moment rows tag h.0, price_longer external moment rows price h.1)
 
-  asked_longer : (offers : Offers) (external : External) (moment : Moment) (tag price : ExternalAnswer)
-      → AreAsked offers more external moment tag price → AreAsked offers known external moment tag price
+  asked_longer : (offers : Offers) (external : External) (moment : Moment)
+      (tag price : ExternalAnswer) → AreAsked offers more external moment tag price
+      → AreAsked offers known external moment tag price
   asked_longer offers external moment tag price (inl (candidates, rows, offered, beside)) =
       inl (candidates, rows, offered, beside_longer external moment rows tag price beside)
-  asked_longer offers external moment tag price (inr beside) = inr (λ rows. beside_longer external moment rows tag price (beside rows))
+  asked_longer offers external moment tag price (inr beside) =
+      inr (λ rows. beside_longer external moment rows tag price (beside rows))
 
   pub redistribute_longer : (offers : Offers) (external : External) (moment : Moment) (e : Event)
       → IsRedistribute offers more external moment e → IsRedistribute offers known external moment e
-  redistribute_longer offers external moment e (tag, price, asked, is) = (tag, price, asked_longer offers external moment tag price asked, is)
+  redistribute_longer offers external moment e (tag, price, asked, is) =
+      (tag, price, asked_longer offers external moment tag price asked, is)
 
-  pub for_longer : (offers : Offers) (w : Work) (moment : Moment) (e : Event) → IsFor offers more w moment e → IsFor offers known w moment e
+  pub for_longer : (offers : Offers) (w : Work) (moment : Moment) (e : Event)
+      → IsFor offers more w moment e → IsFor offers known w moment e
   for_longer offers (work.Datagram number bytes) moment e h = h
   for_longer offers work.Tick moment e h = h
   for_longer offers (work.Add external) moment e h = redistribute_longer offers external moment e h
@@ -68,52 +83,80 @@ module _ (known more : List Operation) (longer : IsPrefix known more) where
   for_longer offers (work.Down number) moment e h = h
   for_longer offers work.Refresh moment e h = install_longer offers moment e h
 
-  pub takes_longer : (offers : Offers) (took : Took) (moment : Moment) (w : Work) (outs : List Out) (stale : Option Bool)
-      → TakesFor offers took more moment w outs stale → TakesFor offers took known moment w outs stale
-  takes_longer offers took moment w outs stale (e, is, taken) = (e, for_longer offers w moment e is, taken)
+  pub takes_longer : (offers : Offers) (took : Took) (moment : Moment) (w : Work) (outs : List Out)
+      (stale : Option Bool) → TakesFor offers took more moment w outs stale
+      → TakesFor offers took known moment w outs stale
+  takes_longer offers took moment w outs stale (e, is, taken) =
+      (e, for_longer offers w moment e is, taken)
 
-  pub refused_longer : (offers : Offers) (refuses : Refuses) (moment : Moment) (w : Work) (error : TurnError)
-      → RefusesFor offers refuses more moment w error → RefusesFor offers refuses known moment w error
+  pub refused_longer : (offers : Offers) (refuses : Refuses) (moment : Moment) (w : Work)
+      (error : TurnError) → RefusesFor offers refuses more moment w error
+      → RefusesFor offers refuses known moment w error
   refused_longer offers refuses moment w error (inl unasked) = inl unasked
   refused_longer offers refuses moment w error (inr (e, why, is, refused, same)) =
       inr (e, why, for_longer offers w moment e is, refused, same)
 
-  unrefreshed_longer : (offers : Offers) (refuses : Refuses) (moment : Moment) → IsUnrefreshed offers refuses more moment → IsUnrefreshed offers refuses known moment
+  unrefreshed_longer : (offers : Offers) (refuses : Refuses) (moment : Moment)
+      → IsUnrefreshed offers refuses more moment → IsUnrefreshed offers refuses known moment
   unrefreshed_longer offers refuses moment (inl changed) = inl changed
-  unrefreshed_longer offers refuses moment (inr (error, why)) = inr (error, refused_longer offers refuses moment work.Refresh error why)
+  unrefreshed_longer offers refuses moment (inr (error, why)) =
+      inr (error, refused_longer offers refuses moment work.Refresh error why)
 
-  refreshed_longer : {X : Type 0} (items : X → List Out) (offers : Offers) (took : Took) (refuses : Refuses) (moment : Moment) (one due two : Type 0) (o : Option X)
+  refreshed_longer : {X : Type 0} (items : X → List Out) (offers : Offers) (took : Took)
+      (refuses : Refuses) (moment : Moment) (one due two : Type 0) (o : Option X)
       → MatchOption o (one × (due → IsUnrefreshed offers refuses more moment))
-      (λ x. due × ((left : Option Bool) × TakesFor offers took more moment work.Refresh (items x) left) × two)
+      (λ x. due × ((left : Option Bool)
+      × TakesFor offers took more moment work.Refresh (items x) left) × two)
       → MatchOption o (one × (due → IsUnrefreshed offers refuses known moment))
-      (λ x. due × ((left : Option Bool) × TakesFor offers took known moment work.Refresh (items x) left) × two)
-  refreshed_longer items offers took refuses moment one due two None h = (h.0, λ is. unrefreshed_longer offers refuses moment (h.1 is))
+      (λ x. due × ((left : Option Bool)
+      × TakesFor offers took known moment work.Refresh (items x) left)
+      × two)
+  refreshed_longer items offers took refuses moment one due two None h =
+      (h.0, λ is. unrefreshed_longer offers refuses moment (h.1 is))
   refreshed_longer items offers took refuses moment one due two (Some x) h =
       (h.0, (h.1.0, takes_longer offers took moment work.Refresh (items x) h.1.0 h.1.1), h.2)
 
-  pub turned_longer : (offers : Offers) (took : Took) (refuses : Refuses) (moment : Moment) (w : Work) (before after : ℕ) (turned : Turned)
-      → IsTurned offers took refuses more moment w before after turned → IsTurned offers took refuses known moment w before after turned
+  pub turned_longer : (offers : Offers) (took : Took) (refuses : Refuses) (moment : Moment)
+      (w : Work) (before after : ℕ) (turned : Turned)
+      → IsTurned offers took refuses more moment w before after turned
+      → IsTurned offers took refuses known moment w before after turned
   turned_longer offers took refuses moment w before after turned h = record {
     stale = h.stale;
     outs = takes_longer offers took moment w turned.outs.items h.stale h.outs;
-    refreshed = refreshed_longer (λ outs. outs.items) offers took refuses moment _ _ _ turned.refreshed h.refreshed;
+    refreshed = refreshed_longer (λ outs. outs.items) offers took refuses moment _ _ _
+        turned.refreshed h.refreshed;
   }
 
-  unrefreshed_since : (offers : Offers) (refuses : Refuses) (moment : Moment) (changes : ℕ) → refuses.counted changes
-      → IsChangedSince refuses changes ⊎ ((error : TurnError) × RefusesFor offers refuses more moment work.Refresh error)
+  unrefreshed_since : (offers : Offers) (refuses : Refuses) (moment : Moment) (changes : ℕ)
+      → refuses.counted changes → IsChangedSince refuses changes
+      ⊎ ((error : TurnError) × RefusesFor offers refuses more moment work.Refresh error)
       → IsUnrefreshed offers refuses known moment
-  unrefreshed_since offers refuses moment changes counted (inl changed) = inl (changes, counted, changed)
+  unrefreshed_since offers refuses moment changes counted (inl changed) =
+      inl (changes, counted, changed)
   unrefreshed_since offers refuses moment changes counted (inr (error, why)) =
       inr (error, refused_longer offers refuses moment work.Refresh error why)
 
   -- what follows an event that counts once
-  pub follows : {X : Type 0} (items : X → List Out) (offers : Offers) (took : Took) (refuses : Refuses) (moment : Moment) (before between after changes : ℕ)
-      (due : Type 0) (o : Option X) → between ≡ before + 1 → refuses.counted changes
-      → IfNone o ((after ≡ between) × (due → IsChangedSince refuses changes ⊎ ((error : TurnError) × RefusesFor offers refuses more moment work.Refresh error)))
-      → IfSome o (λ x. due × ((left : Option Bool) × TakesFor offers took more moment work.Refresh (items x) left) × (after ≡ between + 1))
-      → MatchOption o ((after ≡ before + 1) × (due → IsUnrefreshed offers refuses known moment))
-      (λ x. due × ((left : Option Bool) × TakesFor offers took known moment work.Refresh (items x) left) × (after ≡ before + 2))
-  follows items offers took refuses moment before between after changes due None one counted none some =
+  pub follows : {X : Type 0} (items : X → List Out) (offers : Offers) (took : Took)
+      (refuses : Refuses) (moment : Moment) (before between after changes : ℕ) (due : Type 0)
+      (o : Option X) → between ≡ before + 1 → refuses.counted changes
+      → IfNone o ((after ≡ between)
+      × (due → IsChangedSince refuses changes
+      ⊎ ((error : TurnError) × RefusesFor offers refuses more moment work.Refresh
+      error))) → IfSome o (λ x. due
+      × ((left : Option Bool) × TakesFor offers took more moment
+      work.Refresh (items x) left) × (after ≡ between + 1))
+      → MatchOption o ((after ≡ before + 1)
+      × (due → IsUnrefreshed offers refuses known moment))
+      (λ x. due × ((left : Option Bool)
+      × TakesFor offers took known moment work.Refresh
+      (items x) left) × (after ≡ before + 2))
+  follows items offers took refuses moment before between after changes due None one counted none
+      some =
       (none.0 ∙ one, λ is. unrefreshed_since offers refuses moment changes counted (none.1 is))
-  follows items offers took refuses moment before between after changes due (Some x) one counted none some =
-      (some.0, (some.1.0, takes_longer offers took moment work.Refresh (items x) some.1.0 some.1.1), omega (arith, some.2, one))
+  follows items offers took refuses moment before between after changes due (Some x) one counted
+      none some = (
+        some.0,
+        (some.1.0, takes_longer offers took moment work.Refresh (items x) some.1.0 some.1.1),
+        omega (arith, some.2, one),
+      )

@@ -1,5 +1,6 @@
 -- Beside candidates stand rows of a table, whatever was answered.
-use Rattle.std.proofs.Common.{◌≡◌, ◌⊎◌, ◌<◌, ◌≤◌, ◌+◌, ℕ, zero, suc, inl, inr, List, [], ◌∷◌, ◌++◌, length, get_or, arith, refl, sym, ap, subst, ◌∙◌}
+use Rattle.std.proofs.Common.{◌≡◌, ◌⊎◌, ◌<◌, ◌≤◌, ◌+◌, ℕ, zero, suc, inl, inr, List, [], ◌∷◌, ◌++◌}
+use Rattle.std.proofs.Common.{length, get_or, arith, refl, sym, ap, subst, ◌∙◌}
 use Rattle.std.specs.List.{Contains}
 use Rattle.std.specs.declared.cmp.Ordering.TheVariants.{Equal, Greater, Less}
 use Rattle.std.proofs.lemmas.Cmp.{tied_itself}
@@ -21,7 +22,8 @@ use Rattle.book.specs.Offers.{AreCandidatesNow, IsOffered}
 
 same_or_not : (a b : Route × ℕ) → (a ≡ b) ⊎ (a ≡ b → ⊥)
 same_or_not a b =
-    let tied : a ≡ b → answer_cmp a b ≡ Equal = λ same. subst (λ x. answer_cmp a x ≡ Equal) same (tied_itself answers_total a) in
+    let tied : a ≡ b → answer_cmp a b ≡ Equal =
+    λ same. subst (λ x. answer_cmp a x ≡ Equal) same (tied_itself answers_total a) in
     elim (answer_cmp a b) as (λ r. answer_cmp a b ≡ r → (a ≡ b) ⊎ (a ≡ b → ⊥)) [
       | Less ↦ λ is. inr (λ same. absurd (let no : Less ≡ Equal = sym is ∙ tied same in cc))
       | Equal ↦ λ is. inl (answers_exact a b is)
@@ -57,7 +59,8 @@ some_route = record {
 }
 
 -- those of the first so many routes that are let in
-first_let_in : (answers : Answers) (routes : List Route) (n : ℕ) → n ≤ length routes → (part : List Route) × AreLetInOf answers routes n part
+first_let_in : (answers : Answers) (routes : List Route) (n : ℕ) → n ≤ length routes
+    → (part : List Route) × AreLetInOf answers routes n part
 first_let_in answers routes zero low = ([], none_yet answers routes)
 first_let_in answers routes (suc n) low =
     let before = first_let_in answers routes n (omega (arith, low)) in
@@ -67,16 +70,26 @@ first_let_in answers routes (suc n) low =
     let next : n + 1 ≡ suc n = omega arith in
     let P : List Route → ℕ → Type 0 = λ part k. AreLetInOf answers routes k part in
     elim (among_or_not answers (route, 0)) [
-      | inl ok ↦ (before.0 ++ route ∷ [], subst (P (before.0 ++ route ∷ [])) next (let_in_more answers routes n route within here before.0 ok before.1))
-      | inr not ↦ (before.0, subst (P before.0) next (left_out answers routes n route within here before.0 not before.1))
+      | inl ok ↦ (
+        before.0 ++ route ∷ [],
+        subst (P (before.0 ++ route ∷ [])) next
+            (let_in_more answers routes n route within here before.0 ok before.1),
+      )
+      | inr not ↦ (
+        before.0,
+        subst (P before.0) next
+            (left_out answers routes n route within here before.0 not before.1),
+      )
     ]
 
-all_let_in : (answers : Answers) (routes : List Route) → (part : List Route) × AreLetIn answers routes part
+all_let_in : (answers : Answers) (routes : List Route)
+    → (part : List Route) × AreLetIn answers routes part
 all_let_in answers routes =
     let all = first_let_in answers routes (length routes) (omega arith) in
     (all.0, whole answers routes (length routes) all.0 refl all.1)
 
-pub rows_beside : (r : Router) (candidates : List Route) → AreCandidatesNow r candidates → (rows : List TableRow) × IsOffered r candidates rows
+pub rows_beside : (r : Router) (candidates : List Route) → AreCandidatesNow r candidates
+    → (rows : List TableRow) × IsOffered r candidates rows
 rows_beside r candidates are =
     let table = all_let_in r.answers candidates in
     let said = said_at r.moment r.area.database in

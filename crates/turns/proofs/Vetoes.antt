@@ -1,5 +1,6 @@
 -- Answers to questions, one after the other.
-use Rattle.std.proofs.Common.{◌≡◌, ℕ, zero, suc, ◌+◌, ◌<◌, List, [], ◌∷◌, ◌++◌, length, map, take, get_or, ap, sym, subst, ◌∙◌, arith}
+use Rattle.std.proofs.Common.{◌≡◌, ℕ, zero, suc, ◌+◌, ◌<◌, List, [], ◌∷◌, ◌++◌, length, map, take}
+use Rattle.std.proofs.Common.{get_or, ap, sym, subst, ◌∙◌, arith}
 use Rattle.std.specs.List.{All}
 use Rattle.std.proofs.lemmas.List.{map-append, take_more}
 use Rattle.std.proofs.lemmas.List.Elements.{All-append}
@@ -17,8 +18,10 @@ pub is_word : {before now : List Operation} {old new : SeatView} {input : Given}
     → IsAnswered before now old new input word → IsWordOn before input word
 is_word {now = now} h = (now, h.labels, h.begins, h.answers)
 
-pub is_veto : {before now : List Operation} {old new : SeatView} (moment : Moment) (rows : List TableRow) (route : Route) (a : RouteAnswer)
-    → (a.route ≡ route) × (a.moment ≡ moment) → IsAnswered before now old new (veto_input route moment rows) a.word
+pub is_veto : {before now : List Operation} {old new : SeatView} (moment : Moment)
+    (rows : List TableRow) (route : Route) (a : RouteAnswer)
+    → (a.route ≡ route) × (a.moment ≡ moment)
+    → IsAnswered before now old new (veto_input route moment rows) a.word
     → (a.route ≡ route) × IsVetoOn before moment rows a
 is_veto {before = before} moment rows route a asked answered =
     let P : Route → Type 0 = λ r. IsWordOn before (veto_input r moment rows) a.word in (
@@ -30,17 +33,27 @@ alone : (P : RouteAnswer → Type 0) (a : RouteAnswer) → P a → All P (a ∷ 
 alone P a p zero d lt = p
 alone P a p (suc k) d lt = absurd (omega arith)
 
-pub one_more : (known : List Operation) (moment : Moment) (rows asked_rows : List TableRow) (routes items : List Route) (i : ℕ) (answers after : List RouteAnswer) (route : Route) (a : RouteAnswer)
-    → asked_rows ≡ rows → items ≡ routes → AreVetoes known moment rows (take i routes) answers → i < length items → route ≡ get_or items i route
-    → after ≡ answers ++ a ∷ [] → (a.route ≡ route) × IsVetoOn known moment asked_rows a → AreVetoes known moment rows (take (i + 1) routes) after
-one_more known moment rows asked_rows routes items i answers after route a same_rows same_routes so_far there item grown one =
+pub one_more : (known : List Operation) (moment : Moment) (rows asked_rows : List TableRow)
+    (routes items : List Route) (i : ℕ) (answers after : List RouteAnswer) (route : Route)
+    (a : RouteAnswer) → asked_rows ≡ rows → items ≡ routes
+    → AreVetoes known moment rows (take i routes) answers → i < length items
+    → route ≡ get_or items i route → after ≡ answers ++ a ∷ []
+    → (a.route ≡ route) × IsVetoOn known moment asked_rows a
+    → AreVetoes known moment rows (take (i + 1) routes) after
+one_more known moment rows asked_rows routes items i answers after route a same_rows same_routes
+    so_far there item grown one =
     let more : take (i + 1) items ≡ take i items ++ route ∷ [] =
     take_more items i route there ∙ ap (λ r. take i items ++ r ∷ []) (sym item) in
     let more_routes : take (i + 1) routes ≡ take i routes ++ route ∷ [] =
-    (let P : List Route → Type 0 = λ l. take (i + 1) l ≡ take i l ++ route ∷ [] in subst P same_routes more) in
-    let on : IsVetoOn known moment rows a = (let P : List TableRow → Type 0 = λ l. IsVetoOn known moment l a in subst P same_rows one.1) in
+    (let P : List Route → Type 0 = λ l. take (i + 1) l ≡ take i l ++ route ∷ [] in
+    subst P same_routes more) in
+    let on : IsVetoOn known moment rows a =
+    (let P : List TableRow → Type 0 = λ l. IsVetoOn known moment l a in subst P same_rows one.1)
+    in
     let Q : List RouteAnswer → Type 0 = λ l. All (IsVetoOn known moment rows) l in (
-      ap (map (λ x. x.route)) grown ∙ map-append (λ x. x.route) answers (a ∷ []) ∙ ap (λ l. l ++ a.route ∷ []) so_far.0
+      ap (map (λ x. x.route)) grown ∙ map-append (λ x. x.route) answers (a ∷ [])
+          ∙ ap (λ l. l ++ a.route ∷ []) so_far.0
           ∙ ap (λ r. take i routes ++ r ∷ []) one.0 ∙ sym more_routes,
-      subst Q (sym grown) (All-append (IsVetoOn known moment rows) answers (a ∷ []) so_far.1 (alone (IsVetoOn known moment rows) a on)),
+      subst Q (sym grown) (All-append (IsVetoOn known moment rows) answers (a ∷ []) so_far.1
+          (alone (IsVetoOn known moment rows) a on)),
     )

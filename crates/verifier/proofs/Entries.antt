@@ -1,5 +1,6 @@
 -- The start of a run is as the entry says.
-use Rattle.std.proofs.Common.{◌≡◌, ℕ, zero, suc, ◌<◌, ◌≤◌, Bool, true, false, List, [], ◌∷◌, Option, Some, refl, subst, get_or, length, arith, ⊎_elim}
+use Rattle.std.proofs.Common.{◌≡◌, ℕ, zero, suc, ◌<◌, ◌≤◌, Bool, true, false, List, [], ◌∷◌, Option}
+use Rattle.std.proofs.Common.{Some, refl, subst, get_or, length, arith, ⊎_elim}
 use Rattle.std.proofs.lemmas.List.{get_or-replicate, length-replicate}
 use Rattle.std.proofs.lemmas.Bool.{cases_lt}
 use Rattle.object.specs.Sets.{has_byte, no_bytes}
@@ -19,7 +20,8 @@ use Rattle.segments.specs.Segments.{Enters}
 abbrev pub entry_kinds : {D : Type 0} → List (Kind D)
 entry_kinds = Empty ∷ Pointer (Context 0) ∷ []
 
-entry_kind : {D : Type 0} (contains : D → ℕ → Type 0) (r : ℕ) → KindHolds contains (get_or (entry_kinds {D = D}) r Empty) (held start r)
+entry_kind : {D : Type 0} (contains : D → ℕ → Type 0) (r : ℕ)
+    → KindHolds contains (get_or (entry_kinds {D = D}) r Empty) (held start r)
 entry_kind contains zero = tt
 entry_kind contains (suc zero) = (pointers.Context 0, refl, refl)
 entry_kind contains (suc (suc r)) = tt
@@ -35,11 +37,16 @@ past_end (x ∷ xs) (suc i) past = past_end xs i (omega (arith, past))
 none_stated : (at : ℕ) → has_byte no_bytes at ≡ true → ⊥
 none_stated at =
     ⊎_elim
-    (λ (low : at < 512). true_is_false (has_byte no_bytes at) (get_or-replicate 512 at false false low))
-    (λ (high : 512 ≤ at). true_is_false (has_byte no_bytes at) (past_end no_bytes at (omega (arith, high, length-replicate 512 false))))
+    (λ (low : at < 512). true_is_false (has_byte no_bytes at)
+    (get_or-replicate 512 at false false low))
+    (λ (high : 512 ≤ at). true_is_false (has_byte no_bytes at)
+    (past_end no_bytes at (omega (arith, high, length-replicate 512 false))))
     (cases_lt at 512)
 
-pub entry_holds : {D : Type 0} (contains : D → ℕ → Type 0) (entry : Target D) → entry.statement.now.stack ≡ no_bytes → ((r : ℕ) → get_or entry.kinds.items r Empty ≡ get_or entry_kinds r Empty) → TargetHolds contains entry start
+pub entry_holds : {D : Type 0} (contains : D → ℕ → Type 0) (entry : Target D)
+    → entry.statement.now.stack ≡ no_bytes
+    → ((r : ℕ) → get_or entry.kinds.items r Empty ≡ get_or entry_kinds r Empty)
+    → TargetHolds contains entry start
 entry_holds contains entry stack kinds = record {
   eleven = refl;
   whole = length-replicate 512 stack_bytes.Nothing;
@@ -52,7 +59,13 @@ some_is_one : {A : Type 0} {x y : A} (o : Option A) → o ≡ Some x → o ≡ S
 some_is_one o first second = cc
 
 -- the statement that is found is the one that is there
-pub edge_of : {D : Type 0} (contains : D → ℕ → Type 0) (targets : List (Option (Target D))) (entry found target : Target D) → target_at targets 0 ≡ Some found → target_at targets 0 ≡ Some target
-    → ((machine : Machine) → TargetHolds contains entry machine → Enters contains false entry found machine machine) → (machine : Machine) → TargetHolds contains entry machine → Enters contains false entry target machine machine
+pub edge_of : {D : Type 0} (contains : D → ℕ → Type 0) (targets : List (Option (Target D)))
+    (entry found target : Target D) → target_at targets 0 ≡ Some found
+    → target_at targets 0 ≡ Some target
+    → ((machine : Machine) → TargetHolds contains entry machine
+    → Enters contains false entry found machine machine) → (machine : Machine)
+    → TargetHolds contains entry machine
+    → Enters contains false entry target machine machine
 edge_of {D} contains targets entry found target is_found stated enters machine holds =
-    subst (λ (t : Target D). Enters contains false entry t machine machine) (some_is_one (target_at targets 0) is_found stated) (enters machine holds)
+    subst (λ (t : Target D). Enters contains false entry t machine machine)
+    (some_is_one (target_at targets 0) is_found stated) (enters machine holds)

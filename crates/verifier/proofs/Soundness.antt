@@ -1,5 +1,6 @@
 -- A program whose slots are all fine is safe, and its loads and stores access the recorded regions.
-use Rattle.std.proofs.Common.{◌≡◌, ℕ, suc, ◌+◌, ◌-◌, ◌*◌, ◌<◌, ◌≤◌, true, false, List, [], ◌∷◌, Option, Some, None, ⊎_elim, refl, subst, length, arith}
+use Rattle.std.proofs.Common.{◌≡◌, ℕ, suc, ◌+◌, ◌-◌, ◌*◌, ◌<◌, ◌≤◌, true, false, List, [], ◌∷◌}
+use Rattle.std.proofs.Common.{Option, Some, None, ⊎_elim, refl, subst, length, arith}
 use Rattle.std.specs.Prelude.{IsSomeAnd, nat_le, if◌then◌else◌}
 use Rattle.std.proofs.Math.Nat.{mul-le-mul_left}
 use Rattle.std.proofs.lemmas.Bool.{cases_lt}
@@ -37,17 +38,21 @@ Left : ℕ → ℕ → ℕ → ℕ
 Left slots rank slot = rank * slots + (slots - slot)
 
 -- one step to a later slot of the same rank or less
-left_on : (slots rank rank' slot to : ℕ) → slot < to → to < slots → rank' ≤ rank → suc (Left slots rank' to) ≤ Left slots rank slot
+left_on : (slots rank rank' slot to : ℕ) → slot < to → to < slots → rank' ≤ rank
+    → suc (Left slots rank' to) ≤ Left slots rank slot
 unfolding Left
 left_on slots rank rank' slot to later inside below = omega (arith, mul-le-mul_left slots below)
 
 -- one step back, to a lower rank
-left_back : (slots rank rank' slot to : ℕ) → slot < slots → rank' < rank → suc (Left slots rank' to) ≤ Left slots rank slot
+left_back : (slots rank rank' slot to : ℕ) → slot < slots → rank' < rank
+    → suc (Left slots rank' to) ≤ Left slots rank slot
 unfolding Left
 left_back slots rank rank' slot to inside below = omega (arith, mul-le-mul_left slots below)
 
 -- a step in either direction
-left_jump : (slots rank rank' slot to : ℕ) → slot < slots → to < slots → rank' + (if nat_le to slot then 1 else 0) ≤ rank → suc (Left slots rank' to) ≤ Left slots rank slot
+left_jump : (slots rank rank' slot to : ℕ) → slot < slots → to < slots
+    → rank' + (if nat_le to slot then 1 else 0) ≤ rank
+    → suc (Left slots rank' to) ≤ Left slots rank slot
 left_jump slots rank rank' slot to inside inside' below =
     ⊎_elim
     (λ (later : slot < to).
@@ -60,7 +65,8 @@ left_jump slots rank rank' slot to inside inside' below =
     left_back slots rank rank' slot to inside less)
     (cases_lt slot to)
 
-some_and : {A : Type 0} {P : A → Type 0} (o : Option A) → IsSomeAnd o P → (x : A) × (o ≡ Some x) × P x
+some_and : {A : Type 0} {P : A → Type 0} (o : Option A) → IsSomeAnd o P
+    → (x : A) × (o ≡ Some x) × P x
 some_and None p = absurd p
 some_and (Some x) p = (x, refl, p)
 
@@ -71,31 +77,49 @@ some_is_one : {A : Type 0} {x y : A} (o : Option A) → o ≡ Some x → o ≡ S
 some_is_one o first second = cc
 
 -- a visit of a slot with a statement is as stated there
-visited_as_stated : {D : Type 0} (contains : D → ℕ → Type 0) (setting : Setting) (targets : List (Option (Target D))) (entry segment target : Target D) (begin now : Machine)
-    → Visits contains setting targets entry segment begin now → target_at targets now.slot ≡ Some target → TargetHolds contains target now
-visited_as_stated contains setting targets entry segment target begin now (at_entry zeroth unstated holds) stated = absurd (none_is_some (target_at targets begin.slot) unstated stated)
-visited_as_stated contains setting targets entry segment target begin now (at_target is holds) stated = subst (λ t. TargetHolds contains t begin) (some_is_one (target_at targets begin.slot) is stated) holds
-visited_as_stated contains setting targets entry segment target begin now (falls before label i visit at does behind unstated) stated = absurd (none_is_some (target_at targets now.slot) unstated stated)
+visited_as_stated : {D : Type 0} (contains : D → ℕ → Type 0) (setting : Setting)
+    (targets : List (Option (Target D))) (entry segment target : Target D) (begin now : Machine)
+    → Visits contains setting targets entry segment begin now
+    → target_at targets now.slot ≡ Some target → TargetHolds contains target now
+visited_as_stated contains setting targets entry segment target begin now
+    (at_entry zeroth unstated holds) stated =
+    absurd (none_is_some (target_at targets begin.slot) unstated stated)
+visited_as_stated contains setting targets entry segment target begin now (at_target is holds)
+    stated = subst (λ t. TargetHolds contains t begin)
+    (some_is_one (target_at targets begin.slot) is stated) holds
+visited_as_stated contains setting targets entry segment target begin now
+    (falls before label i visit at does behind unstated) stated =
+    absurd (none_is_some (target_at targets now.slot) unstated stated)
 
-module _ {D : Type 0} (contains : D → ℕ → Type 0) (code : List Slot) (hook : Hook) (targets : List (Option (Target D))) (entry : Target D) (limit : ℕ) (input : Given) where
+module _ {D : Type 0} (contains : D → ℕ → Type 0) (code : List Slot) (hook : Hook)
+    (targets : List (Option (Target D))) (entry : Target D) (limit : ℕ) (input : Given) where
   -- the machine is in a segment, at an instruction, and has steps left
   record Reached (steps : ℕ) (machine : Machine) : Type 0 where
     segment : Target D
     begin : Machine
     visit : Visits contains (setting_of code hook input) targets entry segment begin machine
     begins : Begins code machine.slot
-    bounded : steps + Left (length code) (rank_value segment.statement.now.rank begin) machine.slot ≤ limit
+    bounded : steps + Left (length code) (rank_value segment.statement.now.rank begin) machine.slot
+        ≤ limit
 
   -- a step from there leads there
-  reached_next : (steps : ℕ) (now next : Machine) (label : Label) → ((slot : ℕ) → Begins code slot → IsFine contains code hook targets entry slot) → Reached steps now → Step (setting_of code hook input) now label next → Reached (suc steps) next
+  reached_next : (steps : ℕ) (now next : Machine) (label : Label)
+      → ((slot : ℕ) → Begins code slot → IsFine contains code hook targets entry slot)
+      → Reached steps now → Step (setting_of code hook input) now label next
+      → Reached (suc steps) next
   reached_next steps now next label fine reached step =
-      let leads = (fine now.slot reached.begins).leads_on input reached.segment reached.begin now next label step.instruction reached.visit refl step.at step.does in
+      let leads = (fine now.slot reached.begins).leads_on input reached.segment reached.begin now
+      next label step.instruction reached.visit refl step.at step.does in
       let inside = inside_code code now.slot reached.begins in
       let inside' = inside_code code next.slot leads.begins in
       ⊎_elim
       (λ (enters : EntersNext contains targets reached.segment now.slot reached.begin next).
-      let target = some_and {P = λ t. Enters contains (nat_le next.slot now.slot) reached.segment t reached.begin next} (target_at targets next.slot) enters in
-      let less = left_jump (length code) (rank_value reached.segment.statement.now.rank reached.begin) (rank_value target.0.statement.now.rank next) now.slot next.slot inside inside' target.2.rank in
+      let target = some_and {P = λ t. Enters contains (nat_le next.slot now.slot) reached.segment t
+      reached.begin next} (target_at targets next.slot) enters in
+      let less = left_jump (length code)
+      (rank_value reached.segment.statement.now.rank reached.begin)
+      (rank_value target.0.statement.now.rank next) now.slot next.slot inside inside'
+      target.2.rank in
       let result : Reached (suc steps) next = record {
         segment = target.0;
         begin = next;
@@ -104,13 +128,17 @@ module _ {D : Type 0} (contains : D → ℕ → Type 0) (code : List Slot) (hook
         bounded = omega (arith, less, reached.bounded);
       } in
       result)
-      (λ (through : (next.slot ≡ now.slot + size step.instruction) × (target_at targets next.slot ≡ None)).
+      (λ (through : (next.slot ≡ now.slot + size step.instruction)
+      × (target_at targets next.slot ≡ None)).
       let some = size_some step.instruction in
-      let less = left_on (length code) (rank_value reached.segment.statement.now.rank reached.begin) (rank_value reached.segment.statement.now.rank reached.begin) now.slot next.slot (omega (arith, through.0, some)) inside' (omega arith) in
+      let less = left_on (length code) (rank_value reached.segment.statement.now.rank reached.begin)
+      (rank_value reached.segment.statement.now.rank reached.begin) now.slot next.slot
+      (omega (arith, through.0, some)) inside' (omega arith) in
       let result : Reached (suc steps) next = record {
         segment = reached.segment;
         begin = reached.begin;
-        visit = falls now label step.instruction reached.visit step.at step.does through.0 through.1;
+        visit = falls now label step.instruction reached.visit step.at step.does through.0
+            through.1;
         begins = leads.begins;
         bounded = omega (arith, less, reached.bounded);
       } in
@@ -118,7 +146,9 @@ module _ {D : Type 0} (contains : D → ℕ → Type 0) (code : List Slot) (hook
       leads.leads
 
   -- so every run stays there
-  reached_along : ((slot : ℕ) → Begins code slot → IsFine contains code hook targets entry slot) → (labels : List Label) (steps : ℕ) (now end : Machine) → Reached steps now → Leads (setting_of code hook input) now labels end → Reached (steps + length labels) end
+  reached_along : ((slot : ℕ) → Begins code slot → IsFine contains code hook targets entry slot)
+      → (labels : List Label) (steps : ℕ) (now end : Machine) → Reached steps now
+      → Leads (setting_of code hook input) now labels end → Reached (steps + length labels) end
   reached_along fine [] steps now end reached same =
       let sum : steps + 0 ≡ steps = omega arith in
       rw sum (subst (λ m. Reached steps m) same reached)
@@ -129,8 +159,11 @@ module _ {D : Type 0} (contains : D → ℕ → Type 0) (code : List Slot) (hook
       rw sum later
 
   -- the entry goes into its own segment, or into the statement of slot 0
-  first_reached : Begins code 0 → TargetHolds contains entry start → ((target : Target D) → target_at targets 0 ≡ Some target → Enters contains false entry target start start)
-      → (rank_value entry.statement.now.rank start + 1) * length code ≤ limit → (stated : Option (Target D)) → target_at targets 0 ≡ stated → Reached 0 start
+  first_reached : Begins code 0 → TargetHolds contains entry start
+      → ((target : Target D) → target_at targets 0 ≡ Some target
+      → Enters contains false entry target start start)
+      → (rank_value entry.statement.now.rank start + 1) * length code ≤ limit
+      → (stated : Option (Target D)) → target_at targets 0 ≡ stated → Reached 0 start
   first_reached begins holds edge room None unstated = record {
     segment = entry;
     begin = start;
@@ -145,51 +178,106 @@ module _ {D : Type 0} (contains : D → ℕ → Type 0) (code : List Slot) (hook
         begin = start;
         visit = at_target stated enters.holds;
         begins = begins;
-        bounded = unfold Left in omega (arith, room, enters.rank, mul-le-mul_left (length code) enters.rank);
+        bounded = unfold Left in omega (
+          arith,
+          room,
+          enters.rank,
+          mul-le-mul_left (length code) enters.rank,
+        );
       }
 
-  pub met : ((slot : ℕ) → Begins code slot → IsFine contains code hook targets entry slot) → Begins code 0 → TargetHolds contains entry start → ((target : Target D) → target_at targets 0 ≡ Some target → Enters contains false entry target start start)
-      → (rank_value entry.statement.now.rank start + 1) * length code ≤ limit → (m : ℕ) (labels : List Label) (s : Machine) → Run (setting_of code hook input) m labels s
-      → (m < limit) × ((fault : Fault) → Stuck (setting_of code hook input) s fault → ⊥)
+  pub met : ((slot : ℕ) → Begins code slot → IsFine contains code hook targets entry slot)
+      → Begins code 0 → TargetHolds contains entry start
+      → ((target : Target D) → target_at targets 0 ≡ Some target
+      → Enters contains false entry target start start)
+      → (rank_value entry.statement.now.rank start + 1) * length code ≤ limit
+      → (m : ℕ) (labels : List Label) (s : Machine)
+      → Run (setting_of code hook input) m labels s
+      → (m < limit) × ((fault : Fault)
+      → Stuck (setting_of code hook input) s fault → ⊥)
   unfolding Left
   met fine begins holds edge room m labels s run =
-      let reached = reached_along fine labels 0 start s (first_reached begins holds edge room (target_at targets 0) refl) run.leads in
-      let inside = inside_code code s.slot reached.begins in
-      (omega (arith, run.steps, reached.bounded, inside), λ fault stuck. (fine s.slot reached.begins).free input reached.segment reached.begin s fault reached.visit refl stuck)
+      let reached = reached_along fine labels 0 start s
+      (first_reached begins holds edge room (target_at targets 0) refl) run.leads in
+      let inside = inside_code code s.slot reached.begins in (
+        omega (arith, run.steps, reached.bounded, inside),
+        λ fault stuck. (fine s.slot reached.begins).free input reached.segment reached.begin s
+            fault reached.visit refl stuck,
+      )
 
-  pub met_stated : ((slot : ℕ) → Begins code slot → IsFine contains code hook targets entry slot) → Begins code 0 → TargetHolds contains entry start → ((target : Target D) → target_at targets 0 ≡ Some target → Enters contains false entry target start start)
+  pub met_stated : ((slot : ℕ) → Begins code slot → IsFine contains code hook targets entry slot)
+      → Begins code 0 → TargetHolds contains entry start
+      → ((target : Target D) → target_at targets 0 ≡ Some target
+      → Enters contains false entry target start start)
       → (rank_value entry.statement.now.rank start + 1) * length code ≤ limit
-      → (m : ℕ) (labels : List Label) (s : Machine) → Run (setting_of code hook input) m labels s → (target : Target D) → target_at targets s.slot ≡ Some target → TargetHolds contains target s
+      → (m : ℕ) (labels : List Label) (s : Machine)
+      → Run (setting_of code hook input) m labels s → (target : Target D)
+      → target_at targets s.slot ≡ Some target
+      → TargetHolds contains target s
   met_stated fine begins holds edge room m labels s run target stated =
-      let reached = reached_along fine labels 0 start s (first_reached begins holds edge room (target_at targets 0) refl) run.leads in
-      visited_as_stated contains (setting_of code hook input) targets entry reached.segment target reached.begin s reached.visit stated
+      let reached = reached_along fine labels 0 start s
+      (first_reached begins holds edge room (target_at targets 0) refl) run.leads in
+      visited_as_stated contains (setting_of code hook input) targets entry reached.segment target
+      reached.begin s reached.visit stated
 
-  pub met_kept : ((slot : ℕ) → Begins code slot → IsFine contains code hook targets entry slot) → Begins code 0 → TargetHolds contains entry start → ((target : Target D) → target_at targets 0 ≡ Some target → Enters contains false entry target start start)
-      → (rank_value entry.statement.now.rank start + 1) * length code ≤ limit → (kept : List Region) → ((slot : ℕ) → Begins code slot → IsKept contains code hook targets entry kept slot)
-      → (m : ℕ) (labels : List Label) (s : Machine) → Run (setting_of code hook input) m labels s → IsKeptAt (setting_of code hook input) kept s
+  pub met_kept : ((slot : ℕ) → Begins code slot → IsFine contains code hook targets entry slot)
+      → Begins code 0 → TargetHolds contains entry start
+      → ((target : Target D) → target_at targets 0 ≡ Some target
+      → Enters contains false entry target start start)
+      → (rank_value entry.statement.now.rank start + 1) * length code ≤ limit
+      → (kept : List Region) → ((slot : ℕ) → Begins code slot
+      → IsKept contains code hook targets entry kept slot)
+      → (m : ℕ) (labels : List Label) (s : Machine)
+      → Run (setting_of code hook input) m labels s
+      → IsKeptAt (setting_of code hook input) kept s
   met_kept fine begins holds edge room kept keeps m labels s run =
-      let reached = reached_along fine labels 0 start s (first_reached begins holds edge room (target_at targets 0) refl) run.leads in
+      let reached = reached_along fine labels 0 start s
+      (first_reached begins holds edge room (target_at targets 0) refl) run.leads in
       (keeps s.slot reached.begins).keeps input reached.segment reached.begin s reached.visit refl
 
 -- A program that the verifier accepts is safe.
-pub safe_program : {D : Type 0} (contains : D → ℕ → Type 0) (code : List Slot) (hook : Hook) (targets : List (Option (Target D))) (entry : Target D) (rank : ℕ) → Begins code 0 → TargetHolds contains entry start
-    → rank_value entry.statement.now.rank start ≡ rank → ((target : Target D) → target_at targets 0 ≡ Some target → Enters contains false entry target start start)
-    → ((slot : ℕ) → Begins code slot → IsFine contains code hook targets entry slot) → Safe code hook ((rank + 1) * length code)
+pub safe_program : {D : Type 0} (contains : D → ℕ → Type 0) (code : List Slot) (hook : Hook)
+    (targets : List (Option (Target D))) (entry : Target D) (rank : ℕ) → Begins code 0
+    → TargetHolds contains entry start → rank_value entry.statement.now.rank start ≡ rank
+    → ((target : Target D) → target_at targets 0 ≡ Some target
+    → Enters contains false entry target start start)
+    → ((slot : ℕ) → Begins code slot → IsFine contains code hook targets entry slot)
+    → Safe code hook ((rank + 1) * length code)
 safe_program contains code hook targets entry rank begins holds rank_is edge fine =
-    λ input m labels s run. met contains code hook targets entry ((rank + 1) * length code) input fine begins holds edge (rw rank_is (omega arith)) m labels s run
+    λ input m labels s run. met contains code hook targets entry ((rank + 1) * length code) input
+    fine begins holds edge (rw rank_is (omega arith)) m labels s run
 
 -- And the regions that it recorded are those of the program's loads and stores.
-pub kept_regions : {D : Type 0} (contains : D → ℕ → Type 0) (code : List Slot) (hook : Hook) (targets : List (Option (Target D))) (entry : Target D) → Begins code 0 → TargetHolds contains entry start
-    → ((target : Target D) → target_at targets 0 ≡ Some target → Enters contains false entry target start start) → ((slot : ℕ) → Begins code slot → IsFine contains code hook targets entry slot)
-    → (kept : List Region) → ((slot : ℕ) → Begins code slot → IsKept contains code hook targets entry kept slot) → AreKeptRegions code hook kept
+pub kept_regions : {D : Type 0} (contains : D → ℕ → Type 0) (code : List Slot) (hook : Hook)
+    (targets : List (Option (Target D))) (entry : Target D) → Begins code 0
+    → TargetHolds contains entry start
+    → ((target : Target D) → target_at targets 0 ≡ Some target
+    → Enters contains false entry target start start)
+    → ((slot : ℕ) → Begins code slot → IsFine contains code hook targets entry slot)
+    → (kept : List Region) → ((slot : ℕ) → Begins code slot
+    → IsKept contains code hook targets entry kept slot)
+    → AreKeptRegions code hook kept
 kept_regions contains code hook targets entry begins holds edge fine kept keeps =
-    λ input m labels s run. met_kept contains code hook targets entry ((rank_value entry.statement.now.rank start + 1) * length code) input fine begins holds edge (omega arith) kept keeps m labels s run
+    λ input m labels s run. met_kept contains code hook targets entry
+    ((rank_value entry.statement.now.rank start + 1) * length code) input fine begins holds edge
+    (omega arith) kept keeps m labels s run
 
 -- And each run that reaches a slot with a statement is as stated there.
-pub runs_as_stated : {D : Type 0} (contains : D → ℕ → Type 0) (gives : GivesStated D) (code : List Slot) (hook : Hook) (targets : List (Option (Target D))) (entry : Target D) → Begins code 0 → TargetHolds contains entry start
-    → ((target : Target D) → target_at targets 0 ≡ Some target → Enters contains false entry target start start) → ((slot : ℕ) → Begins code slot → IsFine contains code hook targets entry slot)
-    → (statements : List StatementParts) → AreTargets contains statements targets → MeetStatements contains gives targets → RunsMeetStatements contains gives code hook statements
-runs_as_stated contains gives code hook targets entry begins holds edge fine statements are meet = λ input n labels machine statement run stated.
+pub runs_as_stated : {D : Type 0} (contains : D → ℕ → Type 0) (gives : GivesStated D)
+    (code : List Slot) (hook : Hook) (targets : List (Option (Target D))) (entry : Target D)
+    → Begins code 0 → TargetHolds contains entry start
+    → ((target : Target D) → target_at targets 0 ≡ Some target
+    → Enters contains false entry target start start)
+    → ((slot : ℕ) → Begins code slot → IsFine contains code hook targets entry slot)
+    → (statements : List StatementParts)
+    → AreTargets contains statements targets
+    → MeetStatements contains gives targets
+    → RunsMeetStatements contains gives code hook statements
+runs_as_stated contains gives code hook targets entry begins holds edge fine statements are meet =
+    λ input n labels machine statement run stated.
     let there = target_stated contains statements targets machine.slot statement are stated in
-    let as_stated = met_stated contains code hook targets entry ((rank_value entry.statement.now.rank start + 1) * length code) input fine begins holds edge (omega arith) n labels machine run there.0 there.1 in
-    subst (λ s. MeetsStatement contains gives s machine) there.2.same (meet machine.slot there.0 there.1 machine as_stated)
+    let as_stated = met_stated contains code hook targets entry
+    ((rank_value entry.statement.now.rank start + 1) * length code) input fine begins holds edge
+    (omega arith) n labels machine run there.0 there.1 in
+    subst (λ s. MeetsStatement contains gives s machine) there.2.same
+    (meet machine.slot there.0 there.1 machine as_stated)

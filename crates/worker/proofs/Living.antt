@@ -1,5 +1,7 @@
 -- The steps of a worker's life, put together.
-use Rattle.std.proofs.Common.{◌≡◌, ◌≢◌, ◌⊎◌, inl, inr, ℕ, zero, suc, ◌+◌, ◌≤◌, List, [], ◌∷◌, length, Option, Some, None, Result, Ok, Err, OnOk, refl, sym, subst, ◌∙◌, arith}
+use Rattle.std.proofs.Common.{◌≡◌, ◌≢◌, ◌⊎◌, inl, inr, ℕ, zero, suc, ◌+◌, ◌≤◌, List, [], ◌∷◌}
+use Rattle.std.proofs.Common.{length, Option, Some, None, Result, Ok, Err, OnOk, refl, sym, subst}
+use Rattle.std.proofs.Common.{◌∙◌, arith}
 use Rattle.std.specs.Prelude.{MatchResult}
 use mathlib.Core.List.{IsPrefix}
 use Rattle.hooks.specs.declared.operation.Operation.{Operation}
@@ -11,10 +13,13 @@ use Rattle.turns.specs.declared.work.Work.{Work}
 use Rattle.turns.specs.declared.work.Work.TheVariants.{Datagram, Tick}
 use Rattle.worker.specs.Refusals.{clock_back}
 use Rattle.worker.specs.Sending.{Gives}
-use Rattle.worker.specs.Lives.{AreAhead, HasLived, Hears, IsHeard, IsSent, IsTried, IsTurnedTo, Listens, Lives, Round, Senses, Serves, Shows, ShowsEach, Standing, Ticks, latest, senses_of}
+use Rattle.worker.specs.Lives.{AreAhead, HasLived, Hears, IsHeard, IsSent, IsTried, IsTurnedTo}
+use Rattle.worker.specs.Lives.{Listens, Lives, Round, Senses, Serves, Shows, ShowsEach, Standing}
+use Rattle.worker.specs.Lives.{Ticks, latest, senses_of}
 
 -- a turn was tried so often again, until now
-pub record IsTriedSo {Clock : Type 0} (shows : Shows Clock) (refused : (moment : ℕ) → TurnError → Type 0) (before : Clock) (first : ℕ)
+pub record IsTriedSo {Clock : Type 0} (shows : Shows Clock)
+    (refused : (moment : ℕ) → TurnError → Type 0) (before : Clock) (first : ℕ)
     (now : Clock) (last tries : ℕ) : Type 0 where
   pub again : List ℕ
   pub many : length again ≡ tries
@@ -24,11 +29,17 @@ pub record IsTriedSo {Clock : Type 0} (shows : Shows Clock) (refused : (moment :
 
 module _ {Clock : Type 0} (shows : Shows Clock) (refused : (moment : ℕ) → TurnError → Type 0) where
   pub not_again : (clock : Clock) (moment : ℕ) → IsTriedSo shows refused clock moment clock moment 0
-  not_again clock moment = record { again = []; many = refl; shown = refl; ahead = tt; at_last = refl }
+  not_again clock moment = record {
+    again = [];
+    many = refl;
+    shown = refl;
+    ahead = tt;
+    at_last = refl;
+  }
 
-  pub once_more : (before : Clock) (first : ℕ) (now : Clock) (last tries : ℕ) (next : Clock) (moment : ℕ)
-      → IsTriedSo shows refused before first now last tries → refused last clock_back → shows now moment next
-      → IsTriedSo shows refused before first next moment (tries + 1)
+  pub once_more : (before : Clock) (first : ℕ) (now : Clock) (last tries : ℕ) (next : Clock)
+      (moment : ℕ) → IsTriedSo shows refused before first now last tries → refused last clock_back
+      → shows now moment next → IsTriedSo shows refused before first next moment (tries + 1)
   once_more before first now last tries next moment so back shown = record {
     again = moment ∷ so.again;
     many = omega (arith, so.many);
@@ -37,8 +48,9 @@ module _ {Clock : Type 0} (shows : Shows Clock) (refused : (moment : ℕ) → Tu
     at_last = refl;
   }
 
-  pub at_last : (before : Clock) (first : ℕ) (after : Clock) (last tries : ℕ) (outcome : Result Turned TurnError)
-      → IsTriedSo shows refused before first after last tries → tries ≤ 3 → (outcome ≡ Err clock_back → tries ≡ 3)
+  pub at_last : (before : Clock) (first : ℕ) (after : Clock) (last tries : ℕ)
+      (outcome : Result Turned TurnError) → IsTriedSo shows refused before first after last tries
+      → tries ≤ 3 → (outcome ≡ Err clock_back → tries ≡ 3)
       → IsTried shows refused before first after last outcome
   at_last before first after last tries outcome so few thrice = record {
     again = so.again;
@@ -51,172 +63,236 @@ module _ {Clock : Type 0} (shows : Shows Clock) (refused : (moment : ℕ) → Tu
 
 -- ---- a turn
 
-pub served : {Link Clock : Type 0} (senses : Senses Link Clock) (moment : ℕ) (work : Work) (before : Standing Link Clock)
-    (ended : ℕ) (after : Standing Link Clock) (outcome : Result Turned TurnError) (turned : Turned) → outcome ≡ Ok turned
-    → IsTried senses.shows (λ m. senses.refusals m work) before.clock moment after.clock ended outcome
-    → senses.turns ended work before.events after.events turned → IsSent senses.gives before.link turned after.link
+pub served : {Link Clock : Type 0} (senses : Senses Link Clock) (moment : ℕ) (work : Work)
+    (before : Standing Link Clock) (ended : ℕ) (after : Standing Link Clock)
+    (outcome : Result Turned TurnError) (turned : Turned) → outcome ≡ Ok turned
+    → IsTried senses.shows (λ m. senses.refusals m work) before.clock moment after.clock
+    ended outcome → senses.turns ended work before.events after.events turned
+    → IsSent senses.gives before.link turned after.link
     → Serves senses moment work before ended after
 served senses moment work before ended after outcome turned is tried turns sent =
     record {
       outcome = Ok turned;
-      tried = subst (IsTried senses.shows (λ m. senses.refusals m work) before.clock moment after.clock ended) is tried;
+      tried = subst (IsTried senses.shows (λ m. senses.refusals m work) before.clock moment
+          after.clock ended) is tried;
       given = (turns, sent);
     }
 
-pub refused : {Link Clock : Type 0} (senses : Senses Link Clock) (moment : ℕ) (work : Work) (before : Standing Link Clock)
-    (ended : ℕ) (after : Standing Link Clock) (outcome : Result Turned TurnError) (error : TurnError) → outcome ≡ Err error
-    → IsTried senses.shows (λ m. senses.refusals m work) before.clock moment after.clock ended outcome
-    → senses.refusals ended work error → after.link ≡ before.link → after.events ≡ before.events
-    → Serves senses moment work before ended after
+pub refused : {Link Clock : Type 0} (senses : Senses Link Clock) (moment : ℕ) (work : Work)
+    (before : Standing Link Clock) (ended : ℕ) (after : Standing Link Clock)
+    (outcome : Result Turned TurnError) (error : TurnError) → outcome ≡ Err error
+    → IsTried senses.shows (λ m. senses.refusals m work) before.clock moment after.clock
+    ended outcome → senses.refusals ended work error → after.link ≡ before.link
+    → after.events ≡ before.events → Serves senses moment work before ended after
 refused senses moment work before ended after outcome error is tried why link events =
     record {
       outcome = Err error;
-      tried = subst (IsTried senses.shows (λ m. senses.refusals m work) before.clock moment after.clock ended) is tried;
+      tried = subst (IsTried senses.shows (λ m. senses.refusals m work) before.clock moment
+          after.clock ended) is tried;
       given = (why, link, events);
     }
 
 -- ---- a round
 
-pub ticked_then : {Link Clock : Type 0} (senses : Senses Link Clock) (ticked : Option ℕ) (before : Standing Link Clock)
-    (moment : ℕ) (shown : Clock) → senses.shows before.clock moment shown → ticked ≡ Some moment
+pub ticked_then : {Link Clock : Type 0} (senses : Senses Link Clock) (ticked : Option ℕ)
+    (before : Standing Link Clock) (moment : ℕ) (shown : Clock)
+    → senses.shows before.clock moment shown → ticked ≡ Some moment
     → Ticks senses ticked before ticked (record before { clock = shown })
 ticked_then senses ticked before moment shown is_shown same =
     record { moment = moment; shown = shown; is_shown = is_shown; turn = inl (same, refl, refl) }
 
-pub ticks_now : {Link Clock : Type 0} (senses : Senses Link Clock) (ticked : Option ℕ) (before : Standing Link Clock)
-    (moment : ℕ) (shown : Clock) (ended : ℕ) (after : Standing Link Clock) → senses.shows before.clock moment shown
+pub ticks_now : {Link Clock : Type 0} (senses : Senses Link Clock) (ticked : Option ℕ)
+    (before : Standing Link Clock) (moment : ℕ) (shown : Clock) (ended : ℕ)
+    (after : Standing Link Clock) → senses.shows before.clock moment shown
     → ticked ≢ Some moment → Serves senses moment Tick (record before { clock = shown }) ended after
     → Ticks senses ticked before (Some ended) after
 ticks_now senses ticked before moment shown ended after is_shown other serves =
-    record { moment = moment; shown = shown; is_shown = is_shown; turn = inr (other, (ended, refl, serves)) }
+    record {
+      moment = moment;
+      shown = shown;
+      is_shown = is_shown;
+      turn = inr (other, (ended, refl, serves));
+    }
 
-pub turned_to : {Link Clock : Type 0} (senses : Senses Link Clock) (bytes : List ℕ) (before : Standing Link Clock) (moment : ℕ)
-    (shown : Clock) (ended : ℕ) (after : Standing Link Clock) → senses.shows before.clock moment shown
-    → Serves senses moment (Datagram senses.number bytes) (record before { clock = shown }) ended after
+pub turned_to : {Link Clock : Type 0} (senses : Senses Link Clock) (bytes : List ℕ)
+    (before : Standing Link Clock) (moment : ℕ) (shown : Clock) (ended : ℕ)
+    (after : Standing Link Clock) → senses.shows before.clock moment shown
+    → Serves senses moment (Datagram senses.number bytes) (record before {
+      clock = shown;
+    }) ended after
     → IsTurnedTo senses bytes before after
-turned_to senses bytes before moment shown ended after is_shown serves = (moment, shown, ended, is_shown, serves)
+turned_to senses bytes before moment shown ended after is_shown serves =
+    (moment, shown, ended, is_shown, serves)
 
-pub listened : {Link Clock : Type 0} (senses : Senses Link Clock) (before after : Standing Link Clock) (heard : Option (List ℕ))
-    (between : Link) → senses.hears before.link heard between → IsHeard senses heard (record before { link = between }) after
+pub listened : {Link Clock : Type 0} (senses : Senses Link Clock)
+    (before after : Standing Link Clock) (heard : Option (List ℕ))
+    (between : Link) → senses.hears before.link heard between
+    → IsHeard senses heard (record before { link = between }) after
     → Listens senses before after
 listened senses before after heard between is_heard turn =
     record { heard = heard; between = between; is_heard = is_heard; turn = turn }
 
 -- ---- what begins with more than was known begins with that
 
-module _ {Link Clock : Type 0} (gives : Gives Link) (hears : Hears Link) (shows : Shows Clock) (offers : Offers) (took : Took)
-    (refuses : Refuses) (known more : List Operation) (longer : IsPrefix known more) (number : ℕ) where
-  abbrev after_more : Senses Link Clock
-  after_more = senses_of gives hears shows offers took refuses more number
+module _ {Link Clock : Type 0} (gives : Gives Link) (hears : Hears Link) (shows : Shows Clock)
+    (offers : Offers) (took : Took)
+    (refuses : Refuses) (known more : List Operation) (longer : IsPrefix known more) (number : ℕ)
+  where
+    abbrev after_more : Senses Link Clock
+    after_more = senses_of gives hears shows offers took refuses more number
 
-  abbrev after_known : Senses Link Clock
-  after_known = senses_of gives hears shows offers took refuses known number
+    abbrev after_known : Senses Link Clock
+    after_known = senses_of gives hears shows offers took refuses known number
 
-  given_longer : (work : Work) (ended : ℕ) (before after : Standing Link Clock) (outcome : Result Turned TurnError)
-      → MatchResult outcome
-      (λ turned. IsTurned offers took refuses more ended work before.events after.events turned × IsSent gives before.link turned after.link)
-      (λ error. RefusesFor offers refuses more ended work error × (after.link ≡ before.link) × (after.events ≡ before.events))
-      → MatchResult outcome
-      (λ turned. IsTurned offers took refuses known ended work before.events after.events turned × IsSent gives before.link turned after.link)
-      (λ error. RefusesFor offers refuses known ended work error × (after.link ≡ before.link) × (after.events ≡ before.events))
-  given_longer work ended before after (Ok turned) h =
-      (turned_longer known more longer offers took refuses ended work before.events after.events turned h.0, h.1)
-  given_longer work ended before after (Err error) h =
-      (refused_longer known more longer offers refuses ended work error h.0, h.1, h.2)
+    given_longer : (work : Work) (ended : ℕ) (before after : Standing Link Clock)
+        (outcome : Result Turned TurnError)
+        → MatchResult outcome (λ turned. IsTurned offers took refuses more ended work
+        before.events after.events turned × IsSent gives before.link turned after.link)
+        (λ error. RefusesFor offers refuses more ended work error
+        × (after.link ≡ before.link) × (after.events ≡ before.events))
+        → MatchResult outcome (λ turned. IsTurned offers took refuses known ended
+        work before.events after.events turned
+        × IsSent gives before.link turned after.link)
+        (λ error. RefusesFor offers refuses known ended work error
+        × (after.link ≡ before.link)
+        × (after.events ≡ before.events))
+    given_longer work ended before after (Ok turned) h = (
+      turned_longer known more longer offers took refuses ended work before.events after.events
+          turned h.0,
+      h.1,
+    )
+    given_longer work ended before after (Err error) h =
+        (refused_longer known more longer offers refuses ended work error h.0, h.1, h.2)
 
-  ahead_longer : (work : Work) (first : ℕ) (again : List ℕ) → AreAhead (λ m. RefusesFor offers refuses more m work) first again
-      → AreAhead (λ m. RefusesFor offers refuses known m work) first again
-  ahead_longer work first [] h = tt
-  ahead_longer work first (moment ∷ again) h =
-      (refused_longer known more longer offers refuses (latest first again) work clock_back h.0, ahead_longer work first again h.1)
+    ahead_longer : (work : Work) (first : ℕ) (again : List ℕ)
+        → AreAhead (λ m. RefusesFor offers refuses more m work) first again
+        → AreAhead (λ m. RefusesFor offers refuses known m work) first again
+    ahead_longer work first [] h = tt
+    ahead_longer work first (moment ∷ again) h = (
+      refused_longer known more longer offers refuses (latest first again) work clock_back h.0,
+      ahead_longer work first again h.1,
+    )
 
-  tried_longer : (work : Work) (before : Clock) (first : ℕ) (after : Clock) (last : ℕ) (outcome : Result Turned TurnError)
-      → IsTried shows (λ m. RefusesFor offers refuses more m work) before first after last outcome
-      → IsTried shows (λ m. RefusesFor offers refuses known m work) before first after last outcome
-  tried_longer work before first after last outcome h = record {
-    again = h.again;
-    few = h.few;
-    shown = h.shown;
-    ahead = ahead_longer work first h.again h.ahead;
-    at_last = h.at_last;
-    thrice = h.thrice;
-  }
+    tried_longer : (work : Work) (before : Clock) (first : ℕ) (after : Clock) (last : ℕ)
+        (outcome : Result Turned TurnError)
+        → IsTried shows (λ m. RefusesFor offers refuses more m work) before first after last
+        outcome → IsTried shows (λ m. RefusesFor offers refuses known m work) before first
+        after last outcome
+    tried_longer work before first after last outcome h = record {
+      again = h.again;
+      few = h.few;
+      shown = h.shown;
+      ahead = ahead_longer work first h.again h.ahead;
+      at_last = h.at_last;
+      thrice = h.thrice;
+    }
 
-  serves_longer : (moment : ℕ) (work : Work) (before : Standing Link Clock) (ended : ℕ) (after : Standing Link Clock)
-      → Serves after_more moment work before ended after → Serves after_known moment work before ended after
-  serves_longer moment work before ended after h =
-      record {
-        outcome = h.outcome;
-        tried = tried_longer work before.clock moment after.clock ended h.outcome h.tried;
-        given = given_longer work ended before after h.outcome h.given;
-      }
+    serves_longer : (moment : ℕ) (work : Work) (before : Standing Link Clock) (ended : ℕ)
+        (after : Standing Link Clock) → Serves after_more moment work before ended after
+        → Serves after_known moment work before ended after
+    serves_longer moment work before ended after h =
+        record {
+          outcome = h.outcome;
+          tried = tried_longer work before.clock moment after.clock ended h.outcome h.tried;
+          given = given_longer work ended before after h.outcome h.given;
+        }
 
-  ticks_turn_longer : (ticked next : Option ℕ) (moment : ℕ) (before after : Standing Link Clock)
-      → ((ticked ≡ Some moment) × (next ≡ ticked) × (after ≡ before))
-      ⊎ ((ticked ≢ Some moment) × ((ended : ℕ) × (next ≡ Some ended) × Serves after_more moment Tick before ended after))
-      → ((ticked ≡ Some moment) × (next ≡ ticked) × (after ≡ before))
-      ⊎ ((ticked ≢ Some moment) × ((ended : ℕ) × (next ≡ Some ended) × Serves after_known moment Tick before ended after))
-  ticks_turn_longer ticked next moment before after (inl same) = inl same
-  ticks_turn_longer ticked next moment before after (inr (other, (ended, is, serves))) =
-      inr (other, (ended, is, serves_longer moment Tick before ended after serves))
+    ticks_turn_longer : (ticked next : Option ℕ) (moment : ℕ) (before after : Standing Link Clock)
+        → ((ticked ≡ Some moment) × (next ≡ ticked) × (after ≡ before))
+        ⊎ ((ticked ≢ Some moment) × ((ended : ℕ) × (next ≡ Some ended)
+        × Serves after_more moment Tick before ended after))
+        → ((ticked ≡ Some moment) × (next ≡ ticked) × (after ≡ before))
+        ⊎ ((ticked ≢ Some moment) ×
+        ((ended : ℕ) × (next ≡ Some ended)
+        × Serves after_known moment Tick before ended after))
+    ticks_turn_longer ticked next moment before after (inl same) = inl same
+    ticks_turn_longer ticked next moment before after (inr (other, (ended, is, serves))) =
+        inr (other, (ended, is, serves_longer moment Tick before ended after serves))
 
-  ticks_longer : (ticked : Option ℕ) (before : Standing Link Clock) (next : Option ℕ) (after : Standing Link Clock)
-      → Ticks after_more ticked before next after → Ticks after_known ticked before next after
-  ticks_longer ticked before next after h =
-      record {
-        moment = h.moment;
-        shown = h.shown;
-        is_shown = h.is_shown;
-        turn = ticks_turn_longer ticked next h.moment (record before { clock = h.shown }) after h.turn;
-      }
+    ticks_longer : (ticked : Option ℕ) (before : Standing Link Clock) (next : Option ℕ)
+        (after : Standing Link Clock) → Ticks after_more ticked before next after
+        → Ticks after_known ticked before next after
+    ticks_longer ticked before next after h =
+        record {
+          moment = h.moment;
+          shown = h.shown;
+          is_shown = h.is_shown;
+          turn = ticks_turn_longer ticked next h.moment (record before {
+            clock = h.shown;
+          }) after h.turn;
+        }
 
-  turned_to_longer : (bytes : List ℕ) (before after : Standing Link Clock) → IsTurnedTo after_more bytes before after
-      → IsTurnedTo after_known bytes before after
-  turned_to_longer bytes before after (moment, shown, ended, is_shown, serves) =
-      (moment, shown, ended, is_shown, serves_longer moment (Datagram number bytes) (record before { clock = shown }) ended after serves)
+    turned_to_longer : (bytes : List ℕ) (before after : Standing Link Clock)
+        → IsTurnedTo after_more bytes before after → IsTurnedTo after_known bytes before after
+    turned_to_longer bytes before after (moment, shown, ended, is_shown, serves) = (
+      moment,
+      shown,
+      ended,
+      is_shown,
+      serves_longer moment (Datagram number bytes) (record before {
+        clock = shown;
+      }) ended after serves,
+    )
 
-  heard_longer : (heard : Option (List ℕ)) (before after : Standing Link Clock) → IsHeard after_more heard before after
-      → IsHeard after_known heard before after
-  heard_longer None before after h = h
-  heard_longer (Some bytes) before after h = turned_to_longer bytes before after h
+    heard_longer : (heard : Option (List ℕ)) (before after : Standing Link Clock)
+        → IsHeard after_more heard before after → IsHeard after_known heard before after
+    heard_longer None before after h = h
+    heard_longer (Some bytes) before after h = turned_to_longer bytes before after h
 
-  pub listens_longer : (before after : Standing Link Clock) → Listens after_more before after → Listens after_known before after
-  listens_longer before after h =
-      record {
-        heard = h.heard;
-        between = h.between;
-        is_heard = h.is_heard;
-        turn = heard_longer h.heard (record before { link = h.between }) after h.turn;
-      }
+    pub listens_longer : (before after : Standing Link Clock) → Listens after_more before after
+        → Listens after_known before after
+    listens_longer before after h =
+        record {
+          heard = h.heard;
+          between = h.between;
+          is_heard = h.is_heard;
+          turn = heard_longer h.heard (record before { link = h.between }) after h.turn;
+        }
 
-  pub round_longer : (ticked : Option ℕ) (before : Standing Link Clock) (next : Option ℕ) (after : Standing Link Clock)
-      → Round after_more ticked before next after → Round after_known ticked before next after
-  round_longer ticked before next after (between, ticks, listens) =
-      (between, ticks_longer ticked before next between ticks, listens_longer between after listens)
+    pub round_longer : (ticked : Option ℕ) (before : Standing Link Clock) (next : Option ℕ)
+        (after : Standing Link Clock) → Round after_more ticked before next after
+        → Round after_known ticked before next after
+    round_longer ticked before next after (between, ticks, listens) = (
+      between,
+      ticks_longer ticked before next between ticks,
+      listens_longer between after listens,
+    )
 
 -- the time and then the link, at a port that had learnt more between
-pub in_turn : {Link Clock A E : Type 0} (gives : Gives Link) (hears : Hears Link) (shows : Shows Clock) (offers : Offers) (took : Took)
-    (refuses : Refuses) (known more : List Operation) (number now : ℕ) (ticked : Option ℕ) (before : Standing Link Clock) (next : Option ℕ)
-    (between after : Standing Link Clock) (result : Result A E) → IsPrefix known more → now ≡ number
-    → Ticks (senses_of gives hears shows offers took refuses known number) ticked before next between
-    → OnOk result (Listens (senses_of gives hears shows offers took refuses more now) between after)
-    → OnOk result (Round (senses_of gives hears shows offers took refuses known number) ticked before next after)
-in_turn gives hears shows offers took refuses known more number now ticked before next between after (Ok done) longer same ticks listens = (
-  between,
-  ticks,
-  listens_longer gives hears shows offers took refuses known more longer number between after
-      (subst (λ n. Listens (senses_of gives hears shows offers took refuses more n) between after) same listens),
-)
-in_turn gives hears shows offers took refuses known more number now ticked before next between after (Err error) longer same ticks listens = tt
+pub in_turn : {Link Clock A E : Type 0} (gives : Gives Link) (hears : Hears Link)
+    (shows : Shows Clock) (offers : Offers) (took : Took) (refuses : Refuses)
+    (known more : List Operation) (number now : ℕ) (ticked : Option ℕ)
+    (before : Standing Link Clock) (next : Option ℕ) (between after : Standing Link Clock)
+    (result : Result A E) → IsPrefix known more → now ≡ number
+    → Ticks (senses_of gives hears shows offers took refuses known number) ticked
+    before next between → OnOk result
+    (Listens (senses_of gives hears shows offers took refuses more now)
+    between after) → OnOk result
+    (Round (senses_of gives hears shows offers took refuses known
+    number) ticked before next after)
+in_turn gives hears shows offers took refuses known more number now ticked before next between after
+    (Ok done) longer same ticks listens = (
+      between,
+      ticks,
+      listens_longer gives hears shows offers took refuses known more longer number between after
+          (subst (λ n. Listens (senses_of gives hears shows offers took refuses more n) between
+          after)
+          same listens),
+    )
+in_turn gives hears shows offers took refuses known more number now ticked before next between after
+    (Err error) longer same ticks listens = tt
 
 -- ---- the rounds
 
-pub lives_on : {Link Clock : Type 0} (senses : Senses Link Clock) (start : Standing Link Clock) (earlier : Option ℕ)
-    (then : Standing Link Clock) (ticked : Option ℕ) (now : Standing Link Clock)
-    → ((rounds : ℕ) × Lives senses start rounds earlier then) → Round senses earlier then ticked now
+pub lives_on : {Link Clock : Type 0} (senses : Senses Link Clock) (start : Standing Link Clock)
+    (earlier : Option ℕ) (then : Standing Link Clock) (ticked : Option ℕ)
+    (now : Standing Link Clock) → ((rounds : ℕ) × Lives senses start rounds earlier then)
+    → Round senses earlier then ticked now
     → (rounds : ℕ) × Lives senses start rounds ticked now
-lives_on senses start earlier then ticked now (rounds, lived) round = (suc rounds, (earlier, then, lived, round))
+lives_on senses start earlier then ticked now (rounds, lived) round =
+    (suc rounds, (earlier, then, lived, round))
 
-pub has_lived : {Link Clock : Type 0} (senses : Senses Link Clock) (start now : Standing Link Clock) (ticked : Option ℕ)
-    → ((rounds : ℕ) × Lives senses start rounds ticked now) → HasLived senses start now
+pub has_lived : {Link Clock : Type 0} (senses : Senses Link Clock) (start now : Standing Link Clock)
+    (ticked : Option ℕ) → ((rounds : ℕ) × Lives senses start rounds ticked now)
+    → HasLived senses start now
 has_lived senses start now ticked (rounds, lived) = (rounds, ticked, lived)

@@ -9,17 +9,21 @@ given_both gives a b c [] ys e h = subst (λ x. IsGivenEach gives x ys c) e h
 given_both gives a b c (x ∷ xs) ys (m, g, h) k = (m, g, given_both gives m b c xs ys h k)
 
 -- what was given so far, with all that is still to come, is the whole
-abbrev pub GivenSoFar : {Link : Type 0} → Gives Link → (outs : List Out) (count : ℕ) (start now : Link) → Type 0
+abbrev pub GivenSoFar : {Link : Type 0} → Gives Link
+    → (outs : List Out) (count : ℕ) (start now : Link) → Type 0
 GivenSoFar {Link = Link} gives outs count start now =
-    (after : Link) → IsGivenEach gives now (drop count outs) after → IsGivenEach gives start outs after
+    (after : Link) → IsGivenEach gives now (drop count outs) after
+    → IsGivenEach gives start outs after
 
-pub given_next : {Link : Type 0} (gives : Gives Link) (outs : List Out) (count : ℕ) (start now next : Link) (out : Out)
-    → drop count outs ≡ out ∷ drop (suc count) outs → gives now out.interface out.bytes next
-    → GivenSoFar gives outs count start now → GivenSoFar gives outs (suc count) start next
+pub given_next : {Link : Type 0} (gives : Gives Link) (outs : List Out) (count : ℕ)
+    (start now next : Link) (out : Out) → drop count outs ≡ out ∷ drop (suc count) outs
+    → gives now out.interface out.bytes next → GivenSoFar gives outs count start now
+    → GivenSoFar gives outs (suc count) start next
 given_next gives outs count start now next out e g h after k =
     h after (subst (λ rest. IsGivenEach gives now rest after) (sym e) (next, g, k))
 
-pub given_all : {Link : Type 0} (gives : Gives Link) (outs : List Out) (count : ℕ) (start now : Link)
-    → drop count outs ≡ [] → GivenSoFar gives outs count start now → IsGivenEach gives start outs now
+pub given_all : {Link : Type 0} (gives : Gives Link) (outs : List Out) (count : ℕ)
+    (start now : Link) → drop count outs ≡ [] → GivenSoFar gives outs count start now
+    → IsGivenEach gives start outs now
 given_all gives outs count start now e h =
     h now (subst (λ rest. IsGivenEach gives now rest now) (sym e) refl)

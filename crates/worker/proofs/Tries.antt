@@ -11,38 +11,48 @@ use Rattle.turns.specs.declared.work.Work.{Work}
 use Rattle.turns.proofs.Longer.{refused_longer, turned_longer}
 
 -- what it gives begins with what the port knew at first
-pub turned_first : (offers : Offers) (took : Took) (refuses : Refuses) (known more : List Operation) (moment : Moment) (w : Work) (before now after : ℕ)
-    (turned : Turned) → IsPrefix known more → now ≡ before → IsTurned offers took refuses more moment w now after turned
+pub turned_first : (offers : Offers) (took : Took) (refuses : Refuses) (known more : List Operation)
+    (moment : Moment) (w : Work) (before now after : ℕ) (turned : Turned) → IsPrefix known more
+    → now ≡ before → IsTurned offers took refuses more moment w now after turned
     → IsTurned offers took refuses known moment w before after turned
 turned_first offers took refuses known more moment w before now after turned longer same h =
-    subst (λ n. IsTurned offers took refuses known moment w n after turned) same (turned_longer known more longer offers took refuses moment w now after turned h)
+    subst (λ n. IsTurned offers took refuses known moment w n after turned) same
+    (turned_longer known more longer offers took refuses moment w now after turned h)
 
 -- so it is of what was answered
-pub answered_first : (offers : Offers) (took : Took) (refuses : Refuses) (known more : List Operation) (moment : Moment) (w : Work) (before now after : ℕ)
+pub answered_first : (offers : Offers) (took : Took) (refuses : Refuses)
+    (known more : List Operation) (moment : Moment) (w : Work) (before now after : ℕ)
     (outcome : Result Turned TurnError) → IsPrefix known more → now ≡ before
     → IfOk outcome (λ turned. IsTurned offers took refuses more moment w now after turned)
-    → IfOk outcome (λ turned. IsTurned offers took refuses known moment w before after turned)
+    → IfOk outcome (λ turned. IsTurned offers took refuses known moment w before after
+    turned)
 answered_first offers took refuses known more moment w before now after (Ok turned) longer same h =
     turned_first offers took refuses known more moment w before now after turned longer same h
-answered_first offers took refuses known more moment w before now after (Err error) longer same h = h
+answered_first offers took refuses known more moment w before now after (Err error) longer same h
+    = h
 
 -- and of what was refused
-pub refused_first : (offers : Offers) (refuses : Refuses) (known more : List Operation) (moment : Moment) (w : Work)
-    (outcome : Result Turned TurnError) → IsPrefix known more
+pub refused_first : (offers : Offers) (refuses : Refuses) (known more : List Operation)
+    (moment : Moment) (w : Work) (outcome : Result Turned TurnError) → IsPrefix known more
     → IfErr outcome (λ error. RefusesFor offers refuses more moment w error)
     → IfErr outcome (λ error. RefusesFor offers refuses known moment w error)
 refused_first offers refuses known more moment w (Ok turned) longer h = h
-refused_first offers refuses known more moment w (Err error) longer h = refused_longer known more longer offers refuses moment w error h
+refused_first offers refuses known more moment w (Err error) longer h =
+    refused_longer known more longer offers refuses moment w error h
 
 -- so a turn that is tried again was refused at the moment before
-pub refused_so : (offers : Offers) (refuses : Refuses) (known more : List Operation) (moment : Moment) (w : Work)
-    (outcome : Result Turned TurnError) (error : TurnError) → IsPrefix known more → outcome ≡ Err error
-    → IfErr outcome (λ error. RefusesFor offers refuses more moment w error) → RefusesFor offers refuses known moment w error
+pub refused_so : (offers : Offers) (refuses : Refuses) (known more : List Operation)
+    (moment : Moment) (w : Work) (outcome : Result Turned TurnError) (error : TurnError)
+    → IsPrefix known more → outcome ≡ Err error
+    → IfErr outcome (λ error. RefusesFor offers refuses more moment w error)
+    → RefusesFor offers refuses known moment w error
 refused_so offers refuses known more moment w outcome error longer is h =
-    subst (λ o. IfErr o (λ e. RefusesFor offers refuses known moment w e)) is (refused_first offers refuses known more moment w outcome longer h)
+    subst (λ o. IfErr o (λ e. RefusesFor offers refuses known moment w e)) is
+    (refused_first offers refuses known more moment w outcome longer h)
 
 pub known_first : (known : List Operation) → IsPrefix known known
 known_first known = prefix_self known
 
-pub known_still : (known more most : List Operation) → IsPrefix known more → IsPrefix more most → IsPrefix known most
+pub known_still : (known more most : List Operation) → IsPrefix known more → IsPrefix more most
+    → IsPrefix known most
 known_still known more most first then = prefix_trans known more most first then

@@ -4,4 +4,5 @@ use Rattle.address_texts.proofs.reading.is_digits.Given as goal
 
 -- the bytes before this one are digits
 abbrev pub invariant-loop-byte : goal.invariant-loop-byte
-invariant-loop-byte l = (l.byte-items ≡ l.word) × (all_ascii_digits l.word ≡ all_ascii_digits (drop l.byte-index l.word))
+invariant-loop-byte l = (l.byte-items ≡ l.word)
+    × (all_ascii_digits l.word ≡ all_ascii_digits (drop l.byte-index l.word))

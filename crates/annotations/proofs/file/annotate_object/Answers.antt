@@ -3,7 +3,8 @@ use Rattle.annotations.proofs.Outcomes.{of_the_object}
 use Rattle.annotations.proofs.file.annotate_object.Goals as goal
 
 pub returns-in-Ok : goal.returns-in-Ok
-returns-in-Ok c = of_the_object _ _ _ _ _ _ c.in-Ok.ensures.found (search (rules, tests)) (sym c.code.ensures.value) c.annotate_code.ensures
+returns-in-Ok c = of_the_object _ _ _ _ _ _ c.in-Ok.ensures.found (search (rules, tests))
+    (sym c.code.ensures.value) c.annotate_code.ensures
 
 pub returns-then-ne : goal.returns-then-ne
 returns-then-ne c = record {

@@ -5,5 +5,6 @@ use Rattle.annotations.specs.CountedCode.{names}
 use Rattle.annotations.proofs.registers.is_named.Given as goal
 
 abbrev pub invariant-loop-slot : goal.invariant-loop-slot
-invariant-loop-slot l = (k : ℕ) (i : Instruction) → k < l.slot-index → slice_get l.slot-items k ≡ Some (Start i)
+invariant-loop-slot l = (k : ℕ) (i : Instruction) → k < l.slot-index
+    → slice_get l.slot-items k ≡ Some (Start i)
     → names l.register i ≡ false

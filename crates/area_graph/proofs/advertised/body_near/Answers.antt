@@ -11,6 +11,10 @@ returns-then-is_same_key c =
     let bodies = c.args.told.now.bodies.now in
     let at = c.loop-at.at in
     let one = c.index-bodies-at.result in
-    let here : slice_get bodies at ≡ Some one = slice_get_read bodies (length bodies) at one refl (omega (arith, c.few_from-end.ensures, c.loop-at-test.true)) c.index-bodies-at.is in
-    let says : said one.0 ≡ Some one.1 = ((c.requires.each one.0 one.1).0 (contained bodies at one here)).1 in
-    ap (λ (b : Body). Some b) c.body.ensures ∙ sym says ∙ ap said (sym c.key.ensures ∙ c.is_same_key.ensures.0 c.if-is_same_key.true)
+    let here : slice_get bodies at ≡ Some one =
+    slice_get_read bodies (length bodies) at one refl
+    (omega (arith, c.few_from-end.ensures, c.loop-at-test.true)) c.index-bodies-at.is in
+    let says : said one.0 ≡ Some one.1 =
+    ((c.requires.each one.0 one.1).0 (contained bodies at one here)).1 in
+    ap (λ (b : Body). Some b) c.body.ensures ∙ sym says
+    ∙ ap said (sym c.key.ensures ∙ c.is_same_key.ensures.0 c.if-is_same_key.true)

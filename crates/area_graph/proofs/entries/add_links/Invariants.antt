@@ -7,4 +7,6 @@ use Rattle.area_graph.proofs.Lists.{OfFront}
 use Rattle.area_graph.proofs.entries.add_links.Given as goal
 
 abbrev pub invariant-loop-link : goal.invariant-loop-link
-invariant-loop-link l = Adds (OfFront (λ (link : Link) (entry : Entry). entry_of l.router link ≡ Some entry) l.link-items l.link-index) l.fn.entries.items l.entries.items
+invariant-loop-link l = Adds (OfFront
+    (λ (link : Link) (entry : Entry). entry_of l.router link ≡ Some entry) l.link-items
+    l.link-index) l.fn.entries.items l.entries.items

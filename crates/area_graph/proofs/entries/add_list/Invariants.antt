@@ -6,4 +6,6 @@ use Rattle.area_graph.proofs.Lists.{OfFront}
 use Rattle.area_graph.proofs.entries.add_list.Given as goal
 
 abbrev pub invariant-loop-router : goal.invariant-loop-router
-invariant-loop-router l = Adds (OfFront (λ (router : ℕ) (entry : Entry). entry ≡ attached_entry l.id l.place router) l.router-items l.router-index) l.fn.entries.items l.entries.items
+invariant-loop-router l = Adds (OfFront
+    (λ (router : ℕ) (entry : Entry). entry ≡ attached_entry l.id l.place router) l.router-items
+    l.router-index) l.fn.entries.items l.entries.items

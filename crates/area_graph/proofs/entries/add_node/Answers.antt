@@ -18,10 +18,14 @@ returns-in-Some c =
     let lsa = c.in-Some.lsa.now in
     let old = c.args.entries.now.items in
     let new = c.add_links.new.entries.items in
-    let is : router_lsa said router ≡ Some lsa = sym c.router_lsa.ensures ∙ ap option_copied c.in-Some.is in
+    let is : router_lsa said router ≡ Some lsa =
+    sym c.router_lsa.ensures ∙ ap option_copied c.in-Some.is in
     let P : Node → Type 0 = λ n. Adds (TellsOf said n c.args.place) old new in
-    on_ok c.add_links.result (Adds (OfEach (λ (link : Link) (entry : Entry). entry_of router link ≡ Some entry) lsa.links) old new) (Adds (TellsOf said c.args.node.now c.args.place) old new)
-    (λ a. subst P (sym c.in-ARouter.is) (router_tells said c.args.place router lsa old new is a)) c.add_links.ensures
+    on_ok c.add_links.result (Adds (OfEach
+    (λ (link : Link) (entry : Entry). entry_of router link ≡ Some entry) lsa.links) old new)
+    (Adds (TellsOf said c.args.node.now c.args.place) old new)
+    (λ a. subst P (sym c.in-ARouter.is) (router_tells said c.args.place router lsa old new is a))
+    c.add_links.ensures
 
 pub returns-in-Some-network_lsa : goal.returns-in-Some-network_lsa
 returns-in-Some-network_lsa c =
@@ -31,7 +35,11 @@ returns-in-Some-network_lsa c =
     let lsa = c.in-Some-network_lsa.lsa.now in
     let old = c.args.entries.now.items in
     let new = c.add_list.new.entries.items in
-    let is : network_lsa said id by ≡ Some lsa = sym c.network_lsa.ensures ∙ ap option_copied c.in-Some-network_lsa.is in
+    let is : network_lsa said id by ≡ Some lsa =
+    sym c.network_lsa.ensures ∙ ap option_copied c.in-Some-network_lsa.is in
     let P : Node → Type 0 = λ n. Adds (TellsOf said n c.args.place) old new in
-    on_ok c.add_list.result (Adds (OfEach (λ (router : ℕ) (entry : Entry). entry ≡ attached_entry id c.args.place router) lsa.attached) old new) (Adds (TellsOf said c.args.node.now c.args.place) old new)
-    (λ a. subst P (sym c.in-ANetwork.is) (network_tells said c.args.place id by lsa old new is a)) c.add_list.ensures
+    on_ok c.add_list.result (Adds (OfEach
+    (λ (router : ℕ) (entry : Entry). entry ≡ attached_entry id c.args.place router)
+    lsa.attached) old new) (Adds (TellsOf said c.args.node.now c.args.place) old new)
+    (λ a. subst P (sym c.in-ANetwork.is) (network_tells said c.args.place id by lsa old new is a))
+    c.add_list.ensures

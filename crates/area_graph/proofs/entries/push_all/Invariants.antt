@@ -5,4 +5,5 @@ use Rattle.area_graph.proofs.Lists.{OfFront}
 use Rattle.area_graph.proofs.entries.push_all.Given as goal
 
 abbrev pub invariant-loop-entry : goal.invariant-loop-entry
-invariant-loop-entry l = Adds (OfFront (λ (one : Entry) (entry : Entry). entry ≡ one) l.own l.entry-index) l.fn.entries.items l.entries.items
+invariant-loop-entry l = Adds (OfFront (λ (one : Entry) (entry : Entry). entry ≡ one) l.own
+    l.entry-index) l.fn.entries.items l.entries.items

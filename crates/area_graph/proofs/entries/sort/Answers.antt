@@ -9,9 +9,11 @@ use Rattle.area_graph.proofs.entries.sort.Goals as goal
 
 pub returns-clause-sorted : goal.returns-clause-sorted
 returns-clause-sorted c =
-    c.in_ok-sort_by.ensures.sorted (λ (x : Entry) (y : Entry). is_lt (entry_cmp x y)) (ranks_by entries_total (λ (x : Entry). x))
+    c.in_ok-sort_by.ensures.sorted (λ (x : Entry) (y : Entry). is_lt (entry_cmp x y))
+    (ranks_by entries_total (λ (x : Entry). x))
     (always_returns_same _ (λ a r. is_lt r ≡ is_lt (entry_cmp a.0.now a.1.0.now)) _
-    (λ a r q k. let h : (r ≡ entry_cmp a.0.now a.1.0.now) × (q ≡ _) = search rules in (ap is_lt h.0, h.1)))
+    (λ a r q k. let h : (r ≡ entry_cmp a.0.now a.1.0.now) × (q ≡ _) = search rules in
+    (ap is_lt h.0, h.1)))
 
 pub returns-clause-same : goal.returns-clause-same
 returns-clause-same c e = (

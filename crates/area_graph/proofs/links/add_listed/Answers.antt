@@ -9,7 +9,11 @@ use Rattle.area_graph.proofs.links.add_listed.Goals as goal
 use Rattle.area_graph.proofs.links.add_listed.Goals.{in-Some+in_ok-push, in_default}
 
 pub loop-router-init : goal.loop-router-init
-loop-router-init c = record { adds = each_none (IsToListed c.args.area.now.nodes.now c.args.area.now.entries.now c.args.id) c.as_slice-router-items.result.now c.args.links.now.items; fits = λ all. all }
+loop-router-init c = record {
+  adds = each_none (IsToListed c.args.area.now.nodes.now c.args.area.now.entries.now c.args.id)
+      c.as_slice-router-items.result.now c.args.links.now.items;
+  fits = λ all. all;
+}
 
 pub loop-router-preserved : goal.loop-router-preserved
 loop-router-preserved c =
@@ -21,26 +25,41 @@ loop-router-preserved c =
     let i = c.loop-router.router-index in
     let first = c.args.links.now.items in
     let old = c.loop-router.links.items in
-    let is = λ (o : Option ℕ) (e : c.neighbor_at.result ≡ o). same_neighbor nodes entries Transit router router c.number.result c.args.id c.neighbor_at.result o refl c.number.ensures e c.neighbor_at.ensures in
+    let is = λ (o : Option ℕ) (e : c.neighbor_at.result ≡ o). same_neighbor nodes entries Transit
+    router router c.number.result c.args.id c.neighbor_at.result o refl c.number.ensures e
+    c.neighbor_at.ensures in
     record {
       adds = elim c.match-neighbor_at.branch [
         | in-Some+in_ok-push w ↦
             rw (w.links-is, w.in_ok-push.ensures.items)
-            (each_more Q items i router first old _ c.loop-router-test.true c.router-item.is c.loop-router.invariant.adds
-            (to_listed nodes entries c.args.id router w.in-Some.to old c.requires.ascend (is (Some w.in-Some.to) w.in-Some.is)))
+            (each_more Q items i router first old _ c.loop-router-test.true c.router-item.is
+            c.loop-router.invariant.adds
+            (to_listed nodes entries c.args.id router w.in-Some.to old c.requires.ascend
+            (is (Some w.in-Some.to) w.in-Some.is)))
         | in_default w ↦
             rw w.links-is
-            (each_more Q items i router first old old c.loop-router-test.true c.router-item.is c.loop-router.invariant.adds
+            (each_more Q items i router first old old c.loop-router-test.true c.router-item.is
+            c.loop-router.invariant.adds
             (not_listed nodes entries c.args.id router old (is None w.in_default.is)))
       ];
       fits = elim c.match-neighbor_at.branch [
-        | in-Some+in_ok-push w ↦ rw (w.links-is, w.in_ok-push.ensures.items) (λ all. pushed_fits old (record { to = w.in-Some.to; cost = 0; interface = 0 }) (omega arith) (c.loop-router.invariant.fits all))
+        | in-Some+in_ok-push w ↦ rw (w.links-is, w.in_ok-push.ensures.items)
+            (λ all. pushed_fits old (record {
+              to = w.in-Some.to;
+              cost = 0;
+              interface = 0;
+            }) (omega arith) (c.loop-router.invariant.fits all))
         | in_default w ↦ rw w.links-is c.loop-router.invariant.fits
       ];
     }
 
 pub returns-clause-adds : goal.returns-clause-adds
 returns-clause-adds c =
-    let Q : ℕ → Link → Type 0 = IsToListed c.args.area.now.nodes.now c.args.area.now.entries.now c.args.id in
-    let P : List ℕ → Type 0 = λ routers. Adds (OfEach Q routers) c.args.links.now.items c.loop-router.links.items in
-    subst P c.as_slice-router-items.ensures (each_all Q c.as_slice-router-items.result.now c.loop-router.router-index c.args.links.now.items c.loop-router.links.items c.loop-router-test.false c.loop-router.invariant.adds)
+    let Q : ℕ → Link → Type 0 = IsToListed c.args.area.now.nodes.now c.args.area.now.entries.now
+    c.args.id in
+    let P : List ℕ → Type 0 = λ routers. Adds (OfEach Q routers) c.args.links.now.items
+    c.loop-router.links.items in
+    subst P c.as_slice-router-items.ensures
+    (each_all Q c.as_slice-router-items.result.now c.loop-router.router-index
+    c.args.links.now.items c.loop-router.links.items c.loop-router-test.false
+    c.loop-router.invariant.adds)

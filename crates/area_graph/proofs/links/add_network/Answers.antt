@@ -12,8 +12,11 @@ returns-then-is_root-clause-adds c =
     let told_links = c.args.lsa.now.links in
     let old = c.args.links.now.items in
     let new = c.add_own_transits.new.links.items in
-    on_ok c.add_own_transits.result (Adds (OfEach (IsOwnTransit root entry.id entry.place) told_links) old new) (Adds (IsToNetwork root c.args.entries.now c.args.router told_links entry) old new)
-    (network_at_root root c.args.entries.now c.args.router told_links entry old new (c.is_root.ensures.0 c.if-is_root.true)) c.add_own_transits.ensures.adds
+    on_ok c.add_own_transits.result (Adds
+    (OfEach (IsOwnTransit root entry.id entry.place) told_links) old new)
+    (Adds (IsToNetwork root c.args.entries.now c.args.router told_links entry) old new)
+    (network_at_root root c.args.entries.now c.args.router told_links entry old new
+    (c.is_root.ensures.0 c.if-is_root.true)) c.add_own_transits.ensures.adds
 
 pub returns-clause-adds : goal.returns-clause-adds
 returns-clause-adds c =
@@ -22,5 +25,8 @@ returns-clause-adds c =
     let told_links = c.args.lsa.now.links in
     let old = c.args.links.now.items in
     let new = c.add_cheapest.new.links.items in
-    on_ok c.add_cheapest.result (Adds (IsCheapest c.args.entries.now c.args.router entry) old new) (Adds (IsToNetwork root c.args.entries.now c.args.router told_links entry) old new)
-    (network_elsewhere root c.args.entries.now c.args.router told_links entry old new (λ own. false≢true (sym c.if-is_root.false ∙ c.is_root.ensures.1 own))) c.add_cheapest.ensures.adds
+    on_ok c.add_cheapest.result (Adds (IsCheapest c.args.entries.now c.args.router entry) old new)
+    (Adds (IsToNetwork root c.args.entries.now c.args.router told_links entry) old new)
+    (network_elsewhere root c.args.entries.now c.args.router told_links entry old new
+    (λ own. false≢true (sym c.if-is_root.false ∙ c.is_root.ensures.1 own)))
+    c.add_cheapest.ensures.adds

@@ -6,6 +6,7 @@ use Rattle.area_graph.proofs.links.add_own_transits.Given as goal
 
 abbrev pub invariant-loop-told : goal.invariant-loop-told
 invariant-loop-told l = record {
-  adds : Adds (OfFront (IsOwnTransit l.root l.id l.to) l.told-items l.told-index) l.fn.links.items l.links.items;
+  adds : Adds (OfFront (IsOwnTransit l.root l.id l.to) l.told-items l.told-index) l.fn.links.items
+      l.links.items;
   fits : All CostFits l.fn.links.items → All CostFits l.links.items;
 }

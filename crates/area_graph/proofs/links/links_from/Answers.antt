@@ -9,7 +9,10 @@ use Rattle.area_graph.specs.Nodes.{network_lsa, router_lsa}
 use Rattle.area_graph.proofs.Parts.{network_links, no_network, no_router, router_links}
 use Rattle.area_graph.proofs.Told.{ordered}
 use Rattle.area_graph.proofs.links.links_from.Goals as goal
-use Rattle.area_graph.proofs.links.links_from.Goals.{in-ARouter+in-Some+in_ok-add_routers-in-ARouter+in_ok-add_networks-in-ARouter, in-ARouter+in_default, in-ANetwork+in-Some-network_lsa+in_ok-add_listed-in-ANetwork, in-ANetwork+in_default-network_lsa}
+use Rattle.area_graph.proofs.links.links_from.Goals.{in-ARouter+in-Some+in_ok-add_routers-in-ARouter+in_ok-add_networks-in-ARouter}
+use Rattle.area_graph.proofs.links.links_from.Goals.{in-ARouter+in_default}
+use Rattle.area_graph.proofs.links.links_from.Goals.{in-ANetwork+in-Some-network_lsa+in_ok-add_listed-in-ANetwork}
+use Rattle.area_graph.proofs.links.links_from.Goals.{in-ANetwork+in_default-network_lsa}
 
 pub returns-clause-links : goal.returns-clause-links
 returns-clause-links c =
@@ -26,38 +29,55 @@ returns-clause-links c =
           let new = w.add_networks.new.links.items in
           let lsa = w.in-Some.lsa.now in
           let R : Node → Type 0 = λ n. AreLinksFrom said root nodes n new in
-          let B : List Link → Type 0 = λ old. Adds (OfEach (IsToRouter root nodes entries router) lsa.links) old middle in
-          let is : router_lsa said router ≡ Some lsa = sym w.router_lsa.ensures ∙ ap option_copied w.in-Some.is in
+          let B : List Link → Type 0 = λ old. Adds
+          (OfEach (IsToRouter root nodes entries router) lsa.links) old middle in
+          let is : router_lsa said router ≡ Some lsa =
+          sym w.router_lsa.ensures ∙ ap option_copied w.in-Some.is in
           rw w.links-is
           (subst R (sym w.in-ARouter.is)
-          (router_links said root nodes entries told router lsa is middle new (subst B c.new-links.ensures.items w.in_ok-add_routers-in-ARouter.ensures.adds) w.in_ok-add_networks-in-ARouter.ensures.adds))
+          (router_links said root nodes entries told router lsa is middle new
+          (subst B c.new-links.ensures.items w.in_ok-add_routers-in-ARouter.ensures.adds)
+          w.in_ok-add_networks-in-ARouter.ensures.adds))
       | in-ARouter+in_default w ↦
           let router = w.in-ARouter.router in
           let R : Node → Type 0 = λ n. AreLinksFrom said root nodes n first in
-          let is : router_lsa said router ≡ None = sym w.router_lsa.ensures ∙ ap option_copied w.in_default.is in
-          rw w.links-is (subst R (sym w.in-ARouter.is) (no_router said root nodes router first is c.new-links.ensures.items))
+          let is : router_lsa said router ≡ None =
+          sym w.router_lsa.ensures ∙ ap option_copied w.in_default.is in
+          rw w.links-is (subst R (sym w.in-ARouter.is)
+          (no_router said root nodes router first is c.new-links.ensures.items))
       | in-ANetwork+in-Some-network_lsa+in_ok-add_listed-in-ANetwork w ↦
           let id = w.in-ANetwork.id in
           let by = w.in-ANetwork.by in
           let new = w.add_listed.new.links.items in
           let lsa = w.in-Some-network_lsa.lsa.now in
           let R : Node → Type 0 = λ n. AreLinksFrom said root nodes n new in
-          let B : List Link → Type 0 = λ old. Adds (OfEach (IsToListed nodes entries id) lsa.attached) old new in
-          let is : network_lsa said id by ≡ Some lsa = sym w.network_lsa.ensures ∙ ap option_copied w.in-Some-network_lsa.is in
-          rw w.links-is (subst R (sym w.in-ANetwork.is) (network_links said root nodes entries told id by lsa is new (subst B c.new-links.ensures.items w.in_ok-add_listed-in-ANetwork.ensures.adds)))
+          let B : List Link → Type 0 = λ old. Adds
+          (OfEach (IsToListed nodes entries id) lsa.attached) old new in
+          let is : network_lsa said id by ≡ Some lsa =
+          sym w.network_lsa.ensures ∙ ap option_copied w.in-Some-network_lsa.is in
+          rw w.links-is (subst R (sym w.in-ANetwork.is)
+          (network_links said root nodes entries told id by lsa is new
+          (subst B c.new-links.ensures.items w.in_ok-add_listed-in-ANetwork.ensures.adds)))
       | in-ANetwork+in_default-network_lsa w ↦
           let id = w.in-ANetwork.id in
           let by = w.in-ANetwork.by in
           let R : Node → Type 0 = λ n. AreLinksFrom said root nodes n first in
-          let is : network_lsa said id by ≡ None = sym w.network_lsa.ensures ∙ ap option_copied w.in_default-network_lsa.is in
-          rw w.links-is (subst R (sym w.in-ANetwork.is) (no_network said root nodes id by first is c.new-links.ensures.items))
+          let is : network_lsa said id by ≡ None =
+          sym w.network_lsa.ensures ∙ ap option_copied w.in_default-network_lsa.is in
+          rw w.links-is (subst R (sym w.in-ANetwork.is)
+          (no_network said root nodes id by first is c.new-links.ensures.items))
     ]
 
 pub add_routers-requires-clause-ordered : goal.add_routers-requires-clause-ordered
-add_routers-requires-clause-ordered c = ordered (said_at c.args.told.now.moment c.args.told.now.db.now.present) c.args.area.now.nodes.now c.args.area.now.entries.now c.requires.area.are_entries c.requires.area.are_nodes
+add_routers-requires-clause-ordered c =
+    ordered (said_at c.args.told.now.moment c.args.told.now.db.now.present)
+    c.args.area.now.nodes.now c.args.area.now.entries.now c.requires.area.are_entries
+    c.requires.area.are_nodes
 
 pub add_listed-requires : goal.add_listed-requires
-add_listed-requires c = ordered (said_at c.args.told.now.moment c.args.told.now.db.now.present) c.args.area.now.nodes.now c.args.area.now.entries.now c.requires.area.are_entries c.requires.area.are_nodes
+add_listed-requires c = ordered (said_at c.args.told.now.moment c.args.told.now.db.now.present)
+    c.args.area.now.nodes.now c.args.area.now.entries.now c.requires.area.are_entries
+    c.requires.area.are_nodes
 
 pub router_lsa-requires : goal.router_lsa-requires
 router_lsa-requires c = c.requires.area.are_bodies

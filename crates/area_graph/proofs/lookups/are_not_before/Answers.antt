@@ -7,7 +7,8 @@ use Rattle.area_graph.proofs.Order.{higher_ones}
 use Rattle.area_graph.proofs.lookups.are_not_before.Goals as goal
 
 pub returns-then-place-entries : goal.returns-then-place-entries
-returns-then-place-entries c = λ t k other there high less. omega (arith, high, c.if-place-entries.true, slice_get_within c.args.entries.now k other there)
+returns-then-place-entries c = λ t k other there high less. omega
+    (arith, high, c.if-place-entries.true, slice_get_within c.args.entries.now k other there)
 
 pub returns-then-is_before : goal.returns-then-is_before
 returns-then-is_before c = λ t. absurd (false≢true t)
@@ -17,5 +18,9 @@ returns c = λ t k other there high.
     let entries = c.args.entries.now in
     let at = c.args.place in
     let first = c.index-entries-place.result in
-    let here : slice_get entries at ≡ Some first = slice_get_read entries (length entries) at first refl (omega (arith, c.requires.within, c.if-place-entries.false)) c.index-entries-place.is in
-    higher_ones entries c.args.entry.now c.requires.sorted at first here (lt_false (entry_cmp first c.args.entry.now) (sym c.is_before.ensures ∙ c.if-is_before.false)) k other there high
+    let here : slice_get entries at ≡ Some first =
+    slice_get_read entries (length entries) at first refl
+    (omega (arith, c.requires.within, c.if-place-entries.false)) c.index-entries-place.is in
+    higher_ones entries c.args.entry.now c.requires.sorted at first here
+    (lt_false (entry_cmp first c.args.entry.now)
+    (sym c.is_before.ensures ∙ c.if-is_before.false)) k other there high

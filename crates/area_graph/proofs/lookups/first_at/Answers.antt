@@ -12,5 +12,11 @@ returns c =
     let entry = c.args.entry.now in
     let at = c.partition_point.result in
     let point : IsPoint entries entry at =
-    c.partition_point.ensures.partitioned (λ (y : Entry). is_lt (entry_cmp y entry)) (always_returns_same _ (λ a r. r ≡ is_lt (entry_cmp a.0.now entry)) _ (λ a r q k. search rules)) (parted entries entry c.requires) in
-    record { within = c.partition_point.ensures.bound; before = before entries entry at point; beyond = beyond entries entry at point }
+    c.partition_point.ensures.partitioned (λ (y : Entry). is_lt (entry_cmp y entry))
+    (always_returns_same _ (λ a r. r ≡ is_lt (entry_cmp a.0.now entry)) _
+    (λ a r q k. search rules)) (parted entries entry c.requires) in
+    record {
+      within = c.partition_point.ensures.bound;
+      before = before entries entry at point;
+      beyond = beyond entries entry at point;
+    }

@@ -11,7 +11,10 @@ returns-then-is_same-clause-before c =
     let nodes = c.args.nodes.now in
     let node = c.args.node.now in
     let at = c.args.place in
-    let here : StandsAt nodes node at = slice_get_read nodes (length nodes) at c.index-nodes-place.result refl c.if-place-nodes.true c.index-nodes-place.is ∙ ap (λ (n : Node). Some n) (c.is_same.ensures.0 c.if-is_same.true) in
+    let here : StandsAt nodes node at =
+    slice_get_read nodes (length nodes) at c.index-nodes-place.result refl c.if-place-nodes.true
+    c.index-nodes-place.is ∙ ap (λ (n : Node). Some n)
+    (c.is_same.ensures.0 c.if-is_same.true) in
     λ k other there low. in_places nodes c.requires k at other node there here low
 
 pub returns-then-is_same-clause-beyond : goal.returns-then-is_same-clause-beyond
@@ -19,5 +22,8 @@ returns-then-is_same-clause-beyond c =
     let nodes = c.args.nodes.now in
     let node = c.args.node.now in
     let at = c.args.place in
-    let here : StandsAt nodes node at = slice_get_read nodes (length nodes) at c.index-nodes-place.result refl c.if-place-nodes.true c.index-nodes-place.is ∙ ap (λ (n : Node). Some n) (c.is_same.ensures.0 c.if-is_same.true) in
+    let here : StandsAt nodes node at =
+    slice_get_read nodes (length nodes) at c.index-nodes-place.result refl c.if-place-nodes.true
+    c.index-nodes-place.is ∙ ap (λ (n : Node). Some n)
+    (c.is_same.ensures.0 c.if-is_same.true) in
     go_down nodes c.requires node node at here (never_before node)

@@ -8,8 +8,10 @@ abbrev pub invariant-loop-low : goal.invariant-loop-low
 invariant-loop-low l = record {
   bounds : l.low ≤ l.high;
   within : l.high ≤ length l.nodes;
-  before : (k : ℕ) (other : Node) → slice_get l.nodes k ≡ Some other → k < l.low → node_cmp other l.node ≡ Less;
-  beyond : (k : ℕ) (other : Node) → slice_get l.nodes k ≡ Some other → l.high ≤ k → node_cmp other l.node ≡ Less → ⊥;
+  before : (k : ℕ) (other : Node) → slice_get l.nodes k ≡ Some other → k < l.low
+      → node_cmp other l.node ≡ Less;
+  beyond : (k : ℕ) (other : Node) → slice_get l.nodes k ≡ Some other → l.high ≤ k
+      → node_cmp other l.node ≡ Less → ⊥;
 }
 
 abbrev pub decreases-loop-low : goal.decreases-loop-low

@@ -10,7 +10,8 @@ use Rattle.area_graph.proofs.vertices.graph_of.Goals as goal
 
 pub entries_of-requires-clause-bodies : goal.entries_of-requires-clause-bodies
 entries_of-requires-clause-bodies c =
-    let P : List (Key × Body) → Type 0 = λ es. AreBodies (Some 2) (said_at c.args.moment c.args.db.now.present) es in
+    let P : List (Key × Body) → Type 0 =
+    λ es. AreBodies (Some 2) (said_at c.args.moment c.args.db.now.present) es in
     subst P (sym c.deref.ensures.value) c.in_ok-bodies.ensures.bodies
 
 pub vertices_of-requires-clause-area : goal.vertices_of-requires-clause-area
@@ -29,11 +30,13 @@ returns-clause-count c = c.in_ok-graph.ensures.count
 
 pub returns-clause-stands : goal.returns-clause-stands
 returns-clause-stands c =
-    is_graph_of (said_at c.args.moment c.args.db.now.present) c.args.root.now c.args.nodes.now c.in_ok-graph.graph.items c.requires.nodes c.in_ok-graph.ensures
+    is_graph_of (said_at c.args.moment c.args.db.now.present) c.args.root.now c.args.nodes.now
+    c.in_ok-graph.graph.items c.requires.nodes c.in_ok-graph.ensures
 
 pub returns-clause-lawful : goal.returns-clause-lawful
 returns-clause-lawful c =
-    is_graph (said_at c.args.moment c.args.db.now.present) c.args.root.now c.args.nodes.now c.in_ok-graph.graph.items c.requires.nodes c.in_ok-graph.ensures c.requires.interfaces
+    is_graph (said_at c.args.moment c.args.db.now.present) c.args.root.now c.args.nodes.now
+    c.in_ok-graph.graph.items c.requires.nodes c.in_ok-graph.ensures c.requires.interfaces
 
 pub returns-clause-vertices : goal.returns-clause-vertices
 returns-clause-vertices c = c.in_ok-graph.ensures

@@ -12,12 +12,29 @@ loop-at-preserved c =
     let nodes = c.args.area.now.nodes.now in
     let old = c.loop-at.graph.items in
     let node = c.index-nodes-at.result in
-    let here : StandsAt nodes node c.loop-at.at = slice_get_read nodes (length nodes) c.loop-at.at node refl (omega arith) c.index-nodes-at.is in
+    let here : StandsAt nodes node c.loop-at.at =
+    slice_get_read nodes (length nodes) c.loop-at.at node refl (omega arith) c.index-nodes-at.is
+    in
     record {
       within = omega (arith, c.loop-at-test.true);
-      count = omega (arith, ap length c.in_ok-push.ensures.items, length-append old (c.in_ok-vertex.vertex ∷ []), c.loop-at.invariant.count);
-      each = rw c.in_ok-push.ensures.items (one_more said c.args.root.now nodes old c.loop-at.at node c.in_ok-vertex.vertex c.loop-at.invariant.count here c.loop-at.invariant.each c.in_ok-vertex.ensures);
+      count = omega (
+        arith,
+        ap length c.in_ok-push.ensures.items,
+        length-append old (c.in_ok-vertex.vertex ∷ []),
+        c.loop-at.invariant.count,
+      );
+      each = rw c.in_ok-push.ensures.items
+          (one_more said c.args.root.now nodes old c.loop-at.at node c.in_ok-vertex.vertex
+          c.loop-at.invariant.count here c.loop-at.invariant.each c.in_ok-vertex.ensures);
     }
 
 pub returns : goal.returns
-returns c = record { count = omega (arith, c.loop-at.invariant.count, c.loop-at.invariant.within, c.loop-at-test.false); each = c.loop-at.invariant.each }
+returns c = record {
+  count = omega (
+    arith,
+    c.loop-at.invariant.count,
+    c.loop-at.invariant.within,
+    c.loop-at-test.false,
+  );
+  each = c.loop-at.invariant.each;
+}

@@ -10,5 +10,8 @@ abbrev pub invariant-loop-at : goal.invariant-loop-at
 invariant-loop-at l = record {
   within : l.at ≤ length l.area.nodes.now;
   count : length l.graph.items ≡ l.at;
-  each : (at : ℕ) (node : Node) (vertex : Vertex) → StandsAt l.area.nodes.now node at → slice_get l.graph.items at ≡ Some vertex → IsVertexOf (said_at l.told.moment l.told.db.now.present) l.root l.area.nodes.now node vertex;
+  each : (at : ℕ) (node : Node) (vertex : Vertex) → StandsAt l.area.nodes.now node at
+      → slice_get l.graph.items at ≡ Some vertex
+      → IsVertexOf (said_at l.told.moment l.told.db.now.present) l.root l.area.nodes.now node
+      vertex;
 }

@@ -15,7 +15,8 @@ use Rattle.area_routes.proofs.following.follow_from.Goals as goal
 
 pub follow_externals-requires-clause-same : goal.follow_externals-requires-clause-same
 follow_externals-requires-clause-same c =
-    subst (λ (d : RouterDatabase). SayTheSame (Some 4) (said_at c.args.before d.settled) (said_at c.args.moment d.present)) (sym c.database-db.ensures) c.requires.same
+    subst (λ (d : RouterDatabase). SayTheSame (Some 4) (said_at c.args.before d.settled)
+    (said_at c.args.moment d.present)) (sym c.database-db.ensures) c.requires.same
 
 pub follow_externals-requires-clause-inner : goal.follow_externals-requires-clause-inner
 follow_externals-requires-clause-inner c =
@@ -26,30 +27,39 @@ follow_externals-requires-clause-inner c =
       are_inner = c.requires.inner.are_inner;
       searchable = c.requires.inner.searchable;
     } in
-    subst (λ (d : RouterDatabase). Knows (said_at c.args.moment d.present) c.root-root.result.now c.args.inner.now) (sym c.database-db.ensures)
+    subst (λ (d : RouterDatabase). Knows (said_at c.args.moment d.present) c.root-root.result.now
+    c.args.inner.now) (sym c.database-db.ensures)
     (subst (λ (r : Root). Knows said r c.args.inner.now) (sym c.root-root.ensures) known)
 
 pub follow_externals-requires-clause-routes : goal.follow_externals-requires-clause-routes
 follow_externals-requires-clause-routes c =
     let said = said_at c.args.before c.args.area.now.settled.database in
-    subst (λ (d : RouterDatabase). AreCandidates (said_at c.args.before d.settled) c.root-root.result.now c.args.routes.items) (sym c.database-db.ensures)
-    (subst (λ (r : Root). AreCandidates said r c.args.routes.items) (sym c.root-root.ensures) c.requires.routes)
+    subst (λ (d : RouterDatabase). AreCandidates (said_at c.args.before d.settled)
+    c.root-root.result.now c.args.routes.items) (sym c.database-db.ensures)
+    (subst (λ (r : Root). AreCandidates said r c.args.routes.items) (sym c.root-root.ensures)
+    c.requires.routes)
 
 pub returns-in-SomeNew-clause-candidates : goal.returns-in-SomeNew-clause-candidates
 returns-in-SomeNew-clause-candidates c =
     let items = c.follow_externals.new.routes.items in
     let here = c.database-db.result.now in
-    let done = subst (λ (f : Followed). HaveFollowed (said_at c.args.moment here.present) c.root-root.result.now c.args.routes.items items f) c.in-SomeNew.is c.in-Ok.ensures in
-    subst (λ (d : RouterDatabase). AreCandidates (said_at c.args.moment d.present) c.args.walk.now.root items) c.database-db.ensures
-    (subst (λ (r : Root). AreCandidates (said_at c.args.moment here.present) r items) c.root-root.ensures done.0)
+    let done = subst (λ (f : Followed). HaveFollowed (said_at c.args.moment here.present)
+    c.root-root.result.now c.args.routes.items items f) c.in-SomeNew.is c.in-Ok.ensures in
+    subst (λ (d : RouterDatabase). AreCandidates (said_at c.args.moment d.present)
+    c.args.walk.now.root items) c.database-db.ensures
+    (subst (λ (r : Root). AreCandidates (said_at c.args.moment here.present) r items)
+    c.root-root.ensures done.0)
 
 pub returns-in-NoneNew-clause-candidates : goal.returns-in-NoneNew-clause-candidates
 returns-in-NoneNew-clause-candidates c =
     let items = c.follow_externals.new.routes.items in
     let here = c.database-db.result.now in
-    let done = subst (λ (f : Followed). HaveFollowed (said_at c.args.moment here.present) c.root-root.result.now c.args.routes.items items f) c.in-NoneNew.is c.in-Ok.ensures in
-    subst (λ (d : RouterDatabase). AreCandidates (said_at c.args.moment d.present) c.args.walk.now.root items) c.database-db.ensures
-    (subst (λ (r : Root). AreCandidates (said_at c.args.moment here.present) r items) c.root-root.ensures done.0)
+    let done = subst (λ (f : Followed). HaveFollowed (said_at c.args.moment here.present)
+    c.root-root.result.now c.args.routes.items items f) c.in-NoneNew.is c.in-Ok.ensures in
+    subst (λ (d : RouterDatabase). AreCandidates (said_at c.args.moment d.present)
+    c.args.walk.now.root items) c.database-db.ensures
+    (subst (λ (r : Root). AreCandidates (said_at c.args.moment here.present) r items)
+    c.root-root.ensures done.0)
 
 pub returns-in-NoneNew-clause-none_new : goal.returns-in-NoneNew-clause-none_new
 returns-in-NoneNew-clause-none_new c on =
@@ -57,8 +67,10 @@ returns-in-NoneNew-clause-none_new c on =
     let here = c.database-db.result.now in
     let old = said_at c.args.before c.args.area.now.settled.database in
     let new = said_at c.args.moment c.args.area.now.present.database in
-    let done = subst (λ (f : Followed). HaveFollowed (said_at c.args.moment here.present) c.root-root.result.now c.args.routes.items items f) c.in-NoneNew.is c.in-Ok.ensures in
-    stay_answered old new c.args.walk.now.root c.args.routes.items items c.requires.routes (returns-in-NoneNew-clause-candidates c) done.1
+    let done = subst (λ (f : Followed). HaveFollowed (said_at c.args.moment here.present)
+    c.root-root.result.now c.args.routes.items items f) c.in-NoneNew.is c.in-Ok.ensures in
+    stay_answered old new c.args.walk.now.root c.args.routes.items items c.requires.routes
+    (returns-in-NoneNew-clause-candidates c) done.1
 
 pub returns-in-SomeNew-clause-none_new : goal.returns-in-SomeNew-clause-none_new
 returns-in-SomeNew-clause-none_new c on = absurd (false≢true on)
@@ -67,7 +79,8 @@ pub returns-in-SomeNew-clause-another : goal.returns-in-SomeNew-clause-another
 returns-in-SomeNew-clause-another c off =
     let items = c.follow_externals.new.routes.items in
     let here = c.database-db.result.now in
-    let done = subst (λ (f : Followed). HaveFollowed (said_at c.args.moment here.present) c.root-root.result.now c.args.routes.items items f) c.in-SomeNew.is c.in-Ok.ensures in
+    let done = subst (λ (f : Followed). HaveFollowed (said_at c.args.moment here.present)
+    c.root-root.result.now c.args.routes.items items f) c.in-SomeNew.is c.in-Ok.ensures in
     done.1
 
 pub returns-in-NoneNew-clause-another : goal.returns-in-NoneNew-clause-another

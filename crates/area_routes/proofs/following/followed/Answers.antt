@@ -7,5 +7,7 @@ use Rattle.area_routes.proofs.following.followed.Goals as goal
 
 pub follow_some-requires-clause-inner : goal.follow_some-requires-clause-inner
 follow_some-requires-clause-inner c =
-    subst (λ (o : Option InnerRoutes). IfSome o (AreInnerBy (said_at c.args.moment c.args.area.now.present.database) c.args.walk.now.root c.args.walk.now))
+    subst (λ (o : Option InnerRoutes). IfSome o
+    (AreInnerBy (said_at c.args.moment c.args.area.now.present.database) c.args.walk.now.root
+    c.args.walk.now))
     c.in-Some.is c.requires.inner

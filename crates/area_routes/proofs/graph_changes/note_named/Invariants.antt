@@ -9,5 +9,6 @@ use Rattle.area_routes.proofs.graph_changes.note_named.Given as goal
 abbrev pub invariant-loop-link : goal.invariant-loop-link
 invariant-loop-link l = record {
   kept : (place : ℕ) → Contains l.fn.places.items place → Contains l.places.items place;
-  noted : OfFront (λ (link : Link). link.kind ≡ PointToPoint → IsAmong l.at.nodes.now l.places.items link.link_id) l.link-items l.link-index;
+  noted : OfFront (λ (link : Link). link.kind ≡ PointToPoint
+      → IsAmong l.at.nodes.now l.places.items link.link_id) l.link-items l.link-index;
 }

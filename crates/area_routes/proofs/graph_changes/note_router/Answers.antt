@@ -8,6 +8,9 @@ use Rattle.area_routes.proofs.graph_changes.note_router.Goals as goal
 pub returns-in_ok-push-clause-noted : goal.returns-in_ok-push-clause-noted
 returns-in_ok-push-clause-noted c at stands =
     let place = c.in-Some.place in
-    let same : place ≡ at = one_place c.args.at.now.nodes.now c.requires (ARouter c.args.router) place at c.in-Some.ensures.found stands in
-    let pushed : Contains (c.args.places.now.items ++ place ∷ []) at = subst (λ p. Contains (c.args.places.now.items ++ place ∷ []) p) same (Contains-push c.args.places.now.items place) in
+    let same : place ≡ at = one_place c.args.at.now.nodes.now c.requires (ARouter c.args.router)
+    place at c.in-Some.ensures.found stands in
+    let pushed : Contains (c.args.places.now.items ++ place ∷ []) at =
+    subst (λ p. Contains (c.args.places.now.items ++ place ∷ []) p) same
+    (Contains-push c.args.places.now.items place) in
     subst (λ (ps : List ℕ). Contains ps at) (sym c.in_ok-push.ensures.items) pushed

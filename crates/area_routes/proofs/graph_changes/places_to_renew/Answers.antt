@@ -5,7 +5,8 @@ use Rattle.area_routes.proofs.Stay.{covered_more}
 use Rattle.routes.specs.Said.{said_at}
 use Rattle.words.specs.declared.key.Key.{Key}
 use Rattle.area_routes.proofs.graph_changes.places_to_renew.Goals as goal
-use Rattle.area_routes.proofs.graph_changes.places_to_renew.Goals.{then-key-le-NETWORK_LSA+in_ok-note_key+else-not-branch, else-key-le-NETWORK_LSA}
+use Rattle.area_routes.proofs.graph_changes.places_to_renew.Goals.{then-key-le-NETWORK_LSA+in_ok-note_key+else-not-branch}
+use Rattle.area_routes.proofs.graph_changes.places_to_renew.Goals.{else-key-le-NETWORK_LSA}
 
 pub loop-key-preserved : goal.loop-key-preserved
 loop-key-preserved c =
@@ -20,14 +21,19 @@ loop-key-preserved c =
       | then-key-le-NETWORK_LSA+in_ok-note_key+else-not-branch w ↦
           let places = w.note_key.new.places.items in
           rw w.places-is (front_more (C places) keys i key c.loop-key-test.true c.key-item.is
-          (λ k among few. covered_more old new nodes c.loop-key.places.items places k w.in_ok-note_key.ensures.kept (c.loop-key.invariant k among few))
+          (λ k among few. covered_more old new nodes c.loop-key.places.items places k
+          w.in_ok-note_key.ensures.kept (c.loop-key.invariant k among few))
           (λ few. w.in_ok-note_key.ensures.covered cc))
       | else-key-le-NETWORK_LSA w ↦
-          rw w.places-is (front_more (C c.loop-key.places.items) keys i key c.loop-key-test.true c.key-item.is c.loop-key.invariant (λ few. absurd (omega (arith, few, w.if-key-le-NETWORK_LSA.false))))
+          rw w.places-is (front_more (C c.loop-key.places.items) keys i key c.loop-key-test.true
+          c.key-item.is c.loop-key.invariant
+          (λ few. absurd (omega (arith, few, w.if-key-le-NETWORK_LSA.false))))
     ]
 
 pub returns : goal.returns
 returns c =
     let old = said_at c.args.before c.args.at.now.db.now.settled in
     let new = said_at c.args.at.now.moment c.args.at.now.db.now.present in
-    front_all (λ (k : Key). k.ls_type ≤ 2 → IsCovered old new c.args.at.now.nodes.now c.loop-key.places.items k) c.args.keys.now c.loop-key.key-index (omega (arith, c.loop-key-test.false)) c.loop-key.invariant
+    front_all (λ (k : Key). k.ls_type ≤ 2
+    → IsCovered old new c.args.at.now.nodes.now c.loop-key.places.items k) c.args.keys.now
+    c.loop-key.key-index (omega (arith, c.loop-key-test.false)) c.loop-key.invariant

@@ -19,6 +19,9 @@ returns-in-Some-clause-adds c =
     let new = c.add_exits.new.links.items in
     let F : ℕ → Type 0 = λ far. IsNeighbor said nodes far router (Some to) in
     let O : Option ℕ → Type 0 = λ o. IsNeighbor said nodes c.new-far.result router o in
-    let at : IsNeighbor said nodes told.link_id router (Some to) = subst F c.new-far.ensures (subst O c.in-Some.is c.neighbor_at.ensures) in
-    on_ok c.add_exits.result (Adds (IsExitTo root router to told.metric told.link_data) old new) (Adds (IsToNeighbor said root nodes router told) old new)
-    (to_neighbor said root nodes router told to old new c.requires.nodes.ascend c.requires.is_kind c.requires.counts at) c.add_exits.ensures.adds
+    let at : IsNeighbor said nodes told.link_id router (Some to) =
+    subst F c.new-far.ensures (subst O c.in-Some.is c.neighbor_at.ensures) in
+    on_ok c.add_exits.result (Adds (IsExitTo root router to told.metric told.link_data) old new)
+    (Adds (IsToNeighbor said root nodes router told) old new)
+    (to_neighbor said root nodes router told to old new c.requires.nodes.ascend c.requires.is_kind
+    c.requires.counts at) c.add_exits.ensures.adds

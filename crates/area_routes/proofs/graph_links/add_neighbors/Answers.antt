@@ -7,14 +7,22 @@ use Rattle.area_graph.specs.Graphs.{Adds, OfEach}
 use Rattle.area_graph.proofs.Lists.{each_all, each_more, each_none, each_skip}
 use Rattle.area_routes.specs.GraphLinks.{IsToNeighbor}
 use Rattle.area_routes.proofs.graph_links.add_neighbors.Goals as goal
-use Rattle.area_routes.proofs.graph_links.add_neighbors.Goals.{then-may_count+in_ok-add_neighbor, else-may_count}
+use Rattle.area_routes.proofs.graph_links.add_neighbors.Goals.{then-may_count+in_ok-add_neighbor}
+use Rattle.area_routes.proofs.graph_links.add_neighbors.Goals.{else-may_count}
 
 pub loop-told-init : goal.loop-told-init
-loop-told-init c = record { adds = each_none (IsToNeighbor (said_at c.args.at.now.moment c.args.at.now.db.now.present) c.args.root.now c.args.at.now.nodes.now c.args.router) c.as_slice-told-items.result.now c.args.links.now.items; fits = λ all. all }
+loop-told-init c = record {
+  adds = each_none (IsToNeighbor (said_at c.args.at.now.moment c.args.at.now.db.now.present)
+      c.args.root.now c.args.at.now.nodes.now c.args.router) c.as_slice-told-items.result.now
+      c.args.links.now.items;
+  fits = λ all. all;
+}
 
 pub loop-told-preserved : goal.loop-told-preserved
 loop-told-preserved c =
-    let Q : Told → Link → Type 0 = IsToNeighbor (said_at c.args.at.now.moment c.args.at.now.db.now.present) c.args.root.now c.args.at.now.nodes.now c.args.router in
+    let Q : Told → Link → Type 0 = IsToNeighbor
+    (said_at c.args.at.now.moment c.args.at.now.db.now.present) c.args.root.now
+    c.args.at.now.nodes.now c.args.router in
     let items = c.as_slice-told-items.result.now in
     let i = c.loop-told.told-index in
     let told = c.told-item.result in
@@ -23,19 +31,29 @@ loop-told-preserved c =
     record {
       adds = elim c.if-may_count.branch [
         | then-may_count+in_ok-add_neighbor w ↦
-            rw w.links-is (each_more Q items i told first old w.add_neighbor.new.links.items c.loop-told-test.true c.told-item.is c.loop-told.invariant.adds w.in_ok-add_neighbor.ensures.adds)
+            rw w.links-is (each_more Q items i told first old w.add_neighbor.new.links.items
+            c.loop-told-test.true c.told-item.is c.loop-told.invariant.adds
+            w.in_ok-add_neighbor.ensures.adds)
         | else-may_count w ↦
             rw w.links-is
-            (each_skip Q items i told first old c.loop-told-test.true c.told-item.is (λ x t. false≢true (sym w.if-may_count.false ∙ c.may_count.ensures.1 (t.is_kind, t.counts))) c.loop-told.invariant.adds)
+            (each_skip Q items i told first old c.loop-told-test.true c.told-item.is
+            (λ x t. false≢true (sym w.if-may_count.false
+            ∙ c.may_count.ensures.1 (t.is_kind, t.counts))) c.loop-told.invariant.adds)
       ];
       fits = elim c.if-may_count.branch [
-        | then-may_count+in_ok-add_neighbor w ↦ rw w.links-is (λ all. w.in_ok-add_neighbor.ensures.fits (c.loop-told.invariant.fits all))
+        | then-may_count+in_ok-add_neighbor w ↦ rw w.links-is
+            (λ all. w.in_ok-add_neighbor.ensures.fits (c.loop-told.invariant.fits all))
         | else-may_count w ↦ rw w.links-is c.loop-told.invariant.fits
       ];
     }
 
 pub returns-clause-adds : goal.returns-clause-adds
 returns-clause-adds c =
-    let Q : Told → Link → Type 0 = IsToNeighbor (said_at c.args.at.now.moment c.args.at.now.db.now.present) c.args.root.now c.args.at.now.nodes.now c.args.router in
-    let P : List Told → Type 0 = λ told_links. Adds (OfEach Q told_links) c.args.links.now.items c.loop-told.links.items in
-    subst P c.as_slice-told-items.ensures (each_all Q c.as_slice-told-items.result.now c.loop-told.told-index c.args.links.now.items c.loop-told.links.items c.loop-told-test.false c.loop-told.invariant.adds)
+    let Q : Told → Link → Type 0 = IsToNeighbor
+    (said_at c.args.at.now.moment c.args.at.now.db.now.present) c.args.root.now
+    c.args.at.now.nodes.now c.args.router in
+    let P : List Told → Type 0 = λ told_links. Adds (OfEach Q told_links) c.args.links.now.items
+    c.loop-told.links.items in
+    subst P c.as_slice-told-items.ensures
+    (each_all Q c.as_slice-told-items.result.now c.loop-told.told-index c.args.links.now.items
+    c.loop-told.links.items c.loop-told-test.false c.loop-told.invariant.adds)

@@ -7,6 +7,7 @@ use Rattle.area_routes.proofs.graph_links.add_neighbors.Given as goal
 
 abbrev pub invariant-loop-told : goal.invariant-loop-told
 invariant-loop-told l = record {
-  adds : Adds (OfFront (IsToNeighbor (said_at l.at.moment l.at.db.now.present) l.root l.at.nodes.now l.router) l.told-items l.told-index) l.fn.links.items l.links.items;
+  adds : Adds (OfFront (IsToNeighbor (said_at l.at.moment l.at.db.now.present) l.root l.at.nodes.now
+      l.router) l.told-items l.told-index) l.fn.links.items l.links.items;
   fits : All CostFits l.fn.links.items → All CostFits l.links.items;
 }

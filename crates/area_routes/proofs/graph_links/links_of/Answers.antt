@@ -16,6 +16,9 @@ returns-clause-links c =
     let router = c.args.router in
     let lsa = c.in-Some.lsa.now in
     let new = c.add_neighbors.new.links.items in
-    let is : router_lsa said router ≡ Some lsa = sym c.router_lsa.ensures ∙ ap option_copied c.in-Some.is in
-    let B : List Link → Type 0 = λ old. Adds (OfEach (IsToNeighbor said root nodes router) lsa.links) old new in
-    are_links said root nodes router lsa is (c.has_transit.ensures c.if-has_transit.false) new (subst B c.new-links.ensures.items c.in_ok-add_neighbors.ensures.adds)
+    let is : router_lsa said router ≡ Some lsa =
+    sym c.router_lsa.ensures ∙ ap option_copied c.in-Some.is in
+    let B : List Link → Type 0 = λ old. Adds
+    (OfEach (IsToNeighbor said root nodes router) lsa.links) old new in
+    are_links said root nodes router lsa is (c.has_transit.ensures c.if-has_transit.false) new
+    (subst B c.new-links.ensures.items c.in_ok-add_neighbors.ensures.adds)

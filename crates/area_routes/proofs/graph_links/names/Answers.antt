@@ -8,13 +8,18 @@ use Rattle.area_routes.proofs.graph_links.names.Goals as goal
 
 pub loop-link-preserved : goal.loop-link-preserved
 loop-link-preserved c =
-    front_more (λ (l : Link). (l.kind ≡ PointToPoint) × (l.link_id ≡ c.args.router) → ⊥) c.as_slice-link-items.result.now c.loop-link.link-index c.link-item.result c.loop-link-test.true c.link-item.is c.loop-link.invariant
+    front_more (λ (l : Link). (l.kind ≡ PointToPoint) × (l.link_id ≡ c.args.router) → ⊥)
+    c.as_slice-link-items.result.now c.loop-link.link-index c.link-item.result
+    c.loop-link-test.true c.link-item.is c.loop-link.invariant
     (λ is. false≢true (sym c.if-is_to.false ∙ c.is_to.ensures.1 is))
 
 pub returns : goal.returns
 returns c = (
   (λ t. absurd cc),
   (λ named.
-      absurd (front_all (λ (l : Link). (l.kind ≡ PointToPoint) × (l.link_id ≡ c.args.router) → ⊥) c.as_slice-link-items.result.now c.loop-link.link-index (omega (arith, c.loop-link-test.false)) c.loop-link.invariant named.0
-      (subst (λ (ls : List Link). Contains ls named.0) (sym c.as_slice-link-items.ensures) named.1) (named.2, named.3))),
+      absurd (front_all (λ (l : Link). (l.kind ≡ PointToPoint) × (l.link_id ≡ c.args.router) → ⊥)
+      c.as_slice-link-items.result.now c.loop-link.link-index
+      (omega (arith, c.loop-link-test.false)) c.loop-link.invariant named.0
+      (subst (λ (ls : List Link). Contains ls named.0) (sym c.as_slice-link-items.ensures) named.1)
+      (named.2, named.3))),
 )

@@ -18,11 +18,15 @@ returns-then-names c =
     let nodes = c.args.at.now.nodes.now in
     let far = c.args.far in
     let lsa = c.in-Some.lsa.now in
-    let is : router_lsa said far ≡ Some lsa = sym c.router_lsa.ensures ∙ ap option_copied c.in-Some.is in
-    let back : LinksBack said far PointToPoint c.args.router = back_is said far c.args.router lsa is (c.names.ensures.0 c.if-names.true) in
+    let is : router_lsa said far ≡ Some lsa =
+    sym c.router_lsa.ensures ∙ ap option_copied c.in-Some.is in
+    let back : LinksBack said far PointToPoint c.args.router =
+    back_is said far c.args.router lsa is (c.names.ensures.0 c.if-names.true) in
     let N : Node → Type 0 = λ node. (at : ℕ) → slice_get nodes at ≡ Some node → ⊥ in
-    let stands = placed nodes (ARouter far) ((c.requires.each (ARouter far)).1 (lsa, its said far lsa is)) in
-    elim c.find.result as (λ o. IfSome o (λ at. slice_get nodes at ≡ Some (ARouter far)) → IfNone o (N (ARouter far)) → IsNeighbor said nodes far c.args.router o) [
+    let stands = placed nodes (ARouter far)
+    ((c.requires.each (ARouter far)).1 (lsa, its said far lsa is)) in
+    elim c.find.result as (λ o. IfSome o (λ at. slice_get nodes at ≡ Some (ARouter far))
+    → IfNone o (N (ARouter far)) → IsNeighbor said nodes far c.args.router o) [
       | None ↦ λ found missing b. missing stands.0 stands.1
       | Some at ↦ λ found missing. (found, back)
     ] c.find.ensures.found c.find.ensures.missing

@@ -17,8 +17,10 @@ returns-then-branch-clause-graph c =
     let graph = c.args.graph in
     let same : SayTheSame (Some 2) old new = c.in_ok-say_the_same.ensures.same c.if-branch.true in
     record {
-      nodes = nodes_stay old new graph.nodes.items [] (same_covered old new graph.nodes.items same) c.requires.graph.nodes;
-      vertices = all_stay old new graph.root graph.nodes.items graph.vertices.items same c.requires.graph.vertices;
+      nodes = nodes_stay old new graph.nodes.items [] (same_covered old new graph.nodes.items same)
+          c.requires.graph.nodes;
+      vertices = all_stay old new graph.root graph.nodes.items graph.vertices.items same
+          c.requires.graph.vertices;
       walkable = c.requires.graph.walkable;
     }
 
@@ -28,10 +30,18 @@ renewed-requires-clause-nodes c =
     let new : Said = said_at c.args.moment c.args.db.now.present in
     let nodes = c.args.graph.nodes.items in
     let places = c.in-Some.places.items in
-    let covered : AreCovered old new c.deref.result.now places c.deref-2.result.now = subst (λ (o : Option _). IfSome o (λ found. AreCovered old new c.deref.result.now found.items c.deref-2.result.now)) c.in-Some.is c.in_ok-places_to_renew.ensures in
-    let on_nodes : AreCovered old new nodes places c.deref-2.result.now = subst (λ (ns : List Node). AreCovered old new ns places c.deref-2.result.now) c.deref.ensures.value covered in
-    let others : OthersSayTheSame c.deref-2.result.now old new = subst (λ (ks : List Key). OthersSayTheSame ks old new) (sym c.deref-2.ensures.value) c.in_ok-keys.ensures in
-    nodes_stay old new nodes places (all_covered old new nodes places c.deref-2.result.now others on_nodes) c.requires.graph.nodes
+    let covered : AreCovered old new c.deref.result.now places c.deref-2.result.now =
+    subst (λ (o : Option _). IfSome o
+    (λ found. AreCovered old new c.deref.result.now found.items c.deref-2.result.now))
+    c.in-Some.is c.in_ok-places_to_renew.ensures in
+    let on_nodes : AreCovered old new nodes places c.deref-2.result.now =
+    subst (λ (ns : List Node). AreCovered old new ns places c.deref-2.result.now)
+    c.deref.ensures.value covered in
+    let others : OthersSayTheSame c.deref-2.result.now old new =
+    subst (λ (ks : List Key). OthersSayTheSame ks old new) (sym c.deref-2.ensures.value)
+    c.in_ok-keys.ensures in
+    nodes_stay old new nodes places (all_covered old new nodes places c.deref-2.result.now others
+    on_nodes) c.requires.graph.nodes
 
 pub renewed-requires-clause-others : goal.renewed-requires-clause-others
 renewed-requires-clause-others c =
@@ -40,7 +50,17 @@ renewed-requires-clause-others c =
     let root = c.args.graph.root in
     let nodes = c.args.graph.nodes.items in
     let places = c.in-Some.places.items in
-    let covered : AreCovered old new c.deref.result.now places c.deref-2.result.now = subst (λ (o : Option _). IfSome o (λ found. AreCovered old new c.deref.result.now found.items c.deref-2.result.now)) c.in-Some.is c.in_ok-places_to_renew.ensures in
-    let on_nodes : AreCovered old new nodes places c.deref-2.result.now = subst (λ (ns : List Node). AreCovered old new ns places c.deref-2.result.now) c.deref.ensures.value covered in
-    let others : OthersSayTheSame c.deref-2.result.now old new = subst (λ (ks : List Key). OthersSayTheSame ks old new) (sym c.deref-2.ensures.value) c.in_ok-keys.ensures in
-    subst (λ (ps : List ℕ). StayUnlessAmong old new root nodes ps) (sym c.deref-in-Some.ensures.value) (vertices_stay old new nodes places (all_covered old new nodes places c.deref-2.result.now others on_nodes) root)
+    let covered : AreCovered old new c.deref.result.now places c.deref-2.result.now =
+    subst (λ (o : Option _). IfSome o
+    (λ found. AreCovered old new c.deref.result.now found.items c.deref-2.result.now))
+    c.in-Some.is c.in_ok-places_to_renew.ensures in
+    let on_nodes : AreCovered old new nodes places c.deref-2.result.now =
+    subst (λ (ns : List Node). AreCovered old new ns places c.deref-2.result.now)
+    c.deref.ensures.value covered in
+    let others : OthersSayTheSame c.deref-2.result.now old new =
+    subst (λ (ks : List Key). OthersSayTheSame ks old new) (sym c.deref-2.ensures.value)
+    c.in_ok-keys.ensures in
+    subst (λ (ps : List ℕ). StayUnlessAmong old new root nodes ps)
+    (sym c.deref-in-Some.ensures.value)
+    (vertices_stay old new nodes places
+    (all_covered old new nodes places c.deref-2.result.now others on_nodes) root)

@@ -20,8 +20,13 @@ loop-place-preserved c =
     let next = c.renew.new.vertices.items in
     let place : ℕ = get_or places i 0 in
     let done : c.in_ok-renew.field-0 ≡ true = cc in
-    let renewed : IsRenewed new root nodes place graph next = subst (λ (ns : List Node). IsRenewed new root ns place graph next) c.deref.ensures.value (c.in_ok-renew.ensures.renewed done) in
-    subst (λ (ps : List ℕ). AreEither old new root nodes ps next) (sym (take_more places i 0 c.loop-place-test.true)) (one_renewed old new root nodes (take i places) place graph next c.loop-place.invariant renewed)
+    let renewed : IsRenewed new root nodes place graph next =
+    subst (λ (ns : List Node). IsRenewed new root ns place graph next) c.deref.ensures.value
+    (c.in_ok-renew.ensures.renewed done) in
+    subst (λ (ps : List ℕ). AreEither old new root nodes ps next)
+    (sym (take_more places i 0 c.loop-place-test.true))
+    (one_renewed old new root nodes (take i places) place graph next c.loop-place.invariant
+    renewed)
 
 pub returns-clause-graph : goal.returns-clause-graph
 returns-clause-graph c =
@@ -30,8 +35,12 @@ returns-clause-graph c =
     let root = c.args.graph.root in
     let nodes = c.args.graph.nodes.items in
     let graph = c.loop-place.vertices.items in
-    let all : AreEither old new root nodes c.args.places.now graph = subst (λ (ps : List ℕ). AreEither old new root nodes ps graph) (take_all c.loop-place.place-index c.args.places.now (omega (arith, c.loop-place-test.false))) c.loop-place.invariant in
-    let vertices : AreVertices new root nodes graph = all_renewed old new root nodes c.args.places.now graph all c.requires.others in
+    let all : AreEither old new root nodes c.args.places.now graph =
+    subst (λ (ps : List ℕ). AreEither old new root nodes ps graph)
+    (take_all c.loop-place.place-index c.args.places.now
+    (omega (arith, c.loop-place-test.false))) c.loop-place.invariant in
+    let vertices : AreVertices new root nodes graph =
+    all_renewed old new root nodes c.args.places.now graph all c.requires.others in
     let walkable = c.requires.graph.walkable in
     record {
       nodes = c.requires.nodes;

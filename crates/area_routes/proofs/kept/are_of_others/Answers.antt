@@ -14,7 +14,8 @@ loop-key-preserved c key among is =
     let xs = c.args.keys.now in
     let i = c.loop-key.key-index in
     let x = c.key-item.result in
-    let split = take_more xs i x c.loop-key-test.true ∙ ap (λ (y : Key). take i xs ++ y ∷ []) (sym c.key-item.is) in
+    let split = take_more xs i x c.loop-key-test.true
+    ∙ ap (λ (y : Key). take i xs ++ y ∷ []) (sym c.key-item.is) in
     elim (Contains-push_cases (take i xs) x key (subst (λ ys. Contains ys key) split among)) [
       | inl before ↦ c.loop-key.invariant key before is
       | inr here ↦ omega (arith, c.if-key-eq5.false, ap (λ (k : Key). k.ls_type) here, is)
@@ -23,11 +24,14 @@ loop-key-preserved c key among is =
 pub returns-then-key-eq5 : goal.returns-then-key-eq5
 returns-then-key-eq5 c = (
   (λ t. absurd cc),
-  (λ all. absurd (all c.key-item.result (c.loop-key.key-index, c.loop-key-test.true, sym c.key-item.is) (omega (arith, c.if-key-eq5.true)))),
+  (λ all. absurd (all c.key-item.result
+      (c.loop-key.key-index, c.loop-key-test.true, sym c.key-item.is)
+      (omega (arith, c.if-key-eq5.true)))),
 )
 
 pub returns : goal.returns
 returns c = (
-  (λ t. subst AreOfOthers (take_all c.loop-key.key-index c.args.keys.now (omega (arith, c.loop-key-test.false))) c.loop-key.invariant),
+  (λ t. subst AreOfOthers (take_all c.loop-key.key-index c.args.keys.now
+      (omega (arith, c.loop-key-test.false))) c.loop-key.invariant),
   (λ all. refl),
 )

@@ -10,9 +10,12 @@ pub calculate_by-requires-clause-externals : goal.calculate_by-requires-clause-e
 calculate_by-requires-clause-externals c =
     let said = said_at c.args.moment c.args.area.now.present.database in
     subst (λ (xs : List External). AreExternals said xs) (sym c.deref.ensures.value)
-    (subst (λ (o : Option (Vec External)). IfSome o (λ told. AreExternals said told.items)) c.in-Some.is c.requires.externals)
+    (subst (λ (o : Option (Vec External)). IfSome o (λ told. AreExternals said told.items))
+    c.in-Some.is c.requires.externals)
 
-pub calculate_by-requires-in-None-clause-externals : goal.calculate_by-requires-in-None-clause-externals
+pub calculate_by-requires-in-None-clause-externals :
+    goal.calculate_by-requires-in-None-clause-externals
 calculate_by-requires-in-None-clause-externals c =
     let said = said_at c.args.moment c.args.area.now.present.database in
-    subst (λ (xs : List External). AreExternals said xs) (sym c.deref-in-None.ensures.value) c.in_ok-told-in-None.ensures
+    subst (λ (xs : List External). AreExternals said xs) (sym c.deref-in-None.ensures.value)
+    c.in_ok-told-in-None.ensures

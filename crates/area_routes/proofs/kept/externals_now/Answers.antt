@@ -6,4 +6,5 @@ use Rattle.area_routes.proofs.kept.externals_now.Goals as goal
 
 pub returns : goal.returns
 returns c =
-    subst (λ (d : RouterDatabase). AreExternals (said_at c.args.moment d.present) c.in_ok-told.told.items) c.database-db.ensures c.in_ok-told.ensures
+    subst (λ (d : RouterDatabase). AreExternals (said_at c.args.moment d.present)
+    c.in_ok-told.told.items) c.database-db.ensures c.in_ok-told.ensures

@@ -18,4 +18,5 @@ loop-link-preserved c =
     ∙ sym (mapped_more address links n c.link-item.result c.loop-link-test.true c.link-item.is)
 
 pub returns : goal.returns
-returns c = c.loop-link.invariant ∙ ap (map address) (take_all c.loop-link.link-index c.args.links.now c.loop-link-test.false)
+returns c = c.loop-link.invariant ∙ ap (map address)
+    (take_all c.loop-link.link-index c.args.links.now c.loop-link-test.false)

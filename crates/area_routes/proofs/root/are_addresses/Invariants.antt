@@ -5,4 +5,5 @@ use Rattle.flooding.specs.Links.{present}
 use Rattle.area_routes.proofs.root.are_addresses.Given as goal
 
 abbrev pub invariant-loop-at : goal.invariant-loop-at
-invariant-loop-at l = take l.at l.addresses ≡ map (λ (k : Kept Link). (present k).interface.address) (take l.at l.links)
+invariant-loop-at l = take l.at l.addresses
+    ≡ map (λ (k : Kept Link). (present k).interface.address) (take l.at l.links)

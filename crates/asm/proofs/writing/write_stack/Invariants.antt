@@ -12,9 +12,13 @@ abbrev pub invariant-loop-start : goal.invariant-loop-start
 invariant-loop-start l = record {
   within : l.start ≤ 512;
   long : 1 ≤ l.start → length l.stack ≡ 512;
-  listed : (f : Front) (slot : ℕ) (rank : Rank) (kinds : List Kind) → Listed (string_bytes l.fn.text) (filling f slot rank kinds no_bytes) Any
-      → Listed (string_bytes l.text) (filling f slot rank kinds (bytes_up_to l.stack l.start)) Any;
-  text : string_bytes l.text ++ text_of (map bytes_line (longest_ranges l.start (drop l.start l.stack))) ≡ string_bytes l.fn.text ++ text_of (map bytes_line (longest_ranges 0 l.stack));
+  listed : (f : Front) (slot : ℕ) (rank : Rank) (kinds : List Kind)
+      → Listed (string_bytes l.fn.text) (filling f slot rank kinds no_bytes) Any
+      → Listed (string_bytes l.text) (filling f slot rank kinds (bytes_up_to l.stack l.start))
+      Any;
+  text : string_bytes l.text ++ text_of
+      (map bytes_line (longest_ranges l.start (drop l.start l.stack))) ≡ string_bytes l.fn.text
+      ++ text_of (map bytes_line (longest_ranges 0 l.stack));
 }
 
 abbrev pub decreases-loop-start : goal.decreases-loop-start

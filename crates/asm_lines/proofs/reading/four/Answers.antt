@@ -3,4 +3,5 @@ use Rattle.asm_lines.proofs.Seen.{if_some}
 use Rattle.asm_lines.proofs.reading.four.Goals as goal
 
 pub returns-then-eq-2-clause-found : goal.returns-then-eq-2-clause-found
-returns-then-eq-2-clause-found c = if_some _ _ c.state_of.result (λ x k. k [] tt tt) c.state_of.ensures.found
+returns-then-eq-2-clause-found c =
+    if_some _ _ c.state_of.result (λ x k. k [] tt tt) c.state_of.ensures.found

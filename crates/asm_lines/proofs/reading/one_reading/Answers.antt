@@ -7,5 +7,6 @@ use Rattle.asm_lines.proofs.reading.one_reading.Goals as goal
 
 pub returns : goal.returns
 returns c words line other name another s t =
-    let same = some_same (line, name) (other, another) (sym (complete words line name s) ∙ complete words other another t) in
+    let same = some_same (line, name) (other, another)
+    (sym (complete words line name s) ∙ complete words other another t) in
     (ap (λ (p : Line × Word). p.0) same, ap (λ (p : Line × Word). p.1) same)

@@ -8,5 +8,6 @@ use Rattle.asm_lines.proofs.reading.words_of.Goals as goal
 
 pub returns : goal.returns
 returns c =
-    let whole = YieldsList-end (YieldsList-from_str_split 32 c.args.line.now (lit< tt) (cc) (cc) (cc)) c.loop-word.yielded _ c.loop-word.yielded_by _ _ c.in-None.is c.next.ensures.steps in
+    let whole = YieldsList-end (YieldsList-from_str_split 32 c.args.line.now (lit< tt) (cc) (cc)
+    (cc)) c.loop-word.yielded _ c.loop-word.yielded_by _ _ c.in-None.is c.next.ensures.steps in
     c.loop-word.invariant ∙ ap (λ (ws : List Word). filter has_bytes ws) whole.0

@@ -5,4 +5,5 @@ use Rattle.asm_lines.proofs.Spaced.{added, natural_distance}
 use Rattle.asm_lines.proofs.writing.next_forward.Goals as goal
 
 pub returns : goal.returns
-returns c = added c.write.result (string_bytes c.args.text.now) (string_bytes c.write.new.self) (Distance (Natural c.args.n)) (natural_distance c.args.n (omega arith)) c.write.ensures.bytes
+returns c = added c.write.result (string_bytes c.args.text.now) (string_bytes c.write.new.self)
+    (Distance (Natural c.args.n)) (natural_distance c.args.n (omega arith)) c.write.ensures.bytes

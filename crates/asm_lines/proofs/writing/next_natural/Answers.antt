@@ -5,4 +5,5 @@ use Rattle.asm_lines.proofs.Spaced.{added, natural_number}
 use Rattle.asm_lines.proofs.writing.next_natural.Goals as goal
 
 pub returns : goal.returns
-returns c = added c.write.result (string_bytes c.args.text.now) (string_bytes c.write.new.self) (Number (Natural c.args.n)) (natural_number c.args.n (omega arith)) c.write.ensures.bytes
+returns c = added c.write.result (string_bytes c.args.text.now) (string_bytes c.write.new.self)
+    (Number (Natural c.args.n)) (natural_number c.args.n (omega arith)) c.write.ensures.bytes

@@ -5,9 +5,13 @@ use Rattle.asm_lines.proofs.Spaced.{added, negative_number, negative_distance}
 use Rattle.asm_lines.proofs.writing.next_negative.Goals as goal
 
 pub returns-clause-number : goal.returns-clause-number
-returns-clause-number c = added c.write.result (string_bytes c.args.text.now) (string_bytes c.write.new.self) (Number (Negative c.args.n)) (negative_number c.args.n (omega arith))
+returns-clause-number c = added c.write.result (string_bytes c.args.text.now)
+    (string_bytes c.write.new.self) (Number (Negative c.args.n))
+    (negative_number c.args.n (omega arith))
     (rw c.from.ensures at c.write.ensures.bytes)
 
 pub returns-clause-distance : goal.returns-clause-distance
-returns-clause-distance c = added c.write.result (string_bytes c.args.text.now) (string_bytes c.write.new.self) (Distance (Negative c.args.n)) (negative_distance c.args.n (omega arith))
+returns-clause-distance c = added c.write.result (string_bytes c.args.text.now)
+    (string_bytes c.write.new.self) (Distance (Negative c.args.n))
+    (negative_distance c.args.n (omega arith))
     (rw c.from.ensures at c.write.ensures.bytes)

@@ -4,4 +4,5 @@ use Rattle.asm_words.proofs.name.are_name_characters.Given as goal
 
 -- the bytes before this one may stand in a name
 abbrev pub invariant-loop-byte : goal.invariant-loop-byte
-invariant-loop-byte l = are_name_characters l.bytes ≡ are_name_characters (drop l.byte-index l.bytes)
+invariant-loop-byte l = are_name_characters l.bytes
+    ≡ are_name_characters (drop l.byte-index l.bytes)

@@ -5,5 +5,6 @@ use Rattle.asm_words.proofs.numeral.read_number.Goals as goal
 
 pub returns-in-None : goal.returns-in-None
 returns-in-None c =
-    let k = strip_prefix_char 45 c.args.word.now c.strip_prefix.result c.strip_prefix.ensures.cases (lit< tt) in
+    let k = strip_prefix_char 45 c.args.word.now c.strip_prefix.result c.strip_prefix.ensures.cases
+    (lit< tt) in
     c.read_natural.ensures ∙ number_unsigned c.args.word.now (rw c.in-None.is at k)

@@ -4,4 +4,5 @@ use Rattle.bench.proofs.maps_speed.measure_once.Goals as goal
 
 pub start_threads-requires-after_bounds : goal.start_threads-requires-after_bounds
 start_threads-requires-after_bounds g c lifetimes within i x lt =
-    c.in_ok-words.ensures.own i x lt ∙ sym (ap (λ (w : SharedWords). w.table) c.in_ok-shared.ensures.ok)
+    c.in_ok-words.ensures.own i x lt ∙ sym
+    (ap (λ (w : SharedWords). w.table) c.in_ok-shared.ensures.ok)

@@ -5,5 +5,10 @@ use Rattle.bench.proofs.turn_speed.measure_once.Goals as goal
 
 pub measure_beside-requires-clause-setup : goal.measure_beside-requires-clause-setup
 measure_beside-requires-clause-setup g c =
-    let loader = c.in_ok-loader in
-    (refl, refl, refl, all_ask (history_of loader.loader) loader.setup.askers.items loader.ensures.loader.1)
+    let loader = c.in_ok-loader in (
+      refl,
+      refl,
+      refl,
+      all_ask (history_of loader.loader) loader.setup.askers.items
+          loader.ensures.loader.1,
+    )

@@ -5,7 +5,8 @@ use Rattle.book.proofs.answers.forget_answers.Goals as goal
 pub returns-then-place-journal : goal.returns-then-place-journal
 returns-then-place-journal c =
     set_forgotten c.args.journal.now c.args.place
-    (get_or c.args.journal.now c.args.place c.index-journal-place.result) c.index-journal-place.result
+    (get_or c.args.journal.now c.args.place c.index-journal-place.result)
+    c.index-journal-place.result
     c.forget.new.event c.if-place-journal.true refl c.forget.ensures
 
 pub returns-else-place-journal : goal.returns-else-place-journal

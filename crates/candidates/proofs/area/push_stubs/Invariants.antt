@@ -4,4 +4,6 @@ use Rattle.candidates.specs.Sources.{IsStub}
 use Rattle.candidates.proofs.area.push_stubs.Given as goal
 
 abbrev pub invariant-loop-link : goal.invariant-loop-link
-invariant-loop-link l = Adds l.fn.offers.items l.offers.items (OfEach (IsStub l.way) (take l.link-index l.links)) × (AreCheap l.fn.offers.items → AreCheap l.offers.items)
+invariant-loop-link l = Adds l.fn.offers.items l.offers.items
+    (OfEach (IsStub l.way) (take l.link-index l.links))
+    × (AreCheap l.fn.offers.items → AreCheap l.offers.items)

@@ -3,8 +3,12 @@ use Rattle.candidates.proofs.Made.{no_summary, of_summary}
 use Rattle.candidates.proofs.area.summary_offer.Goals as goal
 
 pub returns-in_err-border-clause-just : goal.returns-in_err-border-clause-just
-returns-in_err-border-clause-just c = rw c.from_residual.ensures (no_summary _ (λ n. None) _ _ c.in-NetworkSummary.lsa c.in-NetworkSummary.is c.in_err-border.ensures.just)
+returns-in_err-border-clause-just c =
+    rw c.from_residual.ensures (no_summary _ (λ n. None) _ _ c.in-NetworkSummary.lsa
+    c.in-NetworkSummary.is c.in_err-border.ensures.just)
 
 pub returns-clause-just : goal.returns-clause-just
 returns-clause-just c =
-    of_summary _ (λ n. None) _ _ c.in-NetworkSummary.lsa c.in_ok-border.border c.in_ok-prefix.prefix c.inter.result (search rules) c.in-NetworkSummary.is c.in_ok-border.ensures.just c.in_ok-prefix.ensures c.inter.ensures
+    of_summary _ (λ n. None) _ _ c.in-NetworkSummary.lsa c.in_ok-border.border c.in_ok-prefix.prefix
+    c.inter.result (search rules) c.in-NetworkSummary.is c.in_ok-border.ensures.just
+    c.in_ok-prefix.ensures c.inter.ensures

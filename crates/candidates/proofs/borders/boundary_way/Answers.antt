@@ -8,12 +8,19 @@ pub returns-in-Some-clause-just : goal.returns-in-Some-clause-just
 returns-in-Some-clause-just c = inside _ _ _ c.in-Some.way c.in-Some.ensures.just
 
 pub returns-in_err-route-in-None-clause-just : goal.returns-in_err-route-in-None-clause-just
-returns-in_err-route-in-None-clause-just c = rw c.from_residual.ensures (no_boundary _ _ _ c.host.result (c.host.ensures ∙ ap (λ n. host n) c.number.ensures) c.in-None.ensures.just c.in_err-route-in-None.ensures)
+returns-in_err-route-in-None-clause-just c =
+    rw c.from_residual.ensures (no_boundary _ _ _ c.host.result
+    (c.host.ensures ∙ ap (λ n. host n) c.number.ensures) c.in-None.ensures.just
+    c.in_err-route-in-None.ensures)
 
 pub returns-in_ok-route-in-None-clause-just : goal.returns-in_ok-route-in-None-clause-just
-returns-in_ok-route-in-None-clause-just c = outside _ _ _ c.host.result (c.host.ensures ∙ ap (λ n. host n) c.number.ensures) c.in-None.ensures.just c.in_ok-route-in-None.route c.way_by.result c.in_ok-route-in-None.ensures c.way_by.ensures
+returns-in_ok-route-in-None-clause-just c =
+    outside _ _ _ c.host.result (c.host.ensures ∙ ap (λ n. host n) c.number.ensures)
+    c.in-None.ensures.just c.in_ok-route-in-None.route c.way_by.result
+    c.in_ok-route-in-None.ensures c.way_by.ensures
 
 pub returns-in_ok-route-in-None-clause-near : goal.returns-in_ok-route-in-None-clause-near
 returns-in_ok-route-in-None-clause-near c =
-    let low = below_found c.args.told.now c.host.result c.in_ok-route-in-None.route c.requires.few c.in_ok-route-in-None.ensures in
+    let low = below_found c.args.told.now c.host.result c.in_ok-route-in-None.route c.requires.few
+    c.in_ok-route-in-None.ensures in
     omega (arith, low, ap (λ (w : Way). w.distance) c.way_by.ensures)

@@ -7,10 +7,21 @@ use Rattle.candidates.specs.Borders.{IsCounted, IsListed}
 use Rattle.candidates.specs.Gathering.{IsJust}
 use Rattle.candidates.proofs.borders.counted_border.Goals as goal
 
-counted : (root : Root) (routers : List Flagged) (originator : ℕ) (lsa : SummaryLsa) (found : Option Way) → lsa.metric < 16777215 → originator ≢ root.router → IsJust (IsListed routers originator 1) found
+counted : (root : Root) (routers : List Flagged) (originator : ℕ) (lsa : SummaryLsa)
+    (found : Option Way) → lsa.metric < 16777215 → originator ≢ root.router
+    → IsJust (IsListed routers originator 1) found
     → IsJust (IsCounted root routers originator lsa) found
 counted root routers originator lsa None reachable another none = λ way k. none way k.reaches
-counted root routers originator lsa (Some it) reachable another just = λ way. ((λ k. (just way).0 k.reaches), (λ e. record { reachable = reachable; of_another = another; reaches = (just way).1 e }))
+counted root routers originator lsa (Some it) reachable another just =
+    λ way. (
+      (λ k. (just way).0 k.reaches),
+      (λ e. record {
+        reachable = reachable;
+        of_another = another;
+        reaches = (just way).1 e;
+      }),
+    )
 
 pub returns-clause-just : goal.returns-clause-just
-returns-clause-just c = counted _ _ _ _ _ (omega (arith, c.if-lsa-ge-LS_INFINITY.false)) (search rules) c.flagged_way.ensures.just
+returns-clause-just c = counted _ _ _ _ _ (omega (arith, c.if-lsa-ge-LS_INFINITY.false))
+    (search rules) c.flagged_way.ensures.just

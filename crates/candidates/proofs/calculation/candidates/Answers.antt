@@ -3,4 +3,5 @@ use Rattle.candidates.proofs.calculation.candidates.Goals as goal
 
 pub returns-clause-every : goal.returns-clause-every
 returns-clause-every c o offered =
-    c.every_offer_has_a_candidate.ensures (said_at c.args.moment c.args.db.now.present) c.args.root.now c.in_ok-routes.routes.items o c.in_ok-routes.ensures offered
+    c.every_offer_has_a_candidate.ensures (said_at c.args.moment c.args.db.now.present)
+    c.args.root.now c.in_ok-routes.routes.items o c.in_ok-routes.ensures offered

@@ -1,4 +1,5 @@
-use Rattle.std.proofs.Common.{◌≡◌, arith, eqb-true, length, inl, inr, List, ◌++◌, ap, sym, subst, ◌∙◌}
+use Rattle.std.proofs.Common.{◌≡◌, arith, eqb-true, length, inl, inr, List, ◌++◌, ap, sym, subst}
+use Rattle.std.proofs.Common.{◌∙◌}
 use Rattle.std.specs.List.{Contains}
 use Rattle.std.specs.Prelude.{◌↔◌}
 use Rattle.words.specs.declared.route.Route.{Route}
@@ -40,14 +41,30 @@ returns c said ways are inner tell =
     let root = c.args.root.now in
     let externals = c.args.externals.now in
     let it = c.args.inner.now in
-    let copied : c.extend_from_slice.new.self.items ≡ it.offers.items = c.in_ok-extend_from_slice.ensures.items ∙ ap (λ (xs : List Offer). xs ++ c.deref-5.result.now) c.in_ok-offers.ensures.items ∙ c.deref-5.ensures.value in
-    let Q : List Flagged → List Route → List Route → Type 0 = λ routers told networks. Adds c.extend_from_slice.new.self.items c.push_externals.new.offers.items (OfEach (OfTold root routers told networks) externals) in
-    let first : Q it.flagged.items c.deref-2.result.now c.deref-4.result.now = subst (λ (rs : List Flagged). Q rs c.deref-2.result.now c.deref-4.result.now) c.deref-3.ensures.value c.in_ok-push_externals.ensures in
-    let second : Q it.flagged.items it.told.items c.deref-4.result.now = subst (λ (rs : List Route). Q it.flagged.items rs c.deref-4.result.now) c.deref-2.ensures.value first in
-    let third : Q it.flagged.items it.told.items it.networks.items = subst (λ (rs : List Route). Q it.flagged.items it.told.items rs) c.deref-4.ensures.value second in
-    let offered : (o : Offer) → Contains c.extend_from_slice.new.self.items o ↔ OffersInside said root o = subst (λ (xs : List Offer). (o : Offer) → Contains xs o ↔ OffersInside said root o) (sym copied) inner.offers in
-    are_candidates said root ways are it.flagged.items inner.flagged externals tell it.told.items it.networks.items inner.told inner.networks
-    c.extend_from_slice.new.self.items c.push_externals.new.offers.items c.in_ok-routes.routes.items offered third c.in_ok-routes.ensures.routes
+    let copied : c.extend_from_slice.new.self.items ≡ it.offers.items =
+    c.in_ok-extend_from_slice.ensures.items
+    ∙ ap (λ (xs : List Offer). xs ++ c.deref-5.result.now) c.in_ok-offers.ensures.items
+    ∙ c.deref-5.ensures.value in
+    let Q : List Flagged → List Route → List Route → Type 0 =
+    λ routers told networks. Adds c.extend_from_slice.new.self.items
+    c.push_externals.new.offers.items (OfEach (OfTold root routers told networks) externals)
+    in
+    let first : Q it.flagged.items c.deref-2.result.now c.deref-4.result.now =
+    subst (λ (rs : List Flagged). Q rs c.deref-2.result.now c.deref-4.result.now)
+    c.deref-3.ensures.value c.in_ok-push_externals.ensures in
+    let second : Q it.flagged.items it.told.items c.deref-4.result.now =
+    subst (λ (rs : List Route). Q it.flagged.items rs c.deref-4.result.now)
+    c.deref-2.ensures.value first in
+    let third : Q it.flagged.items it.told.items it.networks.items =
+    subst (λ (rs : List Route). Q it.flagged.items it.told.items rs) c.deref-4.ensures.value
+    second in
+    let offered : (o : Offer) → Contains c.extend_from_slice.new.self.items o ↔ OffersInside said
+    root o = subst (λ (xs : List Offer). (o : Offer) → Contains xs o ↔ OffersInside said root o)
+    (sym copied) inner.offers in
+    are_candidates said root ways are it.flagged.items inner.flagged externals tell it.told.items
+    it.networks.items inner.told inner.networks
+    c.extend_from_slice.new.self.items c.push_externals.new.offers.items c.in_ok-routes.routes.items
+    offered third c.in_ok-routes.ensures.routes
 
 pub returns-then-is_empty : goal.returns-then-is_empty
 returns-then-is_empty c said ways are inner tell =
@@ -56,14 +73,27 @@ returns-then-is_empty c said ways are inner tell =
     let offers = it.offers.items in
     let networks = it.networks.items in
     let nothing : List External → Type 0 = λ es. (e : External) → Contains es e → ⊥ in
-    let none : nothing c.args.externals.now = λ e t. omega (arith, t.1, eqb-true (length c.args.externals.now) 0 (sym c.is_empty.ensures ∙ c.if-is_empty.true)) in
+    let none : nothing c.args.externals.now =
+    λ e t. omega (
+      arith,
+      t.1,
+      eqb-true (length c.args.externals.now) 0
+          (sym c.is_empty.ensures ∙ c.if-is_empty.true),
+    ) in
     let among : AreRoutesAmong (λ o. Contains offers o) networks = record {
       each = λ r. (
-        (λ t. same_offers (OffersInside said root) (λ o. Contains offers o) r (λ o e p. (inner.offers o).1 p) (λ o e q. (inner.offers o).0 q) ((inner.networks.each r).0 t)),
-        (λ k. (inner.networks.each r).1 (same_offers (λ o. Contains offers o) (OffersInside said root) r (λ o e q. (inner.offers o).0 q) (λ o e p. (inner.offers o).1 p) k)),
+        (λ t. same_offers (OffersInside said root) (λ o. Contains offers o) r
+            (λ o e p. (inner.offers o).1 p) (λ o e q. (inner.offers o).0 q)
+            ((inner.networks.each r).0 t)),
+        (λ k. (inner.networks.each r).1
+            (same_offers (λ o. Contains offers o) (OffersInside said root) r
+            (λ o e q. (inner.offers o).0 q) (λ o e p. (inner.offers o).1 p) k)),
       );
       ascending = inner.networks.ascending;
     } in
     subst (AreCandidates said root) (sym (c.in_ok-networks.ensures.items ∙ c.deref.ensures.value))
-    (are_candidates said root ways are it.flagged.items inner.flagged c.args.externals.now tell it.told.items networks inner.told inner.networks
-    offers offers networks inner.offers (λ o. ((λ t. inl t), (λ s. elim s [ inl t ↦ t | inr told ↦ absurd (none told.0 told.1) ]))) among)
+    (are_candidates said root ways are it.flagged.items inner.flagged c.args.externals.now tell
+    it.told.items networks inner.told inner.networks
+    offers offers networks inner.offers
+    (λ o. ((λ t. inl t), (λ s. elim s [ inl t ↦ t | inr told ↦ absurd (none told.0 told.1) ])))
+    among)

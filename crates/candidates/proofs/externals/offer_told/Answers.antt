@@ -6,4 +6,5 @@ pub returns-in_err-way : goal.returns-in_err-way
 returns-in_err-way c = rw c.from_residual.ensures (no_way_out _ _ _ _ _ c.in_err-way.ensures.just)
 
 pub returns : goal.returns
-returns c = offered_by _ _ _ _ _ c.in_ok-way.way c.external.result (omega arith) (search rules) c.in_ok-way.ensures.just c.external.ensures
+returns c = offered_by _ _ _ _ _ c.in_ok-way.way c.external.result (omega arith) (search rules)
+    c.in_ok-way.ensures.just c.external.ensures

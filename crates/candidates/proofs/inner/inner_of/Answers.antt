@@ -12,17 +12,23 @@ use Rattle.candidates.proofs.Each.{fewer}
 use Rattle.candidates.proofs.inner.inner_of.Goals as goal
 
 pub told_routes-requires-clause-close : goal.told_routes-requires-clause-close
-told_routes-requires-clause-close g c = subst AreCloseBy (sym c.deref.ensures.value) c.in_ok-flagged.ensures.close
+told_routes-requires-clause-close g c =
+    subst AreCloseBy (sym c.deref.ensures.value) c.in_ok-flagged.ensures.close
 
 pub inner_offers-requires-clause-close : goal.inner_offers-requires-clause-close
-inner_offers-requires-clause-close g c = subst AreCloseBy (sym c.deref-2.ensures.value) c.in_ok-flagged.ensures.close
+inner_offers-requires-clause-close g c =
+    subst AreCloseBy (sym c.deref-2.ensures.value) c.in_ok-flagged.ensures.close
 
 pub returns-clause-searchable : goal.returns-clause-searchable
 returns-clause-searchable g c = record {
   flagged = (c.in_ok-flagged.ensures.ascend, c.in_ok-flagged.ensures.close);
   told = (c.in_ok-told.ensures.routes.ascending, c.in_ok-told.ensures.few);
-  networks = (c.in_ok-networks.ensures.routes.ascending, c.in_ok-networks.ensures.few c.in_ok-offers.ensures.cheap);
-  lengths = subst (λ (rs : List Route). HasLengths rs c.lengths_of-lengths.result) c.deref-3.ensures.value c.lengths_of-lengths.ensures;
+  networks = (
+    c.in_ok-networks.ensures.routes.ascending,
+    c.in_ok-networks.ensures.few c.in_ok-offers.ensures.cheap,
+  );
+  lengths = subst (λ (rs : List Route). HasLengths rs c.lengths_of-lengths.result)
+      c.deref-3.ensures.value c.lengths_of-lengths.ensures;
 }
 
 pub returns-clause-inner : goal.returns-clause-inner
@@ -32,13 +38,19 @@ returns-clause-inner g c said are have =
     let bodies = c.args.bodies.now in
     let routers = c.in_ok-flagged.flagged.items in
     let flagged = c.in_ok-flagged.ensures.flagged said (fewer 4 1 said bodies (omega arith) have) in
-    let told = subst (λ (rs : List Flagged). AreRoutesAmong (OfEach (Tells root rs) bodies) c.in_ok-told.told.items) c.deref.ensures.value c.in_ok-told.ensures.routes in
-    let added = subst (λ (rs : List Flagged). Adds [] c.in_ok-offers.offers.items (OfEach (IsInner root ways rs) bodies)) c.deref-2.ensures.value c.in_ok-offers.ensures.adds in
-    let inside = of_inside said root ways are routers flagged bodies have c.in_ok-offers.offers.items added in
+    let told = subst (λ (rs : List Flagged). AreRoutesAmong (OfEach (Tells root rs) bodies)
+    c.in_ok-told.told.items) c.deref.ensures.value c.in_ok-told.ensures.routes in
+    let added = subst (λ (rs : List Flagged). Adds [] c.in_ok-offers.offers.items
+    (OfEach (IsInner root ways rs) bodies)) c.deref-2.ensures.value c.in_ok-offers.ensures.adds
+    in
+    let inside = of_inside said root ways are routers flagged bodies have
+    c.in_ok-offers.offers.items added in
     record {
       flagged = flagged;
       told = of_told said root ways are routers flagged bodies have c.in_ok-told.told.items told;
-      networks = of_networks said root ways are routers flagged bodies have c.in_ok-offers.offers.items c.in_ok-networks.networks.items added c.in_ok-networks.ensures.routes;
+      networks = of_networks said root ways are routers flagged bodies have
+          c.in_ok-offers.offers.items c.in_ok-networks.networks.items added
+          c.in_ok-networks.ensures.routes;
       offers = λ o. (
         (λ t. (inside o).0 ((c.routes_of_offers.ensures.same o).0 t)),
         (λ k. (c.routes_of_offers.ensures.same o).1 ((inside o).1 k)),

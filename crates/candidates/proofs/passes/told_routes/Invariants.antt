@@ -4,4 +4,5 @@ use Rattle.candidates.specs.Gathering.{Adds, OfEach}
 use Rattle.candidates.proofs.passes.told_routes.Given as goal
 
 abbrev pub invariant-loop-one : goal.invariant-loop-one
-invariant-loop-one l = Adds [] l.offers.items (OfEach (Tells l.root l.routers) (take l.one-index l.bodies))
+invariant-loop-one l = Adds [] l.offers.items
+    (OfEach (Tells l.root l.routers) (take l.one-index l.bodies))

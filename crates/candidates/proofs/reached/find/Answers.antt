@@ -4,7 +4,8 @@ use Rattle.area_graph.proofs.KeyNodes.{lt_false, lt_true}
 use Rattle.area_graph.specs.Nodes.{node_cmp}
 use Rattle.candidates.proofs.NodePlaces.{at_its_place, nowhere, past}
 use Rattle.candidates.proofs.reached.find.Goals as goal
-use Rattle.candidates.proofs.reached.find.Goals.{then-at-nodes-via-else-at-nodes+then-is_before, then-at-nodes-via-then-at-nodes}
+use Rattle.candidates.proofs.reached.find.Goals.{then-at-nodes-via-else-at-nodes+then-is_before}
+use Rattle.candidates.proofs.reached.find.Goals.{then-at-nodes-via-then-at-nodes}
 
 pub returns-then-at-nodes-clause-missing : goal.returns-then-at-nodes-clause-missing
 returns-then-at-nodes-clause-missing c =
@@ -12,10 +13,15 @@ returns-then-at-nodes-clause-missing c =
     let node = c.args.node.now in
     let at = c.place_of-at.result in
     elim c.then-at-nodes.branch [
-      | then-at-nodes-via-then-at-nodes w ↦ past nodes node at (omega (arith, w.if-at-nodes.true)) c.place_of-at.ensures.before
+      | then-at-nodes-via-then-at-nodes w ↦ past nodes node at (omega (arith, w.if-at-nodes.true))
+          c.place_of-at.ensures.before
       | then-at-nodes-via-else-at-nodes+then-is_before w ↦
-          let here = slice_get_read nodes (length nodes) at w.index-nodes-at.result refl (omega (arith, w.if-at-nodes.false, c.place_of-at.ensures.within)) w.index-nodes-at.is in
-          nowhere nodes c.requires node w.index-nodes-at.result at here (lt_true (node_cmp node w.index-nodes-at.result) (sym w.is_before.ensures ∙ w.if-is_before.true)) c.place_of-at.ensures.before
+          let here = slice_get_read nodes (length nodes) at w.index-nodes-at.result refl
+          (omega (arith, w.if-at-nodes.false, c.place_of-at.ensures.within)) w.index-nodes-at.is
+          in
+          nowhere nodes c.requires node w.index-nodes-at.result at here
+          (lt_true (node_cmp node w.index-nodes-at.result)
+          (sym w.is_before.ensures ∙ w.if-is_before.true)) c.place_of-at.ensures.before
     ]
 
 pub returns-clause-found : goal.returns-clause-found
@@ -24,5 +30,9 @@ returns-clause-found c =
     let node = c.args.node.now in
     let at = c.place_of-at.result in
     let other = c.index-nodes-at.result in
-    let here : slice_get nodes at ≡ Some other = slice_get_read nodes (length nodes) at other refl (omega (arith, c.if-at-nodes.false, c.place_of-at.ensures.within)) c.index-nodes-at.is in
-    at_its_place nodes node other at here (c.place_of-at.ensures.beyond at other here (omega arith)) (lt_false (node_cmp node other) (sym c.is_before.ensures ∙ c.if-is_before.false))
+    let here : slice_get nodes at ≡ Some other =
+    slice_get_read nodes (length nodes) at other refl
+    (omega (arith, c.if-at-nodes.false, c.place_of-at.ensures.within)) c.index-nodes-at.is
+    in
+    at_its_place nodes node other at here (c.place_of-at.ensures.beyond at other here (omega arith))
+    (lt_false (node_cmp node other) (sym c.is_before.ensures ∙ c.if-is_before.false))

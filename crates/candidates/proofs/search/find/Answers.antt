@@ -8,11 +8,15 @@ use Rattle.candidates.proofs.search.find.Goals as goal
 pub returns-in-Ok : goal.returns-in-Ok
 returns-in-Ok c =
     let at = c.in-Ok.ensures.position (λ (y : Route). network_cmp y.prefix c.args.prefix)
-    (always_returns_same _ (λ a r. r ≡ network_cmp a.0.now.prefix c.args.prefix) _ (λ a r q k. search rules)) in
-    found_at c.args.routes.now c.args.prefix c.requires c.in-Ok.at c.index-routes-at.result c.in-Ok.ensures.bound at c.index-routes-at.is
+    (always_returns_same _ (λ a r. r ≡ network_cmp a.0.now.prefix c.args.prefix) _
+    (λ a r q k. search rules)) in
+    found_at c.args.routes.now c.args.prefix c.requires c.in-Ok.at c.index-routes-at.result
+    c.in-Ok.ensures.bound at c.index-routes-at.is
 
 pub returns-in-Err : goal.returns-in-Err
 returns-in-Err c =
     let at = c.in-Err.ensures.position (λ (y : Route). network_cmp y.prefix c.args.prefix)
-    (always_returns_same _ (λ a r. r ≡ network_cmp a.0.now.prefix c.args.prefix) _ (λ a r q k. search rules)) in
-    not_found c.args.routes.now c.args.prefix c.in-Err.field-0 (at (searchable c.args.routes.now c.args.prefix c.requires))
+    (always_returns_same _ (λ a r. r ≡ network_cmp a.0.now.prefix c.args.prefix) _
+    (λ a r q k. search rules)) in
+    not_found c.args.routes.now c.args.prefix c.in-Err.field-0
+    (at (searchable c.args.routes.now c.args.prefix c.requires))

@@ -3,4 +3,5 @@ use Rattle.candidates.specs.Borders.{HasLengths}
 use Rattle.candidates.proofs.search.lengths_of.Given as goal
 
 abbrev pub invariant-loop-route : goal.invariant-loop-route
-invariant-loop-route l = HasLengths (take l.route-index l.routes) l.lengths × (length l.lengths ≡ 33)
+invariant-loop-route l = HasLengths (take l.route-index l.routes) l.lengths
+    × (length l.lengths ≡ 33)

@@ -9,4 +9,5 @@ pub returns-clause-ways : goal.returns-clause-ways
 returns-clause-ways c =
     let said : Said = said_at c.args.moment c.args.db.now.present in
     let P : Root → Type 0 = λ root. AreWays said root (way_in c.in_ok-reached.reached) in
-    subst P c.in_ok-graph.ensures.root (c.in_ok-reached.ensures.ways said c.in_ok-graph.ensures.graph)
+    subst P c.in_ok-graph.ensures.root
+    (c.in_ok-reached.ensures.ways said c.in_ok-graph.ensures.graph)

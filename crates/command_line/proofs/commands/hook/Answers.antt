@@ -12,5 +12,6 @@ returns-clause-rule c =
       names.3,
       names.4,
       names.5,
-      c.checked.ensures.rule ∙ ap (λ (parser : ValueParser). checked_word (codes "HOOK") parser) names.6,
+      c.checked.ensures.rule ∙ ap (λ (parser : ValueParser). checked_word (codes "HOOK") parser)
+          names.6,
     )

@@ -7,7 +7,8 @@ use Rattle.command_line.proofs.requests.list_request.Goals as goal
 pub returns-in_err-object : goal.returns-in_err-object
 returns-in_err-object c =
     let rows = rows_of (found_of c.args.matches.now) in
-    rw c.from_residual.ensures (no_list rows (has_none rows (codes "OBJECT") c.in_err-object.ensures))
+    rw c.from_residual.ensures (no_list rows
+    (has_none rows (codes "OBJECT") c.in_err-object.ensures))
 
 pub returns : goal.returns
 returns c =

@@ -7,7 +7,8 @@ use Rattle.command_line.proofs.requests.route_request.Goals as goal
 pub returns-in_err-config : goal.returns-in_err-config
 returns-in_err-config c =
     let rows = rows_of (found_of c.args.matches.now) in
-    rw c.from_residual.ensures (no_route rows (has_none rows (codes "CONFIG") c.in_err-config.ensures))
+    rw c.from_residual.ensures (no_route rows
+    (has_none rows (codes "CONFIG") c.in_err-config.ensures))
 
 pub returns : goal.returns
 returns c =

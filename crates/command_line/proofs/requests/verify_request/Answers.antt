@@ -7,7 +7,8 @@ use Rattle.command_line.proofs.requests.verify_request.Goals as goal
 pub returns-in_err-object : goal.returns-in_err-object
 returns-in_err-object c =
     let rows = rows_of (found_of c.args.matches.now) in
-    rw c.from_residual.ensures (no_verify rows (has_none rows (codes "OBJECT") c.in_err-object.ensures))
+    rw c.from_residual.ensures (no_verify rows
+    (has_none rows (codes "OBJECT") c.in_err-object.ensures))
 
 pub returns : goal.returns
 returns c =

@@ -1,10 +1,15 @@
 use Rattle.console.proofs.Numbers.{written_more, written_same}
 use Rattle.console.proofs.answers.push_hops_below.Goals as goal
-use Rattle.console.proofs.answers.push_hops_below.Goals.{then-contains+in_ok-push_number, else-contains}
+use Rattle.console.proofs.answers.push_hops_below.Goals.{then-contains+in_ok-push_number}
+use Rattle.console.proofs.answers.push_hops_below.Goals.{else-contains}
 
 pub loop-interface-preserved : goal.loop-interface-preserved
 loop-interface-preserved c =
     elim c.if-contains.branch [
-      | then-contains+in_ok-push_number w ↦ rw (w.text-is, w.is_first-is) (written_more c.loop-interface.interface c.args.hops _ _ _ c.loop-interface.is_first (cc) c.loop-interface.invariant.0 c.loop-interface.invariant.1 w.in_ok-push_number.ensures)
-      | else-contains w ↦ rw (w.text-is, w.is_first-is) (written_same c.loop-interface.interface c.args.hops _ _ c.loop-interface.is_first (cc) c.loop-interface.invariant.0 c.loop-interface.invariant.1)
+      | then-contains+in_ok-push_number w ↦ rw (w.text-is, w.is_first-is)
+          (written_more c.loop-interface.interface c.args.hops _ _ _ c.loop-interface.is_first (cc)
+          c.loop-interface.invariant.0 c.loop-interface.invariant.1 w.in_ok-push_number.ensures)
+      | else-contains w ↦ rw (w.text-is, w.is_first-is)
+          (written_same c.loop-interface.interface c.args.hops _ _ c.loop-interface.is_first (cc)
+          c.loop-interface.invariant.0 c.loop-interface.invariant.1)
     ]

@@ -6,5 +6,6 @@ use Rattle.console.proofs.answers.push_hops_below.Given as goal
 -- the text so far, and whether it is empty
 abbrev pub invariant-loop-interface : goal.invariant-loop-interface
 invariant-loop-interface l =
-    (string_bytes l.text ≡ string_bytes l.initial.text ++ numbers_text (interfaces_below l.interface l.hops))
+    (string_bytes l.text ≡ string_bytes l.initial.text
+    ++ numbers_text (interfaces_below l.interface l.hops))
     × (l.is_first ≡ is_empty (interfaces_below l.interface l.hops))

@@ -4,4 +4,5 @@ use Rattle.console.proofs.answers.push_routes.Given as goal
 
 -- the text so far, and the lines of the remaining routes
 abbrev pub invariant-loop-route : goal.invariant-loop-route
-invariant-loop-route l = string_bytes l.text ++ route_lines (drop l.route-index l.routes) ≡ string_bytes l.initial.text ++ route_lines l.routes
+invariant-loop-route l = string_bytes l.text ++ route_lines (drop l.route-index l.routes)
+    ≡ string_bytes l.initial.text ++ route_lines l.routes

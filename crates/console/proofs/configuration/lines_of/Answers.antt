@@ -5,4 +5,7 @@ use Rattle.console.specs.Configurations.{without_last_feed}
 use Rattle.console.proofs.configuration.lines_of.Goals as goal
 
 pub returns : goal.returns
-returns c = map_from_collect _ c.collect.ensures.ran (YieldsList-from_str_split 10 (without_last_feed c.args.text.now) (lit< tt) (c.split.ensures.text ∙ c.without_last_feed-front.ensures) c.split.ensures.has_more c.split.ensures.pattern)
+returns c = map_from_collect _ c.collect.ensures.ran
+    (YieldsList-from_str_split 10 (without_last_feed c.args.text.now) (lit< tt)
+    (c.split.ensures.text ∙ c.without_last_feed-front.ensures) c.split.ensures.has_more
+    c.split.ensures.pattern)

@@ -10,7 +10,8 @@ returns-then-contains c =
 
 pub loop-interface-preserved : goal.loop-interface-preserved
 loop-interface-preserved c =
-    c.loop-interface.invariant ∙ further _ _ c.loop-interface-test.true (sym c.contains.ensures ∙ c.if-contains.false)
+    c.loop-interface.invariant ∙ further _ _ c.loop-interface-test.true
+    (sym c.contains.ensures ∙ c.if-contains.false)
 
 pub returns : goal.returns
 returns c = sym (ap found_or_0 (c.loop-interface.invariant ∙ past _ _ c.loop-interface-test.false))

@@ -4,5 +4,10 @@ use Rattle.daemon.proofs.Fresh.{all_ask}
 use Rattle.daemon.proofs.running.operate.Goals as goal
 
 pub run_all-requires-clause-setup : goal.run_all-requires-clause-setup
-run_all-requires-clause-setup g c κs within =
-    (refl, refl, refl, all_ask (history_of c.in_ok-loader.loader) c.in_ok-loader.setup.askers.items c.in_ok-loader.ensures.loader.1)
+run_all-requires-clause-setup g c κs within = (
+  refl,
+  refl,
+  refl,
+  all_ask (history_of c.in_ok-loader.loader) c.in_ok-loader.setup.askers.items
+      c.in_ok-loader.ensures.loader.1,
+)

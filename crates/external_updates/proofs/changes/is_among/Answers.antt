@@ -15,8 +15,10 @@ loop-other-preserved c t =
     let xs = c.args.prefixes.now in
     let i = c.loop-other.other-index in
     let x = c.other-item.result in
-    let split = take_more xs i x c.loop-other-test.true ∙ ap (λ (y : Network). take i xs ++ y ∷ []) (sym c.other-item.is) in
-    elim (Contains-push_cases (take i xs) x c.args.prefix (subst (λ ys. Contains ys c.args.prefix) split t)) [
+    let split = take_more xs i x c.loop-other-test.true
+    ∙ ap (λ (y : Network). take i xs ++ y ∷ []) (sym c.other-item.is) in
+    elim (Contains-push_cases (take i xs) x c.args.prefix
+    (subst (λ ys. Contains ys c.args.prefix) split t)) [
       | inl before ↦ c.loop-other.invariant before
       | inr here ↦ told_other x c.args.prefix (sym c.if-eq.ensures) here
     ]
@@ -24,12 +26,17 @@ loop-other-preserved c t =
 pub returns-then-eq : goal.returns-then-eq
 returns-then-eq c =
     let x = c.other-item.result in (
-      (λ t. subst (λ (y : Network). Contains c.args.prefixes.now y) (told_same x c.args.prefix (sym c.if-eq.ensures)) (c.loop-other.other-index, c.loop-other-test.true, sym c.other-item.is)),
+      (λ t. subst (λ (y : Network). Contains c.args.prefixes.now y)
+          (told_same x c.args.prefix (sym c.if-eq.ensures))
+          (c.loop-other.other-index, c.loop-other-test.true, sym c.other-item.is)),
       (λ t. refl),
     )
 
 pub returns : goal.returns
 returns c = (
   (λ t. absurd cc),
-  (λ among. absurd (c.loop-other.invariant (subst (λ ys. Contains ys c.args.prefix) (sym (take_all c.loop-other.other-index c.args.prefixes.now (omega (arith, c.loop-other-test.false)))) among))),
+  (λ among. absurd (c.loop-other.invariant
+      (subst (λ ys. Contains ys c.args.prefix)
+      (sym (take_all c.loop-other.other-index c.args.prefixes.now
+      (omega (arith, c.loop-other-test.false)))) among))),
 )

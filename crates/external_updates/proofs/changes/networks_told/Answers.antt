@@ -18,18 +18,25 @@ loop-key-preserved c key prefix among t =
     let xs = c.args.keys.now in
     let i = c.loop-key.key-index in
     let x = c.key-item.result in
-    let split = take_more xs i x c.loop-key-test.true ∙ ap (λ (y : Key). take i xs ++ y ∷ []) (sym c.key-item.is) in
+    let split = take_more xs i x c.loop-key-test.true
+    ∙ ap (λ (y : Key). take i xs ++ y ∷ []) (sym c.key-item.is) in
     elim (Contains-push_cases (take i xs) x key (subst (λ ys. Contains ys key) split among)) [
-      | inl before ↦ c.in_ok-note_network-2.ensures.kept prefix (c.in_ok-note_network.ensures.kept prefix (c.loop-key.invariant key prefix before t))
+      | inl before ↦ c.in_ok-note_network-2.ensures.kept prefix
+          (c.in_ok-note_network.ensures.kept prefix (c.loop-key.invariant key prefix before t))
       | inr here ↦
           let its = subst (λ k. TellsOf old new k prefix) (sym here) t in
           elim its.says [
-            | inl was ↦ c.in_ok-note_network-2.ensures.kept prefix (c.in_ok-note_network.ensures.noted its.lsa prefix (c.settled_body_at.ensures ∙ was) its.is_prefix)
-            | inr is ↦ c.in_ok-note_network-2.ensures.noted its.lsa prefix (c.body_at.ensures ∙ is) its.is_prefix
+            | inl was ↦ c.in_ok-note_network-2.ensures.kept prefix
+                (c.in_ok-note_network.ensures.noted its.lsa prefix (c.settled_body_at.ensures ∙ was)
+                its.is_prefix)
+            | inr is ↦ c.in_ok-note_network-2.ensures.noted its.lsa prefix (c.body_at.ensures ∙ is)
+                its.is_prefix
           ]
     ]
 
 pub returns : goal.returns
 returns c =
-    subst (λ ks. AreAllTold (said_at c.args.before c.args.db.now.settled) (said_at c.args.moment c.args.db.now.present) ks c.loop-key.prefixes.items)
-    (take_all c.loop-key.key-index c.args.keys.now (omega (arith, c.loop-key-test.false))) c.loop-key.invariant
+    subst (λ ks. AreAllTold (said_at c.args.before c.args.db.now.settled)
+    (said_at c.args.moment c.args.db.now.present) ks c.loop-key.prefixes.items)
+    (take_all c.loop-key.key-index c.args.keys.now (omega (arith, c.loop-key-test.false)))
+    c.loop-key.invariant

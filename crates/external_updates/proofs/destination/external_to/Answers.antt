@@ -4,7 +4,8 @@ use Rattle.external_updates.proofs.destination.external_to.Goals as goal
 
 pub returns-then-not-lies_under : goal.returns-then-not-lies_under
 returns-then-not-lies_under c x k =
-    let under = c.lies_under.ensures.1 (lies c.args.root.now c.args.inner.now c.args.prefix (c.args.key.now, k.says) x k.offers) in
+    let under = c.lies_under.ensures.1
+    (lies c.args.root.now c.args.inner.now c.args.prefix (c.args.key.now, k.says) x k.offers) in
     let no : true ≡ false = sym under ∙ c.if-not-lies_under.true in
     absurd cc
 
@@ -13,4 +14,6 @@ returns-in-None c x k = absurd (let no = c.in-None.ensures ∙ k.its in cc)
 
 pub returns-in-Some : goal.returns-in-Some
 returns-in-Some c =
-    just_its c.args.moment c.args.db.now.present c.args.root.now c.args.inner.now c.args.prefix c.args.key.now c.in-Some.says.now c.offer_to.result (sym c.in-Some.ensures) c.offer_to.ensures
+    just_its c.args.moment c.args.db.now.present c.args.root.now c.args.inner.now c.args.prefix
+    c.args.key.now c.in-Some.says.now c.offer_to.result (sym c.in-Some.ensures)
+    c.offer_to.ensures

@@ -35,11 +35,16 @@ returns-in-None c =
     let one : Key × Body = (c.args.key.now, c.args.says.now) in
     let it = c.args.inner.now in
     let o = c.external_offer.result in
-    let Q : List Flagged → List Route → List Route → Type 0 = λ routers told networks. IsJust (OfExternal root routers told networks one) o in
-    let first = subst (λ (rs : List Flagged). Q rs c.deref.result.now c.deref-3.result.now) c.deref-2.ensures.value c.external_offer.ensures in
-    let second = subst (λ (rs : List Route). Q it.flagged.items rs c.deref-3.result.now) c.deref.ensures.value first in
-    let third = subst (λ (rs : List Route). Q it.flagged.items it.told.items rs) c.deref-3.ensures.value second in
-    let none = subst (λ x. IsJust (OfExternal root it.flagged.items it.told.items it.networks.items one) x) c.in-None.is third in
+    let Q : List Flagged → List Route → List Route → Type 0 =
+    λ routers told networks. IsJust (OfExternal root routers told networks one) o in
+    let first = subst (λ (rs : List Flagged). Q rs c.deref.result.now c.deref-3.result.now)
+    c.deref-2.ensures.value c.external_offer.ensures in
+    let second = subst (λ (rs : List Route). Q it.flagged.items rs c.deref-3.result.now)
+    c.deref.ensures.value first in
+    let third = subst (λ (rs : List Route). Q it.flagged.items it.told.items rs)
+    c.deref-3.ensures.value second in
+    let none = subst (λ x. IsJust (OfExternal root it.flagged.items it.told.items it.networks.items
+    one) x) c.in-None.is third in
     λ x p. none x p.0
 
 pub returns-in-Some : goal.returns-in-Some
@@ -48,10 +53,14 @@ returns-in-Some c =
     let one : Key × Body = (c.args.key.now, c.args.says.now) in
     let it = c.args.inner.now in
     let o = c.external_offer.result in
-    let Q : List Flagged → List Route → List Route → Type 0 = λ routers told networks. IsJust (OfExternal root routers told networks one) o in
-    let first = subst (λ (rs : List Flagged). Q rs c.deref.result.now c.deref-3.result.now) c.deref-2.ensures.value c.external_offer.ensures in
-    let second = subst (λ (rs : List Route). Q it.flagged.items rs c.deref-3.result.now) c.deref.ensures.value first in
-    let third = subst (λ (rs : List Route). Q it.flagged.items it.told.items rs) c.deref-3.ensures.value second in
+    let Q : List Flagged → List Route → List Route → Type 0 =
+    λ routers told networks. IsJust (OfExternal root routers told networks one) o in
+    let first = subst (λ (rs : List Flagged). Q rs c.deref.result.now c.deref-3.result.now)
+    c.deref-2.ensures.value c.external_offer.ensures in
+    let second = subst (λ (rs : List Route). Q it.flagged.items rs c.deref-3.result.now)
+    c.deref.ensures.value first in
+    let third = subst (λ (rs : List Route). Q it.flagged.items it.told.items rs)
+    c.deref-3.ensures.value second in
     let R = OfExternal root it.flagged.items it.told.items it.networks.items one in
     let some = subst (λ x. IsJust R x) c.in-Some.is third in
     just_to R c.args.prefix c.in-Some.offer c.to.result some c.to.ensures

@@ -6,4 +6,6 @@ use Rattle.external_updates.proofs.destination.push_externals_to.Given as goal
 
 abbrev pub invariant-loop-key : goal.invariant-loop-key
 invariant-loop-key l =
-    Adds l.fn.offers.items l.offers.items (OfEach (OffersTo (said_at l.moment l.db.present) l.root l.inner l.prefix) (take l.key-index l.keys))
+    Adds l.fn.offers.items l.offers.items
+    (OfEach (OffersTo (said_at l.moment l.db.present) l.root l.inner l.prefix)
+    (take l.key-index l.keys))

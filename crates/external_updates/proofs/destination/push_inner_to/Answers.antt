@@ -9,9 +9,14 @@ loop-offer-init c = none_yet (IsTo c.args.prefix) c.args.offers.now.items c.args
 pub loop-offer-preserved : goal.loop-offer-preserved
 loop-offer-preserved c =
     let Q = IsTo c.args.prefix in
-    one_more Q c.args.offers.now.items c.loop-offer.offers.items c.push_offer.new.offers.items c.args.inner.now c.loop-offer.offer-index c.offer-item.result c.offer-item.is c.loop-offer-test.true c.loop-offer.invariant
-    (adds_just c.loop-offer.offers.items c.push_offer.new.offers.items (Q c.offer-item.result) c.to.result c.to.ensures c.in_ok-push_offer.ensures)
+    one_more Q c.args.offers.now.items c.loop-offer.offers.items c.push_offer.new.offers.items
+    c.args.inner.now c.loop-offer.offer-index c.offer-item.result c.offer-item.is
+    c.loop-offer-test.true c.loop-offer.invariant
+    (adds_just c.loop-offer.offers.items c.push_offer.new.offers.items (Q c.offer-item.result)
+    c.to.result c.to.ensures c.in_ok-push_offer.ensures)
 
 pub returns : goal.returns
 returns c =
-    all_of_them (IsTo c.args.prefix) c.args.offers.now.items c.loop-offer.offers.items c.args.inner.now c.loop-offer.offer-index (omega (arith, c.loop-offer-test.false)) c.loop-offer.invariant
+    all_of_them (IsTo c.args.prefix) c.args.offers.now.items c.loop-offer.offers.items
+    c.args.inner.now c.loop-offer.offer-index (omega (arith, c.loop-offer-test.false))
+    c.loop-offer.invariant

@@ -16,9 +16,12 @@ returns-then-none_new c =
     let root = c.args.root.now in
     let keys = c.deref.result.now in
     let prefixes = c.deref-2.result.now in
-    let others = subst (λ (ks : List Key). OthersSayTheSame ks old new) (sym c.deref.ensures.value) c.in_ok-keys.ensures in
-    let told = subst (λ (ps : List Network). AreAllTold old new keys ps) (sym c.deref-2.ensures.value) c.in_ok-prefixes.ensures in (
-      all_done old new root c.requires.same keys prefixes others told c.renew_all.new.routes.items (c.in_ok-done.ensures.halfway (ap is_some c.in-Some.is) old c.requires.routes),
+    let others = subst (λ (ks : List Key). OthersSayTheSame ks old new) (sym c.deref.ensures.value)
+    c.in_ok-keys.ensures in
+    let told = subst (λ (ps : List Network). AreAllTold old new keys ps)
+    (sym c.deref-2.ensures.value) c.in_ok-prefixes.ensures in (
+      all_done old new root c.requires.same keys prefixes others told c.renew_all.new.routes.items
+          (c.in_ok-done.ensures.halfway (ap is_some c.in-Some.is) old c.requires.routes),
       c.in_ok-done.ensures.among (c.in-Some.is ∙ ap (λ (b : Bool). Some b) c.if-none_new.true),
     )
 
@@ -29,8 +32,12 @@ returns c =
     let root = c.args.root.now in
     let keys = c.deref.result.now in
     let prefixes = c.deref-2.result.now in
-    let others = subst (λ (ks : List Key). OthersSayTheSame ks old new) (sym c.deref.ensures.value) c.in_ok-keys.ensures in
-    let told = subst (λ (ps : List Network). AreAllTold old new keys ps) (sym c.deref-2.ensures.value) c.in_ok-prefixes.ensures in (
-      all_done old new root c.requires.same keys prefixes others told c.renew_all.new.routes.items (c.in_ok-done.ensures.halfway (ap is_some c.in-Some.is) old c.requires.routes),
-      c.in_ok-done.ensures.another (c.in-Some.is ∙ ap (λ (b : Bool). Some b) c.if-none_new.false) old c.requires.routes,
+    let others = subst (λ (ks : List Key). OthersSayTheSame ks old new) (sym c.deref.ensures.value)
+    c.in_ok-keys.ensures in
+    let told = subst (λ (ps : List Network). AreAllTold old new keys ps)
+    (sym c.deref-2.ensures.value) c.in_ok-prefixes.ensures in (
+      all_done old new root c.requires.same keys prefixes others told c.renew_all.new.routes.items
+          (c.in_ok-done.ensures.halfway (ap is_some c.in-Some.is) old c.requires.routes),
+      c.in_ok-done.ensures.another (c.in-Some.is ∙ ap (λ (b : Bool). Some b) c.if-none_new.false)
+          old c.requires.routes,
     )

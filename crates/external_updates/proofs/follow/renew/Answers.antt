@@ -9,16 +9,19 @@ pub renew_by-requires-clause-keys : goal.renew_by-requires-clause-keys
 renew_by-requires-clause-keys c =
     let Has : List Key → Type 0 = HaveAllUnder c.args.db.now.present c.args.prefix in
     subst Has (sym c.deref.ensures.value)
-    (subst (λ (o : Option (Vec Key Global)). IfSome o (λ keys. Has keys.items)) c.in-Some.is c.in_ok-found.ensures)
+    (subst (λ (o : Option (Vec Key Global)). IfSome o (λ keys. Has keys.items)) c.in-Some.is
+    c.in_ok-found.ensures)
 
 pub returns-in_ok-stood-in-Some-clause-renewed : goal.returns-in_ok-stood-in-Some-clause-renewed
 returns-in_ok-stood-in-Some-clause-renewed c t = c.in_ok-stood-in-Some.ensures.renewed
 
 pub returns-in_ok-stood-in-Some-clause-among : goal.returns-in_ok-stood-in-Some-clause-among
-returns-in_ok-stood-in-Some-clause-among c is = c.in_ok-stood-in-Some.ensures.among (same_Some _ _ is)
+returns-in_ok-stood-in-Some-clause-among c is =
+    c.in_ok-stood-in-Some.ensures.among (same_Some _ _ is)
 
 pub returns-in_ok-stood-in-Some-clause-another : goal.returns-in_ok-stood-in-Some-clause-another
-returns-in_ok-stood-in-Some-clause-another c is = c.in_ok-stood-in-Some.ensures.another (same_Some _ _ is)
+returns-in_ok-stood-in-Some-clause-another c is =
+    c.in_ok-stood-in-Some.ensures.another (same_Some _ _ is)
 
 pub returns-in-None-clause-renewed : goal.returns-in-None-clause-renewed
 returns-in-None-clause-renewed c t = absurd cc

@@ -12,7 +12,9 @@ returns c =
     let keys = c.in_ok-keys.keys.items in
     let same = c.deref.ensures.value in
     let size : c.args.count ≡ c.args.count - 1 + 1 = omega (arith, c.requires) in
-    let are = c.in_ok-keys.ensures ∙ ap (λ k. take c.args.count (keys_from k (finite.keys db))) c.first_key.ensures
+    let are = c.in_ok-keys.ensures ∙ ap (λ k. take c.args.count (keys_from k (finite.keys db)))
+    c.first_key.ensures
     ∙ ap (λ n. take n (keys_from (first_key c.args.prefix) (finite.keys db))) size in
     all_under db c.args.prefix (c.args.count - 1) keys are
-    (λ last at lies. c.may_lack.ensures c.if-may_lack.false last (subst (λ ks. slice_get ks (c.args.count - 1) ≡ Some last) (sym same) at) lies)
+    (λ last at lies. c.may_lack.ensures c.if-may_lack.false last
+    (subst (λ ks. slice_get ks (c.args.count - 1) ≡ Some last) (sym same) at) lies)

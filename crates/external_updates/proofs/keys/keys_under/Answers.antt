@@ -6,4 +6,6 @@ use Rattle.external_updates.proofs.keys.keys_under.Goals as goal
 
 pub returns-in-Some : goal.returns-in-Some
 returns-in-Some c =
-    subst (λ (o : Option (Vec Key Global)). IfSome o (λ keys. HaveAllUnder c.args.db.now.present c.args.prefix keys.items)) c.in-Some.is c.in_ok-few.ensures
+    subst (λ (o : Option (Vec Key Global)). IfSome o
+    (λ keys. HaveAllUnder c.args.db.now.present c.args.prefix keys.items)) c.in-Some.is
+    c.in_ok-few.ensures

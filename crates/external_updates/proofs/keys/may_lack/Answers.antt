@@ -14,6 +14,8 @@ returns-in-None c off last is lies =
 pub returns-in-Some : goal.returns-in-Some
 returns-in-Some c off last is lies =
     let found : Key = c.in-Some.last.now in
-    let same : found ≡ last = c.in-Some.ensures.lookup.1 ∙ get_or_from_slice_get c.args.keys.now (c.args.count - 1) last found is in
-    let t : c.lies_under.result ≡ true = c.lies_under.ensures.1 (subst (λ (k : Key). LiesUnder c.args.prefix k) (sym same) lies) in
+    let same : found ≡ last = c.in-Some.ensures.lookup.1
+    ∙ get_or_from_slice_get c.args.keys.now (c.args.count - 1) last found is in
+    let t : c.lies_under.result ≡ true =
+    c.lies_under.ensures.1 (subst (λ (k : Key). LiesUnder c.args.prefix k) (sym same) lies) in
     absurd (let no : true ≡ false = sym t ∙ off in cc)

@@ -9,7 +9,8 @@ pub returns-in-None-clause-placed : goal.returns-in-None-clause-placed
 returns-in-None-clause-placed c =
     let old = c.args.routes.now.items in
     let prefix = c.args.prefix in
-    subst (λ (o : Option Route). IsPlaced old old prefix o) (sym c.in-None.is) (as_it_was old prefix c.requires.ascend c.args.at c.requires.gap)
+    subst (λ (o : Option Route). IsPlaced old old prefix o) (sym c.in-None.is)
+    (as_it_was old prefix c.requires.ascend c.args.at c.requires.gap)
 
 pub returns-in_ok-put_in-in-Some-clause-placed : goal.returns-in_ok-put_in-in-Some-clause-placed
 returns-in_ok-put_in-in-Some-clause-placed c =
@@ -17,8 +18,11 @@ returns-in_ok-put_in-in-Some-clause-placed c =
     let prefix = c.args.prefix in
     let new = c.put_in.new.routes.items in
     let route = c.in-Some.route in
-    let its = subst (λ (o : Option Route). IfSome o (λ r. r.prefix ≡ prefix)) c.in-Some.is c.requires.its in
-    let placed = subst (λ (ys : List Route). IsPlaced old ys prefix (Some route)) (sym c.in_ok-put_in-in-Some.ensures) (put_in old prefix c.requires.ascend c.args.at c.requires.gap route its) in
+    let its = subst (λ (o : Option Route). IfSome o (λ r. r.prefix ≡ prefix)) c.in-Some.is
+    c.requires.its in
+    let placed = subst (λ (ys : List Route). IsPlaced old ys prefix (Some route))
+    (sym c.in_ok-put_in-in-Some.ensures)
+    (put_in old prefix c.requires.ascend c.args.at c.requires.gap route its) in
     subst (λ (o : Option Route). IsPlaced old new prefix o) (sym c.in-Some.is) placed
 
 pub returns-in-None-clause-stood : goal.returns-in-None-clause-stood
@@ -35,8 +39,13 @@ returns-in_ok-put_in-in-Some-clause-another c off =
     let old = c.args.routes.now.items in
     let prefix = c.args.prefix in
     let route = c.in-Some.route in
-    let its = subst (λ (o : Option Route). IfSome o (λ r. r.prefix ≡ prefix)) c.in-Some.is c.requires.its in
-    (route, c.in-Some.is, λ t. differs old prefix c.requires.ascend c.args.at c.requires.gap route t its)
+    let its = subst (λ (o : Option Route). IfSome o (λ r. r.prefix ≡ prefix)) c.in-Some.is
+    c.requires.its in (
+      route,
+      c.in-Some.is,
+      λ t. differs old prefix c.requires.ascend c.args.at c.requires.gap route t
+          its,
+    )
 
 pub put_in-requires : goal.put_in-requires
 put_in-requires c = c.requires.gap.within

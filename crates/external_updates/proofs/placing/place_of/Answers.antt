@@ -9,11 +9,14 @@ use Rattle.external_updates.proofs.placing.place_of.Goals as goal
 pub returns-in-Ok : goal.returns-in-Ok
 returns-in-Ok c =
     let at = c.in-Ok.ensures.position (λ (y : Route). network_cmp y.prefix c.args.prefix)
-    (always_returns_same _ (λ a r. r ≡ network_cmp a.0.now.prefix c.args.prefix) _ (λ a r q k. search rules)) in
+    (always_returns_same _ (λ a r. r ≡ network_cmp a.0.now.prefix c.args.prefix) _
+    (λ a r q k. search rules)) in
     is_there c.args.routes.now c.args.prefix c.in-Ok.at c.in-Ok.ensures.bound at
 
 pub returns-in-Err : goal.returns-in-Err
 returns-in-Err c =
     let at = c.in-Err.ensures.position (λ (y : Route). network_cmp y.prefix c.args.prefix)
-    (always_returns_same _ (λ a r. r ≡ network_cmp a.0.now.prefix c.args.prefix) _ (λ a r q k. search rules)) in
-    is_gap c.args.routes.now c.args.prefix c.in-Err.at c.in-Err.ensures.bound (at (searchable c.args.routes.now c.args.prefix c.requires))
+    (always_returns_same _ (λ a r. r ≡ network_cmp a.0.now.prefix c.args.prefix) _
+    (λ a r q k. search rules)) in
+    is_gap c.args.routes.now c.args.prefix c.in-Err.at c.in-Err.ensures.bound
+    (at (searchable c.args.routes.now c.args.prefix c.requires))

@@ -9,6 +9,8 @@ returns c =
     let at = c.args.at in
     let route = c.args.route.now in
     let here : Route = c.index-routes-at.result in (
-      (λ t. slice_get_read routes (length routes) at here refl c.requires c.index-routes-at.is ∙ ap (λ (r : Route). Some r) (c.is_same.ensures.0 t)),
-      (λ is. c.is_same.ensures.1 (c.index-routes-at.is ∙ get_or_from_slice_get routes at route here is)),
+      (λ t. slice_get_read routes (length routes) at here refl c.requires c.index-routes-at.is
+          ∙ ap (λ (r : Route). Some r) (c.is_same.ensures.0 t)),
+      (λ is. c.is_same.ensures.1 (c.index-routes-at.is
+          ∙ get_or_from_slice_get routes at route here is)),
     )

@@ -6,42 +6,55 @@ use Rattle.flood.proofs.keeping.keep.Goals as goal
 
 pub follow-requires-clause-routes : goal.follow-requires-clause-routes
 follow-requires-clause-routes c =
-    subst (λ (a : RouterArea). AreRoutesOf c.id-own.result a.settled c.args.before c.args.routes.now) (sym c.area-area.ensures.parts)
-    (subst (λ x. AreRoutesOf x c.args.router.now.settled.area c.args.before c.args.routes.now) (sym c.id-own.ensures) c.requires.kept.routes)
+    subst (λ (a : RouterArea). AreRoutesOf c.id-own.result a.settled c.args.before
+    c.args.routes.now) (sym c.area-area.ensures.parts)
+    (subst (λ x. AreRoutesOf x c.args.router.now.settled.area c.args.before c.args.routes.now)
+    (sym c.id-own.ensures) c.requires.kept.routes)
 
 pub take_answers-requires : goal.take_answers-requires
 take_answers-requires c = record { routes = c.in_ok-follow.ensures.routes }
 
 pub returns-then-brings_answers-clause-kept : goal.returns-then-brings_answers-clause-kept
 returns-then-brings_answers-clause-kept c =
-    are_kept c.args.router.now.present c.id-own.result c.area-area.result.now.present c.moment-moment.result c.answers.result.now c.take_answers.new.self
-    c.id-own.ensures (ap (λ (a : RouterArea). a.present) c.area-area.ensures.parts) c.moment-moment.ensures c.answers.ensures c.take_answers.ensures.kept
+    are_kept c.args.router.now.present c.id-own.result c.area-area.result.now.present
+    c.moment-moment.result c.answers.result.now c.take_answers.new.self
+    c.id-own.ensures (ap (λ (a : RouterArea). a.present) c.area-area.ensures.parts)
+    c.moment-moment.ensures c.answers.ensures c.take_answers.ensures.kept
 
 pub returns-else-brings_answers-clause-kept : goal.returns-else-brings_answers-clause-kept
 returns-else-brings_answers-clause-kept c =
     let r = c.args.router.now.present in
     let area = c.area-area.result.now.present in
     let knew =
-    subst (λ (a : RouterArea). AreKept c.id-own.result a.settled c.args.before c.args.router.now.settled.answers c.args.routes.now) (sym c.area-area.ensures.parts)
-    (subst (λ x. AreKept x c.args.router.now.settled.area c.args.before c.args.router.now.settled.answers c.args.routes.now) (sym c.id-own.ensures) c.requires.kept) in
+    subst (λ (a : RouterArea). AreKept c.id-own.result a.settled c.args.before
+    c.args.router.now.settled.answers c.args.routes.now) (sym c.area-area.ensures.parts)
+    (subst (λ x. AreKept x c.args.router.now.settled.area c.args.before
+    c.args.router.now.settled.answers c.args.routes.now) (sym c.id-own.ensures) c.requires.kept)
+    in
     let knows = c.in_ok-follow.ensures.answered c.args.router.now.settled.answers knew in
     are_kept r c.id-own.result area c.moment-moment.result r.answers c.follow.new.self
-    c.id-own.ensures (ap (λ (a : RouterArea). a.present) c.area-area.ensures.parts) c.moment-moment.ensures refl
+    c.id-own.ensures (ap (λ (a : RouterArea). a.present) c.area-area.ensures.parts)
+    c.moment-moment.ensures refl
     (subst (λ w. AreKept c.id-own.result area c.moment-moment.result w c.follow.new.self)
     (sym (c.requires.answers (sym c.brings_answers.ensures ∙ c.if-brings_answers.false))) knows)
 
 pub returns-then-brings_answers-clause-walks : goal.returns-then-brings_answers-clause-walks
 returns-then-brings_answers-clause-walks c =
     let area = c.area-area.result.now in
-    walks_then c.args.before c.args.router.now.present c.args.router.now.settled.area c.id-own.result c.moment-moment.result area.settled area.present
+    walks_then c.args.before c.args.router.now.present c.args.router.now.settled.area
+    c.id-own.result c.moment-moment.result area.settled area.present
     c.args.routes.now c.follow.new.self c.take_answers.new.self
-    c.id-own.ensures (ap (λ (a : RouterArea). a.settled) c.area-area.ensures.parts) (ap (λ (a : RouterArea). a.present) c.area-area.ensures.parts)
-    c.moment-moment.ensures c.take_answers.ensures.walk c.take_answers.ensures.behind c.in_ok-follow.ensures.walks
+    c.id-own.ensures (ap (λ (a : RouterArea). a.settled) c.area-area.ensures.parts)
+    (ap (λ (a : RouterArea). a.present) c.area-area.ensures.parts)
+    c.moment-moment.ensures c.take_answers.ensures.walk c.take_answers.ensures.behind
+    c.in_ok-follow.ensures.walks
 
 pub returns-else-brings_answers-clause-walks : goal.returns-else-brings_answers-clause-walks
 returns-else-brings_answers-clause-walks c =
     let area = c.area-area.result.now in
-    walks_then c.args.before c.args.router.now.present c.args.router.now.settled.area c.id-own.result c.moment-moment.result area.settled area.present
+    walks_then c.args.before c.args.router.now.present c.args.router.now.settled.area
+    c.id-own.result c.moment-moment.result area.settled area.present
     c.args.routes.now c.follow.new.self c.follow.new.self
-    c.id-own.ensures (ap (λ (a : RouterArea). a.settled) c.area-area.ensures.parts) (ap (λ (a : RouterArea). a.present) c.area-area.ensures.parts)
+    c.id-own.ensures (ap (λ (a : RouterArea). a.settled) c.area-area.ensures.parts)
+    (ap (λ (a : RouterArea). a.present) c.area-area.ensures.parts)
     c.moment-moment.ensures refl refl c.in_ok-follow.ensures.walks

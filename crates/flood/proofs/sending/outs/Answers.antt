@@ -17,9 +17,12 @@ loop-draft-init c =
 pub put_outs-requires : goal.put_outs-requires
 put_outs-requires c =
     let gives = c.into_iter-draft-iterator.ensures.into_iter_gives in
-    next_draft c.args.own (into_iter_items c.into_iter-draft-iterator.result) c.loop-draft.number c.loop-draft.outs.items (into_iter_items c.loop-draft.draft-iterator) (into_iter_items c.next.new.self) c.in-Some.draft
+    next_draft c.args.own (into_iter_items c.into_iter-draft-iterator.result) c.loop-draft.number
+    c.loop-draft.outs.items (into_iter_items c.loop-draft.draft-iterator)
+    (into_iter_items c.next.new.self) c.in-Some.draft
     c.loop-draft.invariant.0 c.in-Some.ensures.steps.0 c.requires.drafts.0 c.requires.drafts.1
-    (subst (AreDraftsFrom 1 c.requires.drafts.0 c.requires.drafts.1) (sym gives.0) c.requires.drafts.2.from)
+    (subst (AreDraftsFrom 1 c.requires.drafts.0 c.requires.drafts.1) (sym gives.0)
+    c.requires.drafts.2.from)
 
 pub overflow_add-number : goal.overflow_add-number
 overflow_add-number c =
@@ -34,8 +37,12 @@ loop-draft-preserved c =
     let few = c.loop-draft.invariant.2 in
     let gone = steps.1 in
     let short = ap length steps.0 in (
-      one_sent c.args.own (into_iter_items c.into_iter-draft-iterator.result) c.loop-draft.number c.loop-draft.outs.items c.put_outs.new.outs.items (into_iter_items c.loop-draft.draft-iterator) (into_iter_items c.next.new.self) c.in-Some.draft
-          c.loop-draft.invariant.0 steps.0 c.in_ok-put_outs.ensures.outs c.in_ok-put_outs.ensures.texts,
+      one_sent c.args.own (into_iter_items c.into_iter-draft-iterator.result) c.loop-draft.number
+          c.loop-draft.outs.items c.put_outs.new.outs.items
+          (into_iter_items c.loop-draft.draft-iterator) (into_iter_items c.next.new.self)
+          c.in-Some.draft
+          c.loop-draft.invariant.0 steps.0 c.in_ok-put_outs.ensures.outs
+          c.in_ok-put_outs.ensures.texts,
       omega arith,
       omega arith,
     )
@@ -44,14 +51,18 @@ pub returns-clause-outs : goal.returns-clause-outs
 returns-clause-outs c = λ links sends are.
     let rest = into_iter_items c.loop-draft.draft-iterator in
     let gives = c.into_iter-draft-iterator.ensures.into_iter_gives in
-    let none = none_left rest (into_iter_len c.loop-draft.draft-iterator) c.loop-draft.invariant.1 c.in-None.ensures.steps.0 in
-    all_sent c.args.own (into_iter_items c.into_iter-draft-iterator.result) c.loop-draft.number c.loop-draft.outs.items rest c.loop-draft.invariant.0 none links sends
+    let none = none_left rest (into_iter_len c.loop-draft.draft-iterator) c.loop-draft.invariant.1
+    c.in-None.ensures.steps.0 in
+    all_sent c.args.own (into_iter_items c.into_iter-draft-iterator.result) c.loop-draft.number
+    c.loop-draft.outs.items rest c.loop-draft.invariant.0 none links sends
     (subst (AreDraftsFrom 1 links sends) (sym gives.0) are.from)
 
 pub returns-clause-texts : goal.returns-clause-texts
 returns-clause-texts c = λ links sends are.
     let rest = into_iter_items c.loop-draft.draft-iterator in
     let gives = c.into_iter-draft-iterator.ensures.into_iter_gives in
-    let none = none_left rest (into_iter_len c.loop-draft.draft-iterator) c.loop-draft.invariant.1 c.in-None.ensures.steps.0 in
-    all_spelled c.args.own (into_iter_items c.into_iter-draft-iterator.result) c.loop-draft.number c.loop-draft.outs.items rest c.loop-draft.invariant.0 none links sends
+    let none = none_left rest (into_iter_len c.loop-draft.draft-iterator) c.loop-draft.invariant.1
+    c.in-None.ensures.steps.0 in
+    all_spelled c.args.own (into_iter_items c.into_iter-draft-iterator.result) c.loop-draft.number
+    c.loop-draft.outs.items rest c.loop-draft.invariant.0 none links sends
     (subst (AreDraftsFrom 1 links sends) (sym gives.0) are.from)

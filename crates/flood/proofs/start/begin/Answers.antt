@@ -9,11 +9,15 @@ pub new-router-requires : goal.new-router-requires
 new-router-requires c = record {
   few =
       few_links c.args.config.now c.in_ok-links.links.items c.requires
-      (ap (λ ls. map present ls) c.in_ok-links.ensures ∙ ap (λ is. map present (map fresh_kept is)) c.as_slice.ensures ∙ fresh_links c.args.config.now.interfaces);
+      (ap (λ ls. map present ls) c.in_ok-links.ensures
+      ∙ ap (λ is. map present (map fresh_kept is)) c.as_slice.ensures
+      ∙ fresh_links c.args.config.now.interfaces);
 }
 
 pub describe_links-requires : goal.describe_links-requires
 describe_links-requires c =
     let config = c.args.config.now in
-    let links = ap (λ ls. map present ls) c.in_ok-links.ensures ∙ ap (λ is. map present (map fresh_kept is)) c.as_slice.ensures ∙ fresh_links config.interfaces in
+    let links = ap (λ ls. map present ls) c.in_ok-links.ensures
+    ∙ ap (λ is. map present (map fresh_kept is)) c.as_slice.ensures
+    ∙ fresh_links config.interfaces in
     c.new-router.ensures.present ∙ ap (λ ls. with_links config.router ls config.start) links

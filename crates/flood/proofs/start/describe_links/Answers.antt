@@ -6,6 +6,10 @@ use Rattle.flood.proofs.start.describe_links.Goals as goal
 pub returns : goal.returns
 returns c =
     let config = c.args.config.now in
-    started (originate_or_wait config.start c.router_key.result) c.args.router.now.present c.originate_or_wait.new.router.present c.deref_mut.result.now c.originate_or_wait.new.drafts
+    started (originate_or_wait config.start c.router_key.result) c.args.router.now.present
+    c.originate_or_wait.new.router.present c.deref_mut.result.now c.originate_or_wait.new.drafts
     c.in_ok-originate_or_wait.ensures.makes
-    ∙ (λ i. (originate_or_wait config.start (c.router_key.ensures i) (record { router = c.requires i; sends = [] })).router)
+    ∙ (λ i. (originate_or_wait config.start (c.router_key.ensures i) (record {
+      router = c.requires i;
+      sends = [];
+    })).router)

@@ -46,7 +46,8 @@ returns-in_default-clause-drafts c =
     let o : Outcome = start (area_of c.args.links.now c.args.database.now.present) in
     let P = map present c.args.links.now in
     let ds = c.args.drafts.now in
-    drafted_none 1 P ds ∙ ap (λ q. drafts_with (come_of_age_copy b m q o).sends P ds) c.in_default.ensures
+    drafted_none 1 P ds ∙ ap (λ q. drafts_with (come_of_age_copy b m q o).sends P ds)
+    c.in_default.ensures
 
 pub returns-then-came-clause-drafts : goal.returns-then-came-clause-drafts
 returns-then-came-clause-drafts c =
@@ -60,7 +61,8 @@ returns-then-came-clause-drafts c =
     (λ is.
     is
     ∙ ap (λ q. drafts_with (flooded_copy m None q o).sends P ds) (sym c.in-Some.ensures)
-    ∙ ap (λ t. drafts_with (cond t whole o).sends P ds) (sym c.if-came.true ∙ c.has_just_aged_out-came.ensures)
+    ∙ ap (λ t. drafts_with (cond t whole o).sends P ds)
+    (sym c.if-came.true ∙ c.has_just_aged_out-came.ensures)
     ∙ ap (λ q. drafts_with (come_of_age_copy b m q o).sends P ds) c.in-Some.ensures)
     c.flood.ensures.drafts
 
@@ -72,5 +74,6 @@ returns-clause-drafts c =
     let P = map present c.args.links.now in
     let ds = c.args.drafts.now in
     let whole : Outcome = flood m None (lsa_now m c.in-Some.copy) o in
-    drafted_none 1 P ds ∙ ap (λ t. drafts_with (cond t whole o).sends P ds) (sym c.if-came.false ∙ c.has_just_aged_out-came.ensures)
+    drafted_none 1 P ds ∙ ap (λ t. drafts_with (cond t whole o).sends P ds)
+    (sym c.if-came.false ∙ c.has_just_aged_out-came.ensures)
     ∙ ap (λ q. drafts_with (come_of_age_copy b m q o).sends P ds) c.in-Some.ensures

@@ -6,6 +6,7 @@ use Rattle.flooding.proofs.flood.flood_links.Given as goal
 
 abbrev pub invariant-loop-i : goal.invariant-loop-i
 invariant-loop-i l = record {
-  floods : Floods l.moment l.sender (lsa_now l.moment l.copy) l.i l.links l.drafts l.sent (map present l.fn.links) l.fn.drafts;
+  floods : Floods l.moment l.sender (lsa_now l.moment l.copy) l.i l.links l.drafts l.sent
+      (map present l.fn.links) l.fn.drafts;
   settled : map settled_link l.links ≡ map settled_link l.fn.links;
 }

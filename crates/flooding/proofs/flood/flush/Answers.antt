@@ -22,13 +22,16 @@ returns-in_default-clause-drafts c =
     let a = area_of c.args.links.now c.args.database.now.present in
     let P = map present c.args.links.now in
     drafted_none 1 P c.args.drafts.now
-    ∙ ap (λ q. drafts_with (flushed_copy c.args.moment c.args.key.now q (start a)).sends P c.args.drafts.now) c.in_default.ensures
+    ∙ ap (λ q. drafts_with (flushed_copy c.args.moment c.args.key.now q (start a)).sends P
+    c.args.drafts.now) c.in_default.ensures
 
 pub returns-then-aged-clause-ok : goal.returns-then-aged-clause-ok
 returns-then-aged-clause-ok c =
     let a = area_of c.args.links.now c.args.database.now.present in
     let copy = c.in-Some.copy in
-    let whole : Outcome = flood c.args.moment None (lsa_aged 3600 copy.lsa) (start (area_of c.args.links.now (age_out c.args.moment c.args.key.now c.args.database.now.present))) in
+    let whole : Outcome = flood c.args.moment None (lsa_aged 3600 copy.lsa)
+    (start (area_of c.args.links.now
+    (age_out c.args.moment c.args.key.now c.args.database.now.present))) in
     ap (λ b. (cond b (start a) whole).area) (sym c.if-aged.true ∙ c.is_aged_out-aged.ensures)
     ∙ ap (λ q. (flushed_copy c.args.moment c.args.key.now q (start a)).area) c.in-Some.ensures
 
@@ -37,10 +40,14 @@ returns-then-aged-clause-drafts c =
     let a = area_of c.args.links.now c.args.database.now.present in
     let P = map present c.args.links.now in
     let copy = c.in-Some.copy in
-    let whole : Outcome = flood c.args.moment None (lsa_aged 3600 copy.lsa) (start (area_of c.args.links.now (age_out c.args.moment c.args.key.now c.args.database.now.present))) in
+    let whole : Outcome = flood c.args.moment None (lsa_aged 3600 copy.lsa)
+    (start (area_of c.args.links.now
+    (age_out c.args.moment c.args.key.now c.args.database.now.present))) in
     drafted_none 1 P c.args.drafts.now
-    ∙ ap (λ b. drafts_with (cond b (start a) whole).sends P c.args.drafts.now) (sym c.if-aged.true ∙ c.is_aged_out-aged.ensures)
-    ∙ ap (λ q. drafts_with (flushed_copy c.args.moment c.args.key.now q (start a)).sends P c.args.drafts.now) c.in-Some.ensures
+    ∙ ap (λ b. drafts_with (cond b (start a) whole).sends P c.args.drafts.now)
+    (sym c.if-aged.true ∙ c.is_aged_out-aged.ensures)
+    ∙ ap (λ q. drafts_with (flushed_copy c.args.moment c.args.key.now q (start a)).sends P
+    c.args.drafts.now) c.in-Some.ensures
 
 pub returns-clause-ok : goal.returns-clause-ok
 returns-clause-ok c =
@@ -55,7 +62,8 @@ returns-clause-ok c =
     on_ok c.flood.result
     (λ is.
     is
-    ∙ ap (λ e. (flooded_copy m None (finite.get e k) (start (area_of ls e))).area) c.in_ok-age_out.ensures.ok
+    ∙ ap (λ e. (flooded_copy m None (finite.get e k) (start (area_of ls e))).area)
+    c.in_ok-age_out.ensures.ok
     ∙ ap (λ o. (flooded_copy m None o after).area) (aged_out m k d copy (sym c.in-Some.ensures))
     ∙ ap (λ l. (flood m None l after).area) (aged_now m copy)
     ∙ ap (λ b. (cond b (start a) whole).area) (sym c.if-aged.false ∙ c.is_aged_out-aged.ensures)
@@ -77,9 +85,12 @@ returns-clause-drafts c =
     on_ok c.flood.result
     (λ is.
     is
-    ∙ ap (λ e. drafts_with (flooded_copy m None (finite.get e k) (start (area_of ls e))).sends P ds) c.in_ok-age_out.ensures.ok
-    ∙ ap (λ o. drafts_with (flooded_copy m None o after).sends P ds) (aged_out m k d copy (sym c.in-Some.ensures))
+    ∙ ap (λ e. drafts_with (flooded_copy m None (finite.get e k) (start (area_of ls e))).sends P ds)
+    c.in_ok-age_out.ensures.ok
+    ∙ ap (λ o. drafts_with (flooded_copy m None o after).sends P ds)
+    (aged_out m k d copy (sym c.in-Some.ensures))
     ∙ ap (λ l. drafts_with (flood m None l after).sends P ds) (aged_now m copy)
-    ∙ ap (λ b. drafts_with (cond b (start a) whole).sends P ds) (sym c.if-aged.false ∙ c.is_aged_out-aged.ensures)
+    ∙ ap (λ b. drafts_with (cond b (start a) whole).sends P ds)
+    (sym c.if-aged.false ∙ c.is_aged_out-aged.ensures)
     ∙ ap (λ q. drafts_with (flushed_copy m k q (start a)).sends P ds) c.in-Some.ensures)
     c.flood.ensures.drafts

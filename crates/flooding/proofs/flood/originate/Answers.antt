@@ -16,12 +16,21 @@ returns-clause-ok c =
     let d = c.args.database.now.present in
     let ls = c.args.links.now in
     let key = c.key-key.ensures ∙ ap key_of c.header-header.ensures in
-    let whole : flooded_copy c.args.moment None (finite.get c.install_originated.new.self.present c.key-key.result) (start (area_of ls c.install_originated.new.self.present))
+    let whole : flooded_copy c.args.moment None
+    (finite.get c.install_originated.new.self.present c.key-key.result)
+    (start (area_of ls c.install_originated.new.self.present))
     ≡ flood c.args.moment None lsa (start (area_of ls (install_originated c.args.moment lsa d))) =
-    ap (λ e. flooded_copy c.args.moment None (finite.get e c.key-key.result) (start (area_of ls e))) c.in_ok-install_originated.ensures.ok
-    ∙ ap (λ j. flooded_copy c.args.moment None (finite.get (install_originated c.args.moment lsa d) j) (start (area_of ls (install_originated c.args.moment lsa d)))) key
-    ∙ ap (λ o. flooded_copy c.args.moment None o (start (area_of ls (install_originated c.args.moment lsa d)))) (installed c.args.moment lsa None d)
-    ∙ ap (λ l. flood c.args.moment None l (start (area_of ls (install_originated c.args.moment lsa d)))) (at_once c.args.moment lsa None c.check_age.ensures) in
+    ap (λ e. flooded_copy c.args.moment None (finite.get e c.key-key.result) (start (area_of ls e)))
+    c.in_ok-install_originated.ensures.ok
+    ∙ ap (λ j. flooded_copy c.args.moment None
+    (finite.get (install_originated c.args.moment lsa d) j)
+    (start (area_of ls (install_originated c.args.moment lsa d)))) key
+    ∙ ap (λ o. flooded_copy c.args.moment None o
+    (start (area_of ls (install_originated c.args.moment lsa d))))
+    (installed c.args.moment lsa None d)
+    ∙ ap (λ l. flood c.args.moment None l
+    (start (area_of ls (install_originated c.args.moment lsa d))))
+    (at_once c.args.moment lsa None c.check_age.ensures) in
     on_ok c.flood.result (λ is. is ∙ ap (λ o. o.area) whole) c.flood.ensures.ok
 
 pub returns-clause-drafts : goal.returns-clause-drafts
@@ -30,10 +39,21 @@ returns-clause-drafts c =
     let d = c.args.database.now.present in
     let ls = c.args.links.now in
     let key = c.key-key.ensures ∙ ap key_of c.header-header.ensures in
-    let whole : flooded_copy c.args.moment None (finite.get c.install_originated.new.self.present c.key-key.result) (start (area_of ls c.install_originated.new.self.present))
+    let whole : flooded_copy c.args.moment None
+    (finite.get c.install_originated.new.self.present c.key-key.result)
+    (start (area_of ls c.install_originated.new.self.present))
     ≡ flood c.args.moment None lsa (start (area_of ls (install_originated c.args.moment lsa d))) =
-    ap (λ e. flooded_copy c.args.moment None (finite.get e c.key-key.result) (start (area_of ls e))) c.in_ok-install_originated.ensures.ok
-    ∙ ap (λ j. flooded_copy c.args.moment None (finite.get (install_originated c.args.moment lsa d) j) (start (area_of ls (install_originated c.args.moment lsa d)))) key
-    ∙ ap (λ o. flooded_copy c.args.moment None o (start (area_of ls (install_originated c.args.moment lsa d)))) (installed c.args.moment lsa None d)
-    ∙ ap (λ l. flood c.args.moment None l (start (area_of ls (install_originated c.args.moment lsa d)))) (at_once c.args.moment lsa None c.check_age.ensures) in
-    on_ok c.flood.result (λ is. is ∙ ap (λ o. drafted_from 1 o.sends (map present c.args.links.now) c.args.drafts.now) whole) c.flood.ensures.drafts
+    ap (λ e. flooded_copy c.args.moment None (finite.get e c.key-key.result) (start (area_of ls e)))
+    c.in_ok-install_originated.ensures.ok
+    ∙ ap (λ j. flooded_copy c.args.moment None
+    (finite.get (install_originated c.args.moment lsa d) j)
+    (start (area_of ls (install_originated c.args.moment lsa d)))) key
+    ∙ ap (λ o. flooded_copy c.args.moment None o
+    (start (area_of ls (install_originated c.args.moment lsa d))))
+    (installed c.args.moment lsa None d)
+    ∙ ap (λ l. flood c.args.moment None l
+    (start (area_of ls (install_originated c.args.moment lsa d))))
+    (at_once c.args.moment lsa None c.check_age.ensures) in
+    on_ok c.flood.result (λ is. is ∙ ap
+    (λ o. drafted_from 1 o.sends (map present c.args.links.now) c.args.drafts.now) whole)
+    c.flood.ensures.drafts

@@ -8,10 +8,16 @@ loop-i-init c = record { stays = refl; comes = mixed_none present settled_link c
 
 pub loop-i-preserved : goal.loop-i-preserved
 loop-i-preserved c = record {
-  stays = shows_kept settled_link c.loop-i.links c.loop-i.i c.index-links-i.result c.roll_back.new.self c.index-links-i.is (ap settled_link c.roll_back.ensures) ∙ c.loop-i.invariant.stays;
-  comes = mixed_next present settled_link c.loop-i.i c.loop-i.links c.roll_back.new.self c.index-links-i.result (ap present c.roll_back.ensures) (omega (arith, c.loop-i-test.true, c.loop-i.auto.links)) ∙ c.loop-i.invariant.comes;
+  stays = shows_kept settled_link c.loop-i.links c.loop-i.i c.index-links-i.result
+      c.roll_back.new.self c.index-links-i.is (ap settled_link c.roll_back.ensures)
+      ∙ c.loop-i.invariant.stays;
+  comes = mixed_next present settled_link c.loop-i.i c.loop-i.links c.roll_back.new.self
+      c.index-links-i.result (ap present c.roll_back.ensures)
+      (omega (arith, c.loop-i-test.true, c.loop-i.auto.links)) ∙ c.loop-i.invariant.comes;
 }
 
 pub returns-clause-present : goal.returns-clause-present
 returns-clause-present c =
-    sym (mixed_all present settled_link c.loop-i.i c.loop-i.links (omega (arith, c.loop-i-test.false, c.loop-i.auto.i-end, c.loop-i.auto.links))) ∙ c.loop-i.invariant.comes
+    sym (mixed_all present settled_link c.loop-i.i c.loop-i.links
+    (omega (arith, c.loop-i-test.false, c.loop-i.auto.i-end, c.loop-i.auto.links)))
+    ∙ c.loop-i.invariant.comes

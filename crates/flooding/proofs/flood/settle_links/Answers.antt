@@ -8,10 +8,15 @@ loop-i-init c = record { stays = refl; comes = mixed_none settled_link present c
 
 pub loop-i-preserved : goal.loop-i-preserved
 loop-i-preserved c = record {
-  stays = shows_kept present c.loop-i.links c.loop-i.i c.index-links-i.result c.settle.new.self c.index-links-i.is (ap present c.settle.ensures) ∙ c.loop-i.invariant.stays;
-  comes = mixed_next settled_link present c.loop-i.i c.loop-i.links c.settle.new.self c.index-links-i.result (ap settled_link c.settle.ensures) (omega (arith, c.loop-i-test.true, c.loop-i.auto.links)) ∙ c.loop-i.invariant.comes;
+  stays = shows_kept present c.loop-i.links c.loop-i.i c.index-links-i.result c.settle.new.self
+      c.index-links-i.is (ap present c.settle.ensures) ∙ c.loop-i.invariant.stays;
+  comes = mixed_next settled_link present c.loop-i.i c.loop-i.links c.settle.new.self
+      c.index-links-i.result (ap settled_link c.settle.ensures)
+      (omega (arith, c.loop-i-test.true, c.loop-i.auto.links)) ∙ c.loop-i.invariant.comes;
 }
 
 pub returns-clause-settled : goal.returns-clause-settled
 returns-clause-settled c =
-    sym (mixed_all settled_link present c.loop-i.i c.loop-i.links (omega (arith, c.loop-i-test.false, c.loop-i.auto.i-end, c.loop-i.auto.links))) ∙ c.loop-i.invariant.comes
+    sym (mixed_all settled_link present c.loop-i.i c.loop-i.links
+    (omega (arith, c.loop-i-test.false, c.loop-i.auto.i-end, c.loop-i.auto.links)))
+    ∙ c.loop-i.invariant.comes

@@ -19,36 +19,43 @@ returns-in-Unreadable-clause-drafts c =
     let a = area_of c.args.links.now c.args.database.now.present in
     let P = map present c.args.links.now in
     drafted_none 1 P c.args.drafts.now
-    ∙ ap (λ k. drafts_with (after_case (case_of k) c.args.moment c.args.number c.args.lsa (start a)).sends P c.args.drafts.now) (sym c.in-Unreadable.is)
+    ∙ ap (λ k. drafts_with (after_case (case_of k) c.args.moment c.args.number c.args.lsa
+    (start a)).sends P c.args.drafts.now) (sym c.in-Unreadable.is)
 
 pub returns-in-TooSoon-clause-drafts : goal.returns-in-TooSoon-clause-drafts
 returns-in-TooSoon-clause-drafts c =
     let a = area_of c.args.links.now c.args.database.now.present in
     let P = map present c.args.links.now in
     drafted_none 1 P c.args.drafts.now
-    ∙ ap (λ k. drafts_with (after_case (case_of k) c.args.moment c.args.number c.args.lsa (start a)).sends P c.args.drafts.now) (sym c.in-TooSoon.is)
+    ∙ ap (λ k. drafts_with (after_case (case_of k) c.args.moment c.args.number c.args.lsa
+    (start a)).sends P c.args.drafts.now) (sym c.in-TooSoon.is)
 
 pub returns-in-SequenceWraps-clause-drafts : goal.returns-in-SequenceWraps-clause-drafts
 returns-in-SequenceWraps-clause-drafts c =
     let a = area_of c.args.links.now c.args.database.now.present in
     let P = map present c.args.links.now in
     drafted_none 1 P c.args.drafts.now
-    ∙ ap (λ k. drafts_with (after_case (case_of k) c.args.moment c.args.number c.args.lsa (start a)).sends P c.args.drafts.now) (sym c.in-SequenceWraps.is)
+    ∙ ap (λ k. drafts_with (after_case (case_of k) c.args.moment c.args.number c.args.lsa
+    (start a)).sends P c.args.drafts.now) (sym c.in-SequenceWraps.is)
 
 pub returns-in-SentJustNow-clause-drafts : goal.returns-in-SentJustNow-clause-drafts
 returns-in-SentJustNow-clause-drafts c =
     let a = area_of c.args.links.now c.args.database.now.present in
     let P = map present c.args.links.now in
     drafted_none 1 P c.args.drafts.now
-    ∙ ap (λ k. drafts_with (after_case (case_of k) c.args.moment c.args.number c.args.lsa (start a)).sends P c.args.drafts.now) (sym c.in-SentJustNow.is)
+    ∙ ap (λ k. drafts_with (after_case (case_of k) c.args.moment c.args.number c.args.lsa
+    (start a)).sends P c.args.drafts.now) (sym c.in-SentJustNow.is)
 
 pub returns-in-BadRequest-clause-ok : goal.returns-in-BadRequest-clause-ok
 returns-in-BadRequest-clause-ok c =
     let a = area_of c.args.links.now c.args.database.now.present in
     on_ok c.mismatch.result
     (λ is.
-    area_is is (mismatch_marks c.args.links.now (c.args.number - 1) c.args.number (omega (arith, c.requires.first, c.requires.last)) (omega (arith, c.requires.first)) c.args.moment c.args.database.now.present)
-    ∙ ap (λ k. (after_case (case_of k) c.args.moment c.args.number c.args.lsa (start a)).area) (sym c.in-BadRequest.is))
+    area_is is (mismatch_marks c.args.links.now (c.args.number - 1) c.args.number
+    (omega (arith, c.requires.first, c.requires.last)) (omega (arith, c.requires.first))
+    c.args.moment c.args.database.now.present)
+    ∙ ap (λ k. (after_case (case_of k) c.args.moment c.args.number c.args.lsa (start a)).area)
+    (sym c.in-BadRequest.is))
     c.mismatch.ensures.links
 
 pub returns-in-ImpliedAcknowledgment-clause-ok : goal.returns-in-ImpliedAcknowledgment-clause-ok
@@ -57,18 +64,29 @@ returns-in-ImpliedAcknowledgment-clause-ok c =
     on_ok c.release.result
     (λ is.
     area_is
-    (is ∙ ap (λ (h : Header). stepped_links (only_at c.args.number (λ (n : Neighbor). no_sends (remove_retransmission (key_of h) n))) (map present c.args.links.now)) c.header-header.ensures)
-    (ap (marks c.args.moment c.args.database.now.present) (release_sends c.args.links.now (c.args.number - 1) c.args.number (omega (arith, c.requires.first, c.requires.last)) (omega (arith, c.requires.first)) (key_of c.args.lsa.header)))
-    ∙ ap (λ k. (after_case (case_of k) c.args.moment c.args.number c.args.lsa (start a)).area) (sym c.in-ImpliedAcknowledgment.is))
+    (is ∙ ap (λ (h : Header). stepped_links
+    (only_at c.args.number (λ (n : Neighbor). no_sends (remove_retransmission (key_of h) n)))
+    (map present c.args.links.now)) c.header-header.ensures)
+    (ap (marks c.args.moment c.args.database.now.present)
+    (release_sends c.args.links.now (c.args.number - 1) c.args.number
+    (omega (arith, c.requires.first, c.requires.last)) (omega (arith, c.requires.first))
+    (key_of c.args.lsa.header)))
+    ∙ ap (λ k. (after_case (case_of k) c.args.moment c.args.number c.args.lsa (start a)).area)
+    (sym c.in-ImpliedAcknowledgment.is))
     c.release.ensures.links
 
-pub returns-in-ImpliedAcknowledgment-clause-drafts : goal.returns-in-ImpliedAcknowledgment-clause-drafts
+pub returns-in-ImpliedAcknowledgment-clause-drafts :
+    goal.returns-in-ImpliedAcknowledgment-clause-drafts
 returns-in-ImpliedAcknowledgment-clause-drafts c =
     let a = area_of c.args.links.now c.args.database.now.present in
     let P = map present c.args.links.now in
     on_ok c.release.result
     (λ _.
     drafted_none 1 P c.args.drafts.now
-    ∙ ap (λ ss. drafts_with ss P c.args.drafts.now) (release_sends c.args.links.now (c.args.number - 1) c.args.number (omega (arith, c.requires.first, c.requires.last)) (omega (arith, c.requires.first)) (key_of c.args.lsa.header))
-    ∙ ap (λ k. drafts_with (after_case (case_of k) c.args.moment c.args.number c.args.lsa (start a)).sends P c.args.drafts.now) (sym c.in-ImpliedAcknowledgment.is))
+    ∙ ap (λ ss. drafts_with ss P c.args.drafts.now)
+    (release_sends c.args.links.now (c.args.number - 1) c.args.number
+    (omega (arith, c.requires.first, c.requires.last)) (omega (arith, c.requires.first))
+    (key_of c.args.lsa.header))
+    ∙ ap (λ k. drafts_with (after_case (case_of k) c.args.moment c.args.number c.args.lsa
+    (start a)).sends P c.args.drafts.now) (sym c.in-ImpliedAcknowledgment.is))
     c.release.ensures.links

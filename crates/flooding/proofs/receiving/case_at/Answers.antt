@@ -16,11 +16,17 @@ returns c =
     let lsa = c.args.lsa.now in
     let d = c.args.database.now.present in
     let neighbor = (get_or ls (c.args.number - 1) c.index-links-i.result).present.neighbor in
-    let copy = c.get-copy.ensures ∙ ap (finite.get d) (c.key-key.ensures ∙ ap key_of c.header-header.ensures) in
+    let copy = c.get-copy.ensures ∙ ap (finite.get d)
+    (c.key-key.ensures ∙ ap key_of c.header-header.ensures) in
     c.case.ensures
     ∙ ap (λ ts. first_case ts Case.Older) c.of_received-tests.ensures
-    ∙ ap (λ (l : Kept Link). case_of_readable m c.get-copy.result l.present.neighbor c.any_exchange_or_loading-synchronizing.result lsa) c.index-links-i.is
-    ∙ ap (λ o. case_of_readable m o neighbor c.any_exchange_or_loading-synchronizing.result lsa) copy
-    ∙ ap (λ b. case_of_readable m (finite.get d (lsa_key lsa)) neighbor b lsa) c.any_exchange_or_loading-synchronizing.ensures
-    ∙ ap (λ n. case_of_readable m (finite.get d (lsa_key lsa)) n (any_exchange_or_loading (map present ls)) lsa)
-    (shown_neighbor ls (c.args.number - 1) c.args.number c.index-links-i.result (omega (arith, c.requires.first, c.requires.last)) (omega (arith, c.requires.first)))
+    ∙ ap (λ (l : Kept Link). case_of_readable m c.get-copy.result l.present.neighbor
+    c.any_exchange_or_loading-synchronizing.result lsa) c.index-links-i.is
+    ∙ ap (λ o. case_of_readable m o neighbor c.any_exchange_or_loading-synchronizing.result lsa)
+    copy
+    ∙ ap (λ b. case_of_readable m (finite.get d (lsa_key lsa)) neighbor b lsa)
+    c.any_exchange_or_loading-synchronizing.ensures
+    ∙ ap (λ n. case_of_readable m (finite.get d (lsa_key lsa)) n
+    (any_exchange_or_loading (map present ls)) lsa)
+    (shown_neighbor ls (c.args.number - 1) c.args.number c.index-links-i.result
+    (omega (arith, c.requires.first, c.requires.last)) (omega (arith, c.requires.first)))

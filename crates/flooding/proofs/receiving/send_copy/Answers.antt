@@ -18,7 +18,8 @@ pub returns-in_default-clause-drafts : goal.returns-in_default-clause-drafts
 returns-in_default-clause-drafts c =
     let a = area_of c.args.links.now c.args.database.now.present in
     drafted_none 1 (map present c.args.links.now) c.args.drafts.now
-    ∙ ap (λ q. drafts_with (send_copy c.args.moment c.args.number q (start a)).sends (map present c.args.links.now) c.args.drafts.now) c.in_default.ensures
+    ∙ ap (λ q. drafts_with (send_copy c.args.moment c.args.number q (start a)).sends
+    (map present c.args.links.now) c.args.drafts.now) c.in_default.ensures
 
 pub returns-clause-ok : goal.returns-clause-ok
 returns-clause-ok c =
@@ -26,7 +27,8 @@ returns-clause-ok c =
     let a = area_of c.args.links.now d in
     on_ok c.mark_sent.result
     (λ is.
-    area_is refl (is ∙ ap (λ k. mark_sent c.args.moment k d) (c.key-sent_key.ensures ∙ ap key_of c.header-header.ensures))
+    area_is refl (is ∙ ap (λ k. mark_sent c.args.moment k d)
+    (c.key-sent_key.ensures ∙ ap key_of c.header-header.ensures))
     ∙ ap (λ q. (send_copy c.args.moment c.args.number q (start a)).area) c.in-Some.ensures)
     c.mark_sent.ensures.ok
 
@@ -36,5 +38,6 @@ returns-clause-drafts c =
     on_ok c.mark_sent.result
     (λ _.
     c.in_ok-update.ensures
-    ∙ ap (λ q. drafts_with (send_copy c.args.moment c.args.number q (start a)).sends (map present c.args.links.now) c.args.drafts.now) c.in-Some.ensures)
+    ∙ ap (λ q. drafts_with (send_copy c.args.moment c.args.number q (start a)).sends
+    (map present c.args.links.now) c.args.drafts.now) c.in-Some.ensures)
     c.mark_sent.ensures.ok

@@ -11,7 +11,9 @@ use Rattle.flooding.proofs.rows.mismatch.Goals as goal
 pub returns-clause-links : goal.returns-clause-links
 returns-clause-links c =
     on_ok c.bad_request.result
-    (links_stepped c.args.links.now (c.args.number - 1) c.args.number c.bad_request.new.self c.index-links-i.result (omega (arith, c.requires.first, c.requires.last)) (omega (arith, c.requires.first)) (mismatch_step c.args.moment))
+    (links_stepped c.args.links.now (c.args.number - 1) c.args.number c.bad_request.new.self
+    c.index-links-i.result (omega (arith, c.requires.first, c.requires.last))
+    (omega (arith, c.requires.first)) (mismatch_step c.args.moment))
     c.bad_request.ensures.ok
 
 pub returns-clause-drafts : goal.returns-clause-drafts
@@ -22,11 +24,18 @@ returns-clause-drafts c =
     let old = (get_or ls i c.index-links-i.result).present in
     on_ok c.bad_request.result
     (λ is.
-    drafts_sent ls i c.args.number c.bad_request.new.self c.index-links-i.result (omega (arith, c.requires.first, c.requires.last)) (omega (arith, c.requires.first)) (sent_on f old.neighbor) c.args.drafts.now c.bad_request.new.draft c.index-drafts-i.result (omega (arith, c.requires.first, c.requires.last, c.requires.drafts)) (is old.interface.delay)
+    drafts_sent ls i c.args.number c.bad_request.new.self c.index-links-i.result
+    (omega (arith, c.requires.first, c.requires.last)) (omega (arith, c.requires.first))
+    (sent_on f old.neighbor) c.args.drafts.now c.bad_request.new.draft
+    c.index-drafts-i.result (omega
+    (arith, c.requires.first, c.requires.last, c.requires.drafts))
+    (is old.interface.delay)
     ∙ ap (λ ss. drafts_with ss (map present ls) c.args.drafts.now)
-    (sends_stepped ls i c.args.number c.bad_request.new.self c.index-links-i.result (omega (arith, c.requires.first, c.requires.last)) (omega (arith, c.requires.first)) f))
+    (sends_stepped ls i c.args.number c.bad_request.new.self c.index-links-i.result
+    (omega (arith, c.requires.first, c.requires.last)) (omega (arith, c.requires.first)) f))
     c.bad_request.ensures.draft
 
 pub returns-clause-settled : goal.returns-clause-settled
 returns-clause-settled c =
-    shows_kept settled_link c.args.links.now (c.args.number - 1) c.index-links-i.result c.bad_request.new.self c.index-links-i.is c.bad_request.ensures.settled
+    shows_kept settled_link c.args.links.now (c.args.number - 1) c.index-links-i.result
+    c.bad_request.new.self c.index-links-i.is c.bad_request.ensures.settled

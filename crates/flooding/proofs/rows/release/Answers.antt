@@ -12,10 +12,13 @@ use Rattle.flooding.proofs.rows.release.Goals as goal
 pub returns-clause-links : goal.returns-clause-links
 returns-clause-links c =
     on_ok c.take_off.result
-    (links_stepped c.args.links.now (c.args.number - 1) c.args.number c.take_off.new.self c.index-links-i.result (omega (arith, c.requires.first, c.requires.last)) (omega (arith, c.requires.first))
+    (links_stepped c.args.links.now (c.args.number - 1) c.args.number c.take_off.new.self
+    c.index-links-i.result (omega (arith, c.requires.first, c.requires.last))
+    (omega (arith, c.requires.first))
     (λ (n : Neighbor). no_sends (remove_retransmission (key_of c.args.header.now) n)))
     c.take_off.ensures.ok
 
 pub returns-clause-settled : goal.returns-clause-settled
 returns-clause-settled c =
-    shows_kept settled_link c.args.links.now (c.args.number - 1) c.index-links-i.result c.take_off.new.self c.index-links-i.is c.take_off.ensures.settled
+    shows_kept settled_link c.args.links.now (c.args.number - 1) c.index-links-i.result
+    c.take_off.new.self c.index-links-i.is c.take_off.ensures.settled

@@ -6,4 +6,5 @@ use Rattle.received.specs.Links.{Link}
 use Rattle.flooding.proofs.rows.some_is_exchange_or_loading.Given as goal
 
 abbrev pub invariant-loop-link : goal.invariant-loop-link
-invariant-loop-link l = list_any (λ (k : Kept Link). any_exchange_or_loading k.present.neighbor) (take l.link-index l.links) ≡ false
+invariant-loop-link l = list_any (λ (k : Kept Link). any_exchange_or_loading k.present.neighbor)
+    (take l.link-index l.links) ≡ false

@@ -13,6 +13,11 @@ returns c =
     let cs = Updates (lsa_now c.args.moment c.args.copy.now) ∷ [] in
     let d = get_or c.args.drafts.now (c.args.number - 1) c.index-drafts-i.result in
     on_ok c.update.result
-    (λ is. drafts_sent c.args.links.now (c.args.number - 1) c.args.number c.index-links-i.result c.index-links-i.result (omega (arith, c.requires.first, c.requires.last)) (omega (arith, c.requires.first)) cs c.args.drafts.now c.update.new.self c.index-drafts-i.result (omega (arith, c.requires.first, c.requires.last, c.requires.drafts))
-    (is ∙ ap (λ i. drafting i.delay cs d) c.interface-delay.ensures ∙ ap (λ (l : Kept Link). drafting l.present.interface.delay cs d) c.index-links-i.is))
+    (λ is. drafts_sent c.args.links.now (c.args.number - 1) c.args.number c.index-links-i.result
+    c.index-links-i.result (omega (arith, c.requires.first, c.requires.last))
+    (omega (arith, c.requires.first)) cs c.args.drafts.now c.update.new.self
+    c.index-drafts-i.result (omega
+    (arith, c.requires.first, c.requires.last, c.requires.drafts))
+    (is ∙ ap (λ i. drafting i.delay cs d) c.interface-delay.ensures
+    ∙ ap (λ (l : Kept Link). drafting l.present.interface.delay cs d) c.index-links-i.is))
     c.update.ensures

@@ -11,12 +11,17 @@ loop-i-preserved c =
     let moment = c.args.moment in
     record {
       marks =
-          ap (λ e. mark_each moment e (map key_of_update (drop (i + 1) us))) c.in_ok-mark_sent.ensures.ok
-          ∙ ap (λ xs. mark_each moment d (map key_of_update xs)) (sym (drop_next i us c.index-updates-i.result (omega (arith, c.loop-i-test.true)))) ∙ c.loop-i.invariant.marks;
+          ap (λ e. mark_each moment e (map key_of_update (drop (i + 1) us)))
+          c.in_ok-mark_sent.ensures.ok
+          ∙ ap (λ xs. mark_each moment d (map key_of_update xs))
+          (sym (drop_next i us c.index-updates-i.result (omega (arith, c.loop-i-test.true))))
+          ∙ c.loop-i.invariant.marks;
       settled = c.in_ok-mark_sent.ensures.settled ∙ c.loop-i.invariant.settled;
       router = c.in_ok-mark_sent.ensures.router ∙ c.loop-i.invariant.router;
     }
 
 pub returns-clause-ok : goal.returns-clause-ok
 returns-clause-ok c =
-    ap (λ xs. mark_each c.args.moment c.loop-i.database.present (map key_of_update xs)) (sym (drop_end c.loop-i.i c.args.updates.now (omega (arith, c.loop-i-test.false)))) ∙ c.loop-i.invariant.marks
+    ap (λ xs. mark_each c.args.moment c.loop-i.database.present (map key_of_update xs))
+    (sym (drop_end c.loop-i.i c.args.updates.now (omega (arith, c.loop-i-test.false))))
+    ∙ c.loop-i.invariant.marks

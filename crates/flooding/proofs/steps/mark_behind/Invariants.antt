@@ -4,7 +4,8 @@ use Rattle.flooding.proofs.steps.mark_behind.Given as goal
 
 abbrev pub invariant-loop-i : goal.invariant-loop-i
 invariant-loop-i l = record {
-  marks : mark_each l.moment l.database.present (map key_of_update (drop l.i l.updates)) ≡ mark_each l.moment l.fn.database.present (map key_of_update (drop l.count l.updates));
+  marks : mark_each l.moment l.database.present (map key_of_update (drop l.i l.updates))
+      ≡ mark_each l.moment l.fn.database.present (map key_of_update (drop l.count l.updates));
   settled : l.database.settled ≡ l.fn.database.settled;
   router : l.database.router ≡ l.fn.database.router;
 }

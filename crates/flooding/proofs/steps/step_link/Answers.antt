@@ -15,11 +15,13 @@ use Rattle.flooding.proofs.steps.step_link.Goals as goal
 
 pub returns-in_err-take-clause-links : goal.returns-in_err-take-clause-links
 returns-in_err-take-clause-links g c =
-    shows_kept settled_link c.args.links.now (c.args.number - 1) c.index-links-i.result c.take.new.link c.index-links-i.is c.in_err-take.ensures.settled
+    shows_kept settled_link c.args.links.now (c.args.number - 1) c.index-links-i.result
+    c.take.new.link c.index-links-i.is c.in_err-take.ensures.settled
 
 pub returns-clause-links : goal.returns-clause-links
 returns-clause-links g c =
-    shows_kept settled_link c.args.links.now (c.args.number - 1) c.index-links-i.result c.take.new.link c.index-links-i.is c.in_ok-take.ensures.settled
+    shows_kept settled_link c.args.links.now (c.args.number - 1) c.index-links-i.result
+    c.take.new.link c.index-links-i.is c.in_ok-take.ensures.settled
 
 pub returns-clause-ok : goal.returns-clause-ok
 returns-clause-ok g c =
@@ -31,14 +33,19 @@ returns-clause-ok g c =
     let S = g.S.LinkStep.sends c.args.step.now db in
     let old = (get_or ls i c.index-links-i.result).present in
     let d = get_or c.args.drafts.now i c.index-drafts-i.result in
-    let here = shown_link ls i k c.index-links-i.result (omega (arith, c.requires.first, c.requires.last)) (omega (arith, c.requires.first)) in
+    let here = shown_link ls i k c.index-links-i.result
+    (omega (arith, c.requires.first, c.requires.last)) (omega (arith, c.requires.first)) in
     on_ok c.mark_behind.result
     (λ is.
     area_is
-    (links_changed ls i k c.take.new.link c.index-links-i.result (omega (arith, c.requires.first, c.requires.last)) (omega (arith, c.requires.first)) A c.in_ok-take.ensures.ok)
+    (links_changed ls i k c.take.new.link c.index-links-i.result
+    (omega (arith, c.requires.first, c.requires.last)) (omega (arith, c.requires.first)) A
+    c.in_ok-take.ensures.ok)
     (is
-    ∙ (λ j. mark_each c.args.moment db (map key_of_update (drop (length (c.updates-count.ensures j)) (c.updates.ensures j))))
-    ∙ ap (λ (e : Drafted). mark_each c.args.moment db (map key_of_update (drop (length d.updates) e.updates))) c.in_ok-take.ensures.draft
+    ∙ (λ j. mark_each c.args.moment db
+    (map key_of_update (drop (length (c.updates-count.ensures j)) (c.updates.ensures j))))
+    ∙ ap (λ (e : Drafted). mark_each c.args.moment db
+    (map key_of_update (drop (length d.updates) e.updates))) c.in_ok-take.ensures.draft
     ∙ marks_behind c.args.moment old.interface.delay k (S old) db d
     ∙ ap (λ (o : Option Link). marks c.args.moment db (sends_at k (sent_by S o))) here))
     c.mark_behind.ensures.ok
@@ -50,10 +57,14 @@ returns-clause-drafts g c =
     let ls = c.args.links.now in
     let S = g.S.LinkStep.sends c.args.step.now c.args.database.now.present in
     let old = (get_or ls i c.index-links-i.result).present in
-    let here = shown_link ls i k c.index-links-i.result (omega (arith, c.requires.first, c.requires.last)) (omega (arith, c.requires.first)) in
+    let here = shown_link ls i k c.index-links-i.result
+    (omega (arith, c.requires.first, c.requires.last)) (omega (arith, c.requires.first)) in
     on_ok c.mark_behind.result
     (λ is.
-    drafts_sent ls i k c.take.new.link c.index-links-i.result (omega (arith, c.requires.first, c.requires.last)) (omega (arith, c.requires.first)) (S old) c.args.drafts.now c.take.new.draft c.index-drafts-i.result
+    drafts_sent ls i k c.take.new.link c.index-links-i.result
+    (omega (arith, c.requires.first, c.requires.last)) (omega (arith, c.requires.first)) (S old)
+    c.args.drafts.now c.take.new.draft c.index-drafts-i.result
     (omega (arith, c.requires.first, c.requires.last, c.requires.drafts)) c.in_ok-take.ensures.draft
-    ∙ ap (λ (o : Option Link). drafts_with (sends_at k (sent_by S o)) (map present ls) c.args.drafts.now) here)
+    ∙ ap (λ (o : Option Link). drafts_with (sends_at k (sent_by S o)) (map present ls)
+    c.args.drafts.now) here)
     c.mark_behind.ensures.ok

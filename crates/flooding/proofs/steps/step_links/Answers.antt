@@ -9,7 +9,9 @@ use Rattle.flooding.proofs.steps.step_links.Goals as goal
 
 pub loop-i-init : goal.loop-i-init
 loop-i-init g c = record {
-  steps = begins (g.S.LinkStep.after c.args.step.now c.args.database.now.present) (g.S.LinkStep.sends c.args.step.now c.args.database.now.present) c.args.links.now c.args.drafts.now;
+  steps = begins (g.S.LinkStep.after c.args.step.now c.args.database.now.present)
+      (g.S.LinkStep.sends c.args.step.now c.args.database.now.present) c.args.links.now
+      c.args.drafts.now;
   settled = refl;
 }
 
@@ -19,12 +21,17 @@ loop-i-preserved g c =
     let S = g.S.LinkStep.sends c.args.step.now c.args.database.now.present in
     let P = map present c.args.links.now in
     record {
-      steps = finishes_next present (after A S) (after_draft A S) (counts A S) c.loop-i.i c.loop-i.links c.loop-i.drafts false
+      steps = finishes_next present (after A S) (after_draft A S) (counts A S) c.loop-i.i
+          c.loop-i.links c.loop-i.drafts false
           (map A P) (drafts_with (sends_of S P) P c.args.drafts.now) false
-          c.take.new.link c.index-links-i.result c.take.new.draft c.index-drafts-i.result false false
-          (omega (arith, c.loop-i-test.true, c.loop-i.auto.links)) (omega (arith, c.loop-i-test.true, c.loop-i.auto.drafts, c.requires))
+          c.take.new.link c.index-links-i.result c.take.new.draft c.index-drafts-i.result false
+          false
+          (omega (arith, c.loop-i-test.true, c.loop-i.auto.links))
+          (omega (arith, c.loop-i-test.true, c.loop-i.auto.drafts, c.requires))
           c.in_ok-take.ensures.ok c.in_ok-take.ensures.draft refl refl c.loop-i.invariant.steps;
-      settled = shows_kept settled_link c.loop-i.links c.loop-i.i c.index-links-i.result c.take.new.link c.index-links-i.is c.in_ok-take.ensures.settled ∙ c.loop-i.invariant.settled;
+      settled = shows_kept settled_link c.loop-i.links c.loop-i.i c.index-links-i.result
+          c.take.new.link c.index-links-i.is c.in_ok-take.ensures.settled
+          ∙ c.loop-i.invariant.settled;
     }
 
 pub returns-clause-links : goal.returns-clause-links
@@ -32,17 +39,23 @@ returns-clause-links g c =
     let A = g.S.LinkStep.after c.args.step.now c.args.database.now.present in
     let S = g.S.LinkStep.sends c.args.step.now c.args.database.now.present in
     let P = map present c.args.links.now in
-    finished_items present (after A S) (after_draft A S) (counts A S) c.loop-i.i c.loop-i.links c.loop-i.drafts false (map A P) (drafts_with (sends_of S P) P c.args.drafts.now) false
-    (omega (arith, c.loop-i-test.false, c.loop-i.auto.i-end, c.loop-i.auto.links)) c.loop-i.invariant.steps
+    finished_items present (after A S) (after_draft A S) (counts A S) c.loop-i.i c.loop-i.links
+    c.loop-i.drafts false (map A P) (drafts_with (sends_of S P) P c.args.drafts.now) false
+    (omega (arith, c.loop-i-test.false, c.loop-i.auto.i-end, c.loop-i.auto.links))
+    c.loop-i.invariant.steps
 
 pub returns-clause-drafts : goal.returns-clause-drafts
 returns-clause-drafts g c =
     let A = g.S.LinkStep.after c.args.step.now c.args.database.now.present in
     let S = g.S.LinkStep.sends c.args.step.now c.args.database.now.present in
     let P = map present c.args.links.now in
-    finished_drafts present (after A S) (after_draft A S) (counts A S) c.loop-i.i c.loop-i.links c.loop-i.drafts false (map A P) (drafts_with (sends_of S P) P c.args.drafts.now) false
-    (omega (arith, c.loop-i-test.false, c.loop-i.auto.i-end, c.loop-i.auto.links)) (omega (arith, c.loop-i-test.false, c.loop-i.auto.i-end, c.loop-i.auto.drafts, c.requires)) c.loop-i.invariant.steps
+    finished_drafts present (after A S) (after_draft A S) (counts A S) c.loop-i.i c.loop-i.links
+    c.loop-i.drafts false (map A P) (drafts_with (sends_of S P) P c.args.drafts.now) false
+    (omega (arith, c.loop-i-test.false, c.loop-i.auto.i-end, c.loop-i.auto.links))
+    (omega (arith, c.loop-i-test.false, c.loop-i.auto.i-end, c.loop-i.auto.drafts, c.requires))
+    c.loop-i.invariant.steps
 
 pub returns-in_err-take-clause-settled : goal.returns-in_err-take-clause-settled
 returns-in_err-take-clause-settled g c =
-    shows_kept settled_link c.loop-i.links c.loop-i.i c.index-links-i.result c.take.new.link c.index-links-i.is c.in_err-take.ensures.settled ∙ c.loop-i.invariant.settled
+    shows_kept settled_link c.loop-i.links c.loop-i.i c.index-links-i.result c.take.new.link
+    c.index-links-i.is c.in_err-take.ensures.settled ∙ c.loop-i.invariant.settled

@@ -5,6 +5,8 @@ use Rattle.flooding.proofs.steps.step_links.Given as goal
 
 abbrev pub invariant-loop-i : goal.invariant-loop-i
 invariant-loop-i g l = record {
-  steps : Steps (g.S.LinkStep.after l.step l.database.present) (g.S.LinkStep.sends l.step l.database.present) l.i l.links l.drafts (map present l.fn.links) l.fn.drafts;
+  steps : Steps (g.S.LinkStep.after l.step l.database.present)
+      (g.S.LinkStep.sends l.step l.database.present) l.i l.links l.drafts (map present l.fn.links)
+      l.fn.drafts;
   settled : map settled_link l.links ≡ map settled_link l.fn.links;
 }

@@ -8,7 +8,11 @@ use Rattle.forwarding_loops.proofs.marking.mark_between.Goals as goal
 pub reached-requires : goal.reached-requires
 reached-requires c =
     let P : List Hop → Type 0 = λ xs. All (IsAmong (length c.args.marks.now)) xs in
-    subst P (sym (c.deref.ensures.value ∙ c.in_ok-back.ensures)) (turned_among _ c.args.hops.now c.requires.within)
+    subst P (sym (c.deref.ensures.value ∙ c.in_ok-back.ensures))
+    (turned_among _ c.args.hops.now c.requires.within)
 
 pub returns : goal.returns
-returns c = between_at c.args.hops.now c.deref.result.now c.args.place c.args.ahead.now c.in_ok-behind.behind.items c.deref-2.result.now c.args.marks.now c.mark_both.new.marks (c.deref.ensures.value ∙ c.in_ok-back.ensures) c.deref-2.ensures.value c.in_ok-behind.ensures.sound c.in_ok-behind.ensures.complete c.mark_both.ensures
+returns c = between_at c.args.hops.now c.deref.result.now c.args.place c.args.ahead.now
+    c.in_ok-behind.behind.items c.deref-2.result.now c.args.marks.now c.mark_both.new.marks
+    (c.deref.ensures.value ∙ c.in_ok-back.ensures) c.deref-2.ensures.value
+    c.in_ok-behind.ensures.sound c.in_ok-behind.ensures.complete c.mark_both.ensures

@@ -8,14 +8,32 @@ use Rattle.helpers.proofs.calls.call.Goals as goal
 
 pub returns-in-CounterAdd-clause-ok : goal.returns-in-CounterAdd-clause-ok
 returns-in-CounterAdd-clause-ok c =
-    let known = sym (rw (to_z-of_z w32 c.args.number c.ranges.number) at c.at.ensures) ∙ c.in-Some.is ∙ ap Some c.in-CounterAdd.is in
+    let known = sym (rw (to_z-of_z w32 c.args.number c.ranges.number) at c.at.ensures)
+    ∙ c.in-Some.is ∙ ap Some c.in-CounterAdd.is in
     IfOk-weaker c.call_counter_add.result _ _
-    (λ answer did. (did.0, did.1, record { helper = CounterAdd; known = known; answers = did.2 (given_by c.args.input.now) }))
+    (λ answer did. (
+      did.0,
+      did.1,
+      record {
+        helper = CounterAdd;
+        known = known;
+        answers = did.2 (given_by c.args.input.now);
+      },
+    ))
     c.call_counter_add.ensures.ok
 
 pub returns-in-CounterRead-clause-ok : goal.returns-in-CounterRead-clause-ok
 returns-in-CounterRead-clause-ok c =
-    let known = sym (rw (to_z-of_z w32 c.args.number c.ranges.number) at c.at.ensures) ∙ c.in-Some.is ∙ ap Some c.in-CounterRead.is in
+    let known = sym (rw (to_z-of_z w32 c.args.number c.ranges.number) at c.at.ensures)
+    ∙ c.in-Some.is ∙ ap Some c.in-CounterRead.is in
     IfOk-weaker c.call_counter_read.result _ _
-    (λ answer did. (did.0, did.1, record { helper = CounterRead; known = known; answers = did.2 (given_by c.args.input.now) }))
+    (λ answer did. (
+      did.0,
+      did.1,
+      record {
+        helper = CounterRead;
+        known = known;
+        answers = did.2 (given_by c.args.input.now);
+      },
+    ))
     c.call_counter_read.ensures.ok

@@ -15,6 +15,7 @@ returns c = dite (dec_lt (adds_made c.args.seat.now.accesses) 2147483648)
     ))
     (λ many. let did = c.add.ensures.spent (omega (arith, many)) in (
       Spent,
-      makes_one c.args.seat.now _ Spent (omega (arith, many)) (did.1 ∙ sym (grown_by-nil c.args.seat.now)),
+      makes_one c.args.seat.now _ Spent (omega (arith, many))
+          (did.1 ∙ sym (grown_by-nil c.args.seat.now)),
       λ input. (c.requires.counter, c.requires.amount, inr (refl, did.0)),
     ))

@@ -6,5 +6,7 @@ use Rattle.hooktool_commands.proofs.building.build_code.Goals as goal
 
 pub returns-in-Ok-clause-built : goal.returns-in-Ok-clause-built
 returns-in-Ok-clause-built g c =
-    code_explained (wanted_of c.args.order.now) c.args.hook c.args.names.function.now c.args.code.now _ _ _ _ c.in-Ok.found.turns c.in_ok-explain_function-in-Explanation.field-0
-    (ap (λ (purpose : Purpose). folder_of purpose) c.in-Explanation.is) c.fuel_for.ensures c.in-Ok.ensures.accepted c.in_ok-explain_function-in-Explanation.ensures.explained
+    code_explained (wanted_of c.args.order.now) c.args.hook c.args.names.function.now
+    c.args.code.now _ _ _ _ c.in-Ok.found.turns c.in_ok-explain_function-in-Explanation.field-0
+    (ap (λ (purpose : Purpose). folder_of purpose) c.in-Explanation.is) c.fuel_for.ensures
+    c.in-Ok.ensures.accepted c.in_ok-explain_function-in-Explanation.ensures.explained

@@ -5,4 +5,5 @@ use Rattle.hooktool_commands.specs.Orders.{wanted_of}
 use Rattle.hooktool_commands.proofs.building.build_sections.Given as goal
 
 abbrev pub invariant-loop-index : goal.invariant-loop-index
-invariant-loop-index g l = (l.report.is_refused ≡ true) ⊎ AreBuiltSections l.file (wanted_of l.order) l.index (string_bytes l.report.text)
+invariant-loop-index g l = (l.report.is_refused ≡ true)
+    ⊎ AreBuiltSections l.file (wanted_of l.order) l.index (string_bytes l.report.text)

@@ -5,4 +5,5 @@ use Rattle.hooktool_commands.proofs.trying.report_of.Goals as goal
 use Rattle.object_trials.specs.declared.runs.Ending.{Ending}
 
 pub returns-in-Ok-clause-stuck : goal.returns-in-Ok-clause-stuck
-returns-in-Ok-clause-stuck c = c.is_any_stuck.ensures ∙ ap (list_any (λ (ending : Ending). is_err ending.outcome)) c.deref.ensures.value
+returns-in-Ok-clause-stuck c = c.is_any_stuck.ensures
+    ∙ ap (list_any (λ (ending : Ending). is_err ending.outcome)) c.deref.ensures.value

@@ -8,7 +8,10 @@ use Rattle.hooktool_line.specs.declared.requests.Packet.{Packet}
 pub returns-in-Bytes-clause-tried : goal.returns-in-Bytes-clause-tried
 returns-in-Bytes-clause-tried g c =
     of_packet c.args.question.now c.args.bytes.now c.as_slice.result.now c.trial_of.result
-    (subst (λ (p : Packet). PacketIs p c.as_slice.result.now) (sym c.in-Bytes.is) c.as_slice.ensures.value) c.trial_of.ensures.tried
+    (subst (λ (p : Packet). PacketIs p c.as_slice.result.now) (sym c.in-Bytes.is)
+    c.as_slice.ensures.value) c.trial_of.ensures.tried
 
 pub returns-in-Bytes-clause-fault : goal.returns-in-Bytes-clause-fault
-returns-in-Bytes-clause-fault g c = fault_at_packet c.args.question.now.packet c.args.bytes.now c.trial_of.result c.trial_of.ensures.fault
+returns-in-Bytes-clause-fault g c =
+    fault_at_packet c.args.question.now.packet c.args.bytes.now c.trial_of.result
+    c.trial_of.ensures.fault

@@ -5,30 +5,40 @@ use Rattle.hooktool_line.proofs.StepWords.{same_number}
 use Rattle.hooktool_line.proofs.numbers.numbers_of.Goals as goal
 
 pub returns-in_default-clause-read : goal.returns-in_default-clause-read
-returns-in_default-clause-read c = λ numbers has. c.in_default.ensures.read numbers.metric has.metric
+returns-in_default-clause-read c =
+    λ numbers has. c.in_default.ensures.read numbers.metric has.metric
 
 pub returns-in_default-number_of-clause-read : goal.returns-in_default-number_of-clause-read
-returns-in_default-number_of-clause-read c = λ numbers has. c.in_default-number_of.ensures.read numbers.tag has.tag
+returns-in_default-number_of-clause-read c =
+    λ numbers has. c.in_default-number_of.ensures.read numbers.tag has.tag
 
 pub returns-in_default-number_of-2-clause-read : goal.returns-in_default-number_of-2-clause-read
-returns-in_default-number_of-2-clause-read c = λ numbers has. c.in_default-number_of-2.ensures.read numbers.cost has.cost
+returns-in_default-number_of-2-clause-read c =
+    λ numbers has. c.in_default-number_of-2.ensures.read numbers.cost has.cost
 
 pub returns-in_default-number_of-3-clause-read : goal.returns-in_default-number_of-3-clause-read
-returns-in_default-number_of-3-clause-read c = λ numbers has. c.in_default-number_of-3.ensures.read numbers.distance has.distance
+returns-in_default-number_of-3-clause-read c =
+    λ numbers has. c.in_default-number_of-3.ensures.read numbers.distance has.distance
 
 pub returns-in_default-number_of-4-clause-read : goal.returns-in_default-number_of-4-clause-read
-returns-in_default-number_of-4-clause-read c = λ numbers has. c.in_default-number_of-4.ensures.read numbers.moment has.moment
+returns-in_default-number_of-4-clause-read c =
+    λ numbers has. c.in_default-number_of-4.ensures.read numbers.moment has.moment
 
 pub returns-in_default-number_of-5-clause-read : goal.returns-in_default-number_of-5-clause-read
-returns-in_default-number_of-5-clause-read c = λ numbers has. c.in_default-number_of-5.ensures.read numbers.interface has.interface
+returns-in_default-number_of-5-clause-read c =
+    λ numbers has. c.in_default-number_of-5.ensures.read numbers.interface has.interface
 
 pub returns-in_default-number_of-6-clause-read : goal.returns-in_default-number_of-6-clause-read
-returns-in_default-number_of-6-clause-read c = λ numbers has. c.in_default-number_of-6.ensures.read numbers.next_hops has.next_hops
+returns-in_default-number_of-6-clause-read c =
+    λ numbers has. c.in_default-number_of-6.ensures.read numbers.next_hops has.next_hops
 
 -- no other numbers have room
-pub returns-then-interface-next_hops-gt64-clause-read : goal.returns-then-interface-next_hops-gt64-clause-read
+pub returns-then-interface-next_hops-gt64-clause-read :
+    goal.returns-then-interface-next_hops-gt64-clause-read
 returns-then-interface-next_hops-gt64-clause-read c = λ numbers has.
     let rows = rows_of (found_of c.args.matches.now) in
-    let first = same_number rows (codes "interface") 0 0 63 c.in-Some-number_of-5.interface numbers.interface (lit< tt) c.in-Some-number_of-5.ensures.read has.interface in
-    let count = same_number rows (codes "next-hops") 1 1 64 c.in-Some-number_of-6.next_hops numbers.next_hops (lit< tt) c.in-Some-number_of-6.ensures.read has.next_hops in
+    let first = same_number rows (codes "interface") 0 0 63 c.in-Some-number_of-5.interface
+    numbers.interface (lit< tt) c.in-Some-number_of-5.ensures.read has.interface in
+    let count = same_number rows (codes "next-hops") 1 1 64 c.in-Some-number_of-6.next_hops
+    numbers.next_hops (lit< tt) c.in-Some-number_of-6.ensures.read has.next_hops in
     omega (arith, first, count, has.room, c.if-interface-next_hops-gt64.true)

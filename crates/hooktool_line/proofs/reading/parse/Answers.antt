@@ -5,4 +5,5 @@ use Rattle.hooktool_line.proofs.reading.parse.Goals as goal
 pub returns-in-Ok : goal.returns-in-Ok
 returns-in-Ok c =
     let words = map (λ w. w.now) c.args.words.now in
-    read words c.in-Ok.matches c.request_of.result c.in-Ok.ensures.1 c.in-Ok.ensures.0 c.request_of.ensures.ok c.request_of.ensures.err
+    read words c.in-Ok.matches c.request_of.result c.in-Ok.ensures.1 c.in-Ok.ensures.0
+    c.request_of.ensures.ok c.request_of.ensures.err

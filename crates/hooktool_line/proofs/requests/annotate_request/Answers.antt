@@ -7,23 +7,27 @@ use Rattle.hooktool_line.proofs.requests.annotate_request.Goals as goal
 pub returns-in_default : goal.returns-in_default
 returns-in_default c =
     let rows = rows_of (found_of c.args.matches.now) in
-    no_annotate rows (λ hook code object fuel has a b d. has_none rows (codes "HOOK") c.in_default.ensures _ has)
+    no_annotate rows (λ hook code object fuel has a b d. has_none rows (codes "HOOK")
+    c.in_default.ensures _ has)
 
 pub returns-in_default-from_name : goal.returns-in_default-from_name
 returns-in_default-from_name c =
     let rows = rows_of (found_of c.args.matches.now) in
     no_annotate rows (λ hook code object fuel has a b d.
-    some≢none hook (sym (c.from_name.ensures.only hook (some_is (c.in-Some.ensures ∙ has))) ∙ c.in_default-from_name.is))
+    some≢none hook (sym (c.from_name.ensures.only hook (some_is (c.in-Some.ensures ∙ has)))
+    ∙ c.in_default-from_name.is))
 
 pub returns-in_default-word_of : goal.returns-in_default-word_of
 returns-in_default-word_of c =
     let rows = rows_of (found_of c.args.matches.now) in
-    no_annotate rows (λ hook code object fuel a has b d. has_none rows (codes "CODE") c.in_default-word_of.ensures code has)
+    no_annotate rows (λ hook code object fuel a has b d. has_none rows (codes "CODE")
+    c.in_default-word_of.ensures code has)
 
 pub returns-in_default-word_of-2 : goal.returns-in_default-word_of-2
 returns-in_default-word_of-2 c =
     let rows = rows_of (found_of c.args.matches.now) in
-    no_annotate rows (λ hook code object fuel a b has d. has_none rows (codes "OBJECT") c.in_default-word_of-2.ensures object has)
+    no_annotate rows (λ hook code object fuel a b has d. has_none rows (codes "OBJECT")
+    c.in_default-word_of-2.ensures object has)
 
 pub returns-in-None : goal.returns-in-None
 returns-in-None c =

@@ -8,4 +8,5 @@ returns-in-None c = usual _ _ _ (λ word. IsAnswer word None) c.word_of.ensures 
 
 pub returns-in-Some : goal.returns-in-Some
 returns-in-Some c =
-    read_given _ _ c.in-Some.word (λ answer. answer ≡ None) (λ answer word. IsAnswer word answer) c.answer_of.result c.word_of.ensures c.in-Some.is c.answer_of.ensures
+    read_given _ _ c.in-Some.word (λ answer. answer ≡ None) (λ answer word. IsAnswer word answer)
+    c.answer_of.result c.word_of.ensures c.in-Some.is c.answer_of.ensures

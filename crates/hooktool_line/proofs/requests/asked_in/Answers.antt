@@ -4,7 +4,8 @@ pub returns-in_default : goal.returns-in_default
 returns-in_default c = λ p has. c.in_default.ensures has.places has.named
 
 pub returns-in_default-numbers_of : goal.returns-in_default-numbers_of
-returns-in_default-numbers_of c = λ p has. c.in_default-numbers_of.ensures.read has.numbers has.counted
+returns-in_default-numbers_of c = λ p has. c.in_default-numbers_of.ensures.read has.numbers
+    has.counted
 
 pub returns-in-None : goal.returns-in-None
 returns-in-None c = λ p has. c.in-None.ensures.read p.1 has.times

@@ -7,12 +7,14 @@ use Rattle.hooktool_line.proofs.requests.build_request.Goals as goal
 pub returns-in_default : goal.returns-in_default
 returns-in_default c =
     let rows = rows_of (found_of c.args.matches.now) in
-    no_build rows (λ file folder hook fuel has a b d. has_none rows (codes "FILE") c.in_default.ensures file has)
+    no_build rows (λ file folder hook fuel has a b d. has_none rows (codes "FILE")
+    c.in_default.ensures file has)
 
 pub returns-in_default-word_of : goal.returns-in_default-word_of
 returns-in_default-word_of c =
     let rows = rows_of (found_of c.args.matches.now) in
-    no_build rows (λ file folder hook fuel a has b d. has_none rows (codes "FOLDER") c.in_default-word_of.ensures folder has)
+    no_build rows (λ file folder hook fuel a has b d. has_none rows (codes "FOLDER")
+    c.in_default-word_of.ensures folder has)
 
 pub returns-in_default-hook_of : goal.returns-in_default-hook_of
 returns-in_default-hook_of c =

@@ -8,4 +8,5 @@ returns-in-None c = usual _ _ _ (λ word. IsHook word None) c.word_of.ensures c.
 
 pub returns-in-Some : goal.returns-in-Some
 returns-in-Some c =
-    read_given _ _ c.in-Some.word (λ hook. hook ≡ None) (λ hook word. IsHook word hook) c.named_hook.result c.word_of.ensures c.in-Some.is c.named_hook.ensures
+    read_given _ _ c.in-Some.word (λ hook. hook ≡ None) (λ hook word. IsHook word hook)
+    c.named_hook.result c.word_of.ensures c.in-Some.is c.named_hook.ensures

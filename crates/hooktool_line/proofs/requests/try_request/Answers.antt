@@ -7,7 +7,8 @@ use Rattle.hooktool_line.proofs.requests.try_request.Goals as goal
 pub returns-in_default : goal.returns-in_default
 returns-in_default c =
     let rows = rows_of (found_of c.args.matches.now) in
-    no_try rows (λ object question has b. has_none rows (codes "OBJECT") c.in_default.ensures object has)
+    no_try rows (λ object question has b. has_none rows (codes "OBJECT") c.in_default.ensures object
+    has)
 
 pub returns-in-Ok : goal.returns-in-Ok
 returns-in-Ok c =
@@ -15,4 +16,5 @@ returns-in-Ok c =
     (refl, (has_word rows (codes "OBJECT") c.in-Some.object c.in-Some.ensures, c.in-Ok.ensures))
 
 pub returns-in-Err : goal.returns-in-Err
-returns-in-Err c = no_question (rows_of (found_of c.args.matches.now)) c.in-Err.lack c.in-Err.ensures
+returns-in-Err c = no_question (rows_of (found_of c.args.matches.now)) c.in-Err.lack
+    c.in-Err.ensures

@@ -8,4 +8,5 @@ returns-in-None c = usual _ _ _ (λ word. IsTurns word None) c.word_of.ensures c
 
 pub returns-in-Some : goal.returns-in-Some
 returns-in-Some c =
-    read_given _ _ c.in-Some.word (λ turns. turns ≡ None) (λ turns word. IsTurns word turns) c.turns_of.result c.word_of.ensures c.in-Some.is c.turns_of.ensures
+    read_given _ _ c.in-Some.word (λ turns. turns ≡ None) (λ turns word. IsTurns word turns)
+    c.turns_of.result c.word_of.ensures c.in-Some.is c.turns_of.ensures

@@ -9,4 +9,5 @@ returns-in-Ok-try_get_matches_from c =
     let own = c.in-Ok.ensures in
     let app = app_of c.in-Ok.command in
     let kept = c.in-Ok-try_get_matches_from.ensures in
-    taken app words c.in-Ok-try_get_matches_from.matches own (kept.kinds (free app own)) kept.matches
+    taken app words c.in-Ok-try_get_matches_from.matches own (kept.kinds (free app own))
+    kept.matches

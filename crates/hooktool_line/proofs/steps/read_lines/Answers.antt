@@ -10,9 +10,13 @@ pub loop-index-preserved : goal.loop-index-preserved
 loop-index-preserved c =
     let index = c.loop-index.index in
     let words = c.index-lines-index.result in
-    let same = ap views c.as_slice.ensures.value ∙ ap (λ (line : Vec (Bor Text)). views line.items) c.index-lines-index.is in
-    lines_more c.args.lines.now index words c.loop-index.read.items c.push_line.new.read.items (omega (arith, c.loop-index-test.true)) c.loop-index.invariant
-    (subst (λ (them : List Text). AddsLine (index + 1) them c.loop-index.read.items c.push_line.new.read.items) same c.in-Ok.ensures)
+    let same = ap views c.as_slice.ensures.value
+    ∙ ap (λ (line : Vec (Bor Text)). views line.items) c.index-lines-index.is in
+    lines_more c.args.lines.now index words c.loop-index.read.items c.push_line.new.read.items
+    (omega (arith, c.loop-index-test.true)) c.loop-index.invariant
+    (subst (λ (them : List Text). AddsLine (index + 1) them c.loop-index.read.items
+    c.push_line.new.read.items) same c.in-Ok.ensures)
 
 pub returns : goal.returns
-returns c = lines_all c.args.lines.now c.loop-index.index c.loop-index.read.items (omega (arith, c.loop-index-test.false, c.loop-index.auto)) c.loop-index.invariant
+returns c = lines_all c.args.lines.now c.loop-index.index c.loop-index.read.items
+    (omega (arith, c.loop-index-test.false, c.loop-index.auto)) c.loop-index.invariant

@@ -9,5 +9,7 @@ returns-in-None c = usual _ _ _ (λ word. word ≡ kind_word Intra) c.word_of.en
 
 pub returns-in-Some : goal.returns-in-Some
 returns-in-Some c =
-    read_given _ _ c.in-Some.word (λ kind. kind ≡ Intra) (λ kind word. word ≡ kind_word kind) c.kind_of.result c.word_of.ensures c.in-Some.is
-    (reads_only (λ kind. c.in-Some.word.now ≡ kind_word kind) c.kind_of.result c.kind_of.ensures.found c.kind_of.ensures.only)
+    read_given _ _ c.in-Some.word (λ kind. kind ≡ Intra) (λ kind word. word ≡ kind_word kind)
+    c.kind_of.result c.word_of.ensures c.in-Some.is
+    (reads_only (λ kind. c.in-Some.word.now ≡ kind_word kind) c.kind_of.result
+    c.kind_of.ensures.found c.kind_of.ensures.only)

@@ -9,5 +9,7 @@ returns-in-None c = usual _ _ _ (λ word. word ≡ type_word Type2) c.word_of.en
 
 pub returns-in-Some : goal.returns-in-Some
 returns-in-Some c =
-    read_given _ _ c.in-Some.word (λ kind. kind ≡ Type2) (λ kind word. word ≡ type_word kind) c.type_of.result c.word_of.ensures c.in-Some.is
-    (reads_only (λ kind. c.in-Some.word.now ≡ type_word kind) c.type_of.result c.type_of.ensures.found c.type_of.ensures.only)
+    read_given _ _ c.in-Some.word (λ kind. kind ≡ Type2) (λ kind word. word ≡ type_word kind)
+    c.type_of.result c.word_of.ensures c.in-Some.is
+    (reads_only (λ kind. c.in-Some.word.now ≡ type_word kind) c.type_of.result
+    c.type_of.ensures.found c.type_of.ensures.only)

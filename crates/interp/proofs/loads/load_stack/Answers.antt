@@ -11,4 +11,5 @@ returns-clause-ok c =
 pub returns-then-index-eq10-clause-err : goal.returns-then-index-eq10-clause-err
 returns-then-index-eq10-clause-err c =
     let ten : c.args.target ≡ 10 = sym c.index.ensures.value ∙ c.if-index-eq10.true in
-    only_target c.args.state.now c.args.size c.args.at c.args.target c.in_ok-content.content c.in_ok-content.ensures.ok ∙ ap fault_of_target ten
+    only_target c.args.state.now c.args.size c.args.at c.args.target c.in_ok-content.content
+    c.in_ok-content.ensures.ok ∙ ap fault_of_target ten

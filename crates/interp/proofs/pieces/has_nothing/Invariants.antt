@@ -5,4 +5,5 @@ use Rattle.interp.proofs.pieces.has_nothing.Given as goal
 
 -- those before the index aren't empty
 abbrev pub invariant-loop-byte : goal.invariant-loop-byte
-invariant-loop-byte l = (i : ℕ) → i < l.byte-index → is_nothing_byte (get_or l.found i Nothing) ≡ false
+invariant-loop-byte l = (i : ℕ) → i < l.byte-index
+    → is_nothing_byte (get_or l.found i Nothing) ≡ false

@@ -6,8 +6,10 @@ pub returns-then-are_not_negative-clause-trimmed : goal.returns-then-are_not_neg
 returns-then-are_not_negative-clause-trimmed c = record {
   inside = c.met_unsigned.ensures.inside;
   tight = λ trims. elim c.unsigned.ensures.unsigned [
-    | inl bit_test ↦ absurd (bits_trim_nothing c.args.test c.args.width c.args.left c.args.right bit_test trims)
-    | inr unsigned ↦ tight_same c.args.width c.args.test c.unsigned.result c.args.left c.args.right c.met_unsigned.result
+    | inl bit_test ↦ absurd (bits_trim_nothing c.args.test c.args.width c.args.left c.args.right
+        bit_test trims)
+    | inr unsigned ↦ tight_same c.args.width c.args.test c.unsigned.result c.args.left c.args.right
+        c.met_unsigned.result
         (c.are_not_negative.ensures.0 c.if-are_not_negative.true)
         (c.unsigned.ensures.same c.args.width)
         c.met_unsigned.ensures.inside
@@ -20,6 +22,7 @@ returns-clause-trimmed c = record {
   inside = c.met_unsigned-2.ensures.inside;
   tight = λ trims. c.met_unsigned-2.ensures.tight c.args.width
       (trims_unsigned c.args.test c.args.width c.args.left c.args.right
-      (λ half. let not_negative : c.are_not_negative.result ≡ true = c.are_not_negative.ensures.1 half in
+      (λ half. let not_negative : c.are_not_negative.result ≡ true =
+      c.are_not_negative.ensures.1 half in
       let negative = c.if-are_not_negative.false in absurd (cc)) trims);
 }

@@ -9,5 +9,6 @@ returns c =
     let whole = c.slots-slots.ensures.value in
     let slots = c.slots-slots.result.now in
     let all : length slots ≤ c.loop-slot.slot-index = omega arith in
-    let spelled = c.loop-slot.invariant ∙ ap (λ xs. flat_map bytes_at xs) (take_all c.loop-slot.slot-index slots all ∙ whole) in
+    let spelled = c.loop-slot.invariant
+    ∙ ap (λ xs. flat_map bytes_at xs) (take_all c.loop-slot.slot-index slots all ∙ whole) in
     spelled_so c.args.code.now c.loop-slot.bytes.items c.slots-slots.ensures.code spelled

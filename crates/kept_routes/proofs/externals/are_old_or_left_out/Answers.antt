@@ -6,8 +6,10 @@ use Rattle.kept_routes.proofs.externals.are_old_or_left_out.Goals as goal
 pub loop-key-preserved : goal.loop-key-preserved
 loop-key-preserved c =
     let rule = c.args.rule.now in
-    one_more (IsOldOrLeftOut c.args.before rule.moment rule.db.now.present rule.walk.now) c.args.keys.now c.loop-key.key-index c.key-item.result
-    (omega arith) c.key-item.is (c.in_ok-is_old_or_left_out.ensures.0 c.if-not-branch.false) c.loop-key.invariant
+    one_more (IsOldOrLeftOut c.args.before rule.moment rule.db.now.present rule.walk.now)
+    c.args.keys.now c.loop-key.key-index c.key-item.result
+    (omega arith) c.key-item.is (c.in_ok-is_old_or_left_out.ensures.0 c.if-not-branch.false)
+    c.loop-key.invariant
 
 pub returns : goal.returns
 returns c = (

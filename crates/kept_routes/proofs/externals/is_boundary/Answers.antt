@@ -18,7 +18,8 @@ returns-else-not-has_e c =
     let said = said_at c.args.moment c.args.db.now.present in
     let there = c.is_some.ensures ∙ ap is_some c.way_to.ensures in (
       (λ t.
-          let way = the_some (way_in c.args.walk.now.reached (ARouter c.args.router)) (sym there ∙ t) in (
+          let way = the_some (way_in c.args.walk.now.reached (ARouter c.args.router))
+          (sym there ∙ t) in (
             way.0,
             record {
               lsa = c.in-Some.lsa.now;

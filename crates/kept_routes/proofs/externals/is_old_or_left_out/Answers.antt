@@ -15,5 +15,6 @@ returns c =
     let rule = c.args.rule.now in
     let key = c.args.key.now in
     IfOk-weaker c.leaves_out.result _ _ (λ out is.
-    left_out out (OffersNothing rule.moment rule.db.now.present rule.walk.now key) (IsOld None c.args.before rule.moment rule.db.now.present key) is
+    left_out out (OffersNothing rule.moment rule.db.now.present rule.walk.now key)
+    (IsOld None c.args.before rule.moment rule.db.now.present key) is
     (λ old. false≢true (sym c.if-is_old.false ∙ c.is_old.ensures.1 old))) c.leaves_out.ensures

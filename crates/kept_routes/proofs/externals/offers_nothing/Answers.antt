@@ -4,7 +4,10 @@ use Rattle.kept_routes.proofs.externals.offers_nothing.Goals as goal
 
 pub returns-then-is_own : goal.returns-then-is_own
 returns-then-is_own c = (
-  (λ t. record { external = omega (arith, c.if-key-lt5.false); of_no_account = inl (c.is_own.ensures.0 c.if-is_own.true) }),
+  (λ t. record {
+    external = omega (arith, c.if-key-lt5.false);
+    of_no_account = inl (c.is_own.ensures.0 c.if-is_own.true);
+  }),
   (λ it. refl),
 )
 

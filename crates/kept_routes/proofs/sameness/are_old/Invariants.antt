@@ -4,4 +4,5 @@ use Rattle.kept_routes.proofs.Aging.{IsAmong}
 use Rattle.kept_routes.proofs.sameness.are_old.Given as goal
 
 abbrev pub invariant-loop-key : goal.invariant-loop-key
-invariant-loop-key l = (key : Key) → IsAmong l.keys l.key-index key → IsOld l.last_type l.before l.moment l.db.present key
+invariant-loop-key l = (key : Key) → IsAmong l.keys l.key-index key
+    → IsOld l.last_type l.before l.moment l.db.present key

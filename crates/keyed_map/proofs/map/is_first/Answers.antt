@@ -11,8 +11,10 @@ loop-at-preserved g c =
     let n = c.loop-at.at in
     let edit = get_or es n c.index-edits-at.result in
     let at = slice_get-get_or es n c.index-edits-at.result (omega arith) in
-    let differs : is_eq (key_cmp edit.key c.args.key.now) ≡ false = ap is_eq (sym c.compare.ensures) ∙ sym c.is_eq.ensures ∙ c.if-is_eq.false in
-    first_still es n c.args.key.now edit at (λ same. another edit.key c.args.key.now differs (sym same)) c.loop-at.invariant
+    let differs : is_eq (key_cmp edit.key c.args.key.now) ≡ false =
+    ap is_eq (sym c.compare.ensures) ∙ sym c.is_eq.ensures ∙ c.if-is_eq.false in
+    first_still es n c.args.key.now edit at
+    (λ same. another edit.key c.args.key.now differs (sym same)) c.loop-at.invariant
 
 pub returns-then-is_eq : goal.returns-then-is_eq
 returns-then-is_eq g c =
@@ -20,7 +22,8 @@ returns-then-is_eq g c =
     let n = c.loop-at.at in
     let edit = get_or es n c.index-edits-at.result in
     let at = slice_get-get_or es n c.index-edits-at.result (omega arith) in
-    let equal : is_eq (key_cmp edit.key c.args.key.now) ≡ true = ap is_eq (sym c.compare.ensures) ∙ sym c.is_eq.ensures ∙ c.if-is_eq.true in (
+    let equal : is_eq (key_cmp edit.key c.args.key.now) ≡ true =
+    ap is_eq (sym c.compare.ensures) ∙ sym c.is_eq.ensures ∙ c.if-is_eq.true in (
       (λ t. absurd cc),
       (λ first. absurd (first n edit (omega arith) at (same_key edit.key c.args.key.now equal))),
     )

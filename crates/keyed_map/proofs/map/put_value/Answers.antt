@@ -7,4 +7,5 @@ use Rattle.keyed_map.proofs.map.put_value.Goals as goal
 pub returns : goal.returns
 returns g c =
     let entries = c.args.slots.now.entries in
-    ap live (slots_insert entries c.insert.new.self.entries c.args.key (Holds c.args.x) c.in_ok-_before.ensures.updates.0) ∙ live_put (slots_of entries) c.args.key (Holds c.args.x)
+    ap live (slots_insert entries c.insert.new.self.entries c.args.key (Holds c.args.x)
+    c.in_ok-_before.ensures.updates.0) ∙ live_put (slots_of entries) c.args.key (Holds c.args.x)

@@ -9,5 +9,6 @@ use Rattle.kinds.proofs.stack.are_filled.Given as goal
 -- each byte so far is known not to be empty
 abbrev pub invariant-loop-at : goal.invariant-loop-at
 invariant-loop-at g l =
-    ((stack : List StackByte) → StackHolds g.D.Domain.contains l.entries stack → (at : ℕ) → l.start ≤ at → at < l.at → stack_byte stack at ≢ Nothing)
+    ((stack : List StackByte) → StackHolds g.D.Domain.contains l.entries stack → (at : ℕ)
+    → l.start ≤ at → at < l.at → stack_byte stack at ≢ Nothing)
     × ((at : ℕ) → l.start ≤ at → at < l.at → IsKnownFilled (get_or l.entries at Unknown))

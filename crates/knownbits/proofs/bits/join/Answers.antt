@@ -3,7 +3,8 @@ use Rattle.knownbits.proofs.bits.join.Goals as goal
 
 pub returns-then-left-right-ne0-clause-holds : goal.returns-then-left-right-ne0-clause-holds
 returns-then-left-right-ne0-clause-holds c = λ n left right.
-    let agree = rw (left.bits, right.bits) at (join_clash n c.args.left.mask c.args.right.mask left.small) in
+    let agree = rw (left.bits, right.bits) at
+    (join_clash n c.args.left.mask c.args.right.mask left.small) in
     c.if-left-right-ne0.true agree
 
 pub returns-clause-holds : goal.returns-clause-holds
@@ -20,4 +21,5 @@ returns-clause-precise c = record {
 
 pub returns-clause-contradiction : goal.returns-clause-contradiction
 returns-clause-contradiction c = λ i below low high.
-    absurd (clash_seen c.args.left.mask c.args.right.mask c.args.left.value c.args.right.value i low.0 low.1 high.0 high.1 c.if-left-right-ne0.false)
+    absurd (clash_seen c.args.left.mask c.args.right.mask c.args.left.value c.args.right.value i
+    low.0 low.1 high.0 high.1 c.if-left-right-ne0.false)

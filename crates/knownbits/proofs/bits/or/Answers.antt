@@ -8,4 +8,5 @@ returns-clause-holds c = λ x y left right. record {
 }
 
 pub returns-clause-precise : goal.returns-clause-precise
-returns-clause-precise c = λ w i below known. or_knows c.args.left.mask c.args.right.mask c.args.left.value c.args.right.value i known
+returns-clause-precise c = λ w i below known. or_knows c.args.left.mask c.args.right.mask
+    c.args.left.value c.args.right.value i known

@@ -5,9 +5,11 @@ use Rattle.knownbits.proofs.domain.added.Goals as goal
 
 pub returns-clause-holds : goal.returns-clause-holds
 returns-clause-holds c = λ x y small small' left right.
-    subst (HasBits c.cut.result) (low_sum c.args.width x y) (c.cut.ensures.holds ((x + y) % 2 ^ 64) (c.sum.ensures.holds x y left right))
+    subst (HasBits c.cut.result) (low_sum c.args.width x y)
+    (c.cut.ensures.holds ((x + y) % 2 ^ 64) (c.sum.ensures.holds x y left right))
 
 pub returns-clause-precise : goal.returns-clause-precise
 returns-clause-precise c = λ count most left right i below.
     let few : count ≤ 64 = omega (arith, most, width_most c.args.width) in
-    c.cut.ensures.keeps i (omega (arith, few, below)) (c.sum.ensures.knows count few left right i below)
+    c.cut.ensures.keeps i (omega (arith, few, below))
+    (c.sum.ensures.knows count few left right i below)

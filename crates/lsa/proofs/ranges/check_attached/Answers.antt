@@ -5,4 +5,5 @@ use Rattle.lsa.proofs.ranges.check_attached.Goals as goal
 
 pub loop-router-preserved : goal.loop-router-preserved
 loop-router-preserved c =
-    each_one_more IsAttached c.args.routers.now c.loop-router.router-index c.router-item.result c.loop-router-test.true c.router-item.is (omega arith) c.loop-router.invariant
+    each_one_more IsAttached c.args.routers.now c.loop-router.router-index c.router-item.result
+    c.loop-router-test.true c.router-item.is (omega arith) c.loop-router.invariant

@@ -4,4 +4,5 @@ use Rattle.lsa.proofs.ranges.check_blocks.Goals as goal
 
 pub loop-block-preserved : goal.loop-block-preserved
 loop-block-preserved c =
-    each_one_more ExternalTosIsTyped c.args.blocks.now c.loop-block.block-index c.block-item.result c.loop-block-test.true c.block-item.is c.check_block.ensures c.loop-block.invariant
+    each_one_more ExternalTosIsTyped c.args.blocks.now c.loop-block.block-index c.block-item.result
+    c.loop-block-test.true c.block-item.is c.check_block.ensures c.loop-block.invariant

@@ -4,4 +4,5 @@ use Rattle.lsa.proofs.ranges.check_links.Goals as goal
 
 pub loop-link-preserved : goal.loop-link-preserved
 loop-link-preserved c =
-    each_one_more LinkIsTyped c.args.links.now c.loop-link.link-index c.link-item.result c.loop-link-test.true c.link-item.is c.check_link.ensures c.loop-link.invariant
+    each_one_more LinkIsTyped c.args.links.now c.loop-link.link-index c.link-item.result
+    c.loop-link-test.true c.link-item.is c.check_link.ensures c.loop-link.invariant

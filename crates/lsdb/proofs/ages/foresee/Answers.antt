@@ -14,7 +14,10 @@ loop-key-init c = λ q none.
 
 pub loop-key-preserved-in-Continue-1 : goal.loop-key-preserved-in-Continue-1
 loop-key-preserved-in-Continue-1 c =
-    foresees_next c.loop-key.ages c.note.new.self c.args.copies.now.present c.in-Some.key c.next.new.self
-    (λ q none. c.loop-key.invariant q (ap (list_any (eq_by_cmp key_cmp q)) c.in-Some.ensures.steps ∙ none))
+    foresees_next c.loop-key.ages c.note.new.self c.args.copies.now.present c.in-Some.key
+    c.next.new.self
+    (λ q none. c.loop-key.invariant q
+    (ap (list_any (eq_by_cmp key_cmp q)) c.in-Some.ensures.steps ∙ none))
     c.note.ensures.more
-    (subst (Foresees c.note.new.self c.in-Some.key) c.in-Some-get.ensures c.in_ok-note.ensures.there)
+    (subst (Foresees c.note.new.self c.in-Some.key) c.in-Some-get.ensures
+    c.in_ok-note.ensures.there)

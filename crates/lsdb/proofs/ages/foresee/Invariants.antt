@@ -10,4 +10,5 @@ use Rattle.lsdb.proofs.ages.foresee.Given as goal
 -- the copy of each key that isn't still to be visited is foreseen
 abbrev pub invariant-loop-key : goal.invariant-loop-key
 invariant-loop-key l =
-    (q : Key) → list_any (eq_by_cmp key_cmp q) l.key-iterator ≡ false → Foresees l.ages q (finite.get l.copies.present q)
+    (q : Key) → list_any (eq_by_cmp key_cmp q) l.key-iterator ≡ false
+    → Foresees l.ages q (finite.get l.copies.present q)

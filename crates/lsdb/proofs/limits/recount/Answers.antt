@@ -11,4 +11,9 @@ overflow_add-result c =
     let n = c.args.externals in
     let more = c.requires
     ∙ (λ i. cond (own i) (count_after_change (c.if-held.false i) (c.if-holds.true i) n) n) in
-    omega (arith, more, count_most (is_own_external c.args.router) c.args.copies.now.present, c.len-copies.ensures)
+    omega (
+      arith,
+      more,
+      count_most (is_own_external c.args.router) c.args.copies.now.present,
+      c.len-copies.ensures,
+    )

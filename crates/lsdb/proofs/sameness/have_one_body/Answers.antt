@@ -18,10 +18,12 @@ pub returns-then-header : goal.returns-then-header
 returns-then-header c = (
   (λ t. absurd cc),
   (λ is.
-      let types = one_type c.in_ok-old_text.old_text.items c.in_ok-new_text.new_text.items (lsa_aged 0 c.args.old.now) (lsa_aged 0 c.args.new.now)
+      let types = one_type c.in_ok-old_text.old_text.items c.in_ok-new_text.new_text.items
+      (lsa_aged 0 c.args.old.now) (lsa_aged 0 c.args.new.now)
       c.in_ok-old_text.ensures.text c.in_ok-new_text.ensures.text is in
       absurd (c.if-header.true (
-      ap (λ (h : Header). h.ls_type) c.header.ensures ∙ types ∙ sym (ap (λ (h : Header). h.ls_type) c.header-2.ensures)))),
+      ap (λ (h : Header). h.ls_type) c.header.ensures ∙ types
+      ∙ sym (ap (λ (h : Header). h.ls_type) c.header-2.ensures)))),
 )
 
 pub returns : goal.returns
@@ -31,11 +33,14 @@ returns c =
     let xs = c.in_ok-old_text.old_text.items in
     let ys = c.in_ok-new_text.new_text.items in
     let types : old.header.ls_type ≡ new.header.ls_type =
-    sym (ap (λ (h : Header). h.ls_type) c.header.ensures) ∙ c.if-header.false ∙ ap (λ (h : Header). h.ls_type) c.header-2.ensures in (
+    sym (ap (λ (h : Header). h.ls_type) c.header.ensures) ∙ c.if-header.false
+    ∙ ap (λ (h : Header). h.ls_type) c.header-2.ensures in (
       (λ t.
           let rest : drop 20 xs ≡ drop 20 ys =
-          ap (drop 20) (sym c.as_slice.ensures.value) ∙ c.have_one_rest.ensures.0 t ∙ ap (drop 20) c.as_slice-2.ensures.value in
-          one_body xs ys old new c.in_ok-old_text.ensures.text c.in_ok-new_text.ensures.text c.texts_are_determined.ensures.lsa types rest),
+          ap (drop 20) (sym c.as_slice.ensures.value) ∙ c.have_one_rest.ensures.0 t
+          ∙ ap (drop 20) c.as_slice-2.ensures.value in
+          one_body xs ys old new c.in_ok-old_text.ensures.text c.in_ok-new_text.ensures.text
+          c.texts_are_determined.ensures.lsa types rest),
       (λ is. c.have_one_rest.ensures.1 (
           ap (drop 20) c.as_slice.ensures.value
           ∙ one_rest xs ys old new c.in_ok-old_text.ensures.text c.in_ok-new_text.ensures.text is

@@ -5,4 +5,7 @@ use Rattle.machine.specs.State.{start}
 use Rattle.machine.proofs.laws.an_empty_exit_is_never_safe.Goals as goal
 
 pub returns : goal.returns
-returns c = λ hook n safe. (safe blank 0 [] start (record { steps = refl; leads = refl })).1 Empty refl
+returns c = λ hook n safe. (safe blank 0 [] start (record {
+  steps = refl;
+  leads = refl;
+})).1 Empty refl

@@ -11,12 +11,18 @@ use Rattle.neighbor_packets.proofs.acknowledgments.acknowledged.Goals as goal
 
 pub returns-clause-ok : goal.returns-clause-ok
 returns-clause-ok c =
-    let f = λ (db : Database) (n : Neighbor). no_sends (after_acknowledgment c.args.moment c.args.headers.now n) in
-    let same = steps c.args.moment c.args.number c.args.area.now.present c.requires.first c.requires.last f in
+    let f = λ (db : Database) (n : Neighbor). no_sends
+    (after_acknowledgment c.args.moment c.args.headers.now n) in
+    let same = steps c.args.moment c.args.number c.args.area.now.present c.requires.first
+    c.requires.last f in
     on_ok c.step_link.result (λ is. is ∙ ap (λ (o : Outcome). o.area) same) c.step_link.ensures.ok
 
 pub returns-clause-drafts : goal.returns-clause-drafts
 returns-clause-drafts c =
-    let f = λ (db : Database) (n : Neighbor). no_sends (after_acknowledgment c.args.moment c.args.headers.now n) in
-    let same = steps c.args.moment c.args.number c.args.area.now.present c.requires.first c.requires.last f in
-    on_ok c.step_link.result (λ is. is ∙ ap (λ (o : Outcome). drafts_with o.sends c.args.area.now.present.links c.args.drafts.now) same) c.step_link.ensures.drafts
+    let f = λ (db : Database) (n : Neighbor). no_sends
+    (after_acknowledgment c.args.moment c.args.headers.now n) in
+    let same = steps c.args.moment c.args.number c.args.area.now.present c.requires.first
+    c.requires.last f in
+    on_ok c.step_link.result (λ is. is
+    ∙ ap (λ (o : Outcome). drafts_with o.sends c.args.area.now.present.links c.args.drafts.now)
+    same) c.step_link.ensures.drafts

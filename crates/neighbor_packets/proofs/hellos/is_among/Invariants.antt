@@ -3,4 +3,5 @@ use Rattle.std.specs.List.{list_any}
 use Rattle.neighbor_packets.proofs.hellos.is_among.Given as goal
 
 abbrev pub invariant-loop-router : goal.invariant-loop-router
-invariant-loop-router l = list_any (λ (router : ℕ). router == l.own) (take l.router-index l.routers) ≡ false
+invariant-loop-router l = list_any (λ (router : ℕ). router == l.own) (take l.router-index l.routers)
+    ≡ false

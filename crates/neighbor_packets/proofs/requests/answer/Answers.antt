@@ -12,12 +12,18 @@ pub returns-clause-ok : goal.returns-clause-ok
 returns-clause-ok c =
     let a = c.args.area.now.present in
     let f = λ (db : Database). after_request c.args.moment db c.args.keys.now in
-    let same = steps c.args.moment c.args.number a c.requires.first c.requires.last f ∙ answers c.args.moment c.args.number a c.args.keys.now c.requires.first c.requires.last c.requires.exchange in
+    let same = steps c.args.moment c.args.number a c.requires.first c.requires.last f
+    ∙ answers c.args.moment c.args.number a c.args.keys.now c.requires.first c.requires.last
+    c.requires.exchange in
     on_ok c.step_link.result (λ is. is ∙ ap (λ (o : Outcome). o.area) same) c.step_link.ensures.ok
 
 pub returns-clause-drafts : goal.returns-clause-drafts
 returns-clause-drafts c =
     let a = c.args.area.now.present in
     let f = λ (db : Database). after_request c.args.moment db c.args.keys.now in
-    let same = steps c.args.moment c.args.number a c.requires.first c.requires.last f ∙ answers c.args.moment c.args.number a c.args.keys.now c.requires.first c.requires.last c.requires.exchange in
-    on_ok c.step_link.result (λ is. is ∙ ap (λ (o : Outcome). drafts_with o.sends a.links c.args.drafts.now) same) c.step_link.ensures.drafts
+    let same = steps c.args.moment c.args.number a c.requires.first c.requires.last f
+    ∙ answers c.args.moment c.args.number a c.args.keys.now c.requires.first c.requires.last
+    c.requires.exchange in
+    on_ok c.step_link.result (λ is. is
+    ∙ ap (λ (o : Outcome). drafts_with o.sends a.links c.args.drafts.now) same)
+    c.step_link.ensures.drafts

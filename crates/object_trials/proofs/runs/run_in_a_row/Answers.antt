@@ -11,8 +11,16 @@ loop-turn-preserved c =
     let bytes = c.args.bytes.now in
     let input = given_by c.args.input.now in
     let items = c.in_ok-push.ensures.items in
-    let ran = one_more bytes input c.args.seat.now c.loop-turn.seat c.run_once.new.seat c.loop-turn.endings.items c.in_ok-ending.ending held.2 c.in_ok-ending.ensures.ran in (
+    let ran = one_more bytes input c.args.seat.now c.loop-turn.seat c.run_once.new.seat
+    c.loop-turn.endings.items c.in_ok-ending.ending held.2 c.in_ok-ending.ensures.ran in (
       c.in_ok-ending.ensures.table,
-      omega (arith, ap length items, length-append c.loop-turn.endings.items (c.in_ok-ending.ending ∷ []), held.1),
-      subst (λ (xs : List Ending). RunsInARow bytes input c.args.seat.now xs c.run_once.new.seat) (sym items) ran,
+      omega (
+        arith,
+        ap length items,
+        length-append c.loop-turn.endings.items
+            (c.in_ok-ending.ending ∷ []),
+        held.1,
+      ),
+      subst (λ (xs : List Ending). RunsInARow bytes input c.args.seat.now xs c.run_once.new.seat)
+          (sym items) ran,
     )

@@ -6,11 +6,13 @@ use Rattle.object_trials.proofs.settings.add_all.Goals as goal
 pub loop-setting-preserved : goal.loop-setting-preserved
 loop-setting-preserved c = (
   c.add_one.ensures.table,
-  chain_more AddsOne c.args.settings.now c.loop-setting.setting-index _ c.args.seat.now c.loop-setting.seat c.add_one.new.seat
+  chain_more AddsOne c.args.settings.now c.loop-setting.setting-index _ c.args.seat.now
+      c.loop-setting.seat c.add_one.new.seat
       (omega (arith, c.loop-setting-test.true)) c.loop-setting.invariant.1 c.add_one.ensures.added,
 )
 
 pub returns-clause-added : goal.returns-clause-added
 returns-clause-added c =
-    chain_all AddsOne c.args.settings.now c.loop-setting.setting-index c.args.seat.now c.loop-setting.seat
+    chain_all AddsOne c.args.settings.now c.loop-setting.setting-index c.args.seat.now
+    c.loop-setting.seat
     (omega (arith, c.loop-setting-test.false, c.loop-setting.auto)) c.loop-setting.invariant.1

@@ -6,4 +6,5 @@ use Rattle.object_trials.proofs.settings.store_all.Given as goal
 
 -- the settings before the index are made
 abbrev pub invariant-loop-setting : goal.invariant-loop-setting
-invariant-loop-setting l = IsOf l.shared l.seat × Chain StoresOne (take l.setting-index l.settings) l.fn.seat l.seat
+invariant-loop-setting l = IsOf l.shared l.seat
+    × Chain StoresOne (take l.setting-index l.settings) l.fn.seat l.seat

@@ -6,8 +6,10 @@ pub loop-index-preserved : goal.loop-index-preserved
 loop-index-preserved g c = record {
   count = search rules;
   read =
-      read_more c.args.port.now.seat c.loop-index.port.seat c.counter.new.port.seat c.loop-index.sums.items c.push.new.self.items
-      c.loop-index.index c.counter.result c.loop-index.invariant.read (sym c.loop-index.invariant.count ∙ c.loop-index.sums.ok.0)
+      read_more c.args.port.now.seat c.loop-index.port.seat c.counter.new.port.seat
+      c.loop-index.sums.items c.push.new.self.items
+      c.loop-index.index c.counter.result c.loop-index.invariant.read
+      (sym c.loop-index.invariant.count ∙ c.loop-index.sums.ok.0)
       c.in_ok-push.ensures.items c.counter.ensures.read;
   share = search rules;
   known = search rules;

@@ -6,4 +6,5 @@ use Rattle.operator.proofs.Begun.{IsBegun}
 use Rattle.operator.proofs.lists.routes_of.Given as goal
 
 abbrev pub invariant-loop-route : goal.invariant-loop-route
-invariant-loop-route l = (table : List Route) → IsPartOf l.candidates table → l.rows ≡ rows_of table → IsBegun l.candidates table l.routes.items l.route-index
+invariant-loop-route l = (table : List Route) → IsPartOf l.candidates table → l.rows ≡ rows_of table
+    → IsBegun l.candidates table l.routes.items l.route-index

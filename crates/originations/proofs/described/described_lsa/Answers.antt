@@ -6,8 +6,10 @@ use Rattle.originations.proofs.described.described_lsa.Goals as goal
 
 pub saying-requires-clause-fits : goal.saying-requires-clause-fits
 saying-requires-clause-fits c =
-    described_fits (interfaces (map present c.args.links.now)) c.args.full.now c.in_ok-says.says c.in_ok-says.ensures (omega (arith, c.requires.few, count_of c.args.links.now))
+    described_fits (interfaces (map present c.args.links.now)) c.args.full.now c.in_ok-says.says
+    c.in_ok-says.ensures (omega (arith, c.requires.few, count_of c.args.links.now))
 
 pub saying-requires-clause-size : goal.saying-requires-clause-size
 saying-requires-clause-size c =
-    described_size (interfaces (map present c.args.links.now)) c.args.full.now c.in_ok-says.says c.in_ok-says.ensures (omega (arith, c.requires.few, count_of c.args.links.now))
+    described_size (interfaces (map present c.args.links.now)) c.args.full.now c.in_ok-says.says
+    c.in_ok-says.ensures (omega (arith, c.requires.few, count_of c.args.links.now))

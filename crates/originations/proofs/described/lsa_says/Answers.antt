@@ -9,4 +9,6 @@ pub returns : goal.returns
 returns c =
     let links = map present c.args.links.now in
     c.in_ok-same.ensures
-    ∙ ap (same_body c.args.lsa.now.body) (c.in_ok-present.ensures ∙ ap (described_body (interfaces links)) (c.deref.ensures.value ∙ c.in_ok-now.ensures) ∙ body_now links)
+    ∙ ap (same_body c.args.lsa.now.body)
+    (c.in_ok-present.ensures ∙ ap (described_body (interfaces links))
+    (c.deref.ensures.value ∙ c.in_ok-now.ensures) ∙ body_now links)

@@ -7,5 +7,7 @@ use Rattle.originations.proofs.described.texts_differ.Goals as goal
 pub returns : goal.returns
 returns c = λ old alike full.
     let links = map present c.args.links.now in
-    differ_by_texts old links c.args.before.now c.in_ok-old.old.body c.in_ok-new.new.body c.in_ok-same.same alike full c.in_ok-old.ensures
-    (c.in_ok-new.ensures ∙ ap (described_body (interfaces links)) c.requires.now) c.in_ok-same.ensures
+    differ_by_texts old links c.args.before.now c.in_ok-old.old.body c.in_ok-new.new.body
+    c.in_ok-same.same alike full c.in_ok-old.ensures
+    (c.in_ok-new.ensures ∙ ap (described_body (interfaces links)) c.requires.now)
+    c.in_ok-same.ensures

@@ -6,4 +6,5 @@ use Rattle.events.specs.Originations.{links_of}
 use Rattle.originations.proofs.router.router_body.Given as goal
 
 abbrev pub invariant-loop-link : goal.invariant-loop-link
-invariant-loop-link l = l.said.items ≡ flat_map (λ (k : Kept Link). links_of k.present) (take l.link-index l.links)
+invariant-loop-link l = l.said.items
+    ≡ flat_map (λ (k : Kept Link). links_of k.present) (take l.link-index l.links)

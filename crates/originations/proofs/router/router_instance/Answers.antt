@@ -9,13 +9,19 @@ use Rattle.originations.proofs.Links.{router_fits, router_size}
 use Rattle.originations.proofs.router.router_instance.Goals as goal
 
 pub next_instance-requires-clause-fits : goal.next_instance-requires-clause-fits
-next_instance-requires-clause-fits c = router_fits c.args.links.now c.in_ok-says.says c.in_ok-says.ensures c.requires
+next_instance-requires-clause-fits c =
+    router_fits c.args.links.now c.in_ok-says.says c.in_ok-says.ensures c.requires
 
 pub next_instance-requires-clause-size : goal.next_instance-requires-clause-size
-next_instance-requires-clause-size c = router_size c.args.links.now c.in_ok-says.says c.in_ok-says.ensures c.requires
+next_instance-requires-clause-size c =
+    router_size c.args.links.now c.in_ok-says.says c.in_ok-says.ensures c.requires
 
 pub returns : goal.returns
 returns c =
     let get = λ (k : Key). finite.get c.args.database.now.present k in
-    subst (λ k. IfOk c.next_instance.result (λ i. i ≡ next_instance k (get k) (router_body (map present c.args.links.now)))) c.router_key-key.ensures
-    (subst (λ s. IfOk c.next_instance.result (λ i. i ≡ next_instance c.router_key-key.result (get c.router_key-key.result) s)) c.in_ok-says.ensures c.next_instance.ensures)
+    subst (λ k. IfOk c.next_instance.result
+    (λ i. i ≡ next_instance k (get k) (router_body (map present c.args.links.now))))
+    c.router_key-key.ensures
+    (subst (λ s. IfOk c.next_instance.result
+    (λ i. i ≡ next_instance c.router_key-key.result (get c.router_key-key.result) s))
+    c.in_ok-says.ensures c.next_instance.ensures)

@@ -4,4 +4,5 @@ use Rattle.packet.proofs.ranges.check_headers.Goals as goal
 
 pub loop-header-preserved : goal.loop-header-preserved
 loop-header-preserved c =
-    each_one_more IsHeader c.args.headers.now c.loop-header.header-index c.header-item.result c.loop-header-test.true c.header-item.is c.check_ranges.ensures c.loop-header.invariant
+    each_one_more IsHeader c.args.headers.now c.loop-header.header-index c.header-item.result
+    c.loop-header-test.true c.header-item.is c.check_ranges.ensures c.loop-header.invariant

@@ -5,4 +5,6 @@ use Rattle.packet.proofs.ranges.check_lsas.Goals as goal
 
 pub loop-lsa-preserved : goal.loop-lsa-preserved
 loop-lsa-preserved c =
-    each_one_more AreBytes c.args.lsas.now c.loop-lsa.lsa-index c.lsa-item.result c.loop-lsa-test.true c.lsa-item.is (subst AreBytes c.as_slice.ensures c.check_bytes.ensures) c.loop-lsa.invariant
+    each_one_more AreBytes c.args.lsas.now c.loop-lsa.lsa-index c.lsa-item.result
+    c.loop-lsa-test.true c.lsa-item.is (subst AreBytes c.as_slice.ensures c.check_bytes.ensures)
+    c.loop-lsa.invariant

@@ -5,4 +5,5 @@ use Rattle.packet.proofs.ranges.check_routers.Goals as goal
 
 pub loop-router-preserved : goal.loop-router-preserved
 loop-router-preserved c =
-    each_one_more IsRouter c.args.routers.now c.loop-router.router-index c.router-item.result c.loop-router-test.true c.router-item.is (omega arith) c.loop-router.invariant
+    each_one_more IsRouter c.args.routers.now c.loop-router.router-index c.router-item.result
+    c.loop-router-test.true c.router-item.is (omega arith) c.loop-router.invariant

@@ -7,6 +7,9 @@ use Rattle.packet.proofs.reading.keys.Goals as goal
 pub loop-i-preserved : goal.loop-i-preserved
 loop-i-preserved c =
     let bytes = c.args.bytes.now in
-    records-step key_at 12 bytes 0 (length c.args.bytes.now / 12) c.loop-i.i c.loop-i.keys.items c.push.new.self.items c.key_at.result (records key_at 12 bytes 0 (length c.args.bytes.now / 12))
-    c.loop-i-test.true (let e : 12 * c.loop-i.i ≡ 0 + 12 * c.loop-i.i = omega arith in c.key_at.ensures ∙ ap (key_at bytes) e)
+    records-step key_at 12 bytes 0 (length c.args.bytes.now / 12) c.loop-i.i c.loop-i.keys.items
+    c.push.new.self.items c.key_at.result
+    (records key_at 12 bytes 0 (length c.args.bytes.now / 12))
+    c.loop-i-test.true (let e : 12 * c.loop-i.i ≡ 0 + 12 * c.loop-i.i = omega arith in
+    c.key_at.ensures ∙ ap (key_at bytes) e)
     c.in_ok-push.ensures.items c.loop-i.invariant

@@ -4,4 +4,5 @@ use Rattle.packet.proofs.Sizes.{room_behind}
 use Rattle.packet.proofs.reading.outcome.Goals as goal
 
 pub body-requires-clause-room : goal.body-requires-clause-room
-body-requires-clause-room c = room_behind c.args.bytes.now c.behind.result.now (least_length (Some c.in-Ok.kind)) c.in-Ok.ensures.room c.behind.ensures
+body-requires-clause-room c = room_behind c.args.bytes.now c.behind.result.now
+    (least_length (Some c.in-Ok.kind)) c.in-Ok.ensures.room c.behind.ensures

@@ -4,7 +4,8 @@ use Rattle.packet.proofs.Writable.{is_writable}
 use Rattle.packet.proofs.reading.read.Goals as goal
 
 pub returns-clause-found : goal.returns-clause-found
-returns-clause-found c = is_found c.args.bytes.now c.outcome.result (λ i. omega (arith, c.type_inv.bytes i)) c.outcome.ensures
+returns-clause-found c = is_found c.args.bytes.now c.outcome.result
+    (λ i. omega (arith, c.type_inv.bytes i)) c.outcome.ensures
 
 pub returns-clause-only : goal.returns-clause-only
 returns-clause-only c = is_only c.args.bytes.now c.outcome.result c.outcome.ensures

@@ -7,6 +7,7 @@ use Rattle.packet.proofs.reading.routers.Goals as goal
 pub loop-i-preserved : goal.loop-i-preserved
 loop-i-preserved c =
     let bytes = c.args.bytes.now in
-    records-step router_at 4 bytes c.args.at c.args.count c.loop-i.i c.loop-i.routers.items c.push.new.self.items c.new.result (records router_at 4 bytes c.args.at c.args.count)
+    records-step router_at 4 bytes c.args.at c.args.count c.loop-i.i c.loop-i.routers.items
+    c.push.new.self.items c.new.result (records router_at 4 bytes c.args.at c.args.count)
     c.loop-i-test.true (c.new.ensures ∙ c.u32_at.ensures)
     c.in_ok-push.ensures.items c.loop-i.invariant

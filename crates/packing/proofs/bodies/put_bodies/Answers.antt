@@ -13,14 +13,19 @@ loop-item-preserved g c =
     let steps = c.in-Some.ensures.steps in (
       tt,
       tt,
-      one_moved g.X.Says.says c.loop-item.bodies.items c.push.new.self.items (into_iter_items c.loop-item.item-iterator) (into_iter_items c.next.new.self) c.in-Some.item c.body.result _
+      one_moved g.X.Says.says c.loop-item.bodies.items c.push.new.self.items
+          (into_iter_items c.loop-item.item-iterator) (into_iter_items c.next.new.self)
+          c.in-Some.item c.body.result _
           c.loop-item.invariant.2 steps.0 c.body.ensures c.in_ok-push.ensures.items,
-      let was = c.loop-item.invariant.3 in let gone = steps.1 in let short = ap length steps.0 in omega arith,
+      let was = c.loop-item.invariant.3 in let gone = steps.1 in let short = ap length steps.0 in
+          omega arith,
     )
 
 pub returns : goal.returns
 returns g c =
     let rest = into_iter_items c.loop-item.item-iterator in
-    let none = none_left rest (into_iter_len c.loop-item.item-iterator) c.loop-item.invariant.3 c.in-None.ensures.steps.0 in
+    let none = none_left rest (into_iter_len c.loop-item.item-iterator) c.loop-item.invariant.3
+    c.in-None.ensures.steps.0 in
     all_moved g.X.Says.says c.loop-item.bodies.items rest _ c.loop-item.invariant.2 none
-    ∙ ap (λ xs. c.args.bodies.now.items ++ map g.X.Says.says xs) c.into_iter-item-iterator.ensures.into_iter_gives.0
+    ∙ ap (λ xs. c.args.bodies.now.items ++ map g.X.Says.says xs)
+    c.into_iter-item-iterator.ensures.into_iter_gives.0

@@ -5,6 +5,9 @@ use Rattle.packing.proofs.packing.packed.Given as goal
 
 abbrev pub invariant-loop-item : goal.invariant-loop-item
 invariant-loop-item g l =
-    (goal.iterator-loop-item g).can_next l.item-iterator × (goal.iterator-loop-item g).is_finite l.item-iterator
-    × IsPackedSoFar g.X.HasSize.size l.start (into_iter_items l.initial.item-iterator) l.filling.start l.filling.used l.filling.packets.items l.filling.taken.items (into_iter_items l.item-iterator)
+    (goal.iterator-loop-item g).can_next l.item-iterator
+    × (goal.iterator-loop-item g).is_finite l.item-iterator
+    × IsPackedSoFar g.X.HasSize.size l.start (into_iter_items l.initial.item-iterator)
+    l.filling.start l.filling.used l.filling.packets.items l.filling.taken.items
+    (into_iter_items l.item-iterator)
     × (into_iter_len l.item-iterator ≡ length (into_iter_items l.item-iterator))

@@ -5,4 +5,5 @@ use Rattle.packing.proofs.writing.put_out.Goals as goal
 
 pub returns-clause-text : goal.returns-clause-text
 returns-clause-text c =
-    subst (λ bytes. PacketText bytes (packet_of c.args.own c.args.body)) c.in_ok-bytes.ensures.canonical (c.in_ok-bytes.ensures.text c.requires.whole)
+    subst (λ bytes. PacketText bytes (packet_of c.args.own c.args.body))
+    c.in_ok-bytes.ensures.canonical (c.in_ok-bytes.ensures.text c.requires.whole)

@@ -8,7 +8,10 @@ use Rattle.packing.proofs.writing.put_outs.Given as goal
 -- sending the rest gives the whole result
 abbrev pub invariant-loop-body : goal.invariant-loop-body
 invariant-loop-body l =
-    (l.outs.items ++ map (out_of l.own l.interface) (into_iter_items l.body-iterator) ≡ l.fn.outs.items ++ map (out_of l.own l.interface) (into_iter_items l.initial.body-iterator))
+    (l.outs.items ++ map (out_of l.own l.interface) (into_iter_items l.body-iterator)
+    ≡ l.fn.outs.items ++ map (out_of l.own l.interface)
+    (into_iter_items l.initial.body-iterator))
     × AllByRecursion CanBeSent (into_iter_items l.body-iterator)
     × (into_iter_len l.body-iterator ≡ length (into_iter_items l.body-iterator))
-    × (AllByRecursion (IsSentText l.own) (into_iter_items l.body-iterator) → AllByRecursion (IsSentText l.own) (into_iter_items l.initial.body-iterator))
+    × (AllByRecursion (IsSentText l.own) (into_iter_items l.body-iterator)
+    → AllByRecursion (IsSentText l.own) (into_iter_items l.initial.body-iterator))

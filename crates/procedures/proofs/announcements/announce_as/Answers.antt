@@ -13,10 +13,14 @@ returns-clause-makes c =
     let key = c.args.key.now in
     let e = c.args.external in
     let differs : is_announced_as e (finite.get c.args.router.now.present.announced key) ≡ false =
-    ap (is_announced_as e) (sym (c.get.ensures ∙ ap (λ m. finite.get m.present key) c.announced.ensures.parts))
+    ap (is_announced_as e) (sym (c.get.ensures
+    ∙ ap (λ m. finite.get m.present key) c.announced.ensures.parts))
     ∙ sym c.is_announced_as-announced.ensures ∙ c.if-announced.false in
-    let added = makes_on_router (announce key e) c.args.router.now.present c.announce.new.self.present c.args.drafts.now refl c.in_ok-announce.ensures.ok in
+    let added = makes_on_router (announce key e) c.args.router.now.present
+    c.announce.new.self.present c.args.drafts.now refl c.in_ok-announce.ensures.ok in
     on_ok c.originate_anyway.result
-    (λ makes. makes_if_false (λ (p : EventState). p) (λ (p : EventState). originate_anyway c.args.moment key (on_router (announce key e) p))
-    (λ (r : Router). is_announced_as e (finite.get r.announced key)) differs (makes_then added makes))
+    (λ makes. makes_if_false (λ (p : EventState). p)
+    (λ (p : EventState). originate_anyway c.args.moment key (on_router (announce key e) p))
+    (λ (r : Router). is_announced_as e (finite.get r.announced key)) differs
+    (makes_then added makes))
     c.originate_anyway.ensures.makes

@@ -7,5 +7,6 @@ use Rattle.procedures.proofs.announcements.end_want.Goals as goal
 pub returns-clause-makes : goal.returns-clause-makes
 returns-clause-makes c =
     let key = c.args.key.now in
-    let ended = makes_on_router (unannounce key) c.args.router.now.present c.unannounce.new.self.present c.args.drafts.now refl c.in_ok-unannounce.ensures.ok in
+    let ended = makes_on_router (unannounce key) c.args.router.now.present
+    c.unannounce.new.self.present c.args.drafts.now refl c.in_ok-unannounce.ensures.ok in
     on_ok c.flush.result (λ makes. makes_then ended makes) c.flush.ensures.makes

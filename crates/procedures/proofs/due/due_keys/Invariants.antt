@@ -6,4 +6,5 @@ use Rattle.procedures.proofs.due.due_keys.Given as goal
 -- the keys found so far, and the due ones of the keys still to be tested
 abbrev pub invariant-loop-key : goal.invariant-loop-key
 invariant-loop-key l =
-    l.due.items ++ filter (is_due l.moment l.router.present) l.key-iterator ≡ due_keys l.moment l.router.present
+    l.due.items ++ filter (is_due l.moment l.router.present) l.key-iterator
+    ≡ due_keys l.moment l.router.present

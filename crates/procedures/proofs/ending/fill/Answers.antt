@@ -9,5 +9,6 @@ returns-clause-makes c =
     let m = c.args.moment in
     let done = c.end_loading.ensures.makes c.args.drafts.now in
     on_ok c.describe_router.result
-    (λ described old same full. makes_then {f = loading_done} {g = describe_router old m} done (described old (same ∙ sym done.interfaces) full))
+    (λ described old same full. makes_then {f = loading_done} {g = describe_router old m} done
+    (described old (same ∙ sym done.interfaces) full))
     c.describe_router.ensures.makes

@@ -13,6 +13,8 @@ returns-clause-makes c =
     (λ described drafts.
     makes_same {f = λ p. describe_router_later links (loading_done p)} {g = refill}
     (λ p is. ap (λ (r : Router). describe_router_later r.area.links (loading_done p)) (sym is))
-    (makes_then {f = loading_done} {g = describe_router_later links} (c.end_loading.ensures.makes drafts)
-    (described links drafts (sym (c.end_loading.ensures.makes drafts).interfaces) (sym (c.deref.ensures.value ∙ c.in_ok-before.ensures)))))
+    (makes_then {f = loading_done} {g = describe_router_later links}
+    (c.end_loading.ensures.makes drafts)
+    (described links drafts (sym (c.end_loading.ensures.makes drafts).interfaces)
+    (sym (c.deref.ensures.value ∙ c.in_ok-before.ensures)))))
     c.describe_router_later.ensures.makes

@@ -8,5 +8,6 @@ pub returns-clause-makes : goal.returns-clause-makes
 returns-clause-makes c =
     let m = c.args.moment in
     on_ok c.remove_aged.result
-    (λ removed. makes_then {f = on_area (request_all m)} {g = on_area (remove_aged m)} c.in_ok-request_all.ensures.makes removed)
+    (λ removed. makes_then {f = on_area (request_all m)} {g = on_area (remove_aged m)}
+    c.in_ok-request_all.ensures.makes removed)
     c.remove_aged.ensures.makes

@@ -8,6 +8,7 @@ pub returns-clause-makes : goal.returns-clause-makes
 returns-clause-makes c =
     on_ok c.carry_out.result
     (λ makes. makes_same
-    (done_as_found c.args.may_now c.args.moment c.args.key.now c.args.router.now.present c.in-Some.found
+    (done_as_found c.args.may_now c.args.moment c.args.key.now c.args.router.now.present
+    c.in-Some.found
     (sym c.in-Some.is ∙ c.in_ok-found.ensures)) makes)
     c.carry_out.ensures.makes

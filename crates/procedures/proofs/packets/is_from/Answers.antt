@@ -6,4 +6,5 @@ use Rattle.procedures.proofs.packets.is_from.Goals as goal
 
 pub returns : goal.returns
 returns c =
-    c.is_from_named.ensures ∙ ap (is_from_named c.args.from) c.neighbor_at-neighbor.ensures ∙ from_named c.args.from (neighbor_at c.args.number c.args.router.now.present.area.links)
+    c.is_from_named.ensures ∙ ap (is_from_named c.args.from) c.neighbor_at-neighbor.ensures
+    ∙ from_named c.args.from (neighbor_at c.args.number c.args.router.now.present.area.links)

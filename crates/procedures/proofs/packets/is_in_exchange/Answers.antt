@@ -6,4 +6,5 @@ use Rattle.procedures.proofs.packets.is_in_exchange.Goals as goal
 
 pub returns : goal.returns
 returns c =
-    c.is_in_exchange_named.ensures ∙ ap is_in_exchange_named c.neighbor_at-neighbor.ensures ∙ exchange_named (neighbor_at c.args.number c.args.router.now.present.area.links)
+    c.is_in_exchange_named.ensures ∙ ap is_in_exchange_named c.neighbor_at-neighbor.ensures
+    ∙ exchange_named (neighbor_at c.args.number c.args.router.now.present.area.links)

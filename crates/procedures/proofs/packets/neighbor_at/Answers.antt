@@ -12,8 +12,11 @@ pub returns : goal.returns
 returns c =
     let n = c.args.number in
     let ls = c.links-links.result.now in
-    let same = c.links-links.ensures.present ∙ ap (λ (a : RouterArea). a.present.links) c.area.ensures.parts in
+    let same = c.links-links.ensures.present
+    ∙ ap (λ (a : RouterArea). a.present.links) c.area.ensures.parts in
     c.neighbor.ensures
     ∙ ap (λ (k : Kept Link). named_neighbor k.present.neighbor) c.index-links-i.is
-    ∙ ap named_neighbor (shown_neighbor ls (n - 1) n c.index-links-i.result (omega (arith, c.requires.first, c.requires.last, length-map ls present, ap length same)) (omega (arith, c.requires.first)))
+    ∙ ap named_neighbor (shown_neighbor ls (n - 1) n c.index-links-i.result
+    (omega (arith, c.requires.first, c.requires.last, length-map ls present, ap length same))
+    (omega (arith, c.requires.first)))
     ∙ ap (λ links. named_neighbor (neighbor_at n links)) same

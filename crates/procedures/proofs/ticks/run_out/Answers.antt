@@ -9,5 +9,6 @@ returns-clause-makes c =
     let ds = c.args.drafts.now in
     on_ok c.forget_originations.result
     (λ is. makes_then (c.run_out.ensures.makes ds)
-    (makes_on_router (forget_originations c.args.moment) c.run_out.new.self.present c.forget_originations.new.self.present ds refl is))
+    (makes_on_router (forget_originations c.args.moment) c.run_out.new.self.present
+    c.forget_originations.new.self.present ds refl is))
     c.forget_originations.ensures.ok

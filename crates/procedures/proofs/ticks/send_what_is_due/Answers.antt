@@ -7,7 +7,9 @@ use Rattle.procedures.proofs.ticks.send_what_is_due.Goals as goal
 pub returns-clause-makes : goal.returns-clause-makes
 returns-clause-makes c =
     let m = c.args.moment in
-    let acknowledged = makes_then c.in_ok-send_all_again.ensures.makes c.in_ok-acknowledge_all.ensures.makes in
+    let acknowledged = makes_then c.in_ok-send_all_again.ensures.makes
+    c.in_ok-acknowledge_all.ensures.makes in
     on_ok c.send_hellos.result
-    (λ sent. makes_then {f = λ p. on_area (acknowledge_all m) (on_area (send_all_again m) p)} {g = on_area (send_hellos m)} acknowledged sent)
+    (λ sent. makes_then {f = λ p. on_area (acknowledge_all m) (on_area (send_all_again m) p)}
+    {g = on_area (send_hellos m)} acknowledged sent)
     c.send_hellos.ensures.makes

@@ -11,11 +11,16 @@ loop-i-preserved c =
     let m = c.loop-i.moments.present in
     record {
       leaves =
-          ap (λ e. fold finite.remove e (from (i + 1) keys)) (c.in_ok-remove.ensures.ok ∙ ap (finite.remove m) c.index-keys-i.is)
-          ∙ ap (fold finite.remove m) (sym (from_next i keys c.index-keys-i.result (omega (arith, c.loop-i-test.true)))) ∙ c.loop-i.invariant.leaves;
+          ap (λ e. fold finite.remove e (from (i + 1) keys))
+          (c.in_ok-remove.ensures.ok ∙ ap (finite.remove m) c.index-keys-i.is)
+          ∙ ap (fold finite.remove m) (sym
+          (from_next i keys c.index-keys-i.result (omega (arith, c.loop-i-test.true))))
+          ∙ c.loop-i.invariant.leaves;
       settled = c.in_ok-remove.ensures.settled ∙ c.loop-i.invariant.settled;
     }
 
 pub returns-clause-ok : goal.returns-clause-ok
 returns-clause-ok c =
-    ap (fold finite.remove c.loop-i.moments.present) (sym (from_end c.loop-i.i c.args.keys.now (omega (arith, c.loop-i-test.false, c.loop-i.auto.i-end)))) ∙ c.loop-i.invariant.leaves
+    ap (fold finite.remove c.loop-i.moments.present)
+    (sym (from_end c.loop-i.i c.args.keys.now
+    (omega (arith, c.loop-i-test.false, c.loop-i.auto.i-end)))) ∙ c.loop-i.invariant.leaves

@@ -6,6 +6,7 @@ use Rattle.router_state.proofs.destinations.remove_each.Given as goal
 
 abbrev pub invariant-loop-i : goal.invariant-loop-i
 invariant-loop-i l = record {
-  leaves : fold finite.remove l.moments.present (from l.i l.keys) ≡ fold finite.remove l.fn.moments.present l.keys;
+  leaves : fold finite.remove l.moments.present (from l.i l.keys)
+      ≡ fold finite.remove l.fn.moments.present l.keys;
   settled : l.moments.settled ≡ l.fn.moments.settled;
 }

@@ -15,48 +15,86 @@ use Rattle.segments.proofs.follow.follow.Goals as goal
 
 pub returns-in_ok-end-in-Exit-clause-followed : goal.returns-in_ok-end-in-Exit-clause-followed
 returns-in_ok-end-in-Exit-clause-followed g c =
-    let here : slice_get c.args.code.now c.args.slot ≡ Some (Start Exit) = rw (← c.in-Exit.is) c.requires.here in
-    rw c.in-Exit.is (goes_nowhere g.D.Domain.contains c.args.code.now c.args.hook c.args.targets.now c.args.segment.now c.args.slot c.in_ok-end-in-Exit.field-0 c.args.state here
-    (λ input start now holds at fault stuck. c.in_ok-end-in-Exit.ensures.free c.args.code.now c.args.hook input start now holds at fault stuck))
+    let here : slice_get c.args.code.now c.args.slot ≡ Some (Start Exit) =
+    rw (← c.in-Exit.is) c.requires.here in
+    rw c.in-Exit.is (goes_nowhere g.D.Domain.contains c.args.code.now c.args.hook c.args.targets.now
+    c.args.segment.now c.args.slot c.in_ok-end-in-Exit.field-0 c.args.state here
+    (λ input start now holds at fault stuck. c.in_ok-end-in-Exit.ensures.free c.args.code.now
+    c.args.hook input start now holds at fault stuck))
 
 pub returns-in_err-leave-in-Jump-clause-named : goal.returns-in_err-leave-in-Jump-clause-named
 returns-in_err-leave-in-Jump-clause-named g c =
-    hands_on c.from_residual.result c.in_err-leave-in-Jump.field-0.0 (MayFollow c.args.hook c.args.instruction) c.from_residual.ensures.1
-    (edge_follows c.args.hook c.args.instruction c.in_err-leave-in-Jump.field-0.0 c.in_err-leave-in-Jump.ensures.named)
+    hands_on c.from_residual.result c.in_err-leave-in-Jump.field-0.0
+    (MayFollow c.args.hook c.args.instruction) c.from_residual.ensures.1
+    (edge_follows c.args.hook c.args.instruction c.in_err-leave-in-Jump.field-0.0
+    c.in_err-leave-in-Jump.ensures.named)
 
 pub returns-in_err-leave-in-Jump-clause-plain : goal.returns-in_err-leave-in-Jump-clause-plain
 returns-in_err-leave-in-Jump-clause-plain g c = λ here.
-    let ranges : IsInstruction (Jump c.in-Jump.distance) = rw c.in-Jump.is at c.check_ranges.ensures in
-    let to : c.jumped_near.result ≡ slot_at_distance c.args.slot c.in-Jump.distance = simp (to_z-of_z w16 c.in-Jump.distance ranges) at c.jumped_near.ensures in
-    never (c.in_err-leave-in-Jump.ensures.plain (jump_edge g.D.Domain.contains c.args.targets.now c.args.segment.now c.args.slot c.args.instruction c.args.state here c.jumped_near.result (rw c.in-Jump.is (sym (ap Some to))) (rw c.in-Jump.is refl)))
+    let ranges : IsInstruction (Jump c.in-Jump.distance) =
+    rw c.in-Jump.is at c.check_ranges.ensures in
+    let to : c.jumped_near.result ≡ slot_at_distance c.args.slot c.in-Jump.distance =
+    simp (to_z-of_z w16 c.in-Jump.distance ranges) at c.jumped_near.ensures in
+    never (c.in_err-leave-in-Jump.ensures.plain
+    (jump_edge g.D.Domain.contains c.args.targets.now c.args.segment.now c.args.slot
+    c.args.instruction c.args.state here c.jumped_near.result
+    (rw c.in-Jump.is (sym (ap Some to))) (rw c.in-Jump.is refl)))
 
 pub returns-in_ok-leave-in-Jump-clause-followed : goal.returns-in_ok-leave-in-Jump-clause-followed
 returns-in_ok-leave-in-Jump-clause-followed g c =
-    let ranges : IsInstruction (Jump c.in-Jump.distance) = rw c.in-Jump.is at c.check_ranges.ensures in
-    let to : c.jumped_near.result ≡ slot_at_distance c.args.slot c.in-Jump.distance = simp (to_z-of_z w16 c.in-Jump.distance ranges) at c.jumped_near.ensures in
-    let here : slice_get c.args.code.now c.args.slot ≡ Some (Start (Jump c.in-Jump.distance)) = rw (← c.in-Jump.is) c.requires.here in
-    let placed : IsWellPlaced c.args.code.now c.args.targets.now c.args.slot (Jump c.in-Jump.distance) = rw (← c.in-Jump.is) c.requires.placed in
-    rw c.in-Jump.is (goes_by_jump g.D.Domain.contains c.args.code.now c.args.hook c.args.targets.now c.args.segment.now c.args.slot c.in_ok-leave-in-Jump.field-0 (Jump c.in-Jump.distance) c.in-Jump.distance c.args.state
-    c.what_can_step_is_never_stuck.ensures here placed.jump.begins (λ input now next label does. does) (λ input now next label goes. goes)
-    (λ start now next known same. c.in_ok-leave-in-Jump.ensures.enters start now next known (rw to same)))
+    let ranges : IsInstruction (Jump c.in-Jump.distance) =
+    rw c.in-Jump.is at c.check_ranges.ensures in
+    let to : c.jumped_near.result ≡ slot_at_distance c.args.slot c.in-Jump.distance =
+    simp (to_z-of_z w16 c.in-Jump.distance ranges) at c.jumped_near.ensures in
+    let here : slice_get c.args.code.now c.args.slot ≡ Some (Start (Jump c.in-Jump.distance)) =
+    rw (← c.in-Jump.is) c.requires.here in
+    let placed : IsWellPlaced c.args.code.now c.args.targets.now c.args.slot
+    (Jump c.in-Jump.distance) = rw (← c.in-Jump.is) c.requires.placed in
+    rw c.in-Jump.is (goes_by_jump g.D.Domain.contains c.args.code.now c.args.hook c.args.targets.now
+    c.args.segment.now c.args.slot c.in_ok-leave-in-Jump.field-0 (Jump c.in-Jump.distance)
+    c.in-Jump.distance c.args.state
+    c.what_can_step_is_never_stuck.ensures here placed.jump.begins
+    (λ input now next label does. does) (λ input now next label goes. goes)
+    (λ start now next known same. c.in_ok-leave-in-Jump.ensures.enters start now next known
+    (rw to same)))
 
-pub returns-in_err-leave-in-LongJump-clause-named : goal.returns-in_err-leave-in-LongJump-clause-named
+pub returns-in_err-leave-in-LongJump-clause-named :
+    goal.returns-in_err-leave-in-LongJump-clause-named
 returns-in_err-leave-in-LongJump-clause-named g c =
-    hands_on c.from_residual-in_err-leave-in-LongJump.result c.in_err-leave-in-LongJump.field-0.0 (MayFollow c.args.hook c.args.instruction) c.from_residual-in_err-leave-in-LongJump.ensures.1
-    (edge_follows c.args.hook c.args.instruction c.in_err-leave-in-LongJump.field-0.0 c.in_err-leave-in-LongJump.ensures.named)
+    hands_on c.from_residual-in_err-leave-in-LongJump.result c.in_err-leave-in-LongJump.field-0.0
+    (MayFollow c.args.hook c.args.instruction)
+    c.from_residual-in_err-leave-in-LongJump.ensures.1
+    (edge_follows c.args.hook c.args.instruction c.in_err-leave-in-LongJump.field-0.0
+    c.in_err-leave-in-LongJump.ensures.named)
 
-pub returns-in_err-leave-in-LongJump-clause-plain : goal.returns-in_err-leave-in-LongJump-clause-plain
+pub returns-in_err-leave-in-LongJump-clause-plain :
+    goal.returns-in_err-leave-in-LongJump-clause-plain
 returns-in_err-leave-in-LongJump-clause-plain g c = λ here.
-    let ranges : IsInstruction (LongJump c.in-LongJump.distance) = rw c.in-LongJump.is at c.check_ranges.ensures in
-    let to : c.jumped.result ≡ slot_at_distance c.args.slot c.in-LongJump.distance = simp (to_z-of_z w32 c.in-LongJump.distance ranges) at c.jumped.ensures in
-    never (c.in_err-leave-in-LongJump.ensures.plain (jump_edge g.D.Domain.contains c.args.targets.now c.args.segment.now c.args.slot c.args.instruction c.args.state here c.jumped.result (rw c.in-LongJump.is (sym (ap Some to))) (rw c.in-LongJump.is refl)))
+    let ranges : IsInstruction (LongJump c.in-LongJump.distance) =
+    rw c.in-LongJump.is at c.check_ranges.ensures in
+    let to : c.jumped.result ≡ slot_at_distance c.args.slot c.in-LongJump.distance =
+    simp (to_z-of_z w32 c.in-LongJump.distance ranges) at c.jumped.ensures in
+    never (c.in_err-leave-in-LongJump.ensures.plain
+    (jump_edge g.D.Domain.contains c.args.targets.now c.args.segment.now c.args.slot
+    c.args.instruction c.args.state here c.jumped.result
+    (rw c.in-LongJump.is (sym (ap Some to))) (rw c.in-LongJump.is refl)))
 
-pub returns-in_ok-leave-in-LongJump-clause-followed : goal.returns-in_ok-leave-in-LongJump-clause-followed
+pub returns-in_ok-leave-in-LongJump-clause-followed :
+    goal.returns-in_ok-leave-in-LongJump-clause-followed
 returns-in_ok-leave-in-LongJump-clause-followed g c =
-    let ranges : IsInstruction (LongJump c.in-LongJump.distance) = rw c.in-LongJump.is at c.check_ranges.ensures in
-    let to : c.jumped.result ≡ slot_at_distance c.args.slot c.in-LongJump.distance = simp (to_z-of_z w32 c.in-LongJump.distance ranges) at c.jumped.ensures in
-    let here : slice_get c.args.code.now c.args.slot ≡ Some (Start (LongJump c.in-LongJump.distance)) = rw (← c.in-LongJump.is) c.requires.here in
-    let placed : IsWellPlaced c.args.code.now c.args.targets.now c.args.slot (LongJump c.in-LongJump.distance) = rw (← c.in-LongJump.is) c.requires.placed in
-    rw c.in-LongJump.is (goes_by_jump g.D.Domain.contains c.args.code.now c.args.hook c.args.targets.now c.args.segment.now c.args.slot c.in_ok-leave-in-LongJump.field-0 (LongJump c.in-LongJump.distance) c.in-LongJump.distance c.args.state
-    c.what_can_step_is_never_stuck.ensures here placed.jump.begins (λ input now next label does. does) (λ input now next label goes. goes)
-    (λ start now next known same. c.in_ok-leave-in-LongJump.ensures.enters start now next known (rw to same)))
+    let ranges : IsInstruction (LongJump c.in-LongJump.distance) =
+    rw c.in-LongJump.is at c.check_ranges.ensures in
+    let to : c.jumped.result ≡ slot_at_distance c.args.slot c.in-LongJump.distance =
+    simp (to_z-of_z w32 c.in-LongJump.distance ranges) at c.jumped.ensures in
+    let here : slice_get c.args.code.now c.args.slot
+    ≡ Some (Start (LongJump c.in-LongJump.distance)) =
+    rw (← c.in-LongJump.is) c.requires.here in
+    let placed : IsWellPlaced c.args.code.now c.args.targets.now c.args.slot
+    (LongJump c.in-LongJump.distance) = rw (← c.in-LongJump.is) c.requires.placed in
+    rw c.in-LongJump.is (goes_by_jump g.D.Domain.contains c.args.code.now c.args.hook
+    c.args.targets.now c.args.segment.now c.args.slot c.in_ok-leave-in-LongJump.field-0
+    (LongJump c.in-LongJump.distance) c.in-LongJump.distance c.args.state
+    c.what_can_step_is_never_stuck.ensures here placed.jump.begins
+    (λ input now next label does. does) (λ input now next label goes. goes)
+    (λ start now next known same. c.in_ok-leave-in-LongJump.ensures.enters start now next known
+    (rw to same)))

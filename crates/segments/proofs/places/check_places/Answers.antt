@@ -13,13 +13,20 @@ returns-clause-made g c = λ statements are passed.
     let i = c.args.instruction.now in
     let targets = c.args.targets.now in
     record {
-      target = met_target code c.args.slot i c.requires.here statements (subst (λ o. IfSome o (Begins code)) c.jump_of-to.ensures (c.jumps_nowhere.ensures.begins c.if-jumps_nowhere.false));
-      ends = met_ends code c.args.slot i c.requires.here (c.falls_off.ensures.on c.if-falls_off.false);
+      target = met_target code c.args.slot i c.requires.here statements
+          (subst (λ o. IfSome o (Begins code)) c.jump_of-to.ensures
+          (c.jumps_nowhere.ensures.begins c.if-jumps_nowhere.false));
+      ends = met_ends code c.args.slot i c.requires.here
+          (c.falls_off.ensures.on c.if-falls_off.false);
       reached = λ unreached. ⊎_elim
-          (λ (to : c.args.is_passed_to ≡ true). (subst (λ b. IsPassedTo b code c.args.slot) to passed) unreached.cut_off)
-          (λ (stated : IsSome (target_at targets c.args.slot)). stated_of g.D.Domain.contains statements targets c.args.slot are stated unreached.unstated)
+          (λ (to : c.args.is_passed_to ≡ true).
+          (subst (λ b. IsPassedTo b code c.args.slot) to passed) unreached.cut_off)
+          (λ (stated : IsSome (target_at targets c.args.slot)). stated_of g.D.Domain.contains
+          statements targets c.args.slot are stated unreached.unstated)
           (c.is_unreached.ensures.reached c.if-is_unreached.false);
-      stated = met_stated code c.args.slot i c.requires.here g.D.Domain.contains statements targets are (subst (λ o. IfSome o (λ slot. IsSome (target_at targets slot))) c.jump_of-to.ensures (c.jumps_unstated.ensures.stated c.if-jumps_unstated.false));
+      stated = met_stated code c.args.slot i c.requires.here g.D.Domain.contains statements targets
+          are (subst (λ o. IfSome o (λ slot. IsSome (target_at targets slot))) c.jump_of-to.ensures
+          (c.jumps_unstated.ensures.stated c.if-jumps_unstated.false));
     }
 
 pub returns-then-jumps_unstated-clause-made : goal.returns-then-jumps_unstated-clause-made
@@ -27,13 +34,19 @@ returns-then-jumps_unstated-clause-made g c = λ statements are passed.
     let code = c.args.code.now in
     let i = c.args.instruction.now in
     let targets = c.args.targets.now in (
-      jumps_unstated code c.args.slot i c.requires.here g.D.Domain.contains statements targets are (subst (λ o. IsSomeAnd o (λ slot. target_at targets slot ≡ None)) c.jump_of-to.ensures (c.jumps_unstated.ensures.unstated c.if-jumps_unstated.true)),
+      jumps_unstated code c.args.slot i c.requires.here g.D.Domain.contains statements targets are
+          (subst (λ o. IsSomeAnd o (λ slot. target_at targets slot ≡ None)) c.jump_of-to.ensures
+          (c.jumps_unstated.ensures.unstated c.if-jumps_unstated.true)),
       (
-        met_target code c.args.slot i c.requires.here statements (subst (λ o. IfSome o (Begins code)) c.jump_of-to.ensures (c.jumps_nowhere.ensures.begins c.if-jumps_nowhere.false)),
+        met_target code c.args.slot i c.requires.here statements
+            (subst (λ o. IfSome o (Begins code)) c.jump_of-to.ensures
+            (c.jumps_nowhere.ensures.begins c.if-jumps_nowhere.false)),
         met_ends code c.args.slot i c.requires.here (c.falls_off.ensures.on c.if-falls_off.false),
         λ unreached. ⊎_elim
-            (λ (to : c.args.is_passed_to ≡ true). (subst (λ b. IsPassedTo b code c.args.slot) to passed) unreached.cut_off)
-            (λ (stated : IsSome (target_at targets c.args.slot)). stated_of g.D.Domain.contains statements targets c.args.slot are stated unreached.unstated)
+            (λ (to : c.args.is_passed_to ≡ true).
+            (subst (λ b. IsPassedTo b code c.args.slot) to passed) unreached.cut_off)
+            (λ (stated : IsSome (target_at targets c.args.slot)). stated_of g.D.Domain.contains
+            statements targets c.args.slot are stated unreached.unstated)
             (c.is_unreached.ensures.reached c.if-is_unreached.false),
       ),
     )

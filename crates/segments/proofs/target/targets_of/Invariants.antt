@@ -4,4 +4,5 @@ use Rattle.segments.proofs.target.targets_of.Given as goal
 
 abbrev pub invariant-loop-statement : goal.invariant-loop-statement
 invariant-loop-statement g l =
-    AreFoundSoFar g.D.Domain.contains g.D.Domain.stated_gives l.statements (drop l.statement-index l.statements) l.size l.targets.items
+    AreFoundSoFar g.D.Domain.contains g.D.Domain.stated_gives l.statements
+    (drop l.statement-index l.statements) l.size l.targets.items

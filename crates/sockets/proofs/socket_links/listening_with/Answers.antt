@@ -9,16 +9,23 @@ pub loop-before-preserved : goal.loop-before-preserved
 loop-before-preserved g c =
     let interface = length c.args.wires.now - c.loop-before.before in
     let same : c.in_ok-link.link.own ≡ interface = search rules in
-    let more = counted_more (λ link. link.own) interface c.loop-before.links.items c.in_ok-link.link same c.loop-before.invariant.interfaces in
-    let next : length c.args.wires.now - (c.loop-before.before + 1) + 1 ≡ interface = omega (arith, c.loop-before-test) in
+    let more = counted_more (λ link. link.own) interface c.loop-before.links.items c.in_ok-link.link
+    same c.loop-before.invariant.interfaces in
+    let next : length c.args.wires.now - (c.loop-before.before + 1) + 1 ≡ interface =
+    omega (arith, c.loop-before-test) in
     let listens = g.P.ListensAt.listens in
     let there : IsListening listens c.args.wires.now c.in_ok-link.link.own c.in_ok-link.link.ear =
-    subst (λ n. IsListening listens c.args.wires.now n c.in_ok-link.link.ear) (sym c.in_ok-link.ensures.own.0) c.in_ok-link.ensures.ear in
+    subst (λ n. IsListening listens c.args.wires.now n c.in_ok-link.link.ear)
+    (sym c.in_ok-link.ensures.own.0) c.in_ok-link.ensures.ear in
     record {
       each = search rules;
-      interfaces = subst (λ n. CountDownTo n (map (λ link. link.own) c.push.new.self.items)) (sym next)
-          (subst (λ items. CountDownTo interface (map (λ link. link.own) items)) (sym c.in_ok-push.ensures.items) more);
-      ears = subst (λ items. All (λ link. IsListening listens c.args.wires.now link.own link.ear) items) (sym c.in_ok-push.ensures.items)
-          (All-push (λ link. IsListening listens c.args.wires.now link.own link.ear) c.loop-before.links.items c.in_ok-link.link
+      interfaces = subst (λ n. CountDownTo n (map (λ link. link.own) c.push.new.self.items))
+          (sym next)
+          (subst (λ items. CountDownTo interface (map (λ link. link.own) items))
+          (sym c.in_ok-push.ensures.items) more);
+      ears = subst (λ items. All (λ link. IsListening listens c.args.wires.now link.own link.ear)
+          items) (sym c.in_ok-push.ensures.items)
+          (All-push (λ link. IsListening listens c.args.wires.now link.own link.ear)
+          c.loop-before.links.items c.in_ok-link.link
           c.loop-before.invariant.ears there);
     }

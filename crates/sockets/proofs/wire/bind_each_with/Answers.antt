@@ -4,6 +4,8 @@ use Rattle.sockets.proofs.wire.bind_each_with.Goals as goal
 
 pub loop-configured-preserved : goal.loop-configured-preserved
 loop-configured-preserved g c =
-    one_more g.B.BindsSockets.bound c.args.interfaces.now c.loop-configured.configured-index c.loop-configured.wires.items
+    one_more g.B.BindsSockets.bound c.args.interfaces.now c.loop-configured.configured-index
+    c.loop-configured.wires.items
     c.push.new.self.items c.configured-item.result c.in_ok-wire.wire c.loop-configured.invariant
-    (omega (arith, c.loop-configured-test)) c.configured-item.is c.in_ok-push.ensures.items c.in_ok-wire.ensures.wire
+    (omega (arith, c.loop-configured-test)) c.configured-item.is c.in_ok-push.ensures.items
+    c.in_ok-wire.ensures.wire

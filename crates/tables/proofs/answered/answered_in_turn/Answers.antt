@@ -15,8 +15,10 @@ loop-at-preserved c k r low is =
       | inl same ↦
           let route : Route = c.index-routes-at.result in
           let there : slice_get routes at ≡ Some r = ap (λ n. slice_get routes n) (sym same) ∙ is in
-          let its : route ≡ r = c.index-routes-at.is ∙ get_or_from_slice_get routes at r route there in
-          let stands : StandsAt answers at r = subst (StandsAt answers at) its (c.stands_at.ensures c.if-not-stands_at.false) in
+          let its : route ≡ r = c.index-routes-at.is
+          ∙ get_or_from_slice_get routes at r route there in
+          let stands : StandsAt answers at r =
+          subst (StandsAt answers at) its (c.stands_at.ensures c.if-not-stands_at.false) in
           subst (λ n. StandsAt answers n r) (sym same) stands
       | inr other ↦ c.loop-at.invariant k r (omega (arith, low, other)) is
     ]
@@ -25,4 +27,5 @@ pub loop-at-init : goal.loop-at-init
 loop-at-init c k r low is = absurd (omega (arith, low))
 
 pub returns-clause-each : goal.returns-clause-each
-returns-clause-each c k r low is = c.loop-at.invariant k r (omega (arith, low, c.loop-at-test.false)) is
+returns-clause-each c k r low is =
+    c.loop-at.invariant k r (omega (arith, low, c.loop-at-test.false)) is

@@ -15,9 +15,11 @@ loop-at-preserved c k low high stands =
     elim (cases_eq k at) [
       | inl same ↦
           let answer : Route × ℕ = c.index-answers-at.result in
-          let here : StandsAt answers at c.args.route.now = subst (λ n. StandsAt answers n c.args.route.now) same stands in
+          let here : StandsAt answers at c.args.route.now =
+          subst (λ n. StandsAt answers n c.args.route.now) same stands in
           let wanted : Route × ℕ = (c.args.route.now, here.0) in
-          let is : answer ≡ wanted = c.index-answers-at.is ∙ get_or_from_slice_get answers at wanted answer here.1 in
+          let is : answer ≡ wanted = c.index-answers-at.is
+          ∙ get_or_from_slice_get answers at wanted answer here.1 in
           let on : c.is_of.result ≡ true = c.is_of.ensures.1 (ap (λ (x : Route × ℕ). x.0) is) in
           absurd (let no : true ≡ false = sym on ∙ c.if-is_of.false in cc)
       | inr other ↦ c.loop-at.invariant k low (omega (arith, high, other)) stands

@@ -10,7 +10,9 @@ pub returns-then-met-candidates : goal.returns-then-met-candidates
 returns-then-met-candidates c =
     tells_stale c.args.answers.now c.args.candidates.now false (
       (λ t. absurd (let no : false ≡ true = t in cc)),
-      (λ lacks. absurd (none_lacks c.args.answers.now c.args.candidates.now c.answered_in_turn-met.result c.if-met-candidates.true c.answered_in_turn-met.ensures.each lacks)),
+      (λ lacks. absurd (none_lacks c.args.answers.now c.args.candidates.now
+          c.answered_in_turn-met.result c.if-met-candidates.true c.answered_in_turn-met.ensures.each
+          lacks)),
     )
 
 pub returns-then-not-is_answered_from : goal.returns-then-not-is_answered_from
@@ -19,15 +21,20 @@ returns-then-not-is_answered_from c said root are =
     let candidates = c.args.candidates.now in
     let met = c.answered_in_turn-met.result in
     let behind = c.is_answered_from.ensures c.if-not-is_answered_from.true in
-    let lacks = one_lacks answers candidates met c.index-candidates-met.result c.if-met-candidates.false c.index-candidates-met.is are.ascending c.answered_in_turn-met.ensures.each behind in
+    let lacks = one_lacks answers candidates met c.index-candidates-met.result
+    c.if-met-candidates.false c.index-candidates-met.is are.ascending
+    c.answered_in_turn-met.ensures.each behind in
     tells_stale answers candidates true ((λ t. lacks), (λ any. refl)) said root are
 
 pub returns-then-are_in_order : goal.returns-then-are_in_order
-returns-then-are_in_order c = tells_stale c.args.answers.now c.args.candidates.now c.lack_answers.result c.lack_answers.ensures
+returns-then-are_in_order c = tells_stale c.args.answers.now c.args.candidates.now
+    c.lack_answers.result c.lack_answers.ensures
 
 pub returns : goal.returns
 returns c =
     let b = c.lack_answers-2.result in
-    let lacks = subst (λ (made : Answers). IsTrue b ↔ LacksAnswers made c.args.candidates.now) c.deref.ensures.value c.lack_answers-2.ensures in
+    let lacks = subst (λ (made : Answers). IsTrue b ↔ LacksAnswers made c.args.candidates.now)
+    c.deref.ensures.value c.lack_answers-2.ensures in
     tells_stale c.args.answers.now c.args.candidates.now b
-    (lack_by c.in_ok-ordered.ordered.items c.args.answers.now c.args.candidates.now b c.in_ok-ordered.ensures.same lacks)
+    (lack_by c.in_ok-ordered.ordered.items c.args.answers.now c.args.candidates.now b
+    c.in_ok-ordered.ensures.same lacks)

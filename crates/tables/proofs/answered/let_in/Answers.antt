@@ -12,14 +12,22 @@ loop-route-preserved c =
     let route = c.route-item.result in
     elim c.if-found.branch [
       | then-found+in_ok-push w ↦
-          let items = ap (λ (v : Vec Route Global). v.items) w.part-is ∙ w.in_ok-push.ensures.items in
+          let items = ap (λ (v : Vec Route Global). v.items) w.part-is
+          ∙ w.in_ok-push.ensures.items in
           subst (AreLetInOf answers routes (n + 1)) (sym items)
-          (let_in_more answers routes n route c.loop-route-test.true c.route-item.is c.loop-route.part.items (c.is_let_in-found.ensures.0 w.if-found.true) c.loop-route.invariant)
+          (let_in_more answers routes n route c.loop-route-test.true c.route-item.is
+          c.loop-route.part.items (c.is_let_in-found.ensures.0 w.if-found.true)
+          c.loop-route.invariant)
       | else-found w ↦
-          subst (λ (v : Vec Route Global). AreLetInOf answers routes (n + 1) v.items) (sym w.part-is)
-          (left_out answers routes n route c.loop-route-test.true c.route-item.is c.loop-route.part.items
-          (λ among. let no : false ≡ true = sym w.if-found.false ∙ c.is_let_in-found.ensures.1 among in cc) c.loop-route.invariant)
+          subst (λ (v : Vec Route Global). AreLetInOf answers routes (n + 1) v.items)
+          (sym w.part-is)
+          (left_out answers routes n route c.loop-route-test.true c.route-item.is
+          c.loop-route.part.items
+          (λ among. let no : false ≡ true =
+          sym w.if-found.false ∙ c.is_let_in-found.ensures.1 among in cc)
+          c.loop-route.invariant)
     ]
 
 pub returns : goal.returns
-returns c = whole c.args.answers.now c.args.routes.now c.loop-route.route-index c.loop-route.part.items (omega arith) c.loop-route.invariant
+returns c = whole c.args.answers.now c.args.routes.now c.loop-route.route-index
+    c.loop-route.part.items (omega arith) c.loop-route.invariant

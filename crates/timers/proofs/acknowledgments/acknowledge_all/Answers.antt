@@ -12,5 +12,8 @@ pub returns-clause-ok : goal.returns-clause-ok
 returns-clause-ok c =
     let ls = c.args.area.now.present.links in
     let d = c.args.area.now.present.database in
-    let none = λ (n : ℕ) (l : Link) (e : Database). headers_mark_nothing c.args.moment n (finite.values l.acknowledgments) e in
-    on_ok c.step_links.result (λ is. is ∙ areas refl (sym (marks_none c.args.moment acknowledgments_on none 1 ls d))) c.step_links.ensures.ok
+    let none = λ (n : ℕ) (l : Link) (e : Database). headers_mark_nothing c.args.moment n
+    (finite.values l.acknowledgments) e in
+    on_ok c.step_links.result (λ is. is
+    ∙ areas refl (sym (marks_none c.args.moment acknowledgments_on none 1 ls d)))
+    c.step_links.ensures.ok

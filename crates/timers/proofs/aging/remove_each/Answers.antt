@@ -14,8 +14,11 @@ loop-i-preserved c =
       links = ap (λ a. a.links) c.in_ok-remove_acknowledged.ensures.ok ∙ c.loop-i.invariant.links;
       leaves =
           ap (λ e. without_each L e (from (i + 1) keys))
-          (ap (λ a. a.database) c.in_ok-remove_acknowledged.ensures.ok ∙ ap (λ ls. without_acknowledged ls d c.index-keys-i.result) c.loop-i.invariant.links ∙ ap (without_acknowledged L d) c.index-keys-i.is)
-          ∙ ap (without_each L d) (sym (from_next i keys c.index-keys-i.result (omega (arith, c.loop-i-test.true)))) ∙ c.loop-i.invariant.leaves;
+          (ap (λ a. a.database) c.in_ok-remove_acknowledged.ensures.ok
+          ∙ ap (λ ls. without_acknowledged ls d c.index-keys-i.result) c.loop-i.invariant.links
+          ∙ ap (without_acknowledged L d) c.index-keys-i.is)
+          ∙ ap (without_each L d) (sym (from_next i keys c.index-keys-i.result
+          (omega (arith, c.loop-i-test.true)))) ∙ c.loop-i.invariant.leaves;
       settled = c.in_ok-remove_acknowledged.ensures.settled ∙ c.loop-i.invariant.settled;
       router = c.in_ok-remove_acknowledged.ensures.router ∙ c.loop-i.invariant.router;
     }
@@ -24,4 +27,6 @@ pub returns-clause-ok : goal.returns-clause-ok
 returns-clause-ok c =
     let L = c.args.area.now.present.links in
     areas c.loop-i.invariant.links
-    (ap (without_each L c.loop-i.area.present.database) (sym (from_end c.loop-i.i c.args.keys.now (omega (arith, c.loop-i-test.false, c.loop-i.auto.i-end)))) ∙ c.loop-i.invariant.leaves)
+    (ap (without_each L c.loop-i.area.present.database)
+    (sym (from_end c.loop-i.i c.args.keys.now
+    (omega (arith, c.loop-i-test.false, c.loop-i.auto.i-end)))) ∙ c.loop-i.invariant.leaves)

@@ -15,9 +15,11 @@ returns-clause-ok c =
     let b = c.args.before in
     let m = c.args.moment in
     let a : Area = c.args.area.now.present in
-    let keys = c.deref.ensures.value ∙ c.in_ok-aged.ensures ∙ ap (λ d. aged_keys m d.present) c.database.ensures in
+    let keys = c.deref.ensures.value ∙ c.in_ok-aged.ensures
+    ∙ ap (λ d. aged_keys m d.present) c.database.ensures in
     on_ok c.each_come_of_age.result
-    (λ is. is ∙ ap (λ ks. (each_come_of_age b m ks a).area) keys ∙ ap (λ o. o.area) (ages_are b m a))
+    (λ is. is ∙ ap (λ ks. (each_come_of_age b m ks a).area) keys
+    ∙ ap (λ o. o.area) (ages_are b m a))
     c.each_come_of_age.ensures.ok
 
 pub returns-clause-drafts : goal.returns-clause-drafts
@@ -26,9 +28,11 @@ returns-clause-drafts c =
     let m = c.args.moment in
     let a : Area = c.args.area.now.present in
     let ds = c.args.drafts.now in
-    let keys = c.deref.ensures.value ∙ c.in_ok-aged.ensures ∙ ap (λ d. aged_keys m d.present) c.database.ensures in
+    let keys = c.deref.ensures.value ∙ c.in_ok-aged.ensures
+    ∙ ap (λ d. aged_keys m d.present) c.database.ensures in
     on_ok c.each_come_of_age.result
-    (λ is. is ∙ ap (λ ks. drafts_with (each_come_of_age b m ks a).sends a.links ds) keys ∙ ap (λ o. drafts_with o.sends a.links ds) (ages_are b m a))
+    (λ is. is ∙ ap (λ ks. drafts_with (each_come_of_age b m ks a).sends a.links ds) keys
+    ∙ ap (λ o. drafts_with o.sends a.links ds) (ages_are b m a))
     c.each_come_of_age.ensures.drafts
 
 pub returns-then-count-clause-ok : goal.returns-then-count-clause-ok
@@ -43,4 +47,5 @@ returns-then-count-clause-drafts c =
     let ds = c.args.drafts.now in
     let same : c.args.before ≡ c.args.moment = cc in
     drafted_none 1 a.links ds
-    ∙ ap (λ o. drafts_with o.sends a.links ds) (sym (nothing_ages c.args.before c.args.moment same (start a)))
+    ∙ ap (λ o. drafts_with o.sends a.links ds)
+    (sym (nothing_ages c.args.before c.args.moment same (start a)))

@@ -5,4 +5,5 @@ use Rattle.timers.proofs.AnyLink.{any_from}
 use Rattle.timers.proofs.asked.has_retransmission_on.Given as goal
 
 abbrev pub invariant-loop-i : goal.invariant-loop-i
-invariant-loop-i l = any_has_retransmission l.key (map present l.links) ≡ any_from present (λ s. has_retransmission l.key s.neighbor) l.i l.links
+invariant-loop-i l = any_has_retransmission l.key (map present l.links)
+    ≡ any_from present (λ s. has_retransmission l.key s.neighbor) l.i l.links

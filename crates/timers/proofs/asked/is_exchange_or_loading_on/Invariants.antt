@@ -5,4 +5,5 @@ use Rattle.timers.proofs.AnyLink.{any_from}
 use Rattle.timers.proofs.asked.is_exchange_or_loading_on.Given as goal
 
 abbrev pub invariant-loop-i : goal.invariant-loop-i
-invariant-loop-i l = any_exchange_or_loading (map present l.links) ≡ any_from present (λ s. neighbor_is_exchange_or_loading s.neighbor) l.i l.links
+invariant-loop-i l = any_exchange_or_loading (map present l.links)
+    ≡ any_from present (λ s. neighbor_is_exchange_or_loading s.neighbor) l.i l.links

@@ -13,11 +13,15 @@ returns-clause-ok c =
     let ls = c.args.area.now.present.links in
     let d = c.args.area.now.present.database in
     on_ok c.step_links.result
-    (λ is. is ∙ areas (links_are F 1 ls) (sym (marks_none c.args.moment (sends F) (requests_mark_nothing c.args.moment) 1 ls d) ∙ ap (marks c.args.moment d) (sends_are F 1 ls)))
+    (λ is. is ∙ areas (links_are F 1 ls)
+    (sym (marks_none c.args.moment (sends F) (requests_mark_nothing c.args.moment) 1 ls d)
+    ∙ ap (marks c.args.moment d) (sends_are F 1 ls)))
     c.step_links.ensures.ok
 
 pub returns-clause-drafts : goal.returns-clause-drafts
 returns-clause-drafts c =
     let F = λ (l : Link). request_next c.args.moment in
     let ls = c.args.area.now.present.links in
-    on_ok c.step_links.result (λ is. is ∙ ap (λ ss. drafts_with ss ls c.args.drafts.now) (sends_are F 1 ls)) c.step_links.ensures.drafts
+    on_ok c.step_links.result (λ is. is
+    ∙ ap (λ ss. drafts_with ss ls c.args.drafts.now) (sends_are F 1 ls))
+    c.step_links.ensures.drafts

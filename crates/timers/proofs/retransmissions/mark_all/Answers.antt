@@ -20,9 +20,12 @@ loop-i-preserved c =
           ap (λ e. mark_each moment e rest)
           (ap (λ a. a.database) c.in_ok-mark_behind.ensures.ok
           ∙ (λ j. mark_each moment d (map key_of_update (drop count (c.updates.ensures j))))
-          ∙ ap (λ e. mark_each moment d (map key_of_update (drop count e.updates))) c.index-drafts-i.is)
+          ∙ ap (λ e. mark_each moment d (map key_of_update (drop count e.updates)))
+          c.index-drafts-i.is)
           ∙ sym (mark_each-append moment here rest d)
-          ∙ ap (mark_each moment d) (sym (behind_next cs ds i 0 c.index-drafts-i.result (omega (arith, c.loop-i-test.true, c.requires)) (omega (arith, c.loop-i-test.true)))) ∙ c.loop-i.invariant.marks;
+          ∙ ap (mark_each moment d) (sym (behind_next cs ds i 0 c.index-drafts-i.result
+          (omega (arith, c.loop-i-test.true, c.requires)) (omega (arith, c.loop-i-test.true))))
+          ∙ c.loop-i.invariant.marks;
       settled = c.in_ok-mark_behind.ensures.settled ∙ c.loop-i.invariant.settled;
       router = c.in_ok-mark_behind.ensures.router ∙ c.loop-i.invariant.router;
     }
@@ -30,4 +33,7 @@ loop-i-preserved c =
 pub returns-clause-ok : goal.returns-clause-ok
 returns-clause-ok c =
     areas c.loop-i.invariant.links
-    (ap (mark_each c.args.moment c.loop-i.area.present.database) (sym (behind_end c.args.counts.now c.args.drafts.now c.loop-i.i (omega (arith, c.loop-i-test.false, c.loop-i.auto.i-end, c.requires)))) ∙ c.loop-i.invariant.marks)
+    (ap (mark_each c.args.moment c.loop-i.area.present.database)
+    (sym (behind_end c.args.counts.now c.args.drafts.now c.loop-i.i
+    (omega (arith, c.loop-i-test.false, c.loop-i.auto.i-end, c.requires))))
+    ∙ c.loop-i.invariant.marks)

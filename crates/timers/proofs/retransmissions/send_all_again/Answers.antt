@@ -16,7 +16,9 @@ mark_all-requires c =
     let ds = c.args.drafts.now in
     let S = sent_again c.args.moment c.args.area.now.present.database in
     ap length (c.deref.ensures.value ∙ c.in_ok-counts.ensures) ∙ length-map ds update_count
-    ∙ sym (ap length (c.in_ok-step_links.ensures.drafts ∙ drafts_are (sent_at c.args.moment S) ls ds) ∙ length-drafts c.args.moment S 1 ls ds c.requires)
+    ∙ sym (ap length (c.in_ok-step_links.ensures.drafts
+    ∙ drafts_are (sent_at c.args.moment S) ls ds)
+    ∙ length-drafts c.args.moment S 1 ls ds c.requires)
 
 pub returns-clause-ok : goal.returns-clause-ok
 returns-clause-ok c =
@@ -30,9 +32,13 @@ returns-clause-ok c =
     let drafts = c.in_ok-step_links.ensures.drafts ∙ drafts_are (sent_at moment S) ls ds in
     on_ok c.mark_all.result
     (λ is. is
-    ∙ ap (λ (a : Area). record a { database = mark_each moment a.database (keys_behind c.deref.result.now c.step_links.new.drafts) }) c.in_ok-step_links.ensures.ok
+    ∙ ap (λ (a : Area). record a {
+      database = mark_each moment a.database
+          (keys_behind c.deref.result.now c.step_links.new.drafts);
+    }) c.in_ok-step_links.ensures.ok
     ∙ areas (links_are F 1 ls)
-    ((λ j. mark_each moment db (keys_behind (counts j) (drafts j))) ∙ marks_are moment S 1 ls ds db c.requires ∙ ap (marks moment db) (sends_are F 1 ls)))
+    ((λ j. mark_each moment db (keys_behind (counts j) (drafts j)))
+    ∙ marks_are moment S 1 ls ds db c.requires ∙ ap (marks moment db) (sends_are F 1 ls)))
     c.mark_all.ensures.ok
 
 pub returns-clause-drafts : goal.returns-clause-drafts
@@ -40,4 +46,5 @@ returns-clause-drafts c =
     let ls = c.args.area.now.present.links in
     let db = c.args.area.now.present.database in
     let F = λ (l : Link). send_again c.args.moment l.interface.retransmit_interval db in
-    on_ok c.mark_all.result (λ is. c.in_ok-step_links.ensures.drafts ∙ ap (λ ss. drafts_with ss ls c.args.drafts.now) (sends_are F 1 ls)) c.mark_all.ensures.ok
+    on_ok c.mark_all.result (λ is. c.in_ok-step_links.ensures.drafts
+    ∙ ap (λ ss. drafts_with ss ls c.args.drafts.now) (sends_are F 1 ls)) c.mark_all.ensures.ok

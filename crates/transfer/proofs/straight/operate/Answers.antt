@@ -7,10 +7,16 @@ use Rattle.transfer.proofs.straight.operate.Goals as goal
 
 pub returns-in_default-clause-plain : goal.returns-in_default-clause-plain
 returns-in_default-clause-plain g c = λ reads.
-    let both : AllByRecursion (IsFilled c.args.state) (c.args.target ∷ source_registers c.args.source) = rw (reads_both c.args.operation c.args.target c.args.source c.in_default.not-Move) at reads in
+    let both : AllByRecursion (IsFilled c.args.state)
+    (c.args.target ∷ source_registers c.args.source) =
+    rw (reads_both c.args.operation c.args.target c.args.source c.in_default.not-Move) at
+    reads in
     c.combine.ensures.plain both.0 both.1
 
 pub returns-in_default-clause-keeps : goal.returns-in_default-clause-keeps
 returns-in_default-clause-keeps g c = λ reads.
-    let both : AllByRecursion (IsFilled c.args.state) (c.args.target ∷ source_registers c.args.source) = rw (reads_both c.args.operation c.args.target c.args.source c.in_default.not-Move) at reads in
+    let both : AllByRecursion (IsFilled c.args.state)
+    (c.args.target ∷ source_registers c.args.source) =
+    rw (reads_both c.args.operation c.args.target c.args.source c.in_default.not-Move) at
+    reads in
     c.combine.ensures.keeps both.0

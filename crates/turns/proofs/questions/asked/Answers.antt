@@ -2,12 +2,16 @@ use Rattle.hooks.specs.Known.{known_to}
 use Rattle.turns.proofs.Counted.{counts}
 use Rattle.turns.proofs.questions.asked.Goals as goal
 
-pub returns-in_err-copied-in-Datagram-clause-counted : goal.returns-in_err-copied-in-Datagram-clause-counted
+pub returns-in_err-copied-in-Datagram-clause-counted :
+    goal.returns-in_err-copied-in-Datagram-clause-counted
 returns-in_err-copied-in-Datagram-clause-counted g c =
-    counts (λ a. a.word) g.B.Taker.refuses _ _ _ _ c.in-Datagram.number c.args.moment _ c.count-passed.result _ _ c.as_slice.ensures c.in-Datagram.is
+    counts (λ a. a.word) g.B.Taker.refuses _ _ _ _ c.in-Datagram.number c.args.moment _
+    c.count-passed.result _ _ c.as_slice.ensures c.in-Datagram.is
     c.count-passed.ensures.unread c.count-passed.ensures.lacking c.count-passed.ensures.answered
 
-pub returns-in_ok-copied-in-Datagram-clause-counted : goal.returns-in_ok-copied-in-Datagram-clause-counted
+pub returns-in_ok-copied-in-Datagram-clause-counted :
+    goal.returns-in_ok-copied-in-Datagram-clause-counted
 returns-in_ok-copied-in-Datagram-clause-counted g c =
-    counts (λ a. a.word) g.B.Taker.refuses _ _ _ _ c.in-Datagram.number c.args.moment _ c.count-passed.result _ _ c.as_slice.ensures c.in-Datagram.is
+    counts (λ a. a.word) g.B.Taker.refuses _ _ _ _ c.in-Datagram.number c.args.moment _
+    c.count-passed.result _ _ c.as_slice.ensures c.in-Datagram.is
     c.count-passed.ensures.unread c.count-passed.ensures.lacking c.count-passed.ensures.answered

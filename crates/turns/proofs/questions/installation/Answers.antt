@@ -20,13 +20,24 @@ returns-in-Some-clause-event g c =
     let rows = c.in_ok-candidates.ensures.offered.0 in
     let answers = c.in-Some.answers.items in
     let vetoes =
-    all_let_in known now c.args.seat.now c.args.moment rows asked routes answers c.as_slice-routes.ensures.value
-    (subst (λ o. IfSome o (λ answers. answers.items ≡ map (let_in c.args.moment) asked)) c.in-Some.is c.in_ok-all.ensures.all)
-    (subst (λ o. IfSome o (λ answers. (route : Route) (rows : List TableRow) → IsAnsweredByNone known now (veto_input route c.args.moment rows) 0)) c.in-Some.is c.in_ok-all.ensures.answered) in
-    (routes, rows, answers, c.in_ok-candidates.ensures.offered.1, vetoes, ap (λ (l : List RouteAnswer). event.Install l) c.from_vec.ensures)
+    all_let_in known now c.args.seat.now c.args.moment rows asked routes answers
+    c.as_slice-routes.ensures.value
+    (subst (λ o. IfSome o (λ answers. answers.items ≡ map (let_in c.args.moment) asked))
+    c.in-Some.is c.in_ok-all.ensures.all)
+    (subst (λ o. IfSome o (λ answers. (route : Route) (rows : List TableRow)
+    → IsAnsweredByNone known now (veto_input route c.args.moment rows) 0)) c.in-Some.is
+    c.in_ok-all.ensures.answered) in (
+      routes,
+      rows,
+      answers,
+      c.in_ok-candidates.ensures.offered.1,
+      vetoes,
+      ap (λ (l : List RouteAnswer). event.Install l) c.from_vec.ensures,
+    )
 
 pub returns-clause-event : goal.returns-clause-event
 returns-clause-event g c =
     IfOk-weaker c.vetoed.result _ _
-    (λ e. install_longer (known_to c.args.asker.now) _ c.in_ok-all.ensures.known g.B.Taker.offers c.args.moment e)
+    (λ e. install_longer (known_to c.args.asker.now) _ c.in_ok-all.ensures.known g.B.Taker.offers
+    c.args.moment e)
     c.vetoed.ensures.event

@@ -6,10 +6,13 @@ use Rattle.turns.proofs.questions.redistribution.Goals as goal
 
 pub returns-in-Some-clause-event : goal.returns-in-Some-clause-event
 returns-in-Some-clause-event g c =
-    configured g.B.Taker.offers (known_to c.args.asker.now) _ c.args.seat.now c.args.external.now c.args.moment _ _
+    configured g.B.Taker.offers (known_to c.args.asker.now) _ c.args.seat.now c.args.external.now
+    c.args.moment _ _
     c.in-Some.ensures.tag c.in-Some.ensures.price c.in-Some.ensures.tagged c.in-Some.ensures.priced
 
 pub returns-in-None-clause-event : goal.returns-in-None-clause-event
 returns-in-None-clause-event g c =
-    IfOk-weaker c.beside_table.result _ _ (λ e. redistribute_longer (known_to c.args.asker.now) _ c.configured.ensures.known g.B.Taker.offers c.args.external.now c.args.moment e)
+    IfOk-weaker c.beside_table.result _ _
+    (λ e. redistribute_longer (known_to c.args.asker.now) _ c.configured.ensures.known
+    g.B.Taker.offers c.args.external.now c.args.moment e)
     c.beside_table.ensures.event

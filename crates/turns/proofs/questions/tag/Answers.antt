@@ -2,4 +2,5 @@ use Rattle.turns.proofs.Away.{of_tag}
 use Rattle.turns.proofs.questions.tag.Goals as goal
 
 pub returns-in-None-clause-err : goal.returns-in-None-clause-err
-returns-in-None-clause-err g c = of_tag g.B.Taker.refuses c.args.external.now c.args.moment c.args.rows.now c.in-None.ensures.lacking
+returns-in-None-clause-err g c = of_tag g.B.Taker.refuses c.args.external.now c.args.moment
+    c.args.rows.now c.in-None.ensures.lacking

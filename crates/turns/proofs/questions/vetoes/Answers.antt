@@ -11,16 +11,21 @@ loop-route-preserved g c =
     let began = known_to c.args.asker.now in
     let answer = c.in_ok-answer.answer in
     let one = c.in_ok-answer.ensures.answer in
-    let grown : c.push_reserved.new.self.items ≡ c.loop-route.answers.items ++ answer ∷ [] = c.push_reserved.ensures.items in
-    let there : c.loop-route.route-index < length c.deref-route-items.result.now = omega arith in record {
+    let grown : c.push_reserved.new.self.items ≡ c.loop-route.answers.items ++ answer ∷ [] =
+    c.push_reserved.ensures.items in
+    let there : c.loop-route.route-index < length c.deref-route-items.result.now = omega arith in
+    record {
       seat = c.veto.ensures.seat;
       history = c.veto.ensures.history ∙ before.history;
       known = prefix_trans _ _ _ before.known c.veto.ensures.known;
       room = search rules;
       many = search rules;
       answers =
-          one_more _ c.args.moment c.args.offered.now.rows.items c.as_slice-rows.result.now c.args.offered.now.candidates.items c.deref-route-items.result.now
-          c.loop-route.route-index c.loop-route.answers.items c.push_reserved.new.self.items c.route-item.result answer
-          c.as_slice-rows.ensures.value c.deref-route-items.ensures.value before.answers there c.route-item.is grown
+          one_more _ c.args.moment c.args.offered.now.rows.items c.as_slice-rows.result.now
+          c.args.offered.now.candidates.items c.deref-route-items.result.now
+          c.loop-route.route-index c.loop-route.answers.items c.push_reserved.new.self.items
+          c.route-item.result answer
+          c.as_slice-rows.ensures.value c.deref-route-items.ensures.value before.answers there
+          c.route-item.is grown
           (one.0, veto_longer _ _ before.known _ _ _ one.1);
     }

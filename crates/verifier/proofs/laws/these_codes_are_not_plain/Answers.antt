@@ -1,4 +1,5 @@
-use Rattle.verifier.proofs.Examples.{calls, reads_empty, writes_r10, is_open, is_long, jumps_unstated, is_unreached}
+use Rattle.verifier.proofs.Examples.{calls, reads_empty, writes_r10, is_open, is_long}
+use Rattle.verifier.proofs.Examples.{jumps_unstated, is_unreached}
 use Rattle.verifier.proofs.laws.these_codes_are_not_plain.Goals as goal
 
 pub returns-clause-call : goal.returns-clause-call

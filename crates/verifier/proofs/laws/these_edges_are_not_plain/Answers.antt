@@ -1,4 +1,5 @@
-use Rattle.verifier.proofs.Examples.{asks_unfilled, asks_at_entry, rises, rises_at_entry, stays_equal}
+use Rattle.verifier.proofs.Examples.{asks_unfilled, asks_at_entry, rises, rises_at_entry}
+use Rattle.verifier.proofs.Examples.{stays_equal}
 use Rattle.verifier.proofs.laws.these_edges_are_not_plain.Goals as goal
 
 pub returns-clause-unfilled : goal.returns-clause-unfilled

@@ -5,4 +5,5 @@ use Rattle.verifier.proofs.pass.pass.Goals as goal
 pub returns-clause-keeps : goal.returns-clause-keeps
 returns-clause-keeps g c = λ plain ten.
     let live : c.args.known.is_live ≡ true = search rules in
-    kept_live c.args.instruction c.args.known c.in_ok-after.after live (c.in_ok-after.ensures.keeps (plain live))
+    kept_live c.args.instruction c.args.known c.in_ok-after.after live
+    (c.in_ok-after.ensures.keeps (plain live))

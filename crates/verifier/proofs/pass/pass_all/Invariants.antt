@@ -14,15 +14,21 @@ use Rattle.verifier.proofs.pass.pass_all.Given as goal
 -- what is filled is known.
 abbrev pub invariant-loop-slot : goal.invariant-loop-slot
 invariant-loop-slot g l = record {
-  fine : (k : ℕ) → k < l.slot → Begins l.code k → IsFine g.D.Domain.contains l.code l.hook l.targets l.entry k;
-  kept : (k : ℕ) → k < l.slot → Begins l.code k → IsKept g.D.Domain.contains l.code l.hook l.targets l.entry l.regions.items k;
+  fine : (k : ℕ) → k < l.slot → Begins l.code k
+      → IsFine g.D.Domain.contains l.code l.hook l.targets l.entry k;
+  kept : (k : ℕ) → k < l.slot → Begins l.code k
+      → IsKept g.D.Domain.contains l.code l.hook l.targets l.entry l.regions.items k;
   long : length l.regions.items ≡ length l.code;
-  current : IsCurrentUnlessStated g.D.Domain.contains l.code l.hook l.targets l.entry l.slot (segment_of l.targets l.entry l.begun) l.known;
+  current : IsCurrentUnlessStated g.D.Domain.contains l.code l.hook l.targets l.entry l.slot
+      (segment_of l.targets l.entry l.begun) l.known;
   place : (l.slot ≡ length l.code) ⊎ Begins l.code l.slot;
   passed : IsPassedTo l.is_passed_to l.code l.slot;
-  plain : (statements : List StatementParts) (entry_rank : ℕ) → IsPlainProgram g.D.Domain.contains l.code entry_rank statements l.targets → HasRank l.entry entry_rank
-      → ComesPlainly l.code entry_rank statements l.slot (segment_of l.targets l.entry l.begun) l.known;
-  made : (statements : List StatementParts) → AreTargets g.D.Domain.contains statements l.targets → (k : ℕ) → k < l.slot → IsWellMade l.code statements k;
+  plain : (statements : List StatementParts) (entry_rank : ℕ)
+      → IsPlainProgram g.D.Domain.contains l.code entry_rank statements l.targets
+      → HasRank l.entry entry_rank → ComesPlainly l.code entry_rank statements l.slot
+      (segment_of l.targets l.entry l.begun) l.known;
+  made : (statements : List StatementParts) → AreTargets g.D.Domain.contains statements l.targets
+      → (k : ℕ) → k < l.slot → IsWellMade l.code statements k;
 }
 
 -- the slots that are left

@@ -7,30 +7,50 @@ use Rattle.worker.proofs.serving.run.Goals as goal
 
 pub loop-preserved : goal.loop-preserved
 loop-preserved g c =
-    let senses = senses_of g.K.Link.gives g.K.Link.hears g.S.Seconds.shows g.B.Taker.offers g.B.Taker.took g.B.Taker.refuses in
+    let senses = senses_of g.K.Link.gives g.K.Link.hears g.S.Seconds.shows g.B.Taker.offers
+    g.B.Taker.took g.B.Taker.refuses in
     let round =
     subst (λ n. Round (senses (known_to c.loop.port.asker) n) c.loop.ticked
     (record { link = c.loop.link; clock = c.loop.clock; events = c.loop.port.share.amount })
     c.round.new.ticked
-    (record { link = c.round.new.link; clock = c.round.new.clock; events = c.round.new.port.share.amount }))
+    (record {
+      link = c.round.new.link;
+      clock = c.round.new.clock;
+      events = c.round.new.port.share.amount;
+    }))
     c.loop.invariant.number c.in-Ok.ensures.round in
     let longer =
-    round_longer g.K.Link.gives g.K.Link.hears g.S.Seconds.shows g.B.Taker.offers g.B.Taker.took g.B.Taker.refuses
-    (known_to c.args.port.now.asker) (known_to c.loop.port.asker) c.loop.invariant.known c.args.port.now.number c.loop.ticked
+    round_longer g.K.Link.gives g.K.Link.hears g.S.Seconds.shows g.B.Taker.offers g.B.Taker.took
+    g.B.Taker.refuses
+    (known_to c.args.port.now.asker) (known_to c.loop.port.asker) c.loop.invariant.known
+    c.args.port.now.number c.loop.ticked
     (record { link = c.loop.link; clock = c.loop.clock; events = c.loop.port.share.amount })
     c.round.new.ticked
-    (record { link = c.round.new.link; clock = c.round.new.clock; events = c.round.new.port.share.amount })
+    (record {
+      link = c.round.new.link;
+      clock = c.round.new.clock;
+      events = c.round.new.port.share.amount;
+    })
     round in
     record {
       fine = search rules;
       number = search rules;
-      known = prefix_trans (known_to c.args.port.now.asker) (known_to c.loop.port.asker) (known_to c.round.new.port.asker)
+      known = prefix_trans (known_to c.args.port.now.asker) (known_to c.loop.port.asker)
+          (known_to c.round.new.port.asker)
           c.loop.invariant.known c.round.ensures.known;
       lived = lives_on (senses (known_to c.args.port.now.asker) c.args.port.now.number)
-          (record { link = c.args.link.now; clock = c.args.clock.now; events = c.args.port.now.share.amount })
+          (record {
+            link = c.args.link.now;
+            clock = c.args.clock.now;
+            events = c.args.port.now.share.amount;
+          })
           c.loop.ticked
           (record { link = c.loop.link; clock = c.loop.clock; events = c.loop.port.share.amount })
           c.round.new.ticked
-          (record { link = c.round.new.link; clock = c.round.new.clock; events = c.round.new.port.share.amount })
+          (record {
+            link = c.round.new.link;
+            clock = c.round.new.clock;
+            events = c.round.new.port.share.amount;
+          })
           c.loop.invariant.lived longer;
     }

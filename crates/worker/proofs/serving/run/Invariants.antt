@@ -9,10 +9,14 @@ invariant-loop g l = record {
   fine : ◌≡◌ {A = ℕ} (g.K.Link.faults l.link) (g.K.Link.faults l.initial.link);
   number : l.port.number ≡ l.initial.port.number;
   known : IsPrefix (known_to l.initial.port.asker) (known_to l.port.asker);
-  lived : (rounds : ℕ) × Lives
-      (senses_of g.K.Link.gives g.K.Link.hears g.S.Seconds.shows g.B.Taker.offers g.B.Taker.took g.B.Taker.refuses
-      (known_to l.initial.port.asker) l.initial.port.number)
-      (record { link = l.initial.link; clock = l.initial.clock; events = l.initial.port.share.amount })
+  lived : (rounds : ℕ) × Lives (senses_of g.K.Link.gives g.K.Link.hears g.S.Seconds.shows
+      g.B.Taker.offers g.B.Taker.took g.B.Taker.refuses (known_to l.initial.port.asker)
+      l.initial.port.number)
+      (record {
+        link = l.initial.link;
+        clock = l.initial.clock;
+        events = l.initial.port.share.amount;
+      })
       rounds l.ticked
       (record { link = l.link; clock = l.clock; events = l.port.share.amount });
 }

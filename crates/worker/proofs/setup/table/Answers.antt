@@ -8,4 +8,5 @@ returns-in-Ok-clause-count c =
     let length_is = c.in-Ok.made.1.ok.0 in omega arith
 
 pub returns-in-Ok-clause-seated : goal.returns-in-Ok-clause-seated
-returns-in-Ok-clause-seated c = are_seated c.in-Ok.made.0 c.args.count c.in-Ok.made.1.items c.in-Ok.ensures.fresh
+returns-in-Ok-clause-seated c = are_seated c.in-Ok.made.0 c.args.count c.in-Ok.made.1.items
+    c.in-Ok.ensures.fresh

@@ -6,6 +6,19 @@ use Rattle.adjacency.proofs.draft.Draft.greet.Goals as goal
 
 pub returns : goal.returns
 returns c delay =
-    let added : ◌≡◌ {A = Drafted} (record { hellos = c.push.new.self.items; descriptions = c.self.inside.descriptions.items; requests = c.self.inside.requests.items; updates = c.self.inside.updates.items; acknowledgments = c.self.inside.acknowledgments.items }) (adds delay c.args.self.now (SendsHello c.args.hello)) =
-    λ i. record { hellos = (c.in_ok-push.ensures.items ∙ ap (λ d. d.hellos ++ c.args.hello ∷ []) c.self.view_is) i; descriptions = (c.self.view_is i).descriptions; requests = (c.self.view_is i).requests; updates = (c.self.view_is i).updates; acknowledgments = (c.self.view_is i).acknowledgments } in
+    let added : ◌≡◌ {A = Drafted} (record {
+      hellos = c.push.new.self.items;
+      descriptions = c.self.inside.descriptions.items;
+      requests = c.self.inside.requests.items;
+      updates = c.self.inside.updates.items;
+      acknowledgments = c.self.inside.acknowledgments.items;
+    }) (adds delay c.args.self.now (SendsHello c.args.hello)) =
+    λ i. record {
+      hellos = (c.in_ok-push.ensures.items ∙ ap (λ d. d.hellos ++ c.args.hello ∷ []) c.self.view_is)
+          i;
+      descriptions = (c.self.view_is i).descriptions;
+      requests = (c.self.view_is i).requests;
+      updates = (c.self.view_is i).updates;
+      acknowledgments = (c.self.view_is i).acknowledgments;
+    } in
     added ∙ drafting-one delay (SendsHello c.args.hello) c.args.self.now

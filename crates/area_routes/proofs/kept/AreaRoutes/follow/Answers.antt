@@ -25,16 +25,22 @@ returns-clause-routes c =
     let next = c.follow_routes.new.self in
     let middle = c.keep_externals.new.self in
     let last = c.follow_graph.new.self in
-    let same = both_else next middle last c.keep_externals.ensures.others c.follow_graph.ensures.others in
+    let same = both_else next middle last c.keep_externals.ensures.others
+    c.follow_graph.ensures.others in
     let offers : AreOffersOf router area c.args.moment last =
     subst (λ (k : KeptRoutes). AreOffersOf router area c.args.moment k) (sym same)
-    (same_but router area c.args.moment next last.externals last.graph c.in_ok-follow_routes.ensures.routes) in
-    let told = externals_after old new c.externals_stay-stay.result c.args.self.now next middle c.externals_stay-stay.ensures c.follow_routes.ensures.externals c.keep_externals.ensures.kept c.keep_externals.ensures.forgotten c.requires.routes.externals in
+    (same_but router area c.args.moment next last.externals last.graph
+    c.in_ok-follow_routes.ensures.routes) in
+    let told = externals_after old new c.externals_stay-stay.result c.args.self.now next middle
+    c.externals_stay-stay.ensures c.follow_routes.ensures.externals
+    c.keep_externals.ensures.kept c.keep_externals.ensures.forgotten
+    c.requires.routes.externals in
     record {
       walk = offers.walk;
       candidates = offers.candidates;
       inner = offers.inner;
-      externals = subst (λ (o : Option (Vec External)). IfSome o (λ e. AreExternals new e.items)) (sym (ap (λ (k : KeptRoutes). k.externals) c.follow_graph.ensures.others)) told;
+      externals = subst (λ (o : Option (Vec External)). IfSome o (λ e. AreExternals new e.items))
+          (sym (ap (λ (k : KeptRoutes). k.externals) c.follow_graph.ensures.others)) told;
       graph = c.follow_graph.ensures.graph;
     }
 
@@ -42,28 +48,42 @@ pub returns-clause-answered : goal.returns-clause-answered
 returns-clause-answered c answers knows =
     let new = said_at c.args.moment c.args.area.now.present.database in
     let root = root_by c.args.router c.args.area.now.present.links in
-    let same = both_else c.follow_routes.new.self c.keep_externals.new.self c.follow_graph.new.self c.keep_externals.ensures.others c.follow_graph.ensures.others in
+    let same = both_else c.follow_routes.new.self c.keep_externals.new.self c.follow_graph.new.self
+    c.keep_externals.ensures.others c.follow_graph.ensures.others in
     record {
       routes = returns-clause-routes c;
-      answered = subst (λ (k : KeptRoutes). KnowsAnswered new root answers k) (sym same) (c.in_ok-follow_routes.ensures.answered answers knows.answered);
+      answered = subst (λ (k : KeptRoutes). KnowsAnswered new root answers k) (sym same)
+          (c.in_ok-follow_routes.ensures.answered answers knows.answered);
     }
 
 pub returns-clause-walks : goal.returns-clause-walks
 returns-clause-walks c =
     let served = c.in_ok-follow_routes.ensures.walks in
-    let same = both_else c.follow_routes.new.self c.keep_externals.new.self c.follow_graph.new.self c.keep_externals.ensures.others c.follow_graph.ensures.others in
-    subst (λ (k : KeptRoutes). ServesOnlyThen c.args.before c.args.moment c.args.router c.args.area.now.settled c.args.area.now.present c.args.self.now k) (sym same)
-    (record { walk = served.walk; serves = served.serves; falls = served.falls; lags = served.lags })
+    let same = both_else c.follow_routes.new.self c.keep_externals.new.self c.follow_graph.new.self
+    c.keep_externals.ensures.others c.follow_graph.ensures.others in
+    subst (λ (k : KeptRoutes). ServesOnlyThen c.args.before c.args.moment c.args.router
+    c.args.area.now.settled c.args.area.now.present c.args.self.now k) (sym same)
+    (record {
+      walk = served.walk;
+      serves = served.serves;
+      falls = served.falls;
+      lags = served.lags;
+    })
 
 pub returns-clause-candidates : goal.returns-clause-candidates
 returns-clause-candidates c on stayed =
     let last = c.follow_graph.new.self in
-    let same = both_else c.follow_routes.new.self c.keep_externals.new.self last c.keep_externals.ensures.others c.follow_graph.ensures.others in
-    same ∙ ap (λ (k : KeptRoutes). record k { externals = last.externals; graph = last.graph }) (c.in_ok-follow_routes.ensures.candidates on stayed)
+    let same = both_else c.follow_routes.new.self c.keep_externals.new.self last
+    c.keep_externals.ensures.others c.follow_graph.ensures.others in
+    same ∙ ap (λ (k : KeptRoutes). record k {
+      externals = last.externals;
+      graph = last.graph;
+    }) (c.in_ok-follow_routes.ensures.candidates on stayed)
 
 pub returns-clause-none_new : goal.returns-clause-none_new
 returns-clause-none_new c brings =
-    let same = both_else c.follow_routes.new.self c.keep_externals.new.self c.follow_graph.new.self c.keep_externals.ensures.others c.follow_graph.ensures.others in
+    let same = both_else c.follow_routes.new.self c.keep_externals.new.self c.follow_graph.new.self
+    c.keep_externals.ensures.others c.follow_graph.ensures.others in
     ap (λ (k : KeptRoutes). k.answered) same
     ∙ c.in_ok-follow_routes.ensures.none_new (record {
       before = brings.before;

@@ -4,7 +4,8 @@ use Rattle.std.specs.Prelude.{IfSome}
 use Rattle.std.proofs.lemmas.Bool.{and_parts}
 use Rattle.std.proofs.lemmas.Option.{same_Some}
 use Rattle.words.specs.declared.route.Route.{Route}
-use Rattle.area_routes.specs.Kept.{AreInnerBy, HaveAnother, KeptRoutes, KnowsCandidates, KnowsInner, StayAnswered}
+use Rattle.area_routes.specs.Kept.{AreInnerBy, HaveAnother, KeptRoutes, KnowsCandidates, KnowsInner}
+use Rattle.area_routes.specs.Kept.{StayAnswered}
 use Rattle.area_routes.specs.declared.following.Next.{Next}
 use Rattle.area_routes.proofs.Candidates.{and_true, none_another}
 use Rattle.external_updates.specs.Placing.{HasAnother}
@@ -16,29 +17,38 @@ use Rattle.area_routes.proofs.kept.AreaRoutes.follow_externals.Goals as goal
 
 pub followed-next-requires-clause-walk : goal.followed-next-requires-clause-walk
 followed-next-requires-clause-walk c =
-    subst (λ (k : KeptRoutes). IsWalkOf (said_at c.args.moment c.args.area.now.present.database) k.walk) (sym c.self.view_is) c.requires.walk
+    subst (λ (k : KeptRoutes). IsWalkOf (said_at c.args.moment c.args.area.now.present.database)
+    k.walk) (sym c.self.view_is) c.requires.walk
 
 pub followed-next-requires-clause-inner : goal.followed-next-requires-clause-inner
 followed-next-requires-clause-inner c =
-    subst (λ (k : KeptRoutes). KnowsInner (said_at c.args.moment c.args.area.now.present.database) k.walk.root k) (sym c.self.view_is) c.requires.inner
+    subst (λ (k : KeptRoutes). KnowsInner (said_at c.args.moment c.args.area.now.present.database)
+    k.walk.root k) (sym c.self.view_is) c.requires.inner
 
 pub followed-next-requires-clause-routes : goal.followed-next-requires-clause-routes
 followed-next-requires-clause-routes c =
     let old = said_at c.args.before c.args.area.now.settled.database in
-    let knew = subst (λ (k : KeptRoutes). KnowsCandidates old k.walk.root k) (sym c.self.view_is) c.requires.candidates in
-    subst (λ (o : Option (Vec Route Global)). IfSome o (λ routes. AreCandidates old c.self.inside.walk.root routes.items)) (sym c.take-kept.ensures.value) knew
+    let knew = subst (λ (k : KeptRoutes). KnowsCandidates old k.walk.root k) (sym c.self.view_is)
+    c.requires.candidates in
+    subst (λ (o : Option (Vec Route Global)). IfSome o
+    (λ routes. AreCandidates old c.self.inside.walk.root routes.items))
+    (sym c.take-kept.ensures.value) knew
 
 pub returns-clause-candidates : goal.returns-clause-candidates
 returns-clause-candidates c =
     let new = said_at c.args.moment c.args.area.now.present.database in
     let items = c.in-Some.next.candidates.items in
-    let all = subst (λ (o : Option Next). IfSome o (λ next. AreCandidates new c.self.inside.walk.root next.candidates.items)) c.in-Some.is c.followed-next.ensures.candidates in
-    subst (λ (r : Root). AreCandidates new r items) (ap (λ (k : KeptRoutes). k.walk.root) c.self.view_is) all
+    let all = subst (λ (o : Option Next). IfSome o
+    (λ next. AreCandidates new c.self.inside.walk.root next.candidates.items)) c.in-Some.is
+    c.followed-next.ensures.candidates in
+    subst (λ (r : Root). AreCandidates new r items)
+    (ap (λ (k : KeptRoutes). k.walk.root) c.self.view_is) all
 
 pub returns-clause-inner : goal.returns-clause-inner
 returns-clause-inner c =
     let new = said_at c.args.moment c.args.area.now.present.database in
-    subst (λ (k : KeptRoutes). IfSome k.inner (AreInnerBy new c.args.self.now.walk.root k.walk)) (sym c.self.view_is) c.requires.inner
+    subst (λ (k : KeptRoutes). IfSome k.inner (AreInnerBy new c.args.self.now.walk.root k.walk))
+    (sym c.self.view_is) c.requires.inner
 
 pub returns-clause-answered : goal.returns-clause-answered
 returns-clause-answered c answers knew on stale =
@@ -47,7 +57,9 @@ returns-clause-answered c answers knew on stale =
     let root = c.self.inside.walk.root in
     let same = ap (λ (k : KeptRoutes). k.walk.root) c.self.view_is in
     let were = and_parts _ _ (on) in
-    let none = subst (λ (o : Option Next). IfSome o (λ next. next.none_new ≡ true → StayAnswered old new root)) c.in-Some.is c.followed-next.ensures.none_new in
+    let none = subst (λ (o : Option Next). IfSome o
+    (λ next. next.none_new ≡ true → StayAnswered old new root)) c.in-Some.is
+    c.followed-next.ensures.none_new in
     let stays = subst (StayAnswered old new) same (none were.1) in
     knew (sym (ap (λ (k : KeptRoutes). k.answered) c.self.view_is) ∙ were.0) (stays answers stale)
 
@@ -55,19 +67,26 @@ pub returns-clause-none_new : goal.returns-clause-none_new
 returns-clause-none_new c brings =
     let next = c.in-Some.next in
     let kept : Option (Vec Route Global) = c.take-kept.result in
-    let were : kept ≡ Some brings.before = c.take-kept.ensures.value ∙ ap (λ (k : KeptRoutes). k.candidates) c.self.view_is ∙ brings.were in
+    let were : kept ≡ Some brings.before =
+    c.take-kept.ensures.value ∙ ap (λ (k : KeptRoutes). k.candidates) c.self.view_is
+    ∙ brings.were in
     let are : next.candidates ≡ brings.now = same_Some _ _ brings.are in
-    let told = subst (λ (o : Option Next). IfSome o (λ n. n.none_new ≡ false → HaveAnother kept n.candidates.items)) c.in-Some.is c.followed-next.ensures.another in
+    let told = subst (λ (o : Option Next). IfSome o
+    (λ n. n.none_new ≡ false → HaveAnother kept n.candidates.items)) c.in-Some.is
+    c.followed-next.ensures.another in
     let another : next.none_new ≡ false → HasAnother brings.before.items brings.now.items = λ off.
     subst (λ (v : Vec Route Global). HasAnother brings.before.items v.items) are
-    (subst (λ (o : Option (Vec Route Global)). HaveAnother o next.candidates.items) were (told off)) in
-    and_true c.self.inside.answered next.none_new (none_another next.none_new brings.before.items brings.now.items another brings.among)
+    (subst (λ (o : Option (Vec Route Global)). HaveAnother o next.candidates.items) were (told off))
+    in
+    and_true c.self.inside.answered next.none_new
+    (none_another next.none_new brings.before.items brings.now.items another brings.among)
     ∙ ap (λ (k : KeptRoutes). k.answered) c.self.view_is
 
 pub returns-in_default-clause-inner : goal.returns-in_default-clause-inner
 returns-in_default-clause-inner c =
     let new = said_at c.args.moment c.args.area.now.present.database in
-    subst (λ (k : KeptRoutes). IfSome k.inner (AreInnerBy new c.args.self.now.walk.root k.walk)) (sym c.self.view_is) c.requires.inner
+    subst (λ (k : KeptRoutes). IfSome k.inner (AreInnerBy new c.args.self.now.walk.root k.walk))
+    (sym c.self.view_is) c.requires.inner
 
 pub returns-in_default-clause-answered : goal.returns-in_default-clause-answered
 returns-in_default-clause-answered c answers knew on stale = absurd (false≢true on)

@@ -11,7 +11,8 @@ follow_externals-requires-clause-inner c =
     let old = said_at c.args.before c.args.area.now.settled.database in
     let new = said_at c.args.moment c.args.area.now.present.database in
     let kept = c.args.self.now in
-    inner_carried c.inner_routes_are_kept.ensures old new kept.walk.root kept.walk (c.in-Ok.ensures.same c.if-same.true) kept.inner c.requires.inner
+    inner_carried c.inner_routes_are_kept.ensures old new kept.walk.root kept.walk
+    (c.in-Ok.ensures.same c.if-same.true) kept.inner c.requires.inner
 
 pub returns-clause-answered : goal.returns-clause-answered
 returns-clause-answered c answers knew on stale = absurd (false≢true on)

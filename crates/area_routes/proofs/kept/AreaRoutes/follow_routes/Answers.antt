@@ -2,7 +2,8 @@ use Rattle.std.proofs.Common.{◌≡◌, false, refl, ap, subst, sym, ◌∙◌}
 use mathlib.Core.Bool.{false≢true}
 use Rattle.area_routes.specs.Kept.{KeptRoutes, KnowsAnswered, KnowsCandidates, KnowsInner}
 use Rattle.area_routes.specs.Offers.{root_by}
-use Rattle.area_routes.proofs.AfterExternals.{still_answered, still_inner, still_offers, still_walks}
+use Rattle.area_routes.proofs.AfterExternals.{still_answered, still_inner, still_offers}
+use Rattle.area_routes.proofs.AfterExternals.{still_walks}
 use Rattle.kept_routes.specs.Externals.{LeaveCandidates, OfferTheSame}
 use Rattle.kept_routes.specs.Kept.{IsWalkOf, KeptWalk}
 use Rattle.routes.specs.Said.{said_at}
@@ -13,7 +14,8 @@ pub leaves_candidates-requires-clause-walk : goal.leaves_candidates-requires-cla
 leaves_candidates-requires-clause-walk c =
     let old = said_at c.args.before c.args.area.now.settled.database in
     let on = ap (λ (k : KeptRoutes). k.behind) (sym c.self.view_is) ∙ c.if-self.false in
-    subst (λ (k : KeptRoutes). IsWalkOf old k.walk) (sym c.self.view_is) (c.requires.routes.walk.walk on)
+    subst (λ (k : KeptRoutes). IsWalkOf old k.walk) (sym c.self.view_is)
+    (c.requires.routes.walk.walk on)
 
 pub returns-then-branch-2-clause-routes : goal.returns-then-branch-2-clause-routes
 returns-then-branch-2-clause-routes c =
@@ -22,15 +24,25 @@ returns-then-branch-2-clause-routes c =
     let was = root_by c.args.router c.args.area.now.settled.links in
     let is = root_by c.args.router c.args.area.now.present.links in
     let kept = c.args.self.now in
-    let serves : kept.behind ≡ false = ap (λ (k : KeptRoutes). k.behind) (sym c.self.view_is) ∙ c.if-self.false in
-    let begins : kept.walk.root ≡ is = ap (λ (k : KeptRoutes). k.walk.root) (sym c.self.view_is) ∙ sym c.root.ensures ∙ c.is_root_of.ensures.0 c.if-is_root_of.true in
-    let began = ap (λ (k : KeptRoutes). k.walk.root) c.self.view_is ∙ c.requires.routes.walk.root serves in
-    let same : OfferTheSame old new was = subst (OfferTheSame old new) began (c.in_ok-leaves_candidates.ensures.same c.if-branch-2.true) in
+    let serves : kept.behind ≡ false =
+    ap (λ (k : KeptRoutes). k.behind) (sym c.self.view_is) ∙ c.if-self.false in
+    let begins : kept.walk.root ≡ is =
+    ap (λ (k : KeptRoutes). k.walk.root) (sym c.self.view_is) ∙ sym c.root.ensures
+    ∙ c.is_root_of.ensures.0 c.if-is_root_of.true in
+    let began = ap (λ (k : KeptRoutes). k.walk.root) c.self.view_is
+    ∙ c.requires.routes.walk.root serves in
+    let same : OfferTheSame old new was =
+    subst (OfferTheSame old new) began
+    (c.in_ok-leaves_candidates.ensures.same c.if-branch-2.true) in
     record {
-      walk = still_walks old new was is kept serves begins c.requires.routes.walk (c.walks_are_kept.ensures old new kept.walk (c.in_ok-says_the_same.ensures.same c.if-branch.true));
+      walk = still_walks old new was is kept serves begins c.requires.routes.walk
+          (c.walks_are_kept.ensures old new kept.walk
+          (c.in_ok-says_the_same.ensures.same c.if-branch.true));
       candidates = still_offers old new was is kept serves begins c.requires.routes.walk
-          (λ routes. c.candidates_are_kept.ensures.candidates old new was routes same) c.requires.routes.candidates;
-      inner = still_inner old new was is kept serves begins c.requires.routes.walk c.inner_routes_are_kept.ensures same.inner c.requires.routes.inner;
+          (λ routes. c.candidates_are_kept.ensures.candidates old new was routes same)
+          c.requires.routes.candidates;
+      inner = still_inner old new was is kept serves begins c.requires.routes.walk
+          c.inner_routes_are_kept.ensures same.inner c.requires.routes.inner;
     }
 
 pub returns-then-branch-2-clause-answered : goal.returns-then-branch-2-clause-answered
@@ -40,10 +52,16 @@ returns-then-branch-2-clause-answered c answers knows =
     let was = root_by c.args.router c.args.area.now.settled.links in
     let is = root_by c.args.router c.args.area.now.present.links in
     let kept = c.args.self.now in
-    let serves : kept.behind ≡ false = ap (λ (k : KeptRoutes). k.behind) (sym c.self.view_is) ∙ c.if-self.false in
-    let begins : kept.walk.root ≡ is = ap (λ (k : KeptRoutes). k.walk.root) (sym c.self.view_is) ∙ sym c.root.ensures ∙ c.is_root_of.ensures.0 c.if-is_root_of.true in
-    let began = ap (λ (k : KeptRoutes). k.walk.root) c.self.view_is ∙ c.requires.routes.walk.root serves in
-    let same : OfferTheSame old new was = subst (OfferTheSame old new) began (c.in_ok-leaves_candidates.ensures.same c.if-branch-2.true) in
+    let serves : kept.behind ≡ false =
+    ap (λ (k : KeptRoutes). k.behind) (sym c.self.view_is) ∙ c.if-self.false in
+    let begins : kept.walk.root ≡ is =
+    ap (λ (k : KeptRoutes). k.walk.root) (sym c.self.view_is) ∙ sym c.root.ensures
+    ∙ c.is_root_of.ensures.0 c.if-is_root_of.true in
+    let began = ap (λ (k : KeptRoutes). k.walk.root) c.self.view_is
+    ∙ c.requires.routes.walk.root serves in
+    let same : OfferTheSame old new was =
+    subst (OfferTheSame old new) began
+    (c.in_ok-leaves_candidates.ensures.same c.if-branch-2.true) in
     still_answered old new was is kept serves begins c.requires.routes.walk answers
     (λ stale. (c.candidates_are_kept.ensures.stale old new was answers same).1 stale) knows
 
@@ -52,7 +70,8 @@ returns-then-branch-2-clause-walks c = record {
   walk = refl;
   serves = λ on stayed. on;
   falls = λ not. absurd (not (record {
-    root = ap (λ (k : KeptRoutes). k.walk.root) (sym c.self.view_is) ∙ sym c.root.ensures ∙ c.is_root_of.ensures.0 c.if-is_root_of.true;
+    root = ap (λ (k : KeptRoutes). k.walk.root) (sym c.self.view_is) ∙ sym c.root.ensures
+        ∙ c.is_root_of.ensures.0 c.if-is_root_of.true;
     lsas = c.in_ok-says_the_same.ensures.left.0 c.if-branch.true;
   }));
   lags = λ on. on;
@@ -63,19 +82,22 @@ follow_offers-requires-clause-walk c =
     let old = said_at c.args.before c.args.area.now.settled.database in
     let new = said_at c.args.moment c.args.area.now.present.database in
     let on = ap (λ (k : KeptRoutes). k.behind) (sym c.self.view_is) ∙ c.if-self.false in
-    c.walks_are_kept.ensures old new c.args.self.now.walk (c.in_ok-says_the_same.ensures.same c.if-branch.true) (c.requires.routes.walk.walk on)
+    c.walks_are_kept.ensures old new c.args.self.now.walk
+    (c.in_ok-says_the_same.ensures.same c.if-branch.true) (c.requires.routes.walk.walk on)
 
 pub follow_offers-requires-clause-candidates : goal.follow_offers-requires-clause-candidates
 follow_offers-requires-clause-candidates c =
     let old = said_at c.args.before c.args.area.now.settled.database in
     let on = ap (λ (k : KeptRoutes). k.behind) (sym c.self.view_is) ∙ c.if-self.false in
-    subst (λ (r : Root). KnowsCandidates old r c.args.self.now) (sym (c.requires.routes.walk.root on)) c.requires.routes.candidates
+    subst (λ (r : Root). KnowsCandidates old r c.args.self.now)
+    (sym (c.requires.routes.walk.root on)) c.requires.routes.candidates
 
 pub follow_offers-requires-clause-inner : goal.follow_offers-requires-clause-inner
 follow_offers-requires-clause-inner c =
     let old = said_at c.args.before c.args.area.now.settled.database in
     let on = ap (λ (k : KeptRoutes). k.behind) (sym c.self.view_is) ∙ c.if-self.false in
-    subst (λ (r : Root). KnowsInner old r c.args.self.now) (sym (c.requires.routes.walk.root on)) c.requires.routes.inner
+    subst (λ (r : Root). KnowsInner old r c.args.self.now) (sym (c.requires.routes.walk.root on))
+    c.requires.routes.inner
 
 pub returns-then-branch-clause-routes : goal.returns-then-branch-clause-routes
 returns-then-branch-clause-routes c =
@@ -83,16 +105,20 @@ returns-then-branch-clause-routes c =
     let new = said_at c.args.moment c.args.area.now.present.database in
     let is = root_by c.args.router c.args.area.now.present.links in
     let on = ap (λ (k : KeptRoutes). k.behind) (sym c.self.view_is) ∙ c.if-self.false in
-    let walks = c.walks_are_kept.ensures old new c.args.self.now.walk (c.in_ok-says_the_same.ensures.same c.if-branch.true) (c.requires.routes.walk.walk on) in
+    let walks = c.walks_are_kept.ensures old new c.args.self.now.walk
+    (c.in_ok-says_the_same.ensures.same c.if-branch.true) (c.requires.routes.walk.walk on) in
     let next = c.follow_offers.new.self in
     let same : next.walk ≡ c.args.self.now.walk = c.follow_offers.ensures.walk in
-    let begins : c.args.self.now.walk.root ≡ is = ap (λ (k : KeptRoutes). k.walk.root) (sym c.self.view_is) ∙ sym c.root.ensures ∙ c.is_root_of.ensures.0 c.if-is_root_of.true in
+    let begins : c.args.self.now.walk.root ≡ is =
+    ap (λ (k : KeptRoutes). k.walk.root) (sym c.self.view_is) ∙ sym c.root.ensures
+    ∙ c.is_root_of.ensures.0 c.if-is_root_of.true in
     record {
       walk = record {
         walk = λ off. subst (IsWalkOf new) (sym same) walks;
         root = λ off. ap (λ (w : KeptWalk). w.root) same ∙ begins;
       };
-      candidates = subst (λ (r : Root). KnowsCandidates new r next) begins c.follow_offers.ensures.candidates;
+      candidates = subst (λ (r : Root). KnowsCandidates new r next) begins
+          c.follow_offers.ensures.candidates;
       inner = subst (λ (r : Root). KnowsInner new r next) begins c.follow_offers.ensures.inner;
     }
 
@@ -103,9 +129,13 @@ returns-then-branch-clause-answered c answers knows =
     let is = root_by c.args.router c.args.area.now.present.links in
     let kept = c.args.self.now in
     let on = ap (λ (k : KeptRoutes). k.behind) (sym c.self.view_is) ∙ c.if-self.false in
-    let begins : kept.walk.root ≡ is = ap (λ (k : KeptRoutes). k.walk.root) (sym c.self.view_is) ∙ sym c.root.ensures ∙ c.is_root_of.ensures.0 c.if-is_root_of.true in
-    let knew = subst (λ (r : Root). KnowsAnswered old r answers kept) (sym (c.requires.routes.walk.root on)) knows in
-    subst (λ (r : Root). KnowsAnswered new r answers c.follow_offers.new.self) begins (c.follow_offers.ensures.answered answers knew)
+    let begins : kept.walk.root ≡ is =
+    ap (λ (k : KeptRoutes). k.walk.root) (sym c.self.view_is) ∙ sym c.root.ensures
+    ∙ c.is_root_of.ensures.0 c.if-is_root_of.true in
+    let knew = subst (λ (r : Root). KnowsAnswered old r answers kept)
+    (sym (c.requires.routes.walk.root on)) knows in
+    subst (λ (r : Root). KnowsAnswered new r answers c.follow_offers.new.self) begins
+    (c.follow_offers.ensures.answered answers knew)
 
 pub returns-then-branch-clause-none_new : goal.returns-then-branch-clause-none_new
 returns-then-branch-clause-none_new c brings = c.follow_offers.ensures.none_new brings
@@ -124,7 +154,8 @@ returns-then-branch-clause-walks c = record {
   walk = c.follow_offers.ensures.walk;
   serves = λ on stayed. c.follow_offers.ensures.behind ∙ on;
   falls = λ not. absurd (not (record {
-    root = ap (λ (k : KeptRoutes). k.walk.root) (sym c.self.view_is) ∙ sym c.root.ensures ∙ c.is_root_of.ensures.0 c.if-is_root_of.true;
+    root = ap (λ (k : KeptRoutes). k.walk.root) (sym c.self.view_is) ∙ sym c.root.ensures
+        ∙ c.is_root_of.ensures.0 c.if-is_root_of.true;
     lsas = c.in_ok-says_the_same.ensures.left.0 c.if-branch.true;
   }));
   lags = λ on. c.follow_offers.ensures.behind ∙ on;
@@ -135,5 +166,6 @@ returns-then-branch-clause-candidates c on stayed =
     let before = c.args.before in
     let moment = c.args.moment in
     let area = c.args.area.now in
-    let left = subst (λ (k : KeptRoutes). LeaveCandidates before moment area.settled.database area.present.database k.walk) (sym c.self.view_is) stayed.lsas in
+    let left = subst (λ (k : KeptRoutes). LeaveCandidates before moment area.settled.database
+    area.present.database k.walk) (sym c.self.view_is) stayed.lsas in
     absurd (false≢true (sym c.if-branch-2.false ∙ c.in_ok-leaves_candidates.ensures.left left))

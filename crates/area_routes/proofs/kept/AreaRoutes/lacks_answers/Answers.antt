@@ -16,26 +16,33 @@ pub returns-in-Some-clause-lacks : goal.returns-in-Some-clause-lacks
 returns-in-Some-clause-lacks c =
     let said = said_at c.args.moment c.args.area.now.present.database in
     let root = root_by c.args.router c.args.area.now.present.links in
-    let is : c.args.self.now.candidates ≡ Some c.in-Some.candidates = ap (λ (k : KeptRoutes). k.candidates) (sym c.self.view_is) ∙ c.in-Some.is in
-    let kept = subst (λ (o : Option (Vec Route)). IfSome o (λ routes. AreCandidates said root routes.items)) is c.requires.routes.candidates in
-    c.in_ok-lacks.ensures said root (subst (λ (xs : List Route). AreCandidates said root xs) (sym c.deref.ensures.value) kept)
+    let is : c.args.self.now.candidates ≡ Some c.in-Some.candidates =
+    ap (λ (k : KeptRoutes). k.candidates) (sym c.self.view_is) ∙ c.in-Some.is in
+    let kept = subst (λ (o : Option (Vec Route)). IfSome o
+    (λ routes. AreCandidates said root routes.items)) is c.requires.routes.candidates in
+    c.in_ok-lacks.ensures said root (subst (λ (xs : List Route). AreCandidates said root xs)
+    (sym c.deref.ensures.value) kept)
 
 pub calculated-requires-clause-walk : goal.calculated-requires-clause-walk
 calculated-requires-clause-walk c =
     let said = said_at c.args.moment c.args.area.now.present.database in
-    subst (λ (k : KeptRoutes). IsWalkOf said k.walk) (sym c.self.view_is) (c.requires.routes.walk.walk c.requires.behind)
+    subst (λ (k : KeptRoutes). IsWalkOf said k.walk) (sym c.self.view_is)
+    (c.requires.routes.walk.walk c.requires.behind)
 
 pub calculated-requires-clause-externals : goal.calculated-requires-clause-externals
 calculated-requires-clause-externals c =
     let said = said_at c.args.moment c.args.area.now.present.database in
-    subst (λ (k : KeptRoutes). KnowsExternals said k) (sym c.self.view_is) c.requires.routes.externals
+    subst (λ (k : KeptRoutes). KnowsExternals said k) (sym c.self.view_is)
+    c.requires.routes.externals
 
 pub returns-clause-lacks : goal.returns-clause-lacks
 returns-clause-lacks c =
     let said = said_at c.args.moment c.args.area.now.present.database in
     let root = root_by c.args.router c.args.area.now.present.links in
     let items = c.in_ok-made.made.calculated.routes.items in
-    let begins : c.self.inside.walk.root ≡ root = ap (λ (k : KeptRoutes). k.walk.root) c.self.view_is ∙ c.requires.routes.walk.root c.requires.behind in
+    let begins : c.self.inside.walk.root ≡ root =
+    ap (λ (k : KeptRoutes). k.walk.root) c.self.view_is
+    ∙ c.requires.routes.walk.root c.requires.behind in
     let are =
     subst (λ (xs : List Route). AreCandidates said root xs) (sym c.deref-2.ensures.value)
     (subst (λ (r : Root). AreCandidates said r items) begins c.in_ok-made.ensures.routes) in
@@ -46,13 +53,18 @@ returns-clause-inner c =
     let said = said_at c.args.moment c.args.area.now.present.database in
     let root = root_by c.args.router c.args.area.now.present.links in
     let inner = c.in_ok-made.made.calculated.inner in
-    let begins : c.self.inside.walk.root ≡ root = ap (λ (k : KeptRoutes). k.walk.root) c.self.view_is ∙ c.requires.routes.walk.root c.requires.behind in
-    subst (λ (r : Root). AreInnerBy said r c.self.inside.walk inner) begins c.in_ok-made.ensures.inner
+    let begins : c.self.inside.walk.root ≡ root =
+    ap (λ (k : KeptRoutes). k.walk.root) c.self.view_is
+    ∙ c.requires.routes.walk.root c.requires.behind in
+    subst (λ (r : Root). AreInnerBy said r c.self.inside.walk inner) begins
+    c.in_ok-made.ensures.inner
 
 pub returns-clause-externals : goal.returns-clause-externals
 returns-clause-externals c =
     let said = said_at c.args.moment c.args.area.now.present.database in
-    let knew = subst (λ (k : KeptRoutes). KnowsExternals said k) (sym c.self.view_is) c.requires.routes.externals in
+    let knew = subst (λ (k : KeptRoutes). KnowsExternals said k) (sym c.self.view_is)
+    c.requires.routes.externals in
     c.kept_or.ensures said
-    (subst (λ (o : Option (Vec External)). IfSome o (λ told. AreExternals said told.items)) (sym c.take-kept.ensures.value) knew)
+    (subst (λ (o : Option (Vec External)). IfSome o (λ told. AreExternals said told.items))
+    (sym c.take-kept.ensures.value) knew)
     c.in_ok-made.ensures.externals

@@ -11,7 +11,8 @@ pub returns : goal.returns
 returns c =
     let said = said_at c.args.moment c.args.area.now.present.database in
     let root = root_by c.args.router c.args.area.now.present.links in
-    let are = subst (λ (xs : List Route). AreCandidates said root xs) (sym c.deref.ensures.value) c.in_ok-candidates.ensures in
+    let are = subst (λ (xs : List Route). AreCandidates said root xs) (sym c.deref.ensures.value)
+    c.in_ok-candidates.ensures in
     record {
       are_candidates = c.in_ok-candidates.ensures;
       table = c.in_ok-table.table.items;

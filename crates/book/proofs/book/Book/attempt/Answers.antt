@@ -21,9 +21,11 @@ invariant_of-self-in-Ok g c =
       replays =
           (let P : List Entry → Type 0 = λ l. Replays (start_of c.hold.new.start after) l after in
           subst P (sym grown)
-          (subst (λ (r : Router). Replays r (journal ++ last ∷ []) after) (sym (ap (λ o. start_of o after) held))
+          (subst (λ (r : Router). Replays r (journal ++ last ∷ []) after)
+          (sym (ap (λ o. start_of o after) held))
           (replays_on from journal _ _ last _ kept.replays c.in-Ok.ensures.ok)));
-      leads = leads_on _ c.self.inside.taken c.self.inside.current after last _ kept.leads c.in-Ok.ensures.ok;
+      leads = leads_on _ c.self.inside.taken c.self.inside.current after last _ kept.leads
+          c.in-Ok.ensures.ok;
       weighed =
           c.with_event-self-inside.ensures ∙ (ap (λ n. with_event n c.args.event) kept.weighed
           ∙ (sym (bytes_with journal last) ∙ ap bytes_of (sym grown)));

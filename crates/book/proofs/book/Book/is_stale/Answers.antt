@@ -6,4 +6,5 @@ use Rattle.book.proofs.book.Book.is_stale.Goals as goal
 
 pub returns-clause-stale : goal.returns-clause-stale
 returns-clause-stale g c =
-    subst (λ (v : BookView). IfOk c.stale.result (λ b. IsTrue b ↔ IsStaleNow v.current)) c.self.view_is c.stale.ensures.stale
+    subst (λ (v : BookView). IfOk c.stale.result (λ b. IsTrue b ↔ IsStaleNow v.current))
+    c.self.view_is c.stale.ensures.stale

@@ -11,11 +11,14 @@ invariant_of-self g c =
     let emptied : c.clear.new.self.items ≡ [] = c.clear.ensures.items in
     record {
       replays =
-          (let P : List Entry → Type 0 = λ journal. Replays (start_of c.replace.new.dest now) journal now in
+          (let P : List Entry → Type 0 = λ journal. Replays (start_of c.replace.new.dest now)
+          journal now in
           subst P (sym emptied) ([], refl, sym (ap (λ o. start_of o now) c.replace.ensures.after)));
       leads = kept.leads;
-      weighed = (let P : List Entry → Type 0 = λ journal. 0 ≡ bytes_of journal in subst P (sym emptied) refl);
-      room = (let P : List Entry → Type 0 = λ journal. length journal ≤ 65536 in subst P (sym emptied) (search rules));
+      weighed = (let P : List Entry → Type 0 = λ journal. 0 ≡ bytes_of journal in
+          subst P (sym emptied) refl);
+      room = (let P : List Entry → Type 0 = λ journal. length journal ≤ 65536 in
+          subst P (sym emptied) (search rules));
       few = kept.few;
       counted = kept.counted;
     }

@@ -19,9 +19,11 @@ returns-in_ok-reached-in-None-clause-ways c said is =
     let nodes = c.args.self.now.nodes.items in
     let M : List Node → Type 0 = λ ns. (at : ℕ) → slice_get ns at ≡ Some own → ⊥ in
     let missing = subst M c.deref.ensures.value c.in-None.ensures.missing in
-    let none : HasLsa said own → ⊥ = λ has. let place = placed nodes own ((is.nodes.each own).1 has) in missing place.0 place.1 in
+    let none : HasLsa said own → ⊥ = λ has. let place =
+    placed nodes own ((is.nodes.each own).1 has) in missing place.0 place.1 in
     let P : NodeWays → Type 0 = λ reached. AreWays said root (way_in reached) in
-    subst P (sym c.in_ok-reached-in-None.ensures) (alone_ways said root (without_lsa said root none))
+    subst P (sym c.in_ok-reached-in-None.ensures)
+    (alone_ways said root (without_lsa said root none))
 
 pub returns-in_ok-slots-in-Some-clause-ways : goal.returns-in_ok-slots-in-Some-clause-ways
 returns-in_ok-slots-in-Some-clause-ways c said is =
@@ -32,13 +34,19 @@ returns-in_ok-slots-in-Some-clause-ways c said is =
     let at = c.in-Some.at in
     let F : List Node → Type 0 = λ ns. slice_get ns at ≡ Some (ARouter root.router) in
     let A : Graph → Type 0 = λ g. (v : ℕ) → IsAnswer g at v (get_or ways v None) in
-    let copied : c.in_ok-nodes-in-Some.nodes.items ≡ nodes = c.in_ok-nodes-in-Some.ensures.items ∙ c.deref-in-Some-2.ensures.value in
+    let copied : c.in_ok-nodes-in-Some.nodes.items ≡ nodes =
+    c.in_ok-nodes-in-Some.ensures.items ∙ c.deref-in-Some-2.ensures.value in
     let P : NodeWays → Type 0 = λ reached. AreWays said root (way_in reached) in
     let Q : List Node → Type 0 = λ ns. AreWays said root (λ node. way_beside ns ways node) in
-    let all : Q nodes = are_ways said root nodes graph ways at is.nodes (is_graph_of said root nodes graph is.nodes is.vertices) (subst F c.deref.ensures.value c.in-Some.ensures.found) (subst A c.deref-in-Some.ensures.value c.in_ok-ways-in-Some.ensures.answers) in
+    let all : Q nodes = are_ways said root nodes graph ways at is.nodes
+    (is_graph_of said root nodes graph is.nodes is.vertices)
+    (subst F c.deref.ensures.value c.in-Some.ensures.found)
+    (subst A c.deref-in-Some.ensures.value c.in_ok-ways-in-Some.ensures.answers) in
     subst P (sym c.new.ensures) (subst Q (sym copied) all)
 
 pub returns-in_ok-slots-in-Some-clause-near : goal.returns-in_ok-slots-in-Some-clause-near
 returns-in_ok-slots-in-Some-clause-near c =
     let P : NodeWays → Type 0 = λ reached. AreNear (way_in reached) in
-    subst P (sym c.new.ensures) (of_beside (λ (way : Way). way.distance < 1073741824) c.in_ok-nodes-in-Some.nodes.items c.in_ok-ways-in-Some.ways.items c.in_ok-ways-in-Some.ensures.near)
+    subst P (sym c.new.ensures) (of_beside (λ (way : Way). way.distance < 1073741824)
+    c.in_ok-nodes-in-Some.nodes.items c.in_ok-ways-in-Some.ways.items
+    c.in_ok-ways-in-Some.ensures.near)

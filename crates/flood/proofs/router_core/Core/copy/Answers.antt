@@ -17,15 +17,19 @@ invariant_of-result c =
       ap exceeds present ∙ c.self.invariant.2,
       subst IsInOrder (sym present) c.self.invariant.3,
       subst HoldsInstances (sym present) c.self.invariant.4,
-      begun c.in_ok-router.router.present c.id.result c.area.result.now.present c.moment.result c.in-Ok.routes
-          c.id.ensures (ap (λ (a : RouterArea). a.present) c.area.ensures.parts) c.moment.ensures c.in-Ok.ensures.routes c.in-Ok.ensures.answered,
+      begun c.in_ok-router.router.present c.id.result c.area.result.now.present c.moment.result
+          c.in-Ok.routes
+          c.id.ensures (ap (λ (a : RouterArea). a.present) c.area.ensures.parts) c.moment.ensures
+          c.in-Ok.ensures.routes c.in-Ok.ensures.answered,
     )
 
 pub new-requires-clause-few : goal.new-requires-clause-few
-new-requires-clause-few c = subst (λ (a : RouterArea). length a.present.links ≤ 63) (sym c.area.ensures.parts) c.area.ensures.few
+new-requires-clause-few c = subst (λ (a : RouterArea). length a.present.links ≤ 63)
+    (sym c.area.ensures.parts) c.area.ensures.few
 
 pub new-requires-clause-size : goal.new-requires-clause-size
 new-requires-clause-size c =
     let present = ap (λ k. k.present) c.in_ok-router.ensures in
     subst (λ (a : RouterArea). finite.len a.present.database ≤ 16384) (sym c.area.ensures.parts)
-    (within c.in_ok-router.router.present.id c.in_ok-router.router.present.area.database (ap exceeds present ∙ c.self.invariant.2))
+    (within c.in_ok-router.router.present.id c.in_ok-router.router.present.area.database
+    (ap exceeds present ∙ c.self.invariant.2))

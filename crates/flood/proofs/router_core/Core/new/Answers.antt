@@ -18,19 +18,23 @@ pub invariant_of-result : goal.invariant_of-result
 invariant_of-result c =
     let fine : in_profile c.args.config.now ≡ true = search rules in
     let is = ap (λ k. k.present) c.settle.ensures ∙ c.in_ok-router.ensures in
-    let settled = ap (λ k. k.settled) c.settle.ensures ∙ sym (ap (λ k. k.present) c.settle.ensures) in
+    let settled = ap (λ k. k.settled) c.settle.ensures
+    ∙ sym (ap (λ k. k.present) c.settle.ensures) in
     let router = c.in_profile.ensures.router in (
       settled,
       subst IsRoomy (sym is) (every_packet_has_room.first c.args.config.now fine),
       ap exceeds is ∙ others_stay_within_limits.start c.args.config.now,
       subst IsInOrder (sym is) (routers_stay_in_order.first c.args.config.now),
       subst HoldsInstances (sym is) (instances_stay_in_range.first c.args.config.now router),
-      begun c.settle.new.self.present c.id.result c.area.result.now.present c.moment.result c.in-Ok.routes
-          c.id.ensures (ap (λ (a : RouterArea). a.present) c.area.ensures.parts) c.moment.ensures c.in-Ok.ensures.routes c.in-Ok.ensures.answered,
+      begun c.settle.new.self.present c.id.result c.area.result.now.present c.moment.result
+          c.in-Ok.routes
+          c.id.ensures (ap (λ (a : RouterArea). a.present) c.area.ensures.parts) c.moment.ensures
+          c.in-Ok.ensures.routes c.in-Ok.ensures.answered,
     )
 
 pub new-requires-clause-few : goal.new-requires-clause-few
-new-requires-clause-few c = subst (λ (a : RouterArea). length a.present.links ≤ 63) (sym c.area.ensures.parts) c.area.ensures.few
+new-requires-clause-few c = subst (λ (a : RouterArea). length a.present.links ≤ 63)
+    (sym c.area.ensures.parts) c.area.ensures.few
 
 pub new-requires-clause-size : goal.new-requires-clause-size
 new-requires-clause-size c =

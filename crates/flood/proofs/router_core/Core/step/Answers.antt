@@ -14,7 +14,9 @@ invariant_of-self c =
     let is = ap (λ k. k.present) c.settle_at.ensures in (
       ap (λ k. k.settled) c.settle_at.ensures ∙ sym is,
       subst IsRoomy (sym is)
-          (stays_roomy c.self.inside.router.present c.args.moment (occurrence_of c.args.event.now) c.in-Ok.outs.items c.take_and_keep.new.router.present c.in-Ok.ensures.ok c.self.invariant.1),
+          (stays_roomy c.self.inside.router.present c.args.moment (occurrence_of c.args.event.now)
+          c.in-Ok.outs.items c.take_and_keep.new.router.present c.in-Ok.ensures.ok
+          c.self.invariant.1),
       ap exceeds is ∙ c.in-Ok.ensures.limit,
       subst IsInOrder (sym is) c.in-Ok.ensures.order,
       subst HoldsInstances (sym is) c.in-Ok.ensures.holds,

@@ -8,4 +8,6 @@ use Rattle.flooding.proofs.link.acknowledgments.draft_headers.Given as goal
 
 abbrev pub invariant-loop-i : goal.invariant-loop-i
 invariant-loop-i l =
-    (delay : ℕ) → drafting delay (named_from l.headers.present l.i l.keys) l.draft ≡ drafting delay (map Acknowledges (filter_map (finite.get l.headers.present) l.keys)) l.fn.draft
+    (delay : ℕ) → drafting delay (named_from l.headers.present l.i l.keys) l.draft
+    ≡ drafting delay (map Acknowledges (filter_map (finite.get l.headers.present) l.keys))
+    l.fn.draft

@@ -6,6 +6,7 @@ use Rattle.flooding.proofs.link.acknowledgments.remove_headers.Given as goal
 
 abbrev pub invariant-loop-i : goal.invariant-loop-i
 invariant-loop-i l = record {
-  leaves : fold finite.remove l.headers.present (from l.i l.keys) ≡ fold finite.remove l.fn.headers.present l.keys;
+  leaves : fold finite.remove l.headers.present (from l.i l.keys)
+      ≡ fold finite.remove l.fn.headers.present l.keys;
   settled : l.headers.settled ≡ l.fn.headers.settled;
 }

@@ -13,12 +13,24 @@ new-requires c =
     let all = known_to c.ask.new.self in
     let rows = c.args.rows.now in
     let given : Given = price_input c.args.external.now c.args.moment rows in
-    let same = ap (λ b. let i : Given = record { context = b; packet = []; rows = rows } in i) c.price_context.ensures in
-    (rows, answered Price all given a.labels _ refl (subst (λ (i : Given). Answers all i a.labels c.in_ok-answer.answer.word) same a.answers))
+    let same = ap (λ b. let i : Given = record {
+      context = b;
+      packet = [];
+      rows = rows;
+    } in i) c.price_context.ensures in (
+      rows,
+      answered Price all given a.labels _ refl
+          (subst (λ (i : Given). Answers all i a.labels c.in_ok-answer.answer.word) same a.answers),
+    )
 
 pub returns-clause-answered : goal.returns-clause-answered
 returns-clause-answered c =
     let rows = c.args.rows.now in
-    let same = ap (λ b. let i : Given = record { context = b; packet = []; rows = rows } in i) c.price_context.ensures in
+    let same = ap (λ b. let i : Given = record {
+      context = b;
+      packet = [];
+      rows = rows;
+    } in i) c.price_context.ensures in
     let word = sym (ap (λ (a : ExternalAnswer). a.word) c.new.ensures) in
-    same_answer _ _ _ _ _ (price_input c.args.external.now c.args.moment rows) _ _ same word c.in_ok-answer.ensures.answered
+    same_answer _ _ _ _ _ (price_input c.args.external.now c.args.moment rows) _ _ same word
+    c.in_ok-answer.ensures.answered

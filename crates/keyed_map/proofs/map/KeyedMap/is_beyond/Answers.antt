@@ -17,12 +17,15 @@ returns-in-Some g c t =
     let entries = c.self.inside.slots.entries in
     let key = c.args.key.now in
     let beyond = ap is_lt (sym c.compare.ensures) ∙ sym c.is_lt.ensures ∙ t in
-    ap (λ (h : Held _). map.contains_key h.present key) (sym c.self.view_is) ∙ ap is_some (get-live (slots_of entries) key ∙ ap held_in (get-slots entries key))
-    ∙ not_there (lookup (is_at (key_cmp key)) entries) (is_lt (key_cmp c.in-Some.last.now key)) (c.in-Some.ensures.greatest key) beyond
+    ap (λ (h : Held _). map.contains_key h.present key) (sym c.self.view_is)
+    ∙ ap is_some (get-live (slots_of entries) key ∙ ap held_in (get-slots entries key))
+    ∙ not_there (lookup (is_at (key_cmp key)) entries) (is_lt (key_cmp c.in-Some.last.now key))
+    (c.in-Some.ensures.greatest key) beyond
 
 pub returns-in-None : goal.returns-in-None
 returns-in-None g c t =
     let entries = c.self.inside.slots.entries in
     let key = c.args.key.now in
-    ap (λ (h : Held _). map.contains_key h.present key) (sym c.self.view_is) ∙ ap is_some (get-live (slots_of entries) key ∙ ap held_in (get-slots entries key))
+    ap (λ (h : Held _). map.contains_key h.present key) (sym c.self.view_is)
+    ∙ ap is_some (get-live (slots_of entries) key ∙ ap held_in (get-slots entries key))
     ∙ none_there entries key (λ some. false≢true (c.in-None.ensures.variant.1 some))

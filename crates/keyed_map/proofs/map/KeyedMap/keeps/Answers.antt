@@ -16,7 +16,8 @@ loop-place-preserved g c =
     let found = found_at es n (omega arith) in
     let edit = found.0 in
     let at = found.1 in
-    one_more S c.args.self.now.present es n edit at ((c.in_ok-keeps_at.ensures edit at).0 c.if-not-branch.false) c.loop-place.invariant
+    one_more S c.args.self.now.present es n edit at
+    ((c.in_ok-keeps_at.ensures edit at).0 c.if-not-branch.false) c.loop-place.invariant
 
 pub returns-then-not-branch : goal.returns-then-not-branch
 returns-then-not-branch g c =
@@ -31,9 +32,11 @@ returns-then-not-branch g c =
     let in_items = subst (λ xs. slice_get xs n ≡ Some edit) c.as_slice-edits.ensures.value at in (
       (λ t. absurd cc),
       (λ all. absurd (
-          let inside = subst (λ (h : Held _). (key : Key) → S key (map.get h.settled key) (map.get h.present key)) (sym c.self.view_is) all in
+          let inside = subst (λ (h : Held _). (key : Key)
+          → S key (map.get h.settled key) (map.get h.present key)) (sym c.self.view_is) all in
           let same = λ (first : IsFirst es n edit.key).
-          let one = first_kept S items slots n edit in_items (subst (λ xs. IsFirst xs n edit.key) c.as_slice-edits.ensures.value first) inside in
+          let one = first_kept S items slots n edit in_items
+          (subst (λ xs. IsFirst xs n edit.key) c.as_slice-edits.ensures.value first) inside in
           subst (λ (h : Held _). Keeps S h.present edit) c.self.view_is one in
           let t = (c.in_ok-keeps_at.ensures edit at).1 same in
           let no : false ≡ true = sym c.if-not-branch.true ∙ t in
@@ -50,7 +53,9 @@ returns g c = (
       subst (λ (h : Held _). S key (map.get h.settled key) (map.get h.present key)) c.self.view_is
       (kept S c.requires items slots (λ place e low at first.
       subst (λ (h : Held _). Keeps S h.present e) (sym c.self.view_is)
-      (c.loop-place.invariant place e (omega (arith, low, c.loop-place-test.false, c.as_slice-edits.ensures.len, ap length value))
-      (subst (λ xs. slice_get xs place ≡ Some e) (sym value) at) (subst (λ xs. IsFirst xs place e.key) (sym value) first))) key)),
+      (c.loop-place.invariant place e (omega
+      (arith, low, c.loop-place-test.false, c.as_slice-edits.ensures.len, ap length value))
+      (subst (λ xs. slice_get xs place ≡ Some e) (sym value) at)
+      (subst (λ xs. IsFirst xs place e.key) (sym value) first))) key)),
   (λ all. refl),
 )

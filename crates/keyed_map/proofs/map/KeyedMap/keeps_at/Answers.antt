@@ -12,9 +12,13 @@ returns-then-not-branch g c edit at =
     let S = g.T.ChangeTest.same c.args.test.now in
     let es = c.args.edits.now in
     let one = c.index-edits-place.result in
-    let here = slice_get_read es (length es) c.args.place one refl (omega (arith, c.requires)) c.index-edits-place.is in
+    let here = slice_get_read es (length es) c.args.place one refl (omega (arith, c.requires))
+    c.index-edits-place.is in
     let present = c.args.self.now.present in (
-      (λ t first. subst (λ (e : Edit _). S e.key (held_before e.before) (map.get present e.key)) (same_Some one edit (sym here ∙ at)) (c.in_ok-counts.ensures.1 c.if-not-branch.true (held_before one.before) (map.get present one.key))),
+      (λ t first. subst (λ (e : Edit _). S e.key (held_before e.before) (map.get present e.key))
+          (same_Some one edit (sym here ∙ at))
+          (c.in_ok-counts.ensures.1 c.if-not-branch.true (held_before one.before)
+          (map.get present one.key))),
       (λ all. refl),
     )
 
@@ -22,15 +26,21 @@ pub is_kept-requires-clause-counted : goal.is_kept-requires-clause-counted
 is_kept-requires-clause-counted g c edit at =
     let es = c.args.edits.now in
     let one = c.index-edits-place.result in
-    let here = slice_get_read es (length es) c.args.place one refl (omega (arith, c.requires)) c.index-edits-place.is in
-    subst (λ (e : Edit _). g.T.ChangeTest.counted c.args.test.now e.key) (same_Some one edit (sym here ∙ at)) (c.in_ok-counts.ensures.0 c.if-not-branch.false)
+    let here = slice_get_read es (length es) c.args.place one refl (omega (arith, c.requires))
+    c.index-edits-place.is in
+    subst (λ (e : Edit _). g.T.ChangeTest.counted c.args.test.now e.key)
+    (same_Some one edit (sym here ∙ at)) (c.in_ok-counts.ensures.0 c.if-not-branch.false)
 
 pub returns : goal.returns
 returns g c edit at =
     let S = g.T.ChangeTest.same c.args.test.now in
     let es = c.args.edits.now in
     let one = c.index-edits-place.result in
-    let here = slice_get_read es (length es) c.args.place one refl (omega (arith, c.requires)) c.index-edits-place.is in
+    let here = slice_get_read es (length es) c.args.place one refl (omega (arith, c.requires))
+    c.index-edits-place.is in
     let present = c.args.self.now.present in
-    subst (λ o. IfOk c.is_kept.result (λ kept. IsTrue kept ↔ (IsFirst es c.args.place edit.key → S edit.key (held_before edit.before) o)))
-    (c.get-now.ensures ∙ ap (λ (e : Edit _). map.get present e.key) (same_Some one edit (sym here ∙ at))) (c.is_kept.ensures edit at)
+    subst (λ o. IfOk c.is_kept.result
+    (λ kept. IsTrue kept ↔ (IsFirst es c.args.place edit.key
+    → S edit.key (held_before edit.before) o)))
+    (c.get-now.ensures ∙ ap (λ (e : Edit _). map.get present e.key)
+    (same_Some one edit (sym here ∙ at))) (c.is_kept.ensures edit at)

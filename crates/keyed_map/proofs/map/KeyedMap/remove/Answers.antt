@@ -4,7 +4,8 @@ use Rattle.keyed_map.specs.declared.slot.Edit.{Edit}
 use Rattle.keyed_map.specs.declared.slot.Slot.TheVariants.{Gone, Holds}
 use Rattle.keyed_map.specs.Slots.{AllFit, count_after_change, live, slots_of, undone}
 use Rattle.keyed_map.proofs.Changes.{held_same, holds_is, was_there}
-use Rattle.keyed_map.proofs.Slots.{AllFit-push, absent, get-live, has_place, len_put, live_put, put_back_is, undone-push}
+use Rattle.keyed_map.proofs.Slots.{AllFit-push, absent, get-live, has_place, len_put, live_put}
+use Rattle.keyed_map.proofs.Slots.{put_back_is, undone-push}
 use Rattle.keyed_map.proofs.map.KeyedMap.remove.Goals as goal
 
 pub invariant_of-self-in-Some : goal.invariant_of-self-in-Some
@@ -15,23 +16,39 @@ invariant_of-self-in-Some g c =
     let edit : Edit _ = record { key = c.args.key.now; before = Some (Holds c.in-Some.x) } in
     let now = c.in-Some.ensures.some in
     let stood = holds_is (map.get slots key) c.in-Some.x c.in-Some.ensures.value in
-    let pushed : c.push_reserved.new.self.items ≡ c.self.inside.edits.items ++ record { key = c.args.key.now; before = Some (Holds c.in-Some.x) } ∷ [] =
-    c.push_reserved.ensures.items ∙ ap (λ es. es ++ record { key = c.same.result; before = Some (Holds c.in-Some.x) } ∷ []) c.reserve.ensures.items
-    ∙ ap (λ k. c.self.inside.edits.items ++ record { key = k; before = Some (Holds c.in-Some.x) } ∷ []) c.same.ensures in
+    let pushed : c.push_reserved.new.self.items ≡ c.self.inside.edits.items ++ record {
+      key = c.args.key.now;
+      before = Some (Holds c.in-Some.x);
+    } ∷ [] =
+    c.push_reserved.ensures.items ∙ ap (λ es. es ++ record {
+      key = c.same.result;
+      before = Some (Holds c.in-Some.x);
+    } ∷ []) c.reserve.ensures.items
+    ∙ ap (λ k. c.self.inside.edits.items ++ record {
+      key = k;
+      before = Some (Holds c.in-Some.x);
+    } ∷ []) c.same.ensures in
     let back = put_back_is slots key Gone (Some (Holds c.in-Some.x)) stood in
     let fit : AllFit c.push_reserved.new.self.items (slots_of c.take_out.new.slots.entries) =
     subst (AllFit c.push_reserved.new.self.items) (sym now)
-    (subst (λ es. AllFit es (map.insert slots key Gone)) (sym pushed) (AllFit-push edits edit slots (map.insert slots key Gone) back (has_place slots key Gone (Some (Holds c.in-Some.x))) c.self.invariant.0)) in
+    (subst (λ es. AllFit es (map.insert slots key Gone)) (sym pushed)
+    (AllFit-push edits edit slots (map.insert slots key Gone) back
+    (has_place slots key Gone (Some (Holds c.in-Some.x))) c.self.invariant.0)) in
     let there = was_there slots key (Some (Holds c.in-Some.x)) stood in
-    let len = c.saturating_sub-self-inside.ensures ∙ ap (λ n. n - 1) c.self.invariant.1 ∙ ap (λ b. count_after_change b false (map.len (live slots))) there
-    ∙ sym (ap (λ m. map.len (live m)) now ∙ ap map.len (live_put slots key Gone) ∙ len_put (live slots) key Gone) in
-    let settled = ap (λ es. live (undone es (slots_of c.take_out.new.slots.entries))) pushed ∙ ap (λ m. live (undone (edits ++ edit ∷ []) m)) now ∙ ap live (undone-push edits edit slots (map.insert slots key Gone) back) in
+    let len = c.saturating_sub-self-inside.ensures ∙ ap (λ n. n - 1) c.self.invariant.1
+    ∙ ap (λ b. count_after_change b false (map.len (live slots))) there
+    ∙ sym (ap (λ m. map.len (live m)) now ∙ ap map.len (live_put slots key Gone)
+    ∙ len_put (live slots) key Gone) in
+    let settled = ap (λ es. live (undone es (slots_of c.take_out.new.slots.entries))) pushed
+    ∙ ap (λ m. live (undone (edits ++ edit ∷ []) m)) now
+    ∙ ap live (undone-push edits edit slots (map.insert slots key Gone) back) in
     (fit, len, c.self.invariant.2 ∙ sym (ap map.len settled))
 
 pub returns-in-Some-clause-ok : goal.returns-in-Some-clause-ok
 returns-in-Some-clause-ok g c =
     let slots = slots_of c.self.inside.slots.entries in
-    ap live c.in-Some.ensures.some ∙ live_put slots c.args.key.now Gone ∙ ap (λ h. map.remove h.present c.args.key.now) c.self.view_is
+    ap live c.in-Some.ensures.some ∙ live_put slots c.args.key.now Gone
+    ∙ ap (λ h. map.remove h.present c.args.key.now) c.self.view_is
 
 pub returns-in-Some-clause-settled : goal.returns-in-Some-clause-settled
 returns-in-Some-clause-settled g c =
@@ -41,14 +58,28 @@ returns-in-Some-clause-settled g c =
     let edit : Edit _ = record { key = c.args.key.now; before = Some (Holds c.in-Some.x) } in
     let now = c.in-Some.ensures.some in
     let stood = holds_is (map.get slots key) c.in-Some.x c.in-Some.ensures.value in
-    let pushed : c.push_reserved.new.self.items ≡ c.self.inside.edits.items ++ record { key = c.args.key.now; before = Some (Holds c.in-Some.x) } ∷ [] =
-    c.push_reserved.ensures.items ∙ ap (λ es. es ++ record { key = c.same.result; before = Some (Holds c.in-Some.x) } ∷ []) c.reserve.ensures.items
-    ∙ ap (λ k. c.self.inside.edits.items ++ record { key = k; before = Some (Holds c.in-Some.x) } ∷ []) c.same.ensures in
+    let pushed : c.push_reserved.new.self.items ≡ c.self.inside.edits.items ++ record {
+      key = c.args.key.now;
+      before = Some (Holds c.in-Some.x);
+    } ∷ [] =
+    c.push_reserved.ensures.items ∙ ap (λ es. es ++ record {
+      key = c.same.result;
+      before = Some (Holds c.in-Some.x);
+    } ∷ []) c.reserve.ensures.items
+    ∙ ap (λ k. c.self.inside.edits.items ++ record {
+      key = k;
+      before = Some (Holds c.in-Some.x);
+    } ∷ []) c.same.ensures in
     let back = put_back_is slots key Gone (Some (Holds c.in-Some.x)) stood in
-    ap (λ es. live (undone es (slots_of c.take_out.new.slots.entries))) pushed ∙ ap (λ m. live (undone (edits ++ edit ∷ []) m)) now ∙ ap live (undone-push edits edit slots (map.insert slots key Gone) back) ∙ ap (λ h. h.settled) c.self.view_is
+    ap (λ es. live (undone es (slots_of c.take_out.new.slots.entries))) pushed
+    ∙ ap (λ m. live (undone (edits ++ edit ∷ []) m)) now
+    ∙ ap live (undone-push edits edit slots (map.insert slots key Gone) back)
+    ∙ ap (λ h. h.settled) c.self.view_is
 
 pub returns-in_default-clause-ok : goal.returns-in_default-clause-ok
 returns-in_default-clause-ok g c =
     let slots = slots_of c.self.inside.slots.entries in
     let key = c.args.key.now in
-    ap live (c.in_default.ensures.none refl) ∙ absent (live slots) key (get-live slots key ∙ held_same (map.get slots key) ∙ sym c.in_default.ensures.value) ∙ ap (λ h. map.remove h.present key) c.self.view_is
+    ap live (c.in_default.ensures.none refl)
+    ∙ absent (live slots) key (get-live slots key ∙ held_same (map.get slots key)
+    ∙ sym c.in_default.ensures.value) ∙ ap (λ h. map.remove h.present key) c.self.view_is

@@ -8,7 +8,8 @@ use Rattle.keyed_map.proofs.map.KeyedMap.roll_back.Given as goal
 abbrev pub invariant-loop-edit : goal.invariant-loop-edit
 invariant-loop-edit g l = record {
   fit : AllFit l.self-inside.edits.items (slots_of l.self-inside.slots.entries);
-  settled : live (undone l.self-inside.edits.items (slots_of l.self-inside.slots.entries)) ≡ l.fn.self.settled;
+  settled : live (undone l.self-inside.edits.items (slots_of l.self-inside.slots.entries))
+      ≡ l.fn.self.settled;
   len : l.self-inside.settled_len ≡ map.len l.fn.self.settled;
 }
 

@@ -5,8 +5,10 @@ use Rattle.knownbits.proofs.domain.KnownBitsDomain.range.Goals as goal
 
 pub returns-clause-holds : goal.returns-clause-holds
 returns-clause-holds c = λ n inside.
-    let small : c.args.self.mask < 2 ^ 64 = omega arith in
-    (omega (arith, inside.bits, and_le_l n c.args.self.mask), at_most n c.args.self.mask c.args.self.value inside.small small inside.bits)
+    let small : c.args.self.mask < 2 ^ 64 = omega arith in (
+      omega (arith, inside.bits, and_le_l n c.args.self.mask),
+      at_most n c.args.self.mask c.args.self.value inside.small small inside.bits,
+    )
 
 pub returns-clause-gives : goal.returns-clause-gives
 returns-clause-gives c = λ within.

@@ -17,11 +17,20 @@ invariant_of-self-2 c =
     let aged = c.in_ok-aged.aged in
     let edited = finite.insert copies.present key aged in
     let there = ap is_some (sym c.in-Some.ensures) in
-    let stays : ForeseesAll ages copies.present = λ q. c.note.ensures.more q (finite.get copies.present q) (c.self.invariant.foreseen q) in record {
-      counted = after c.insert.result (λ d. c.self.inside.externals ≡ count_own_externals router d) c.insert.new.self.present copies.present edited c.insert.ensures.ok c.insert.ensures.err
-          (c.self.invariant.counted ∙ sym (count_change (is_own_external router) copies.present key aged there)) c.self.invariant.counted;
-      settled_counted = c.self.invariant.settled_counted ∙ sym (ap (count_own_externals router) c.insert.ensures.settled);
-      foreseen = after c.insert.result (ForeseesAll ages) c.insert.new.self.present copies.present edited c.insert.ensures.ok c.insert.ensures.err
+    let stays : ForeseesAll ages copies.present =
+    λ q. c.note.ensures.more q (finite.get copies.present q) (c.self.invariant.foreseen q) in
+    record {
+      counted = after c.insert.result (λ d. c.self.inside.externals ≡ count_own_externals router d)
+          c.insert.new.self.present copies.present edited c.insert.ensures.ok c.insert.ensures.err
+          (c.self.invariant.counted ∙ sym
+          (count_change (is_own_external router) copies.present key aged there))
+          c.self.invariant.counted;
+      settled_counted = c.self.invariant.settled_counted
+          ∙ sym (ap (count_own_externals router) c.insert.ensures.settled);
+      foreseen = after c.insert.result (ForeseesAll ages) c.insert.new.self.present copies.present
+          edited c.insert.ensures.ok c.insert.ensures.err
           (foresees_put ages copies.present key stays aged c.in_ok-note.ensures.there) stays;
-      settled_foreseen = subst (ForeseesAll ages) (sym c.insert.ensures.settled) (λ q. c.note.ensures.more q (finite.get copies.settled q) (c.self.invariant.settled_foreseen q));
+      settled_foreseen = subst (ForeseesAll ages) (sym c.insert.ensures.settled)
+          (λ q. c.note.ensures.more q (finite.get copies.settled q)
+          (c.self.invariant.settled_foreseen q));
     }

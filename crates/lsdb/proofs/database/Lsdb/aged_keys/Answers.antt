@@ -11,9 +11,12 @@ returns-then-lt c =
     let before : moment < c.self.inside.ages.due = grind (arith, c.lt.ensures, c.if-lt.true) in
     IfOk-weaker c.keys_where.result _ _ (λ keys is.
     is
-    ∙ keys_aged moment c.self.inside.ages.aged.present c.self.inside.copies.present (λ q aged. c.self.invariant.foreseen q moment before aged)
+    ∙ keys_aged moment c.self.inside.ages.aged.present c.self.inside.copies.present
+    (λ q aged. c.self.invariant.foreseen q moment before aged)
     ∙ ap (λ h. aged_keys moment h.present) c.self.view_is) c.keys_where.ensures
 
 pub returns : goal.returns
 returns c =
-    IfOk-weaker c.keys_where-2.result _ _ (λ keys is. is ∙ ap (λ h. aged_keys c.args.moment h.present) c.self.view_is) c.keys_where-2.ensures
+    IfOk-weaker c.keys_where-2.result _ _
+    (λ keys is. is ∙ ap (λ h. aged_keys c.args.moment h.present) c.self.view_is)
+    c.keys_where-2.ensures

@@ -9,9 +9,12 @@ use Rattle.lsdb.proofs.database.Lsdb.bodies_at.Goals as goal
 pub returns-clause-bodies : goal.returns-clause-bodies
 returns-clause-bodies c =
     IfOk-weaker c.bodies_of.result _ _ (λ bodies are.
-    subst (λ (h : RouterDatabase). AreBodies c.args.last_type (λ key. said_by c.args.moment (finite.get h.present key)) bodies.items) c.self.view_is are) c.bodies_of.ensures.bodies
+    subst (λ (h : RouterDatabase). AreBodies c.args.last_type
+    (λ key. said_by c.args.moment (finite.get h.present key)) bodies.items) c.self.view_is are)
+    c.bodies_of.ensures.bodies
 
 pub returns-clause-few : goal.returns-clause-few
 returns-clause-few c =
     IfOk-weaker c.bodies_of.result _ _ (λ bodies few.
-    subst (λ (h : RouterDatabase). length bodies.items ≤ finite.len h.present) c.self.view_is few) c.bodies_of.ensures.few
+    subst (λ (h : RouterDatabase). length bodies.items ≤ finite.len h.present) c.self.view_is few)
+    c.bodies_of.ensures.few

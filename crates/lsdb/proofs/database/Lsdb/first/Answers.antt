@@ -5,4 +5,5 @@ use Rattle.lsdb.proofs.database.Lsdb.first.Goals as goal
 
 pub returns : goal.returns
 returns c =
-    IfOk-weaker c.first.result _ _ (λ keys is. is ∙ ap (λ h. take c.args.count (finite.keys h.present)) c.self.view_is) c.first.ensures
+    IfOk-weaker c.first.result _ _ (λ keys is. is
+    ∙ ap (λ h. take c.args.count (finite.keys h.present)) c.self.view_is) c.first.ensures

@@ -7,4 +7,5 @@ use Rattle.lsdb.proofs.database.Lsdb.first_from.Goals as goal
 pub returns : goal.returns
 returns c =
     IfOk-weaker c.first_from.result _ _ (λ keys is.
-    is ∙ ap (λ h. take c.args.count (keys_from c.args.key.now (finite.keys h.present))) c.self.view_is) c.first_from.ensures
+    is ∙ ap (λ h. take c.args.count (keys_from c.args.key.now (finite.keys h.present)))
+    c.self.view_is) c.first_from.ensures

@@ -13,7 +13,8 @@ use Rattle.lsdb.proofs.database.Lsdb.mark_sent.Goals as goal
 pub returns-in_default-clause-ok : goal.returns-in_default-clause-ok
 returns-in_default-clause-ok c =
     ap (λ h. h.present) (sym c.self.view_is)
-    ∙ marks_none c.args.moment c.args.key.now c.self.inside.copies.present (sym c.in_default.ensures)
+    ∙ marks_none c.args.moment c.args.key.now c.self.inside.copies.present
+    (sym c.in_default.ensures)
     ∙ ap (λ h. mark_sent c.args.moment c.args.key.now h.present) c.self.view_is
 
 -- the age of a copy stays when it is sent
@@ -27,11 +28,20 @@ invariant_of-self c =
     let edited = finite.insert copies key marked in
     let there = ap is_some (sym c.in-Some.ensures) in
     let stays : Foresees ages key (Some marked) =
-    subst (λ (x : DatabaseCopy). Foresees ages key (Some x)) (sym c.in_ok-marked.ensures) (subst (Foresees ages key) (sym c.in-Some.ensures) (c.self.invariant.foreseen key)) in record {
-      counted = after c.insert.result (λ d. c.self.inside.externals ≡ count_own_externals router d) c.insert.new.self.present copies edited c.insert.ensures.ok c.insert.ensures.err
-          (c.self.invariant.counted ∙ sym (count_change (is_own_external router) copies key marked there)) c.self.invariant.counted;
-      settled_counted = c.self.invariant.settled_counted ∙ sym (ap (count_own_externals router) c.insert.ensures.settled);
-      foreseen = after c.insert.result (ForeseesAll ages) c.insert.new.self.present copies edited c.insert.ensures.ok c.insert.ensures.err
-          (foresees_put ages copies key c.self.invariant.foreseen marked stays) c.self.invariant.foreseen;
-      settled_foreseen = subst (ForeseesAll ages) (sym c.insert.ensures.settled) c.self.invariant.settled_foreseen;
+    subst (λ (x : DatabaseCopy). Foresees ages key (Some x)) (sym c.in_ok-marked.ensures)
+    (subst (Foresees ages key) (sym c.in-Some.ensures) (c.self.invariant.foreseen key)) in
+    record {
+      counted = after c.insert.result (λ d. c.self.inside.externals ≡ count_own_externals router d)
+          c.insert.new.self.present copies edited c.insert.ensures.ok c.insert.ensures.err
+          (c.self.invariant.counted ∙ sym
+          (count_change (is_own_external router) copies key marked there))
+          c.self.invariant.counted;
+      settled_counted = c.self.invariant.settled_counted
+          ∙ sym (ap (count_own_externals router) c.insert.ensures.settled);
+      foreseen = after c.insert.result (ForeseesAll ages) c.insert.new.self.present copies edited
+          c.insert.ensures.ok c.insert.ensures.err
+          (foresees_put ages copies key c.self.invariant.foreseen marked stays)
+          c.self.invariant.foreseen;
+      settled_foreseen = subst (ForeseesAll ages) (sym c.insert.ensures.settled)
+          c.self.invariant.settled_foreseen;
     }

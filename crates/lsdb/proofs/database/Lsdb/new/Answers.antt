@@ -9,10 +9,14 @@ use Rattle.lsdb.proofs.database.Lsdb.new.Goals as goal
 
 pub invariant_of-result : goal.invariant_of-result
 invariant_of-result c = record {
-  counted = sym (ap (λ h. count_own_externals c.args.router h.present) c.new.ensures ∙ count_empty DatabaseCopy (is_own_external c.args.router));
-  settled_counted = sym (ap (λ h. count_own_externals c.args.router h.settled) c.new.ensures ∙ count_empty DatabaseCopy (is_own_external c.args.router));
-  foreseen = subst (λ h. ForeseesAll c.new-3.result h.present) (sym c.new.ensures) (foresees_nothing c.new-3.result);
-  settled_foreseen = subst (λ h. ForeseesAll c.new-3.result h.settled) (sym c.new.ensures) (foresees_nothing c.new-3.result);
+  counted = sym (ap (λ h. count_own_externals c.args.router h.present) c.new.ensures
+      ∙ count_empty DatabaseCopy (is_own_external c.args.router));
+  settled_counted = sym (ap (λ h. count_own_externals c.args.router h.settled) c.new.ensures
+      ∙ count_empty DatabaseCopy (is_own_external c.args.router));
+  foreseen = subst (λ h. ForeseesAll c.new-3.result h.present) (sym c.new.ensures)
+      (foresees_nothing c.new-3.result);
+  settled_foreseen = subst (λ h. ForeseesAll c.new-3.result h.settled) (sym c.new.ensures)
+      (foresees_nothing c.new-3.result);
 }
 
 pub returns : goal.returns

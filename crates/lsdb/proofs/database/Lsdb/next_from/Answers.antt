@@ -6,4 +6,5 @@ use Rattle.lsdb.proofs.database.Lsdb.next_from.Goals as goal
 
 pub returns : goal.returns
 returns c =
-    c.next_from.ensures ∙ ap (λ h. slice_get (keys_from c.args.key.now (finite.keys h.present)) 0) c.self.view_is
+    c.next_from.ensures ∙ ap (λ h. slice_get (keys_from c.args.key.now (finite.keys h.present)) 0)
+    c.self.view_is

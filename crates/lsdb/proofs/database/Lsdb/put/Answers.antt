@@ -16,7 +16,8 @@ recount-self-inside-requires c =
     ap (count_own_externals router) c.in_ok-insert.ensures.ok
     ∙ count_put (is_own_external router) copies key c.in_ok-copy.copy
     ∙ counts_if_own own (finite.contains_key copies key) true (count_own_externals router copies)
-    ∙ sym (λ i. cond own (count_after_change (c.holds_own-held.ensures i) true (c.self.invariant.counted i)) (c.self.invariant.counted i))
+    ∙ sym (λ i. cond own (count_after_change (c.holds_own-held.ensures i) true
+    (c.self.invariant.counted i)) (c.self.invariant.counted i))
 
 pub invariant_of-self-2 : goal.invariant_of-self-2
 invariant_of-self-2 c =
@@ -24,9 +25,13 @@ invariant_of-self-2 c =
     let key = c.key-name.result in
     let ages = c.note.new.self in record {
       counted = c.recount-self-inside.ensures;
-      settled_counted = c.self.invariant.settled_counted ∙ sym (ap (count_own_externals c.self.inside.router) c.insert.ensures.settled);
+      settled_counted = c.self.invariant.settled_counted
+          ∙ sym (ap (count_own_externals c.self.inside.router) c.insert.ensures.settled);
       foreseen = subst (ForeseesAll ages) (sym c.in_ok-insert.ensures.ok)
-          (foresees_put ages copies.present key (λ q. c.note.ensures.more q (finite.get copies.present q) (c.self.invariant.foreseen q)) c.in_ok-copy.copy c.in_ok-note.ensures.there);
+          (foresees_put ages copies.present key
+          (λ q. c.note.ensures.more q (finite.get copies.present q)
+          (c.self.invariant.foreseen q)) c.in_ok-copy.copy c.in_ok-note.ensures.there);
       settled_foreseen = subst (ForeseesAll ages) (sym c.insert.ensures.settled)
-          (λ q. c.note.ensures.more q (finite.get copies.settled q) (c.self.invariant.settled_foreseen q));
+          (λ q. c.note.ensures.more q (finite.get copies.settled q)
+          (c.self.invariant.settled_foreseen q));
     }

@@ -16,14 +16,18 @@ recount-self-inside-requires c =
     ap (count_own_externals router) c.in_ok-remove.ensures.ok
     ∙ count_remove (is_own_external router) copies key
     ∙ counts_if_own own (finite.contains_key copies key) false (count_own_externals router copies)
-    ∙ sym (λ i. cond own (count_after_change (c.holds_own-held.ensures i) false (c.self.invariant.counted i)) (c.self.invariant.counted i))
+    ∙ sym (λ i. cond own (count_after_change (c.holds_own-held.ensures i) false
+    (c.self.invariant.counted i)) (c.self.invariant.counted i))
 
 pub invariant_of-self-2 : goal.invariant_of-self-2
 invariant_of-self-2 c =
     let copies = c.self.inside.copies.present in
     let ages = c.self.inside.ages in record {
       counted = c.recount-self-inside.ensures;
-      settled_counted = c.self.invariant.settled_counted ∙ sym (ap (count_own_externals c.self.inside.router) c.remove.ensures.settled);
-      foreseen = subst (ForeseesAll ages) (sym c.in_ok-remove.ensures.ok) (foresees_taken ages copies c.args.key.now c.self.invariant.foreseen);
-      settled_foreseen = subst (ForeseesAll ages) (sym c.remove.ensures.settled) c.self.invariant.settled_foreseen;
+      settled_counted = c.self.invariant.settled_counted
+          ∙ sym (ap (count_own_externals c.self.inside.router) c.remove.ensures.settled);
+      foreseen = subst (ForeseesAll ages) (sym c.in_ok-remove.ensures.ok)
+          (foresees_taken ages copies c.args.key.now c.self.invariant.foreseen);
+      settled_foreseen = subst (ForeseesAll ages) (sym c.remove.ensures.settled)
+          c.self.invariant.settled_foreseen;
     }

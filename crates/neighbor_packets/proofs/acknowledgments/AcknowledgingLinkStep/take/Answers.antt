@@ -7,5 +7,6 @@ pub returns-clause-draft : goal.returns-clause-draft
 returns-clause-draft c =
     let l = c.args.link.now.present in
     on_ok c.acknowledged.result
-    (λ _. silent (after_acknowledgment c.args.self.now.moment c.args.self.now.headers.now) l.neighbor l.interface.delay c.args._draft.now)
+    (λ _. silent (after_acknowledgment c.args.self.now.moment c.args.self.now.headers.now)
+    l.neighbor l.interface.delay c.args._draft.now)
     c.acknowledged.ensures.ok

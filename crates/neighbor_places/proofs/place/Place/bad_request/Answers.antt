@@ -8,18 +8,24 @@ use Rattle.neighbor_places.proofs.place.Place.bad_request.Goals as goal
 pub returns-then-exchanging-clause-ok : goal.returns-then-exchanging-clause-ok
 returns-then-exchanging-clause-ok c =
     let is = sym c.is_exchange_or_later-exchanging.ensures ∙ c.if-exchanging.true in
-    on_ok c.attempt.result (λ made. made ∙ begins_anew c.args.moment c.args.self.now.present is) c.attempt.ensures.ok
+    on_ok c.attempt.result (λ made. made ∙ begins_anew c.args.moment c.args.self.now.present is)
+    c.attempt.ensures.ok
 
 pub returns-then-exchanging-clause-draft : goal.returns-then-exchanging-clause-draft
 returns-then-exchanging-clause-draft c =
     let is = sym c.is_exchange_or_later-exchanging.ensures ∙ c.if-exchanging.true in
-    on_ok c.attempt.result (λ sent delay. sent delay ∙ ap (λ cs. drafting delay cs c.args.draft.now) (sends_anew c.args.moment c.args.self.now.present is)) c.attempt.ensures.draft
+    on_ok c.attempt.result (λ sent delay. sent delay
+    ∙ ap (λ cs. drafting delay cs c.args.draft.now)
+    (sends_anew c.args.moment c.args.self.now.present is)) c.attempt.ensures.draft
 
 pub returns-clause-ok : goal.returns-clause-ok
 returns-clause-ok c =
-    rests_there c.args.moment c.args.self.now.present (sym c.is_exchange_or_later-exchanging.ensures ∙ c.if-exchanging.false)
+    rests_there c.args.moment c.args.self.now.present
+    (sym c.is_exchange_or_later-exchanging.ensures ∙ c.if-exchanging.false)
 
 pub returns-clause-draft : goal.returns-clause-draft
 returns-clause-draft c delay =
     drafting-none delay c.args.draft.now
-    ∙ ap (λ cs. drafting delay cs c.args.draft.now) (rests_unsent c.args.moment c.args.self.now.present (sym c.is_exchange_or_later-exchanging.ensures ∙ c.if-exchanging.false))
+    ∙ ap (λ cs. drafting delay cs c.args.draft.now)
+    (rests_unsent c.args.moment c.args.self.now.present
+    (sym c.is_exchange_or_later-exchanging.ensures ∙ c.if-exchanging.false))

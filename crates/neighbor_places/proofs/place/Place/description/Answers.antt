@@ -9,23 +9,32 @@ use Rattle.neighbor_places.proofs.place.Place.description.Goals as goal
 
 pub returns-then-too_large-clause-ok : goal.returns-then-too_large-clause-ok
 returns-then-too_large-clause-ok c =
-    discarded_on c.args.own c.args.moment c.args.database.now.present c.args.description.now c.args.self.now.present (sym c.is_too_large-too_large.ensures ∙ c.if-too_large.true)
+    discarded_on c.args.own c.args.moment c.args.database.now.present c.args.description.now
+    c.args.self.now.present (sym c.is_too_large-too_large.ensures ∙ c.if-too_large.true)
 
 pub returns-then-too_large-clause-draft : goal.returns-then-too_large-clause-draft
 returns-then-too_large-clause-draft c delay =
     drafting-none delay c.args.draft.now
-    ∙ ap (λ cs. drafting delay cs c.args.draft.now) (discarded_sent c.args.own c.args.moment c.args.database.now.present c.args.description.now c.args.self.now.present (sym c.is_too_large-too_large.ensures ∙ c.if-too_large.true))
+    ∙ ap (λ cs. drafting delay cs c.args.draft.now)
+    (discarded_sent c.args.own c.args.moment c.args.database.now.present c.args.description.now
+    c.args.self.now.present (sym c.is_too_large-too_large.ensures ∙ c.if-too_large.true))
 
 pub returns-clause-ok : goal.returns-clause-ok
 returns-clause-ok c =
     on_ok c.judge.result (λ made.
-    made ∙ ap (step_on (judging c.args.own c.args.moment c.args.database.now.present c.args.description.now)) c.in_ok-two_way.ensures.ok
-    ∙ judged_after c.args.own c.args.moment c.args.database.now.present c.args.description.now c.args.self.now.present (sym c.is_too_large-too_large.ensures ∙ c.if-too_large.false)) c.judge.ensures.ok
+    made ∙ ap (step_on (judging c.args.own c.args.moment c.args.database.now.present
+    c.args.description.now)) c.in_ok-two_way.ensures.ok
+    ∙ judged_after c.args.own c.args.moment c.args.database.now.present c.args.description.now
+    c.args.self.now.present (sym c.is_too_large-too_large.ensures ∙ c.if-too_large.false))
+    c.judge.ensures.ok
 
 pub returns-clause-draft : goal.returns-clause-draft
 returns-clause-draft c =
     let F = judging c.args.own c.args.moment c.args.database.now.present c.args.description.now in
     on_ok c.judge.result (λ made delay.
     made delay
-    ∙ (λ i. drafting delay (sent_on F (c.in_ok-two_way.ensures.ok i)) (c.in_ok-two_way.ensures.draft delay i))
-    ∙ sent_after c.args.own c.args.moment c.args.database.now.present c.args.description.now c.args.self.now.present delay c.args.draft.now (sym c.is_too_large-too_large.ensures ∙ c.if-too_large.false)) c.judge.ensures.draft
+    ∙ (λ i. drafting delay (sent_on F (c.in_ok-two_way.ensures.ok i))
+    (c.in_ok-two_way.ensures.draft delay i))
+    ∙ sent_after c.args.own c.args.moment c.args.database.now.present c.args.description.now
+    c.args.self.now.present delay c.args.draft.now
+    (sym c.is_too_large-too_large.ensures ∙ c.if-too_large.false)) c.judge.ensures.draft

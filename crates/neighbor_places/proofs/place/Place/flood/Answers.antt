@@ -15,8 +15,17 @@ returns-clause-draft c =
     let d = c.args.draft.now in
     let shown = ap (λ h. drafting c.args.delay (sent_on F h.present) d) c.self.view_is in
     elim c.match-self.branch [
-      | in-None w ↦ subst (λ r. IfOk r (λ x. c.match-self.draft ≡ drafting c.args.delay (sent_on F c.args.self.now.present) d)) (sym w.result-is)
-          (w.draft-is ∙ drafting-none c.args.delay d ∙ ap (λ o. drafting c.args.delay (sent_on F (present_of o)) d) (sym w.in-None.is) ∙ shown)
-      | in-Some w ↦ subst (λ r. IfOk r (λ x. c.match-self.draft ≡ drafting c.args.delay (sent_on F c.args.self.now.present) d)) (sym w.result-is)
-          (IfOk-weaker w.flood.result _ _ (λ x is. w.draft-is ∙ is ∙ ap (λ o. drafting c.args.delay (sent_on F (present_of o)) d) (sym w.in-Some.is) ∙ shown) w.flood.ensures.draft)
+      | in-None w ↦ subst (λ r. IfOk r
+          (λ x. c.match-self.draft ≡ drafting c.args.delay (sent_on F c.args.self.now.present) d))
+          (sym w.result-is)
+          (w.draft-is ∙ drafting-none c.args.delay d
+          ∙ ap (λ o. drafting c.args.delay (sent_on F (present_of o)) d) (sym w.in-None.is)
+          ∙ shown)
+      | in-Some w ↦ subst (λ r. IfOk r
+          (λ x. c.match-self.draft ≡ drafting c.args.delay (sent_on F c.args.self.now.present) d))
+          (sym w.result-is)
+          (IfOk-weaker w.flood.result _ _
+          (λ x is. w.draft-is ∙ is ∙ ap
+          (λ o. drafting c.args.delay (sent_on F (present_of o)) d) (sym w.in-Some.is)
+          ∙ shown) w.flood.ensures.draft)
     ]

@@ -10,12 +10,21 @@ use Rattle.neighbor_places.proofs.place.Place.proceed.Goals as goal
 
 pub returns-clause-draft : goal.returns-clause-draft
 returns-clause-draft c =
-    let F = proceeding (verdict_of c.args.verdict) c.args.moment c.args.database.now.present c.args.description.now in
+    let F = proceeding (verdict_of c.args.verdict) c.args.moment c.args.database.now.present
+    c.args.description.now in
     let d = c.args.draft.now in
     let shown = λ (delay : ℕ). ap (λ h. drafting delay (sent_on F h.present) d) c.self.view_is in
     elim c.match-self.branch [
-      | in-None w ↦ subst (λ r. OnOk r ((delay : ℕ) → c.match-self.draft ≡ drafting delay (sent_on F c.args.self.now.present) d)) (sym w.result-is)
-          (λ delay. w.draft-is ∙ drafting-none delay d ∙ ap (λ o. drafting delay (sent_on F (present_of o)) d) (sym w.in-None.is) ∙ shown delay)
-      | in-Some w ↦ subst (λ r. OnOk r ((delay : ℕ) → c.match-self.draft ≡ drafting delay (sent_on F c.args.self.now.present) d)) (sym w.result-is)
-          (on_ok w.proceed.result (λ is delay. w.draft-is ∙ is delay ∙ ap (λ o. drafting delay (sent_on F (present_of o)) d) (sym w.in-Some.is) ∙ shown delay) w.proceed.ensures.draft)
+      | in-None w ↦ subst (λ r. OnOk r
+          ((delay : ℕ) → c.match-self.draft ≡ drafting delay (sent_on F c.args.self.now.present) d))
+          (sym w.result-is)
+          (λ delay. w.draft-is ∙ drafting-none delay d
+          ∙ ap (λ o. drafting delay (sent_on F (present_of o)) d) (sym w.in-None.is)
+          ∙ shown delay)
+      | in-Some w ↦ subst (λ r. OnOk r
+          ((delay : ℕ) → c.match-self.draft ≡ drafting delay (sent_on F c.args.self.now.present) d))
+          (sym w.result-is)
+          (on_ok w.proceed.result (λ is delay. w.draft-is ∙ is delay
+          ∙ ap (λ o. drafting delay (sent_on F (present_of o)) d) (sym w.in-Some.is)
+          ∙ shown delay) w.proceed.ensures.draft)
     ]

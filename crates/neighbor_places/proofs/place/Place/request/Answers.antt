@@ -14,8 +14,16 @@ returns-clause-draft c =
     let d = c.args.draft.now in
     let shown = λ (delay : ℕ). ap (λ h. drafting delay (sent_on F h.present) d) c.self.view_is in
     elim c.match-self.branch [
-      | in-None w ↦ subst (λ r. OnOk r ((delay : ℕ) → c.match-self.draft ≡ drafting delay (sent_on F c.args.self.now.present) d)) (sym w.result-is)
-          (λ delay. w.draft-is ∙ drafting-none delay d ∙ ap (λ o. drafting delay (sent_on F (present_of o)) d) (sym w.in-None.is) ∙ shown delay)
-      | in-Some w ↦ subst (λ r. OnOk r ((delay : ℕ) → c.match-self.draft ≡ drafting delay (sent_on F c.args.self.now.present) d)) (sym w.result-is)
-          (on_ok w.request.result (λ is delay. w.draft-is ∙ is delay ∙ ap (λ o. drafting delay (sent_on F (present_of o)) d) (sym w.in-Some.is) ∙ shown delay) w.request.ensures.draft)
+      | in-None w ↦ subst (λ r. OnOk r
+          ((delay : ℕ) → c.match-self.draft ≡ drafting delay (sent_on F c.args.self.now.present) d))
+          (sym w.result-is)
+          (λ delay. w.draft-is ∙ drafting-none delay d
+          ∙ ap (λ o. drafting delay (sent_on F (present_of o)) d) (sym w.in-None.is)
+          ∙ shown delay)
+      | in-Some w ↦ subst (λ r. OnOk r
+          ((delay : ℕ) → c.match-self.draft ≡ drafting delay (sent_on F c.args.self.now.present) d))
+          (sym w.result-is)
+          (on_ok w.request.result (λ is delay. w.draft-is ∙ is delay
+          ∙ ap (λ o. drafting delay (sent_on F (present_of o)) d) (sym w.in-Some.is)
+          ∙ shown delay) w.request.ensures.draft)
     ]

@@ -15,8 +15,15 @@ returns-clause-draft c =
     let delay = c.args.delay in
     let shown = ap (λ h. drafting delay (sent_on F h.present) d) c.self.view_is in
     elim c.match-self.branch [
-      | in-None w ↦ subst (λ r. OnOk r (c.match-self.draft ≡ drafting delay (sent_on F c.args.self.now.present) d)) (sym w.result-is)
-          (w.draft-is ∙ drafting-none delay d ∙ ap (λ o. drafting delay (sent_on F (present_of o)) d) (sym w.in-None.is) ∙ shown)
-      | in-Some w ↦ subst (λ r. OnOk r (c.match-self.draft ≡ drafting delay (sent_on F c.args.self.now.present) d)) (sym w.result-is)
-          (on_ok w.send_again.result (λ is. w.draft-is ∙ is ∙ ap (λ o. drafting delay (sent_on F (present_of o)) d) (sym w.in-Some.is) ∙ shown) w.send_again.ensures.draft)
+      | in-None w ↦ subst (λ r. OnOk r
+          (c.match-self.draft ≡ drafting delay (sent_on F c.args.self.now.present) d))
+          (sym w.result-is)
+          (w.draft-is ∙ drafting-none delay d
+          ∙ ap (λ o. drafting delay (sent_on F (present_of o)) d) (sym w.in-None.is) ∙ shown)
+      | in-Some w ↦ subst (λ r. OnOk r
+          (c.match-self.draft ≡ drafting delay (sent_on F c.args.self.now.present) d))
+          (sym w.result-is)
+          (on_ok w.send_again.result (λ is. w.draft-is ∙ is
+          ∙ ap (λ o. drafting delay (sent_on F (present_of o)) d) (sym w.in-Some.is) ∙ shown)
+          w.send_again.ensures.draft)
     ]

@@ -5,4 +5,5 @@ use Rattle.adjacency.specs.Steps.{lsas_of}
 use Rattle.neighbor_places.proofs.place.requests.send_copies.Given as goal
 
 abbrev pub invariant-loop-key : goal.invariant-loop-key
-invariant-loop-key l = l.draft ≡ drafting l.delay (map Updates (lsas_of l.moment l.database.present (take l.key-index l.keys))) l.fn.draft
+invariant-loop-key l = l.draft ≡ drafting l.delay
+    (map Updates (lsas_of l.moment l.database.present (take l.key-index l.keys))) l.fn.draft

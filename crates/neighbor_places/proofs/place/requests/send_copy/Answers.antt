@@ -9,4 +9,5 @@ use Rattle.neighbor_places.proofs.place.requests.send_copy.Goals as goal
 pub returns-in-None : goal.returns-in-None
 returns-in-None c =
     drafting-none c.args.delay c.args.draft.now
-    ∙ ap (λ o. drafting c.args.delay (map Updates (cons_option (lsa_of c.args.moment o) [])) c.args.draft.now) c.in-None.ensures
+    ∙ ap (λ o. drafting c.args.delay (map Updates (cons_option (lsa_of c.args.moment o) []))
+    c.args.draft.now) c.in-None.ensures

@@ -5,7 +5,11 @@ use Rattle.neighbors.proofs.neighbor.Neighbor.ack.Goals as goal
 
 pub loop-header-preserved : goal.loop-header-preserved
 loop-header-preserved c = record {
-  present = c.in_ok-acknowledge.ensures.ok ∙ (λ i. acknowledged_neighbor c.args.moment (c.loop-header.invariant.present i) (c.header-item.is i))
-      ∙ sym (fold_more (acknowledged_neighbor c.args.moment) c.args.self.now.present c.args.headers.now c.loop-header.header-index c.header-item.result c.loop-header-test.true);
+  present = c.in_ok-acknowledge.ensures.ok
+      ∙ (λ i. acknowledged_neighbor c.args.moment (c.loop-header.invariant.present i)
+      (c.header-item.is i))
+      ∙ sym (fold_more (acknowledged_neighbor c.args.moment) c.args.self.now.present
+      c.args.headers.now c.loop-header.header-index c.header-item.result
+      c.loop-header-test.true);
   settled = c.acknowledge.ensures.settled ∙ c.loop-header.invariant.settled;
 }

@@ -4,6 +4,7 @@ use Rattle.neighbors.proofs.neighbor.Neighbor.ack.Given as goal
 
 abbrev pub invariant-loop-header : goal.invariant-loop-header
 invariant-loop-header l = record {
-  present : l.self.present ≡ after_acknowledgment l.moment (take l.header-index l.headers) l.fn.self.present;
+  present : l.self.present ≡ after_acknowledgment l.moment (take l.header-index l.headers)
+      l.fn.self.present;
   settled : l.self.settled ≡ l.fn.self.settled;
 }

@@ -8,12 +8,15 @@ pub returns-then-same-clause-ok : goal.returns-then-same-clause-ok
 returns-then-same-clause-ok c =
     let n = c.args.self.now.present in
     let without = remove_retransmission (key_of c.args.header.now) n in
-    let is = c.is_entry-same.ensures ∙ ap (is_entry c.args.moment c.args.header.now) c.entry-entry.ensures in
-    on_ok c.release.result (λ gone. gone ∙ ap (λ b. cond b without n) (sym c.if-same.true ∙ is)) c.release.ensures.ok
+    let is = c.is_entry-same.ensures ∙ ap (is_entry c.args.moment c.args.header.now)
+    c.entry-entry.ensures in
+    on_ok c.release.result (λ gone. gone ∙ ap (λ b. cond b without n) (sym c.if-same.true ∙ is))
+    c.release.ensures.ok
 
 pub returns-clause-ok : goal.returns-clause-ok
 returns-clause-ok c =
     let n = c.args.self.now.present in
     let without = remove_retransmission (key_of c.args.header.now) n in
-    let is = c.is_entry-same.ensures ∙ ap (is_entry c.args.moment c.args.header.now) c.entry-entry.ensures in
+    let is = c.is_entry-same.ensures ∙ ap (is_entry c.args.moment c.args.header.now)
+    c.entry-entry.ensures in
     ap (λ b. cond b without n) (sym c.if-same.false ∙ is)

@@ -5,4 +5,8 @@ use Rattle.neighbors.proofs.neighbor.Neighbor.count_on.Goals as goal
 
 pub returns : goal.returns
 returns c =
-    kept_is (counts_on c.self.inside.standing c.self.inside.described.present c.self.inside.summary.present c.self.inside.requests.present c.self.inside.outstanding.present c.self.inside.retransmissions.present c.args.sequence ∙ ap (λ h. record h.present { sequence = c.args.sequence }) c.self.view_is) (ap (λ h. h.settled) c.self.view_is)
+    kept_is (counts_on c.self.inside.standing c.self.inside.described.present
+    c.self.inside.summary.present c.self.inside.requests.present
+    c.self.inside.outstanding.present c.self.inside.retransmissions.present c.args.sequence
+    ∙ ap (λ h. record h.present { sequence = c.args.sequence }) c.self.view_is)
+    (ap (λ h. h.settled) c.self.view_is)

@@ -15,8 +15,12 @@ returns-clause-ok c =
     let n = c.args.self.now.present in
     on_ok c.describe.result (λ sent.
     c.in_ok-keep.ensures.ok
-    ∙ (λ i. record (c.in_ok-shorten.ensures.ok i) { described = Some (c.in_ok-next.ensures i); described_at = c.args.moment })) c.describe.ensures
+    ∙ (λ i. record (c.in_ok-shorten.ensures.ok i)
+    { described = Some (c.in_ok-next.ensures i); described_at = c.args.moment }))
+    c.describe.ensures
 
 pub returns-clause-draft : goal.returns-clause-draft
 returns-clause-draft c =
-    on_ok c.describe.result (λ sent delay. sent delay ∙ ap (λ d. drafting delay (Describes d ∷ []) c.args.draft.now) c.in_ok-next.ensures) c.describe.ensures
+    on_ok c.describe.result (λ sent delay. sent delay
+    ∙ ap (λ d. drafting delay (Describes d ∷ []) c.args.draft.now) c.in_ok-next.ensures)
+    c.describe.ensures

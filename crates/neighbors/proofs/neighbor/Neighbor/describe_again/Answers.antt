@@ -9,4 +9,5 @@ pub returns-clause-draft : goal.returns-clause-draft
 returns-clause-draft c delay =
     let n = c.args.self.now.present in
     drafting-none delay c.args.draft.now
-    ∙ ap (λ b. drafting delay (cond b (repeat c.args.moment n) (no_sends n)).sends c.args.draft.now) (sym c.if-due.false ∙ c.description_is_due-due.ensures)
+    ∙ ap (λ b. drafting delay (cond b (repeat c.args.moment n) (no_sends n)).sends c.args.draft.now)
+    (sym c.if-due.false ∙ c.description_is_due-due.ensures)

@@ -14,5 +14,9 @@ returns c =
     let req = c.self.inside.requests.present in
     let out = c.self.inside.outstanding.present in
     let retr = c.self.inside.retransmissions.present in
-    kept_is (ap (λ t. neighbor_of (record s { state = t }) des sum req out retr) (c.full_where-self-inside.ensures ∙ ap (full_where s.state) c.is_empty-unrequested.ensures)
-    ∙ ends_loading s des sum req out retr ∙ ap (λ h. loading_done h.present) c.self.view_is) (ap (λ h. h.settled) c.self.view_is)
+    kept_is (ap (λ t. neighbor_of (record s {
+      state = t;
+    }) des sum req out retr) (c.full_where-self-inside.ensures
+    ∙ ap (full_where s.state) c.is_empty-unrequested.ensures)
+    ∙ ends_loading s des sum req out retr ∙ ap (λ h. loading_done h.present) c.self.view_is)
+    (ap (λ h. h.settled) c.self.view_is)

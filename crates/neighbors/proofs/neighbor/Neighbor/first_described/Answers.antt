@@ -6,4 +6,9 @@ use Rattle.neighbors.proofs.neighbor.Neighbor.first_described.Goals as goal
 
 pub returns : goal.returns
 returns c =
-    IfOk-weaker c.first.result _ _ (λ keys are. are ∙ ap (λ m. take 408 (finite.keys m)) (summary_now c.self.inside.standing c.self.inside.described.present c.self.inside.summary.present c.self.inside.requests.present c.self.inside.outstanding.present c.self.inside.retransmissions.present ∙ ap (λ h. h.present.summary) c.self.view_is)) c.first.ensures
+    IfOk-weaker c.first.result _ _ (λ keys are. are
+    ∙ ap (λ m. take 408 (finite.keys m))
+    (summary_now c.self.inside.standing c.self.inside.described.present
+    c.self.inside.summary.present c.self.inside.requests.present
+    c.self.inside.outstanding.present c.self.inside.retransmissions.present
+    ∙ ap (λ h. h.present.summary) c.self.view_is)) c.first.ensures

@@ -14,10 +14,15 @@ returns-then-gets-clause-ok c =
     let n = c.args.self.now.present in
     let lsa = lsa_now c.args.moment c.args.copy.now in
     let m = without_met_request c.args.moment lsa n in
-    let A : Step = record { neighbor = add_retransmission c.args.moment lsa.header m; sends = Updates lsa ∷ [] } in
+    let A : Step = record {
+      neighbor = add_retransmission c.args.moment lsa.header m;
+      sends = Updates lsa ∷ [];
+    } in
     let B : Step = no_sends (remove_retransmission (lsa_key lsa) m) in
     let is = c.gets-gets.ensures ∙ ap (λ b. not c.args.from && b) c.in_ok-passes.ensures.passes in
-    c.in_ok-owe.ensures.ok ∙ ap (λ h. add_retransmission c.args.moment h c.meet.new.self.present) c.header-header.ensures ∙ ap (add_retransmission c.args.moment lsa.header) c.in_ok-passes.ensures.ok
+    c.in_ok-owe.ensures.ok ∙ ap (λ h. add_retransmission c.args.moment h c.meet.new.self.present)
+    c.header-header.ensures ∙ ap (add_retransmission c.args.moment lsa.header)
+    c.in_ok-passes.ensures.ok
     ∙ ap (λ b. (cond b A B).neighbor) (sym c.if-gets.true ∙ is)
 
 pub returns-then-gets-clause-draft : goal.returns-then-gets-clause-draft
@@ -25,17 +30,24 @@ returns-then-gets-clause-draft c =
     let n = c.args.self.now.present in
     let lsa = lsa_now c.args.moment c.args.copy.now in
     let m = without_met_request c.args.moment lsa n in
-    let A : Step = record { neighbor = add_retransmission c.args.moment lsa.header m; sends = Updates lsa ∷ [] } in
+    let A : Step = record {
+      neighbor = add_retransmission c.args.moment lsa.header m;
+      sends = Updates lsa ∷ [];
+    } in
     let B : Step = no_sends (remove_retransmission (lsa_key lsa) m) in
     let is = c.gets-gets.ensures ∙ ap (λ b. not c.args.from && b) c.in_ok-passes.ensures.passes in
-    c.in_ok-update.ensures ∙ ap (λ b. drafting c.args.delay (cond b A B).sends c.args.draft.now) (sym c.if-gets.true ∙ is)
+    c.in_ok-update.ensures ∙ ap (λ b. drafting c.args.delay (cond b A B).sends c.args.draft.now)
+    (sym c.if-gets.true ∙ is)
 
 pub returns-then-gets-clause-sent : goal.returns-then-gets-clause-sent
 returns-then-gets-clause-sent c =
     let n = c.args.self.now.present in
     let lsa = lsa_now c.args.moment c.args.copy.now in
     let m = without_met_request c.args.moment lsa n in
-    let A : Step = record { neighbor = add_retransmission c.args.moment lsa.header m; sends = Updates lsa ∷ [] } in
+    let A : Step = record {
+      neighbor = add_retransmission c.args.moment lsa.header m;
+      sends = Updates lsa ∷ [];
+    } in
     let B : Step = no_sends (remove_retransmission (lsa_key lsa) m) in
     let is = c.gets-gets.ensures ∙ ap (λ b. not c.args.from && b) c.in_ok-passes.ensures.passes in
     ap (λ b. is_any (cond b A B).sends) (sym c.if-gets.true ∙ is)
@@ -45,10 +57,14 @@ returns-clause-ok c =
     let n = c.args.self.now.present in
     let lsa = lsa_now c.args.moment c.args.copy.now in
     let m = without_met_request c.args.moment lsa n in
-    let A : Step = record { neighbor = add_retransmission c.args.moment lsa.header m; sends = Updates lsa ∷ [] } in
+    let A : Step = record {
+      neighbor = add_retransmission c.args.moment lsa.header m;
+      sends = Updates lsa ∷ [];
+    } in
     let B : Step = no_sends (remove_retransmission (lsa_key lsa) m) in
     let is = c.gets-gets.ensures ∙ ap (λ b. not c.args.from && b) c.in_ok-passes.ensures.passes in
-    c.in_ok-release.ensures.ok ∙ ap (λ h. remove_retransmission (key_of h) c.meet.new.self.present) c.header-header.ensures ∙ ap (remove_retransmission (lsa_key lsa)) c.in_ok-passes.ensures.ok
+    c.in_ok-release.ensures.ok ∙ ap (λ h. remove_retransmission (key_of h) c.meet.new.self.present)
+    c.header-header.ensures ∙ ap (remove_retransmission (lsa_key lsa)) c.in_ok-passes.ensures.ok
     ∙ ap (λ b. (cond b A B).neighbor) (sym c.if-gets.false ∙ is)
 
 pub returns-clause-draft : goal.returns-clause-draft
@@ -56,17 +72,25 @@ returns-clause-draft c =
     let n = c.args.self.now.present in
     let lsa = lsa_now c.args.moment c.args.copy.now in
     let m = without_met_request c.args.moment lsa n in
-    let A : Step = record { neighbor = add_retransmission c.args.moment lsa.header m; sends = Updates lsa ∷ [] } in
+    let A : Step = record {
+      neighbor = add_retransmission c.args.moment lsa.header m;
+      sends = Updates lsa ∷ [];
+    } in
     let B : Step = no_sends (remove_retransmission (lsa_key lsa) m) in
     let is = c.gets-gets.ensures ∙ ap (λ b. not c.args.from && b) c.in_ok-passes.ensures.passes in
-    drafting-none c.args.delay c.args.draft.now ∙ ap (λ b. drafting c.args.delay (cond b A B).sends c.args.draft.now) (sym c.if-gets.false ∙ is)
+    drafting-none c.args.delay c.args.draft.now
+    ∙ ap (λ b. drafting c.args.delay (cond b A B).sends c.args.draft.now)
+    (sym c.if-gets.false ∙ is)
 
 pub returns-clause-sent : goal.returns-clause-sent
 returns-clause-sent c =
     let n = c.args.self.now.present in
     let lsa = lsa_now c.args.moment c.args.copy.now in
     let m = without_met_request c.args.moment lsa n in
-    let A : Step = record { neighbor = add_retransmission c.args.moment lsa.header m; sends = Updates lsa ∷ [] } in
+    let A : Step = record {
+      neighbor = add_retransmission c.args.moment lsa.header m;
+      sends = Updates lsa ∷ [];
+    } in
     let B : Step = no_sends (remove_retransmission (lsa_key lsa) m) in
     let is = c.gets-gets.ensures ∙ ap (λ b. not c.args.from && b) c.in_ok-passes.ensures.passes in
     ap (λ b. is_any (cond b A B).sends) (sym c.if-gets.false ∙ is)

@@ -12,7 +12,10 @@ returns c =
     let req = c.self.inside.requests.present in
     let out = c.self.inside.outstanding.present in
     let retr = c.self.inside.retransmissions.present in
-    kept_is (ap (λ k. neighbor_of s k.present sum req out retr) c.set.ensures ∙ forgets s des sum req out retr
+    kept_is (ap (λ k. neighbor_of s k.present sum req out retr) c.set.ensures
+    ∙ forgets s des sum req out retr
     ∙ ap (λ h. record h.present { described = None }) c.self.view_is)
-    (ap (λ k. neighbor_of c.self.inside.before k.settled c.self.inside.summary.settled c.self.inside.requests.settled c.self.inside.outstanding.settled c.self.inside.retransmissions.settled) c.set.ensures
+    (ap (λ k. neighbor_of c.self.inside.before k.settled c.self.inside.summary.settled
+    c.self.inside.requests.settled c.self.inside.outstanding.settled
+    c.self.inside.retransmissions.settled) c.set.ensures
     ∙ ap (λ h. h.settled) c.self.view_is)

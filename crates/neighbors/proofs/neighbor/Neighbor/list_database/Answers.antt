@@ -9,6 +9,10 @@ returns-clause-ok c =
     let young = young_copies c.args.moment c.args.database.now.present in
     let aged = aged_copies c.args.moment c.args.database.now.present in
     both_ok c.list_copies.result (λ is_young is_aged.
-    (λ i. neighbor_of c.self.inside.standing c.self.inside.described.present (is_young i) c.self.inside.requests.present c.self.inside.outstanding.present (is_aged i))
-    ∙ lists_database c.self.inside.standing c.self.inside.described.present c.self.inside.summary.present c.self.inside.requests.present c.self.inside.outstanding.present c.self.inside.retransmissions.present young aged
-    ∙ ap (λ h. record h.present { summary = young; retransmissions = aged }) c.self.view_is) c.list_copies.ensures.young c.list_copies.ensures.aged
+    (λ i. neighbor_of c.self.inside.standing c.self.inside.described.present (is_young i)
+    c.self.inside.requests.present c.self.inside.outstanding.present (is_aged i))
+    ∙ lists_database c.self.inside.standing c.self.inside.described.present
+    c.self.inside.summary.present c.self.inside.requests.present
+    c.self.inside.outstanding.present c.self.inside.retransmissions.present young aged
+    ∙ ap (λ h. record h.present { summary = young; retransmissions = aged }) c.self.view_is)
+    c.list_copies.ensures.young c.list_copies.ensures.aged

@@ -12,10 +12,13 @@ returns-then-more-clause-ok c =
     let moment = c.args.moment in
     let goes_on = describe moment (record n { sequence = (n.sequence + 1) % 2 ^ 32 }) in
     let number = ap (λ q. (q + 1) % 2 ^ 32) c.sequence-sequence.ensures in
-    let is = c.either-more.ensures ∙ ap (λ b. b || c.args.description.now.more) c.announced_more-announced.ensures in
+    let is = c.either-more.ensures ∙ ap (λ b. b || c.args.description.now.more)
+    c.announced_more-announced.ensures in
     on_ok c.describe.result (λ sent.
-    sent ∙ ap (λ h. (describe moment h.present).neighbor) c.count_on.ensures ∙ ap (λ q. (describe moment (record n { sequence = q })).neighbor) number
-    ∙ ap (λ b. (cond b goes_on (no_sends (exchange_done moment n))).neighbor) (sym c.if-more.true ∙ is)) c.describe.ensures.ok
+    sent ∙ ap (λ h. (describe moment h.present).neighbor) c.count_on.ensures
+    ∙ ap (λ q. (describe moment (record n { sequence = q })).neighbor) number
+    ∙ ap (λ b. (cond b goes_on (no_sends (exchange_done moment n))).neighbor)
+    (sym c.if-more.true ∙ is)) c.describe.ensures.ok
 
 pub returns-then-more-clause-draft : goal.returns-then-more-clause-draft
 returns-then-more-clause-draft c =
@@ -24,23 +27,32 @@ returns-then-more-clause-draft c =
     let draft = c.args.draft.now in
     let goes_on = describe moment (record n { sequence = (n.sequence + 1) % 2 ^ 32 }) in
     let number = ap (λ q. (q + 1) % 2 ^ 32) c.sequence-sequence.ensures in
-    let is = c.either-more.ensures ∙ ap (λ b. b || c.args.description.now.more) c.announced_more-announced.ensures in
+    let is = c.either-more.ensures ∙ ap (λ b. b || c.args.description.now.more)
+    c.announced_more-announced.ensures in
     on_ok c.describe.result (λ sent delay.
-    sent delay ∙ ap (λ h. drafting delay (describe moment h.present).sends draft) c.count_on.ensures ∙ ap (λ q. drafting delay (describe moment (record n { sequence = q })).sends draft) number
-    ∙ ap (λ b. drafting delay (cond b goes_on (no_sends (exchange_done moment n))).sends draft) (sym c.if-more.true ∙ is)) c.describe.ensures.draft
+    sent delay ∙ ap (λ h. drafting delay (describe moment h.present).sends draft) c.count_on.ensures
+    ∙ ap (λ q. drafting delay (describe moment (record n { sequence = q })).sends draft) number
+    ∙ ap (λ b. drafting delay (cond b goes_on (no_sends (exchange_done moment n))).sends draft)
+    (sym c.if-more.true ∙ is)) c.describe.ensures.draft
 
 pub returns-clause-ok : goal.returns-clause-ok
 returns-clause-ok c =
     let n = c.args.self.now.present in
     let moment = c.args.moment in
     let goes_on = describe moment (record n { sequence = (n.sequence + 1) % 2 ^ 32 }) in
-    let is = c.either-more.ensures ∙ ap (λ b. b || c.args.description.now.more) c.announced_more-announced.ensures in
-    ap (λ h. h.present) c.finish.ensures ∙ ap (λ b. (cond b goes_on (no_sends (exchange_done moment n))).neighbor) (sym c.if-more.false ∙ is)
+    let is = c.either-more.ensures ∙ ap (λ b. b || c.args.description.now.more)
+    c.announced_more-announced.ensures in
+    ap (λ h. h.present) c.finish.ensures
+    ∙ ap (λ b. (cond b goes_on (no_sends (exchange_done moment n))).neighbor)
+    (sym c.if-more.false ∙ is)
 
 pub returns-clause-draft : goal.returns-clause-draft
 returns-clause-draft c delay =
     let n = c.args.self.now.present in
     let moment = c.args.moment in
     let goes_on = describe moment (record n { sequence = (n.sequence + 1) % 2 ^ 32 }) in
-    let is = c.either-more.ensures ∙ ap (λ b. b || c.args.description.now.more) c.announced_more-announced.ensures in
-    drafting-none delay c.args.draft.now ∙ ap (λ b. drafting delay (cond b goes_on (no_sends (exchange_done moment n))).sends c.args.draft.now) (sym c.if-more.false ∙ is)
+    let is = c.either-more.ensures ∙ ap (λ b. b || c.args.description.now.more)
+    c.announced_more-announced.ensures in
+    drafting-none delay c.args.draft.now
+    ∙ ap (λ b. drafting delay (cond b goes_on (no_sends (exchange_done moment n))).sends
+    c.args.draft.now) (sym c.if-more.false ∙ is)

@@ -6,4 +6,10 @@ use Rattle.neighbors.proofs.neighbor.Neighbor.negotiate.Goals as goal
 pub returns-clause-ok : goal.returns-clause-ok
 returns-clause-ok c =
     on_ok c.list_database.result (λ is.
-    is ∙ ap (λ h. record h.present { summary = young_copies c.args.moment c.args.database.now.present; retransmissions = aged_copies c.args.moment c.args.database.now.present }) c.enter_exchange.ensures) c.list_database.ensures.ok
+    is ∙ ap (λ h. record h.present {
+      summary =
+          young_copies c.args.moment c.args.database.now.present;
+      retransmissions =
+          aged_copies c.args.moment c.args.database.now.present;
+    }) c.enter_exchange.ensures)
+    c.list_database.ensures.ok

@@ -16,11 +16,25 @@ returns-clause-ok c =
     let out = c.self.inside.outstanding.present in
     let retr = c.self.inside.retransmissions.present in
     let rest = c.in_ok-remove.ensures.ok ∙ ap (finite.remove retr) c.key.ensures in
-    let start = c.later-self-inside.ensures ∙ ap (λ b. cond b c.args.moment s.retransmitted_at) (c.is_empty-first.ensures ∙ ap (λ m. finite.len m == 0) rest) in
+    let start = c.later-self-inside.ensures
+    ∙ ap (λ b. cond b c.args.moment s.retransmitted_at)
+    (c.is_empty-first.ensures ∙ ap (λ m. finite.len m == 0) rest) in
     on_ok c.insert.result (λ is.
-    ap (λ t. neighbor_of (record s { retransmitted_at = t }) des sum req out c.insert.new.self.present) start
-    ∙ ap (neighbor_of (record s { retransmitted_at = cond (finite.len (finite.remove retr (key_of c.args.header.now)) == 0) c.args.moment s.retransmitted_at }) des sum req out)
-    (is ∙ ap (λ k. finite.insert c.remove.new.self.present k (record { header = c.args.header.now; at = c.args.moment })) c.key-2.ensures
-    ∙ ap (λ m. finite.insert m (key_of c.args.header.now) (record { header = c.args.header.now; at = c.args.moment })) rest)
+    ap (λ t. neighbor_of (record s {
+      retransmitted_at = t;
+    }) des sum req out c.insert.new.self.present) start
+    ∙ ap (neighbor_of (record s {
+      retransmitted_at = cond (finite.len (finite.remove retr (key_of c.args.header.now)) == 0)
+          c.args.moment s.retransmitted_at;
+    }) des sum req out)
+    (is ∙ ap (λ k. finite.insert c.remove.new.self.present k (record {
+      header = c.args.header.now;
+      at = c.args.moment;
+    })) c.key-2.ensures
+    ∙ ap (λ m. finite.insert m (key_of c.args.header.now) (record {
+      header = c.args.header.now;
+      at = c.args.moment;
+    })) rest)
     ∙ has_retransmission s des sum req out retr c.args.moment c.args.header.now
-    ∙ ap (λ h. add_retransmission c.args.moment c.args.header.now h.present) c.self.view_is) c.insert.ensures.ok
+    ∙ ap (λ h. add_retransmission c.args.moment c.args.header.now h.present) c.self.view_is)
+    c.insert.ensures.ok

@@ -16,5 +16,7 @@ returns-clause-ok c =
     let out = c.self.inside.outstanding.present in
     let retr = c.self.inside.retransmissions.present in
     on_ok c.remove.result (λ is.
-    ap (neighbor_of s des sum req out) (is ∙ ap (finite.remove retr) c.key.ensures) ∙ releases s des sum req out retr (key_of c.args.header.now)
-    ∙ ap (λ h. remove_retransmission (key_of c.args.header.now) h.present) c.self.view_is) c.remove.ensures.ok
+    ap (neighbor_of s des sum req out) (is ∙ ap (finite.remove retr) c.key.ensures)
+    ∙ releases s des sum req out retr (key_of c.args.header.now)
+    ∙ ap (λ h. remove_retransmission (key_of c.args.header.now) h.present) c.self.view_is)
+    c.remove.ensures.ok

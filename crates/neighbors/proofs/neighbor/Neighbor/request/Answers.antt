@@ -8,11 +8,19 @@ use Rattle.adjacency.proofs.Sets.{waits_for_nothing}
 use Rattle.neighbors.proofs.neighbor.Neighbor.request.Goals as goal
 
 pub request_first-requires : goal.request_first-requires
-request_first-requires c = waits_for_nothing c.args.self.now.present (sym c.may_request-may.ensures ∙ c.if-may.true)
+request_first-requires c = waits_for_nothing c.args.self.now.present
+    (sym c.may_request-may.ensures ∙ c.if-may.true)
 
 pub returns-clause-draft : goal.returns-clause-draft
 returns-clause-draft c delay =
     let n = c.args.self.now.present in
-    let A : Step = record { neighbor = record n { outstanding = set.from_list (next_request n); requested_at = c.args.moment }; sends = Requests (next_request n) ∷ [] } in
+    let A : Step = record {
+      neighbor = record n {
+        outstanding = set.from_list (next_request n);
+        requested_at = c.args.moment;
+      };
+      sends = Requests (next_request n) ∷ [];
+    } in
     drafting-none delay c.args.draft.now
-    ∙ ap (λ b. drafting delay (cond b A (no_sends n)).sends c.args.draft.now) (sym c.if-may.false ∙ c.may_request-may.ensures)
+    ∙ ap (λ b. drafting delay (cond b A (no_sends n)).sends c.args.draft.now)
+    (sym c.if-may.false ∙ c.may_request-may.ensures)

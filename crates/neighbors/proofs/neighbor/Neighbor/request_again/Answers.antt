@@ -8,6 +8,10 @@ use Rattle.neighbors.proofs.neighbor.Neighbor.request_again.Goals as goal
 pub returns-clause-draft : goal.returns-clause-draft
 returns-clause-draft c delay =
     let n = c.args.self.now.present in
-    let A : Step = record { neighbor = record n { requested_at = c.args.moment }; sends = Requests (still_outstanding n) ∷ [] } in
+    let A : Step = record {
+      neighbor = record n { requested_at = c.args.moment };
+      sends = Requests (still_outstanding n) ∷ [];
+    } in
     drafting-none delay c.args.draft.now
-    ∙ ap (λ b. drafting delay (cond b A (no_sends n)).sends c.args.draft.now) (sym c.if-due.false ∙ c.request_is_due-due.ensures)
+    ∙ ap (λ b. drafting delay (cond b A (no_sends n)).sends c.args.draft.now)
+    (sym c.if-due.false ∙ c.request_is_due-due.ensures)

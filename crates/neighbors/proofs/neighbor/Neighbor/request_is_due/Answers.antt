@@ -6,7 +6,11 @@ use Rattle.neighbors.proofs.neighbor.Neighbor.request_is_due.Goals as goal
 
 pub returns : goal.returns
 returns c =
-    let passed = c.has_passed-passed.ensures ∙ ap (λ t. has_passed c.self.inside.standing.requested_at t c.args.moment) c.from.ensures in
+    let passed = c.has_passed-passed.ensures
+    ∙ ap (λ t. has_passed c.self.inside.standing.requested_at t c.args.moment) c.from.ensures in
     c.both.ensures ∙ (λ i. not (c.is_empty-none.ensures i) && (passed i))
-    ∙ asks_again c.self.inside.standing c.self.inside.described.present c.self.inside.summary.present c.self.inside.requests.present c.self.inside.outstanding.present c.self.inside.retransmissions.present c.args.moment c.args.interval
+    ∙ asks_again c.self.inside.standing c.self.inside.described.present
+    c.self.inside.summary.present c.self.inside.requests.present
+    c.self.inside.outstanding.present c.self.inside.retransmissions.present c.args.moment
+    c.args.interval
     ∙ ap (λ h. request_is_due c.args.moment c.args.interval h.present) c.self.view_is

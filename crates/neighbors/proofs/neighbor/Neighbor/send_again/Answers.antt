@@ -17,8 +17,12 @@ returns-clause-draft c =
     let second = c.in_ok-request_again.ensures in
     on_ok c.update_again.result (λ sent.
     sent
-    ∙ ap (λ n. drafting delay (update_again moment interval db n).sends c.request_again.new.draft) (second.ok ∙ ap (λ n. (request_again moment interval n).neighbor) first.ok)
-    ∙ ap (drafting delay (update_again moment interval db (request_again moment interval s.neighbor).neighbor).sends)
-    (second.draft delay ∙ ap (λ n. drafting delay (request_again moment interval n).sends c.describe_again.new.draft) first.ok
+    ∙ ap (λ n. drafting delay (update_again moment interval db n).sends c.request_again.new.draft)
+    (second.ok ∙ ap (λ n. (request_again moment interval n).neighbor) first.ok)
+    ∙ ap (drafting delay (update_again moment interval db
+    (request_again moment interval s.neighbor).neighbor).sends)
+    (second.draft delay ∙ ap (λ n. drafting delay (request_again moment interval n).sends
+    c.describe_again.new.draft) first.ok
     ∙ ap (drafting delay (request_again moment interval s.neighbor).sends) (first.draft delay))
-    ∙ drafting-three delay s (request_again moment interval) (update_again moment interval db) d) c.update_again.ensures.draft
+    ∙ drafting-three delay s (request_again moment interval) (update_again moment interval db) d)
+    c.update_again.ensures.draft

@@ -11,8 +11,10 @@ returns-then-more-clause-ok c =
     let d = c.args.description.now in
     let replied = describe moment (record n { sequence = d.sequence }) in
     let done : Step = record replied { neighbor = exchange_done moment replied.neighbor } in
-    let now = c.in_ok-describe.ensures.ok ∙ ap (λ h. (describe moment h.present).neighbor) c.count_on.ensures in
-    let is = c.either-more.ensures ∙ ap (λ b. b || d.more) (c.announced_more-announced.ensures ∙ ap (λ m. announced_more m.described) now) in
+    let now = c.in_ok-describe.ensures.ok
+    ∙ ap (λ h. (describe moment h.present).neighbor) c.count_on.ensures in
+    let is = c.either-more.ensures ∙ ap (λ b. b || d.more)
+    (c.announced_more-announced.ensures ∙ ap (λ m. announced_more m.described) now) in
     now ∙ ap (λ b. (cond b replied done).neighbor) (sym c.if-more.true ∙ is)
 
 pub returns-then-more-clause-draft : goal.returns-then-more-clause-draft
@@ -22,10 +24,15 @@ returns-then-more-clause-draft c delay =
     let d = c.args.description.now in
     let replied = describe moment (record n { sequence = d.sequence }) in
     let done : Step = record replied { neighbor = exchange_done moment replied.neighbor } in
-    let now = c.in_ok-describe.ensures.ok ∙ ap (λ h. (describe moment h.present).neighbor) c.count_on.ensures in
-    let is = c.either-more.ensures ∙ ap (λ b. b || d.more) (c.announced_more-announced.ensures ∙ ap (λ m. announced_more m.described) now) in
-    c.in_ok-describe.ensures.draft delay ∙ ap (λ h. drafting delay (describe moment h.present).sends c.args.draft.now) c.count_on.ensures
-    ∙ ap (λ b. drafting delay (cond b replied done).sends c.args.draft.now) (sym c.if-more.true ∙ is)
+    let now = c.in_ok-describe.ensures.ok
+    ∙ ap (λ h. (describe moment h.present).neighbor) c.count_on.ensures in
+    let is = c.either-more.ensures ∙ ap (λ b. b || d.more)
+    (c.announced_more-announced.ensures ∙ ap (λ m. announced_more m.described) now) in
+    c.in_ok-describe.ensures.draft delay
+    ∙ ap (λ h. drafting delay (describe moment h.present).sends c.args.draft.now)
+    c.count_on.ensures
+    ∙ ap (λ b. drafting delay (cond b replied done).sends c.args.draft.now)
+    (sym c.if-more.true ∙ is)
 
 pub returns-clause-ok : goal.returns-clause-ok
 returns-clause-ok c =
@@ -34,9 +41,12 @@ returns-clause-ok c =
     let d = c.args.description.now in
     let replied = describe moment (record n { sequence = d.sequence }) in
     let done : Step = record replied { neighbor = exchange_done moment replied.neighbor } in
-    let now = c.in_ok-describe.ensures.ok ∙ ap (λ h. (describe moment h.present).neighbor) c.count_on.ensures in
-    let is = c.either-more.ensures ∙ ap (λ b. b || d.more) (c.announced_more-announced.ensures ∙ ap (λ m. announced_more m.described) now) in
-    ap (λ h. h.present) c.finish.ensures ∙ ap (exchange_done moment) now ∙ ap (λ b. (cond b replied done).neighbor) (sym c.if-more.false ∙ is)
+    let now = c.in_ok-describe.ensures.ok
+    ∙ ap (λ h. (describe moment h.present).neighbor) c.count_on.ensures in
+    let is = c.either-more.ensures ∙ ap (λ b. b || d.more)
+    (c.announced_more-announced.ensures ∙ ap (λ m. announced_more m.described) now) in
+    ap (λ h. h.present) c.finish.ensures ∙ ap (exchange_done moment) now
+    ∙ ap (λ b. (cond b replied done).neighbor) (sym c.if-more.false ∙ is)
 
 pub returns-clause-draft : goal.returns-clause-draft
 returns-clause-draft c delay =
@@ -45,7 +55,12 @@ returns-clause-draft c delay =
     let d = c.args.description.now in
     let replied = describe moment (record n { sequence = d.sequence }) in
     let done : Step = record replied { neighbor = exchange_done moment replied.neighbor } in
-    let now = c.in_ok-describe.ensures.ok ∙ ap (λ h. (describe moment h.present).neighbor) c.count_on.ensures in
-    let is = c.either-more.ensures ∙ ap (λ b. b || d.more) (c.announced_more-announced.ensures ∙ ap (λ m. announced_more m.described) now) in
-    c.in_ok-describe.ensures.draft delay ∙ ap (λ h. drafting delay (describe moment h.present).sends c.args.draft.now) c.count_on.ensures
-    ∙ ap (λ b. drafting delay (cond b replied done).sends c.args.draft.now) (sym c.if-more.false ∙ is)
+    let now = c.in_ok-describe.ensures.ok
+    ∙ ap (λ h. (describe moment h.present).neighbor) c.count_on.ensures in
+    let is = c.either-more.ensures ∙ ap (λ b. b || d.more)
+    (c.announced_more-announced.ensures ∙ ap (λ m. announced_more m.described) now) in
+    c.in_ok-describe.ensures.draft delay
+    ∙ ap (λ h. drafting delay (describe moment h.present).sends c.args.draft.now)
+    c.count_on.ensures
+    ∙ ap (λ b. drafting delay (cond b replied done).sends c.args.draft.now)
+    (sym c.if-more.false ∙ is)

@@ -9,5 +9,7 @@ pub returns : goal.returns
 returns c =
     IfOk-weaker c.keys_where.result _ _ (λ keys is.
     is ∙ kept_in_both c.self.inside.outstanding.present c.self.inside.requests.present
-    ∙ outstanding_there c.self.inside.standing c.self.inside.described.present c.self.inside.summary.present c.self.inside.requests.present c.self.inside.outstanding.present c.self.inside.retransmissions.present
+    ∙ outstanding_there c.self.inside.standing c.self.inside.described.present
+    c.self.inside.summary.present c.self.inside.requests.present
+    c.self.inside.outstanding.present c.self.inside.retransmissions.present
     ∙ ap (λ h. still_outstanding h.present) c.self.view_is) c.keys_where.ensures

@@ -16,7 +16,10 @@ returns-clause-ok c =
     let out = c.self.inside.outstanding.present in
     let retr = c.self.inside.retransmissions.present in
     on_ok c.remove-2.result (λ is.
-    ap (λ r. neighbor_of s des sum r c.remove-2.new.self.present retr) (c.in_ok-remove.ensures.ok ∙ ap (finite.remove req) c.key.ensures)
-    ∙ ap (λ o. neighbor_of s des sum (finite.remove req (key_of c.args.header.now)) o retr) (is ∙ ap (finite.remove out) c.key-2.ensures)
+    ap (λ r. neighbor_of s des sum r c.remove-2.new.self.present retr)
+    (c.in_ok-remove.ensures.ok ∙ ap (finite.remove req) c.key.ensures)
+    ∙ ap (λ o. neighbor_of s des sum (finite.remove req (key_of c.args.header.now)) o retr)
+    (is ∙ ap (finite.remove out) c.key-2.ensures)
     ∙ withdraws s des sum req out retr (key_of c.args.header.now)
-    ∙ ap (λ h. without_request (key_of c.args.header.now) h.present) c.self.view_is) c.remove-2.ensures.ok
+    ∙ ap (λ h. without_request (key_of c.args.header.now) h.present) c.self.view_is)
+    c.remove-2.ensures.ok

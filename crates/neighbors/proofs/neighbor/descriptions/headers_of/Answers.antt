@@ -8,5 +8,8 @@ use Rattle.neighbors.proofs.neighbor.descriptions.headers_of.Goals as goal
 pub loop-key-preserved : goal.loop-key-preserved
 loop-key-preserved c =
     c.in_ok-push_header.ensures
-    ∙ (λ i. c.loop-key.invariant i ++ filter_map (λ key. entry_header c.args.moment (finite.get c.args.list.now.present key)) (c.key-item.is i ∷ []))
-    ∙ one_more_header c.args.moment c.args.list.now.present c.args.keys.now c.loop-key.key-index c.key-item.result c.loop-key-test.true
+    ∙ (λ i. c.loop-key.invariant i ++ filter_map
+    (λ key. entry_header c.args.moment (finite.get c.args.list.now.present key))
+    (c.key-item.is i ∷ []))
+    ∙ one_more_header c.args.moment c.args.list.now.present c.args.keys.now c.loop-key.key-index
+    c.key-item.result c.loop-key-test.true

@@ -5,4 +5,6 @@ use Rattle.adjacency.specs.Exchanges.{entry_header}
 use Rattle.neighbors.proofs.neighbor.descriptions.headers_of.Given as goal
 
 abbrev pub invariant-loop-key : goal.invariant-loop-key
-invariant-loop-key l = l.headers.items ≡ filter_map (λ key. entry_header l.moment (finite.get l.list.present key)) (take l.key-index l.keys)
+invariant-loop-key l = l.headers.items
+    ≡ filter_map (λ key. entry_header l.moment (finite.get l.list.present key))
+    (take l.key-index l.keys)

@@ -5,7 +5,11 @@ use Rattle.neighbors.proofs.neighbor.descriptions.want_all.Goals as goal
 
 pub loop-header-preserved : goal.loop-header-preserved
 loop-header-preserved c = record {
-  present = c.in_ok-want.ensures.ok ∙ (λ i. with_request c.args.moment c.args.database.now.present (c.loop-header.invariant.present i) (c.header-item.is i))
-      ∙ sym (fold_more (with_request c.args.moment c.args.database.now.present) c.args.requests.now.present c.args.headers.now c.loop-header.header-index c.header-item.result c.loop-header-test.true);
+  present = c.in_ok-want.ensures.ok
+      ∙ (λ i. with_request c.args.moment c.args.database.now.present
+      (c.loop-header.invariant.present i) (c.header-item.is i))
+      ∙ sym (fold_more (with_request c.args.moment c.args.database.now.present)
+      c.args.requests.now.present c.args.headers.now c.loop-header.header-index
+      c.header-item.result c.loop-header-test.true);
   settled = c.want.ensures.settled ∙ c.loop-header.invariant.settled;
 }

@@ -5,6 +5,7 @@ use Rattle.neighbors.proofs.neighbor.descriptions.want_all.Given as goal
 
 abbrev pub invariant-loop-header : goal.invariant-loop-header
 invariant-loop-header l = record {
-  present : l.requests.present ≡ fold (with_request l.moment l.database.present) l.fn.requests.present (take l.header-index l.headers);
+  present : l.requests.present ≡ fold (with_request l.moment l.database.present)
+      l.fn.requests.present (take l.header-index l.headers);
   settled : l.requests.settled ≡ l.fn.requests.settled;
 }

@@ -8,8 +8,12 @@ use Rattle.neighbors.proofs.neighbor.negotiation.list_copies.Given as goal
 -- the result of continuing to the end
 abbrev pub invariant-loop-key : goal.invariant-loop-key
 invariant-loop-key l = record {
-  young : fold (with_key (is_young l.moment) l.moment l.database.present) l.young.present l.key-iterator ≡ fold (with_key (is_young l.moment) l.moment l.database.present) finite.empty (finite.keys l.database.present);
-  aged : fold (with_key (is_aged_out l.moment) l.moment l.database.present) l.aged.present l.key-iterator ≡ fold (with_key (is_aged_out l.moment) l.moment l.database.present) finite.empty (finite.keys l.database.present);
+  young : fold (with_key (is_young l.moment) l.moment l.database.present) l.young.present
+      l.key-iterator ≡ fold (with_key (is_young l.moment) l.moment l.database.present) finite.empty
+      (finite.keys l.database.present);
+  aged : fold (with_key (is_aged_out l.moment) l.moment l.database.present) l.aged.present
+      l.key-iterator ≡ fold (with_key (is_aged_out l.moment) l.moment l.database.present)
+      finite.empty (finite.keys l.database.present);
   young_settled : l.young.settled ≡ l.fn.young.settled;
   aged_settled : l.aged.settled ≡ l.fn.aged.settled;
 }

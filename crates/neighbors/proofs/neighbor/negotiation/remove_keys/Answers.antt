@@ -5,7 +5,9 @@ use Rattle.neighbors.proofs.neighbor.negotiation.remove_keys.Goals as goal
 
 pub loop-key-preserved : goal.loop-key-preserved
 loop-key-preserved c = record {
-  present = c.in_ok-remove.ensures.ok ∙ (λ i. finite.remove (c.loop-key.invariant.present i) (c.key-item.is i))
-      ∙ sym (fold_more finite.remove c.args.list.now.present c.args.keys.now c.loop-key.key-index c.key-item.result c.loop-key-test.true);
+  present = c.in_ok-remove.ensures.ok
+      ∙ (λ i. finite.remove (c.loop-key.invariant.present i) (c.key-item.is i))
+      ∙ sym (fold_more finite.remove c.args.list.now.present c.args.keys.now c.loop-key.key-index
+      c.key-item.result c.loop-key-test.true);
   settled = c.remove.ensures.settled ∙ c.loop-key.invariant.settled;
 }

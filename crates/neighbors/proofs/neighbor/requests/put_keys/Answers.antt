@@ -10,7 +10,8 @@ loop-key-init c = record { present = ap keys_of c.requires ∙ no_keys (Unit {0}
 
 pub loop-key-preserved : goal.loop-key-preserved
 loop-key-preserved c = record {
-  present = ap keys_of c.in_ok-insert.ensures.ok ∙ keys_insert c.loop-key.keys_set.present c.key-item.result tt
+  present = ap keys_of c.in_ok-insert.ensures.ok
+      ∙ keys_insert c.loop-key.keys_set.present c.key-item.result tt
       ∙ (λ i. set.insert (c.loop-key.invariant.present i) (c.key-item.is i))
       ∙ pushed_key c.args.keys.now c.loop-key.key-index c.key-item.result c.loop-key-test.true;
   settled = c.insert.ensures.settled ∙ c.loop-key.invariant.settled;

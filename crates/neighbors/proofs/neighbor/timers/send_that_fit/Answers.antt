@@ -13,9 +13,12 @@ returns-in_default c =
     let db = c.args.database.now.present in
     let drafted = c.send_key_if_it_fits.new.draft in
     drafting-none c.args.delay drafted
-    ∙ ap (λ o. drafting c.args.delay (map Updates (that_fit_after o (lsas_of moment db c.next.new.self))) drafted) (sym c.in_default.is)
+    ∙ ap (λ o. drafting c.args.delay (map Updates
+    (that_fit_after o (lsas_of moment db c.next.new.self))) drafted) (sym c.in_default.is)
     ∙ c.in_ok-next.ensures c.next.new.self
-    ∙ ap (λ ks. drafting c.args.delay (map Updates (that_fit c.loop-key.used (lsas_of moment db ks))) c.loop-key.draft) (sym c.in-Some.ensures.steps)
+    ∙ ap (λ ks. drafting c.args.delay
+    (map Updates (that_fit c.loop-key.used (lsas_of moment db ks))) c.loop-key.draft)
+    (sym c.in-Some.ensures.steps)
     ∙ c.loop-key.invariant
 
 pub returns : goal.returns
@@ -23,5 +26,7 @@ returns c =
     let moment = c.args.moment in
     let db = c.args.database.now.present in
     drafting-none c.args.delay c.loop-key.draft
-    ∙ ap (λ ks. drafting c.args.delay (map Updates (that_fit c.loop-key.used (lsas_of moment db ks))) c.loop-key.draft) (sym c.in-None.ensures.steps.0)
+    ∙ ap (λ ks. drafting c.args.delay
+    (map Updates (that_fit c.loop-key.used (lsas_of moment db ks))) c.loop-key.draft)
+    (sym c.in-None.ensures.steps.0)
     ∙ c.loop-key.invariant

@@ -9,5 +9,7 @@ use Rattle.neighbors.proofs.neighbor.timers.send_that_fit.Given as goal
 -- continuing from here gives the whole result
 abbrev pub invariant-loop-key : goal.invariant-loop-key
 invariant-loop-key l =
-    drafting l.delay (map Updates (that_fit l.used (lsas_of l.moment l.database.present l.key-iterator))) l.draft
-    ≡ drafting l.delay (map Updates (that_fit 28 (lsas_of l.moment l.database.present (finite.keys l.entries.present)))) l.fn.draft
+    drafting l.delay (map Updates (that_fit l.used
+    (lsas_of l.moment l.database.present l.key-iterator))) l.draft
+    ≡ drafting l.delay (map Updates (that_fit 28
+    (lsas_of l.moment l.database.present (finite.keys l.entries.present)))) l.fn.draft

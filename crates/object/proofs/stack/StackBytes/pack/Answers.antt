@@ -17,10 +17,13 @@ loop-byte-preserved c =
     c.in_ok-push.ensures.items
     ∙ ap (λ t. t ++ c.packed_byte.result ∷ []) was
     ∙ append_assoc c.args.out.now.items front (c.packed_byte.result ∷ [])
-    ∙ ap (λ t. c.args.out.now.items ++ (front ++ t)) (c.packed_byte.ensures ∙ ap (λ n. packed_bits (take n (drop (8 * c.loop-byte.byte) bits))) eight)
+    ∙ ap (λ t. c.args.out.now.items ++ (front ++ t))
+    (c.packed_byte.ensures ∙ ap (λ n. packed_bits (take n (drop (8 * c.loop-byte.byte) bits)))
+    eight)
     ∙ ap (λ t. c.args.out.now.items ++ t) (sym (packed-more c.loop-byte.byte bits (omega arith)))
 
 pub returns : goal.returns
 returns c =
     let long = c.self.told in
-    c.loop-byte.invariant ∙ ap (λ t. c.args.out.now.items ++ packed_bits t) (take_all (8 * c.loop-byte.byte) c.self.inside.bytes (omega arith) ∙ c.self.view_is)
+    c.loop-byte.invariant ∙ ap (λ t. c.args.out.now.items ++ packed_bits t)
+    (take_all (8 * c.loop-byte.byte) c.self.inside.bytes (omega arith) ∙ c.self.view_is)

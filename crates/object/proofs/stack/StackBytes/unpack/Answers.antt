@@ -21,6 +21,8 @@ returns c =
     let long = c.loop-byte.invariant.long in
     let size = c.requires in
     record {
-      packed = bits_packed c.args.bytes.now c.loop-byte.set (λ i. let fits = c.type_inv.bytes i in omega arith) (omega arith) (λ k lt. c.loop-byte.invariant.bits k (omega arith));
+      packed = bits_packed c.args.bytes.now c.loop-byte.set
+          (λ i. let fits = c.type_inv.bytes i in omega arith) (omega arith)
+          (λ k lt. c.loop-byte.invariant.bits k (omega arith));
       are = c.loop-byte.invariant.long;
     }

@@ -11,8 +11,11 @@ returns-in-Err-clause-told g c =
     let port = c.args.port.now in
     let lists = IsListed g.B.Taker.own g.B.Taker.neighbor_at in
     let s =
-    sources g.B.Taker.offers g.B.Taker.took g.B.Taker.refuses g.B.Taker.wanted lists g.F.ReadsFiles.holds g.F.ReadsFiles.unreadable in
+    sources g.B.Taker.offers g.B.Taker.took g.B.Taker.refuses g.B.Taker.wanted lists
+    g.F.ReadsFiles.holds g.F.ReadsFiles.unreadable in
     let operations = operations_of desk.loader in
     let same =
-    change operations operations (known_to port.asker) desk.unrefreshed port.share.amount port.share.amount port.seat port.seat in
-    told_why s same c.args.path.now c.in-Err.error c.reason.result c.lines.result refl c.in-Err.ensures.err c.reason.ensures c.lines.ensures
+    change operations operations (known_to port.asker) desk.unrefreshed port.share.amount
+    port.share.amount port.seat port.seat in
+    told_why s same c.args.path.now c.in-Err.error c.reason.result c.lines.result refl
+    c.in-Err.ensures.err c.reason.ensures c.lines.ensures

@@ -4,7 +4,8 @@ use Rattle.worker.specs.Turns.{IsListed}
 use Rattle.operator.specs.Answers.{change, sources}
 use Rattle.operator.specs.Shown.{IsCountersText, ShowsNeighbors, ShowsTable}
 use Rattle.operator.proofs.Answered.{made, moved}
-use Rattle.operator.proofs.desk.Desk.carry_out.Goals.{in-Attach, in-Detach, in-Add, in-Withdraw, in-Table, in-Neighbors, in-Counters}
+use Rattle.operator.proofs.desk.Desk.carry_out.Goals.{in-Attach, in-Detach, in-Add, in-Withdraw}
+use Rattle.operator.proofs.desk.Desk.carry_out.Goals.{in-Table, in-Neighbors, in-Counters}
 use Rattle.operator.proofs.desk.Desk.carry_out.Goals as goal
 
 pub returns-clause-told : goal.returns-clause-told
@@ -13,7 +14,8 @@ returns-clause-told g c =
     let port = c.args.port.now in
     let lists = IsListed g.B.Taker.own g.B.Taker.neighbor_at in
     let s =
-    sources g.B.Taker.offers g.B.Taker.took g.B.Taker.refuses g.B.Taker.wanted lists g.F.ReadsFiles.holds g.F.ReadsFiles.unreadable in
+    sources g.B.Taker.offers g.B.Taker.took g.B.Taker.refuses g.B.Taker.wanted lists
+    g.F.ReadsFiles.holds g.F.ReadsFiles.unreadable in
     let before = operations_of c.args.self.now.loader in
     let desk = c.match-command.self in
     let after = c.match-command.port in
@@ -24,37 +26,48 @@ returns-clause-told g c =
     elim c.match-command.branch [
       | in-Attach w ↦
           moved s n now _ command (commands.Attach w.in-Attach.path) answer w.attach.result
-          (λ i. change before (operations_of (w.self-is i).loader) (known_to (w.port-is i).asker) (w.self-is i).unrefreshed
+          (λ i. change before (operations_of (w.self-is i).loader) (known_to (w.port-is i).asker)
+          (w.self-is i).unrefreshed
           port.share.amount (w.port-is i).share.amount port.seat (w.port-is i).seat)
           w.in-Attach.is w.result-is w.attach.ensures.told
       | in-Detach w ↦
           moved s n now _ command (commands.Detach w.in-Detach.hook) answer w.detach.result
-          (λ i. change before (operations_of (w.self-is i).loader) (known_to (w.port-is i).asker) (w.self-is i).unrefreshed
+          (λ i. change before (operations_of (w.self-is i).loader) (known_to (w.port-is i).asker)
+          (w.self-is i).unrefreshed
           port.share.amount (w.port-is i).share.amount port.seat (w.port-is i).seat)
           w.in-Detach.is w.result-is w.detach.ensures.told
       | in-Add w ↦
           moved s n now _ command (commands.Add w.in-Add.external) answer w.add.result
-          (λ i. change before (operations_of (w.self-is i).loader) (known_to (w.port-is i).asker) (w.self-is i).unrefreshed
+          (λ i. change before (operations_of (w.self-is i).loader) (known_to (w.port-is i).asker)
+          (w.self-is i).unrefreshed
           port.share.amount (w.port-is i).share.amount port.seat (w.port-is i).seat)
           w.in-Add.is w.result-is w.add.ensures
       | in-Withdraw w ↦
           moved s n now _ command (commands.Withdraw w.in-Withdraw.prefix) answer w.withdraw.result
-          (λ i. change before (operations_of (w.self-is i).loader) (known_to (w.port-is i).asker) (w.self-is i).unrefreshed
+          (λ i. change before (operations_of (w.self-is i).loader) (known_to (w.port-is i).asker)
+          (w.self-is i).unrefreshed
           port.share.amount (w.port-is i).share.amount port.seat (w.port-is i).seat)
           w.in-Withdraw.is w.result-is w.withdraw.ensures
       | in-Table w ↦
           moved s n now _ command (commands.Table) answer w.lines.result
-          (λ i. change before (operations_of (w.self-is i).loader) (known_to (w.port-is i).asker) (w.self-is i).unrefreshed
+          (λ i. change before (operations_of (w.self-is i).loader) (known_to (w.port-is i).asker)
+          (w.self-is i).unrefreshed
           port.share.amount (w.port-is i).share.amount port.seat (w.port-is i).seat)
-          w.in-Table.is w.result-is (made (ShowsTable g.B.Taker.offers) w.table.result w.lines.result w.table.ensures w.lines.ensures)
+          w.in-Table.is w.result-is (made (ShowsTable g.B.Taker.offers) w.table.result
+          w.lines.result w.table.ensures w.lines.ensures)
       | in-Neighbors w ↦
           moved s n now _ command (commands.Neighbors) answer w.lines-in-Neighbors.result
-          (λ i. change before (operations_of (w.self-is i).loader) (known_to (w.port-is i).asker) (w.self-is i).unrefreshed
+          (λ i. change before (operations_of (w.self-is i).loader) (known_to (w.port-is i).asker)
+          (w.self-is i).unrefreshed
           port.share.amount (w.port-is i).share.amount port.seat (w.port-is i).seat)
-          w.in-Neighbors.is w.result-is (made (ShowsNeighbors (lists n)) w.neighbors.result w.lines-in-Neighbors.result w.neighbors.ensures w.lines-in-Neighbors.ensures)
+          w.in-Neighbors.is w.result-is (made (ShowsNeighbors (lists n)) w.neighbors.result
+          w.lines-in-Neighbors.result w.neighbors.ensures w.lines-in-Neighbors.ensures)
       | in-Counters w ↦
           moved s n now _ command (commands.Counters) answer w.lines-in-Counters.result
-          (λ i. change before (operations_of (w.self-is i).loader) (known_to (w.port-is i).asker) (w.self-is i).unrefreshed
+          (λ i. change before (operations_of (w.self-is i).loader) (known_to (w.port-is i).asker)
+          (w.self-is i).unrefreshed
           port.share.amount (w.port-is i).share.amount port.seat (w.port-is i).seat)
-          w.in-Counters.is w.result-is (made (IsCountersText port.seat w.counters.new.port.seat) w.counters.result w.lines-in-Counters.result w.counters.ensures.text w.lines-in-Counters.ensures)
+          w.in-Counters.is w.result-is (made (IsCountersText port.seat w.counters.new.port.seat)
+          w.counters.result w.lines-in-Counters.result w.counters.ensures.text
+          w.lines-in-Counters.ensures)
     ]

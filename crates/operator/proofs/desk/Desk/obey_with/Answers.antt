@@ -8,7 +8,8 @@ pub returns-clause-told : goal.returns-clause-told
 returns-clause-told g c =
     let lists = IsListed g.B.Taker.own g.B.Taker.neighbor_at in
     let s =
-    sources g.B.Taker.offers g.B.Taker.took g.B.Taker.refuses g.B.Taker.wanted lists g.F.ReadsFiles.holds g.F.ReadsFiles.unreadable in
+    sources g.B.Taker.offers g.B.Taker.took g.B.Taker.refuses g.B.Taker.wanted lists
+    g.F.ReadsFiles.holds g.F.ReadsFiles.unreadable in
     let between = c.make_up.new.port in
     let after = c.answer.new.port in
     let desk = c.answer.new.self in (
@@ -17,12 +18,15 @@ returns-clause-told g c =
       between.seat,
       c.make_up.ensures.made_up,
       obeyed_from s c.args.self.now.interfaces c.make_up.new.self.interfaces
-          (change (operations_of c.args.self.now.loader) (operations_of desk.loader) (known_to after.asker) desk.unrefreshed
+          (change (operations_of c.args.self.now.loader) (operations_of desk.loader)
+          (known_to after.asker) desk.unrefreshed
           between.share.amount after.share.amount between.seat after.seat)
-          (change (operations_of c.make_up.new.self.loader) (operations_of desk.loader) (known_to after.asker) desk.unrefreshed
+          (change (operations_of c.make_up.new.self.loader) (operations_of desk.loader)
+          (known_to after.asker) desk.unrefreshed
           between.share.amount after.share.amount between.seat after.seat)
           c.args.line.now c.answer.result c.make_up.ensures.interfaces
-          (λ i. change (operations_of (c.make_up.ensures.loader i)) (operations_of desk.loader) (known_to after.asker) desk.unrefreshed
+          (λ i. change (operations_of (c.make_up.ensures.loader i)) (operations_of desk.loader)
+          (known_to after.asker) desk.unrefreshed
           between.share.amount after.share.amount between.seat after.seat)
           c.answer.ensures.told,
     )

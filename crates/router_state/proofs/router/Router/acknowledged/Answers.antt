@@ -10,7 +10,8 @@ returns-clause-makes c =
     let n = c.args.number in
     let hs = c.args.headers.now in
     both c.acknowledged.result
-    (makes_are (acknowledged_by m n hs) (keeps_acknowledgment m n hs) _ c.args.self.now.present c.acknowledged.new.area.present c.args.drafts.now c.acknowledged.new.drafts
+    (makes_are (acknowledged_by m n hs) (keeps_acknowledgment m n hs) _ c.args.self.now.present
+    c.acknowledged.new.area.present c.args.drafts.now c.acknowledged.new.drafts
     (appends_acknowledgment m n hs) (ap (λ k. k.present) c.self.view_is))
     c.acknowledged.ensures.ok c.acknowledged.ensures.drafts
 
@@ -20,6 +21,7 @@ returns-clause-drafts c =
     let n = c.args.number in
     let hs = c.args.headers.now in
     both c.acknowledged.result
-    (drafts_are (acknowledged_by m n hs) (keeps_acknowledgment m n hs) _ c.args.self.now.present c.acknowledged.new.area.present c.args.drafts.now c.acknowledged.new.drafts
+    (drafts_are (acknowledged_by m n hs) (keeps_acknowledgment m n hs) _ c.args.self.now.present
+    c.acknowledged.new.area.present c.args.drafts.now c.acknowledged.new.drafts
     (ap (λ k. k.present) c.self.view_is) c.requires.drafts)
     c.acknowledged.ensures.ok c.acknowledged.ensures.drafts

@@ -11,10 +11,15 @@ invariant_of-self c =
     let id = c.self.inside.id in
     let m = c.self.inside.announced.present in
     let e = c.args.external in
-    let key = c.requires.key ∙ ap (λ k. external_key k.present.id e.prefix) (sym c.self.view_is) in (
+    let key = c.requires.key ∙ ap (λ k. external_key k.present.id e.prefix) (sym c.self.view_is)
+    in (
       c.self.invariant.0,
       c.self.invariant.1,
-      after c.insert.result (AreOwn id) c.insert.new.self.present m (finite.insert m c.args.key.now e) c.insert.ensures.ok c.insert.ensures.err
-          (insert_own id m c.args.key.now e c.self.invariant.2 (record { key = key; metric = c.requires.metric })) c.self.invariant.2,
+      after c.insert.result (AreOwn id) c.insert.new.self.present m
+          (finite.insert m c.args.key.now e) c.insert.ensures.ok c.insert.ensures.err
+          (insert_own id m c.args.key.now e c.self.invariant.2 (record {
+            key = key;
+            metric = c.requires.metric;
+          })) c.self.invariant.2,
       subst (AreOwn id) (sym c.insert.ensures.settled) c.self.invariant.3,
     )

@@ -10,7 +10,8 @@ returns-clause-makes c =
     let n = c.args.number in
     let ks = c.args.keys.now in
     both c.answer.result
-    (makes_are (requested_from m n ks) (keeps_request m n ks) _ c.args.self.now.present c.answer.new.area.present c.args.drafts.now c.answer.new.drafts
+    (makes_are (requested_from m n ks) (keeps_request m n ks) _ c.args.self.now.present
+    c.answer.new.area.present c.args.drafts.now c.answer.new.drafts
     (appends_request m n ks) (ap (λ k. k.present) c.self.view_is))
     c.answer.ensures.ok c.answer.ensures.drafts
 
@@ -20,6 +21,7 @@ returns-clause-drafts c =
     let n = c.args.number in
     let ks = c.args.keys.now in
     both c.answer.result
-    (drafts_are (requested_from m n ks) (keeps_request m n ks) _ c.args.self.now.present c.answer.new.area.present c.args.drafts.now c.answer.new.drafts
+    (drafts_are (requested_from m n ks) (keeps_request m n ks) _ c.args.self.now.present
+    c.answer.new.area.present c.args.drafts.now c.answer.new.drafts
     (ap (λ k. k.present) c.self.view_is) c.requires.drafts)
     c.answer.ensures.ok c.answer.ensures.drafts

@@ -15,5 +15,6 @@ invariant_of-result c =
       ap (λ a. a.router) c.in_ok-area.ensures ∙ c.self.invariant.0,
       omega (arith, count, c.self.invariant.1),
       subst (AreOwn id) (sym c.in_ok-announced.ensures.present) c.self.invariant.2,
-      subst (AreOwn id) (sym (c.in_ok-announced.ensures.settled ∙ c.in_ok-announced.ensures.present)) c.self.invariant.2,
+      subst (AreOwn id) (sym (c.in_ok-announced.ensures.settled
+          ∙ c.in_ok-announced.ensures.present)) c.self.invariant.2,
     )

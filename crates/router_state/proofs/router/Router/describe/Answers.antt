@@ -16,8 +16,10 @@ returns-clause-makes c =
     let view = ap (λ k. k.present) c.self.view_is in
     both c.describe.result
     (λ to drafts.
-    makes_same (λ p is. ap (λ (own : ℕ). on_area (describe_to own m n d) p) (ap (λ (r : Router). r.id) view))
-    (makes_are (describe_to id m n d) (keeps_description id m n d) _ c.args.self.now.present c.describe.new.area.present c.args.drafts.now c.describe.new.drafts
+    makes_same (λ p is. ap (λ (own : ℕ). on_area (describe_to own m n d) p)
+    (ap (λ (r : Router). r.id) view))
+    (makes_are (describe_to id m n d) (keeps_description id m n d) _ c.args.self.now.present
+    c.describe.new.area.present c.args.drafts.now c.describe.new.drafts
     (appends_description id m n d) view to drafts))
     c.describe.ensures.ok c.describe.ensures.drafts
 
@@ -28,6 +30,7 @@ returns-clause-drafts c =
     let n = c.args.number in
     let d = c.args.description.now in
     both c.describe.result
-    (drafts_are (describe_to id m n d) (keeps_description id m n d) _ c.args.self.now.present c.describe.new.area.present c.args.drafts.now c.describe.new.drafts
+    (drafts_are (describe_to id m n d) (keeps_description id m n d) _ c.args.self.now.present
+    c.describe.new.area.present c.args.drafts.now c.describe.new.drafts
     (ap (λ k. k.present) c.self.view_is) c.requires.drafts)
     c.describe.ensures.ok c.describe.ensures.drafts

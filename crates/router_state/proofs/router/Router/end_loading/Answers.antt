@@ -7,4 +7,6 @@ use Rattle.router_state.proofs.router.Router.end_loading.Goals as goal
 
 pub returns-clause-makes : goal.returns-clause-makes
 returns-clause-makes c =
-    makes_alone (on_links (map link_loading_done)) appends_loading keeps_loading _ c.args.self.now.present c.end_loading.new.area.present (ap (λ k. k.present) c.self.view_is) (ap (λ k. k.present) c.end_loading.ensures) refl
+    makes_alone (on_links (map link_loading_done)) appends_loading keeps_loading _
+    c.args.self.now.present c.end_loading.new.area.present (ap (λ k. k.present) c.self.view_is)
+    (ap (λ k. k.present) c.end_loading.ensures) refl

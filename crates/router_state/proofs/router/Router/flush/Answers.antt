@@ -24,9 +24,12 @@ returns-clause-makes c =
     let flushed = flushed_is m k copy (start a) in
     both c.flush.result
     (λ to drafts.
-    makes_same (λ p is. ap (λ (d : Option DatabaseCopy). on_area (flush_copy m k d) p) (ap (λ (r : Router). finite.get r.area.database k) (view ∙ sym is)))
-    (makes_are (flush_copy m k copy) (keeps_flush m k copy) _ c.args.self.now.present c.flush.new.self.present c.args.drafts.now c.flush.new.drafts (appends_flush m k copy) view
-    (to ∙ ap (λ (o : Outcome). o.area) flushed) (drafts ∙ ap (λ (o : Outcome). drafts_with o.sends a.links c.args.drafts.now) flushed)))
+    makes_same (λ p is. ap (λ (d : Option DatabaseCopy). on_area (flush_copy m k d) p)
+    (ap (λ (r : Router). finite.get r.area.database k) (view ∙ sym is)))
+    (makes_are (flush_copy m k copy) (keeps_flush m k copy) _ c.args.self.now.present
+    c.flush.new.self.present c.args.drafts.now c.flush.new.drafts (appends_flush m k copy) view
+    (to ∙ ap (λ (o : Outcome). o.area) flushed)
+    (drafts ∙ ap (λ (o : Outcome). drafts_with o.sends a.links c.args.drafts.now) flushed)))
     c.flush.ensures.ok c.flush.ensures.drafts
 
 pub returns-clause-drafts : goal.returns-clause-drafts
@@ -39,6 +42,8 @@ returns-clause-drafts c =
     let flushed = flushed_is m k copy (start a) in
     both c.flush.result
     (λ to drafts.
-    drafts_are (flush_copy m k copy) (keeps_flush m k copy) _ c.args.self.now.present c.flush.new.self.present c.args.drafts.now c.flush.new.drafts view c.requires.drafts
-    (to ∙ ap (λ (o : Outcome). o.area) flushed) (drafts ∙ ap (λ (o : Outcome). drafts_with o.sends a.links c.args.drafts.now) flushed))
+    drafts_are (flush_copy m k copy) (keeps_flush m k copy) _ c.args.self.now.present
+    c.flush.new.self.present c.args.drafts.now c.flush.new.drafts view c.requires.drafts
+    (to ∙ ap (λ (o : Outcome). o.area) flushed)
+    (drafts ∙ ap (λ (o : Outcome). drafts_with o.sends a.links c.args.drafts.now) flushed))
     c.flush.ensures.ok c.flush.ensures.drafts

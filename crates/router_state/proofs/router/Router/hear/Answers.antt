@@ -17,8 +17,10 @@ returns-clause-makes c =
     let view = ap (λ k. k.present) c.self.view_is in
     both c.hear.result
     (λ to drafts.
-    makes_same (λ p is. ap (λ (own : ℕ). on_area (after_hello own m n from h) p) (ap (λ (r : Router). r.id) view))
-    (makes_are (after_hello id m n from h) (keeps_hello id m n from h) _ c.args.self.now.present c.hear.new.area.present c.args.drafts.now c.hear.new.drafts
+    makes_same (λ p is. ap (λ (own : ℕ). on_area (after_hello own m n from h) p)
+    (ap (λ (r : Router). r.id) view))
+    (makes_are (after_hello id m n from h) (keeps_hello id m n from h) _ c.args.self.now.present
+    c.hear.new.area.present c.args.drafts.now c.hear.new.drafts
     (appends_hello id m n from h) view to drafts))
     c.hear.ensures.ok c.hear.ensures.drafts
 
@@ -30,6 +32,7 @@ returns-clause-drafts c =
     let from = c.args.from in
     let h = c.args.hello.now in
     both c.hear.result
-    (drafts_are (after_hello id m n from h) (keeps_hello id m n from h) _ c.args.self.now.present c.hear.new.area.present c.args.drafts.now c.hear.new.drafts
+    (drafts_are (after_hello id m n from h) (keeps_hello id m n from h) _ c.args.self.now.present
+    c.hear.new.area.present c.args.drafts.now c.hear.new.drafts
     (ap (λ k. k.present) c.self.view_is) c.requires.drafts)
     c.hear.ensures.ok c.hear.ensures.drafts

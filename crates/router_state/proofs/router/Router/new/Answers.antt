@@ -10,7 +10,9 @@ use Rattle.router_state.proofs.router.Router.new.Goals as goal
 pub invariant_of-result : goal.invariant_of-result
 invariant_of-result c =
     let id = c.args.id in
-    let count : length c.new.result.settled.links ≡ length c.args.links.items = ap (λ a. length a.settled.links) c.new.ensures ∙ length-map c.args.links.items settled_link in (
+    let count : length c.new.result.settled.links ≡ length c.args.links.items =
+    ap (λ a. length a.settled.links) c.new.ensures
+    ∙ length-map c.args.links.items settled_link in (
       ap (λ a. a.router) c.new.ensures,
       omega (arith, count, c.requires.few),
       subst (AreOwn id) (sym (ap (λ h. h.present) c.new-2.ensures)) (none_own id),
@@ -20,7 +22,8 @@ invariant_of-result c =
 pub returns-clause-present : goal.returns-clause-present
 returns-clause-present c =
     let waiting = ap (λ h. keys_of h.present) c.new-3.ensures ∙ no_keys (Unit {0}) in
-    let answers = ap (λ h. h.present) c.new-6.ensures ∙ c.from_vec.ensures ∙ c.new-5.ensures.items in
+    let answers = ap (λ h. h.present) c.new-6.ensures ∙ c.from_vec.ensures
+    ∙ c.new-5.ensures.items in
     λ i. record {
       id = c.args.id;
       area = (c.new.ensures i).present;
@@ -34,7 +37,8 @@ returns-clause-present c =
 pub returns-clause-settled : goal.returns-clause-settled
 returns-clause-settled c =
     let waiting = ap (λ h. keys_of h.settled) c.new-3.ensures ∙ no_keys (Unit {0}) in
-    let answers = ap (λ h. h.settled) c.new-6.ensures ∙ c.from_vec.ensures ∙ c.new-5.ensures.items in
+    let answers = ap (λ h. h.settled) c.new-6.ensures ∙ c.from_vec.ensures
+    ∙ c.new-5.ensures.items in
     λ i. record {
       id = c.args.id;
       area = (c.new.ensures i).settled;

@@ -9,6 +9,7 @@ pub returns-clause-ok : goal.returns-clause-ok
 returns-clause-ok c =
     let k = c.args.key.now in
     on_ok c.insert.result
-    (λ is. notes _ c.args.self.now.present k c.args.moment (keys_of c.remove.new.self.present) c.insert.new.self.present (ap (λ q. q.present) c.self.view_is)
+    (λ is. notes _ c.args.self.now.present k c.args.moment (keys_of c.remove.new.self.present)
+    c.insert.new.self.present (ap (λ q. q.present) c.self.view_is)
     (ap keys_of c.in_ok-remove.ensures.ok ∙ keys_remove c.self.inside.waiting.present k) is)
     c.insert.ensures.ok

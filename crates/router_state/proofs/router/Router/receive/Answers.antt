@@ -11,7 +11,8 @@ returns-clause-makes c =
     let n = c.args.number in
     let lsa = c.args.lsa in
     both_if c.receive.result
-    (λ x. makes_are (after_case (case_of x) m n lsa) (keeps_case m n lsa (case_of x)) _ c.args.self.now.present c.receive.new.self.present c.args.drafts.now c.receive.new.drafts
+    (λ x. makes_are (after_case (case_of x) m n lsa) (keeps_case m n lsa (case_of x)) _
+    c.args.self.now.present c.receive.new.self.present c.args.drafts.now c.receive.new.drafts
     (appends_case m n lsa (case_of x)) (ap (λ k. k.present) c.self.view_is))
     c.receive.ensures.ok c.receive.ensures.drafts
 
@@ -21,6 +22,7 @@ returns-clause-drafts c =
     let n = c.args.number in
     let lsa = c.args.lsa in
     if_on c.receive.result
-    (λ x. drafts_are (after_case (case_of x) m n lsa) (keeps_case m n lsa (case_of x)) _ c.args.self.now.present c.receive.new.self.present c.args.drafts.now c.receive.new.drafts
+    (λ x. drafts_are (after_case (case_of x) m n lsa) (keeps_case m n lsa (case_of x)) _
+    c.args.self.now.present c.receive.new.self.present c.args.drafts.now c.receive.new.drafts
     (ap (λ k. k.present) c.self.view_is) c.requires.drafts)
     c.receive.ensures.ok c.receive.ensures.drafts

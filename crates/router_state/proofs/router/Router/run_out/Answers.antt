@@ -8,4 +8,6 @@ use Rattle.router_state.proofs.router.Router.run_out.Goals as goal
 pub returns-clause-makes : goal.returns-clause-makes
 returns-clause-makes c =
     let m = c.args.moment in
-    makes_alone (on_links (map (run_out m))) (appends_expiry m) (keeps_expiry m) _ c.args.self.now.present c.run_out.new.area.present (ap (λ k. k.present) c.self.view_is) (ap (λ k. k.present) c.run_out.ensures) refl
+    makes_alone (on_links (map (run_out m))) (appends_expiry m) (keeps_expiry m) _
+    c.args.self.now.present c.run_out.new.area.present (ap (λ k. k.present) c.self.view_is)
+    (ap (λ k. k.present) c.run_out.ensures) refl

@@ -9,5 +9,7 @@ pub returns-clause-ok : goal.returns-clause-ok
 returns-clause-ok c =
     let k = c.args.key.now in
     on_ok c.insert.result
-    (λ is. waits _ c.args.self.now.present k (keys_of c.insert.new.self.present) (ap (λ q. q.present) c.self.view_is) (ap keys_of is ∙ keys_insert c.self.inside.waiting.present k tt))
+    (λ is. waits _ c.args.self.now.present k (keys_of c.insert.new.self.present)
+    (ap (λ q. q.present) c.self.view_is)
+    (ap keys_of is ∙ keys_insert c.self.inside.waiting.present k tt))
     c.insert.ensures.ok

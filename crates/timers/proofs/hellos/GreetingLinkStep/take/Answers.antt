@@ -8,7 +8,9 @@ use Rattle.timers.proofs.hellos.GreetingLinkStep.take.Goals as goal
 pub returns-then-due-clause-ok : goal.returns-then-due-clause-ok
 returns-then-due-clause-ok c =
     on_ok c.greet.result
-    (λ sent. ap (λ k. k.present) c.hello_sent.ensures ∙ greeted c.args.self.now.moment c.args.link.now.present (sym c.hello_is_due-due.ensures ∙ c.if-due.true))
+    (λ sent. ap (λ k. k.present) c.hello_sent.ensures
+    ∙ greeted c.args.self.now.moment c.args.link.now.present
+    (sym c.hello_is_due-due.ensures ∙ c.if-due.true))
     c.greet.ensures
 
 pub returns-then-due-clause-draft : goal.returns-then-due-clause-draft
@@ -17,13 +19,17 @@ returns-then-due-clause-draft c =
     let delay = l.interface.delay in
     let d = c.args.draft.now in
     on_ok c.greet.result
-    (λ sent. sent delay ∙ ap (λ h. drafting delay (SendsHello h ∷ []) d) c.in_ok-hello.ensures ∙ greeting_sent c.args.self.now.moment l delay d (sym c.hello_is_due-due.ensures ∙ c.if-due.true))
+    (λ sent. sent delay ∙ ap (λ h. drafting delay (SendsHello h ∷ []) d) c.in_ok-hello.ensures
+    ∙ greeting_sent c.args.self.now.moment l delay d
+    (sym c.hello_is_due-due.ensures ∙ c.if-due.true))
     c.greet.ensures
 
 pub returns-clause-ok : goal.returns-clause-ok
-returns-clause-ok c = silent c.args.self.now.moment c.args.link.now.present (sym c.hello_is_due-due.ensures ∙ c.if-due.false)
+returns-clause-ok c = silent c.args.self.now.moment c.args.link.now.present
+    (sym c.hello_is_due-due.ensures ∙ c.if-due.false)
 
 pub returns-clause-draft : goal.returns-clause-draft
 returns-clause-draft c =
     let l = c.args.link.now.present in
-    nothing_sent c.args.self.now.moment l l.interface.delay c.args.draft.now (sym c.hello_is_due-due.ensures ∙ c.if-due.false)
+    nothing_sent c.args.self.now.moment l l.interface.delay c.args.draft.now
+    (sym c.hello_is_due-due.ensures ∙ c.if-due.false)

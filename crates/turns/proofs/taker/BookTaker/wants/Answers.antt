@@ -5,5 +5,9 @@ use Rattle.turns.proofs.taker.BookTaker.wants.Goals as goal
 
 pub returns-clause-some : goal.returns-clause-some
 returns-clause-some g c =
-    let P : Router → Type 0 = λ r. Leads g.L.Origin.origin c.args.self.now.taken r in
-    (c.args.self.now.taken, c.now.result.now, subst P (sym c.now.ensures.router) c.now.ensures.leads, c.wants.ensures)
+    let P : Router → Type 0 = λ r. Leads g.L.Origin.origin c.args.self.now.taken r in (
+      c.args.self.now.taken,
+      c.now.result.now,
+      subst P (sym c.now.ensures.router) c.now.ensures.leads,
+      c.wants.ensures,
+    )

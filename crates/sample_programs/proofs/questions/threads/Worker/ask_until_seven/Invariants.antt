@@ -4,4 +4,5 @@ use Rattle.sample_programs.proofs.questions.threads.Worker.ask_until_seven.Given
 
 -- the asker's history and the seat's table are unchanged
 abbrev pub invariant-loop-turn : goal.invariant-loop-turn
-invariant-loop-turn l = (asks_of l.self.asker ≡ asks_of l.fn.self.asker) × (l.self.seat.table ≡ l.fn.self.seat.table)
+invariant-loop-turn l = (asks_of l.self.asker ≡ asks_of l.fn.self.asker)
+    × (l.self.seat.table ≡ l.fn.self.seat.table)
