@@ -40,6 +40,10 @@ REST, LONGEST_REST = 5, 0.25
 seconds at most."""
 SECONDS_SHORT = 60.0
 """After `routerd` has been out of memory for so long the box ends, so that it is started anew."""
+SECONDS_ABSENT = 0.1
+"""A route leaves the kernel once `table` has lacked it for so long. `routerd` takes an event first,
+then asks its programs and calculates what comes of it: between these `table` lacks every route
+that the event touched, some 10 ms long with 10,000 of them."""
 TWO_WAY = ("ExStart", "Exchange", "Loading", "Full")
 """The states of a neighbor that hears this router (RFC 2328, 10.1): on a point-to-point link none
 stays in 2-Way."""
@@ -98,10 +102,15 @@ class Pace:
         self._step = 0
         self.due = min(self.due, max(now + AFTER[0], self._rested))
 
-    def looked(self, now: float, taken: float, is_changed: bool) -> None:
-        """A look that took so many seconds has ended, and the table was another or was not."""
+    def looked(
+        self, now: float, taken: float, is_changed: bool, is_lacking: bool = False
+    ) -> None:
+        """A look that took so many seconds has ended, and the table was another or was not; and it
+        lacks routes that the kernel still has."""
         self._step = AGAIN if is_changed else self._step + 1
         pause = AFTER[self._step] if self._step < len(AFTER) else SELDOM
+        if is_lacking:
+            pause = min(pause, SECONDS_ABSENT)
         self._rested = now + min(REST * taken, LONGEST_REST) if is_changed else now
         self.due = max(now + pause, self._rested)
 
@@ -317,7 +326,7 @@ class Keeper:
             is_changed = self._kept(kernel)
         finally:
             now = time.monotonic()
-            self._pace.looked(now, now - began, is_changed)
+            self._pace.looked(now, now - began, is_changed, bool(self._known.kept.absent))
 
     def _kept(self, kernel: KernelTable) -> bool:
         """Brings the table to the kernel; whether it was another than the last one."""
@@ -328,7 +337,8 @@ class Keeper:
         is_changed = table != self._table
         if is_changed:
             self._table, self._lines = table, table.splitlines()
-        outcome = kernel.keep(self._lines, self._hops(), self._own_destinations())
+        hops, own = self._hops(), self._own_destinations()
+        outcome = kernel.keep(self._lines, hops, own, SECONDS_ABSENT)
         self._is_kept.set()
         for each in outcome.news:
             log.warning("kernel: %s", each)
@@ -337,6 +347,7 @@ class Keeper:
             outcome.refused,
             outcome.without_hop,
             limited=outcome.limited,
+            absent=outcome.absent,
             table=len(self._lines),
         )
         change = kernel.table_change()

@@ -57,6 +57,8 @@ class Kept:
     error: str | None = None
     limited: int = 0
     """How many routes have more next hops than they may."""
+    absent: int = 0
+    """How many routes are kept for a moment though `routerd`'s table lacks them."""
     table: int = 0
     """How many routes `routerd`'s table has."""
 

@@ -18,6 +18,7 @@ from leafrunt_host.keeper import (
     AGAIN,
     LONGEST_REST,
     REST,
+    SECONDS_ABSENT,
     SECONDS_SHORT,
     SELDOM,
     Keeper,
@@ -165,6 +166,48 @@ class Keeps(unittest.TestCase):
             self.keeper._look(now + 0.01)
         self.assertIn("eth2: 3.3.3.3 Full -> ExStart", logged.output[0])
         self.assertEqual(self.kernel.forwards(), {"172.16.2.0/24": ["10.0.1.2"]})
+
+    def look(self, now: float) -> None:
+        with mock.patch("time.monotonic", return_value=now):
+            self.keeper._look(now)
+
+    def test_a_route_that_is_away_for_a_moment(self) -> None:
+        """`routerd` has taken an event, and not yet calculated what comes of it: then `table` lacks
+        what the event touched. The kernel keeps it."""
+        now, table = time.monotonic(), self.router.table
+        self.look(now)
+        self.router.table = table[:1]
+        self.keeper._pace.woken(now + 1)
+        with mock.patch.object(self.kernel, "change") as given:
+            self.look(self.keeper._pace.due)
+            self.router.table = table
+            self.look(self.keeper._pace.due)
+            self.look(self.keeper._pace.due)
+        given.assert_not_called()
+        self.assertIsNone(self.known.kept.error)
+
+    def test_a_route_that_is_gone(self) -> None:
+        """It leaves the kernel once `table` has lacked it for a tenth of a second, and at once where
+        its next hops are gone too."""
+        now = time.monotonic()
+        self.look(now)
+        self.router.table = self.router.table[:1]
+        self.keeper._pace.woken(now + 1)
+        self.look(first := self.keeper._pace.due)
+        self.assertEqual(len(self.kernel.forwards()), 1)
+        self.assertLessEqual(self.keeper._pace.due, first + SECONDS_ABSENT)
+        self.look(first + SECONDS_ABSENT + 0.01)
+        self.assertEqual(self.kernel.forwards(), {})
+
+    def test_a_route_that_is_gone_with_its_links(self) -> None:
+        now = time.monotonic()
+        self.look(now)
+        self.router.table = self.router.table[:1]
+        for each in self.links.values():
+            each.is_usable = False
+        self.keeper._pace.woken(now + 1)
+        self.look(self.keeper._pace.due)
+        self.assertEqual(self.kernel.forwards(), {})
 
     def test_nothing_happens(self) -> None:
         """The table is asked for a few times, and then each five seconds."""
