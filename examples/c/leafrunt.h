@@ -11,7 +11,7 @@ typedef unsigned long long u64;
 
 /* ---- the contexts (docs/reference/FORMATS.md, "Contexts"): what the program is asked about, for reading only */
 
-/* count: a datagram, before it is read. What the program answers isn't used. */
+/* count: a datagram, before it is read; asked at least once for each. What the program answers isn't used. */
 struct datagram {
 	u32 hook, interface;
 	u64 moment;		/* seconds since 1970 */
