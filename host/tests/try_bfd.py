@@ -52,6 +52,8 @@ DETECTION = 0.9
 HEARD = "udp dst port 3784 and not src port 50000"
 """For tcpdump: the packets of sessions, without those that are forged here."""
 FALL = re.compile(r"(\S+ \S+) info: (eth\d): BFD with (\S+): Up -> Down: (.*)")
+MOVED = re.compile(r"Full -> |-> Full")
+"""In a box's log: an adjacency that came or went."""
 KEYED = Secret(7, "keyed sha1", "a secret")
 METICULOUS = Secret(7, "meticulous keyed sha1", "a secret")
 FORGED = """
@@ -250,6 +252,18 @@ class Watched:
         peers = self.tried.says("show bfd peers")
         return [each.capitalize() for each in re.findall(r"Status: (\w+)", peers)]
 
+    def settles(self) -> int:
+        """Waits until no adjacency of a box's has come or gone for so long that its next router-LSA
+        need not wait; which line of its log comes next then. (On a busy machine FRR may begin an
+        adjacency anew some seconds after it was Full.)"""
+        until, since = time.monotonic() + COMES_UP, 0
+        while time.monotonic() < until:
+            since = len(self.box_log()) if self.heard else 0
+            time.sleep(BETWEEN_ROUTER_LSAS)
+            if not self.heard or not any(map(MOVED.search, self.box_log()[since:])):
+                break
+        return since
+
     def outage(self, fail: Callable[[], None] | None = None) -> float:
         """Seconds from the first link's silence, or another failure, until packets go by the
         second, without what the router's programs waited for a processor, and the kernel's lock
@@ -374,10 +388,11 @@ def undisturbed(it: Watched, fail: Callable[[], None], mend: Callable[[], None])
     ends the session once more after the link is mended, since its adjacency went by the first
     end.)"""
     for _ in range(MOST_DISTURBED):
-        since = len(it.box_log()) if it.heard else 0
-        time.sleep(BETWEEN_ROUTER_LSAS)
+        since = it.settles()
         seconds = it.outage(fail)
         lines = it.box_log()[since:] if it.heard else []
+        if it.heard and MOST < seconds:
+            print(*(f"     the box: {each}" for each in lines[-20:]), sep="\n", flush=True)
         mend()
         if within(COMES_UP, it.is_up) is None:
             return math.inf
