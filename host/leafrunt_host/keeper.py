@@ -105,13 +105,14 @@ class Pace:
     def looked(
         self, now: float, taken: float, is_changed: bool, is_lacking: bool = False
     ) -> None:
-        """A look that took so many seconds has ended, and the table was another or was not; and it
-        lacks routes that the kernel still has."""
+        """A look that took so many seconds has ended, and the table was another or was not; where
+        it lacks routes that the kernel has, `routerd` most likely calculates them."""
         self._step = AGAIN if is_changed else self._step + 1
         pause = AFTER[self._step] if self._step < len(AFTER) else SELDOM
+        rest = min(REST * taken, LONGEST_REST) if is_changed else 0.0
         if is_lacking:
-            pause = min(pause, SECONDS_ABSENT)
-        self._rested = now + min(REST * taken, LONGEST_REST) if is_changed else now
+            pause, rest = SECONDS_ABSENT / 2, 0.0
+        self._rested = now + rest
         self.due = max(now + pause, self._rested)
 
 

@@ -56,6 +56,14 @@ class Paces(unittest.TestCase):
                 pace.looked(pace.due, 0, False)
             self.assertAlmostEqual(pace.due, before + seconds)
 
+    def test_a_table_that_is_calculated(self) -> None:
+        """A look that found it half made is followed by another one soon, without a rest."""
+        pace = Pace(100.0)
+        pace.looked(101.0, 1.0, True, is_lacking=True)
+        self.assertEqual(pace.due, 101.0 + SECONDS_ABSENT / 2)
+        pace.looked(102.0, 1.0, True)
+        self.assertEqual(pace.due, 102.0 + LONGEST_REST)
+
     def test_long_looks_are_far_between(self) -> None:
         pace = Pace(100.0)
         pace.looked(101.0, 0.02, True)
