@@ -18,7 +18,7 @@ abbrev pub named_neighbor : Option Neighbor → Option (RouterNumber × State)
 named_neighbor None = None
 named_neighbor (Some n) = Some (n.router, n.state)
 
--- a packet was received from the neighbor, if there is one
+-- a Hello was received from the neighbor, if there is one: its inactivity timer is restarted
 abbrev pub heard : Moment → Option Neighbor → Option Neighbor
 heard moment None = None
 heard moment (Some n) = Some (record n { last_heard = moment })

@@ -11,7 +11,8 @@ use std::alloc::{AllocError, Global};
 use std::marker::Model;
 use words::{Key, MAX_AGE, Second, Sequence};
 
-/// An LSA to be sent: its key, and its bytes with the age in the packet.
+/// One LSA for a Link State Update, which isn't the packet itself: its key, and its bytes with the
+/// age that it has there.
 #[derive(Debug, Drop)]
 pub struct Update {
     pub key: Key,

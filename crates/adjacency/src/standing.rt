@@ -48,17 +48,19 @@ pub struct Standing {
     pub is_master: bool,
     /// The DD sequence number.
     pub sequence: u32,
-    /// The DD sequence number of the last attempt since the neighbor was Down.
+    /// The DD sequence number with which the last attempt since the neighbor was Down began.
     pub dd_sequence_start: Option<u32>,
     /// The last Database Description received.
     pub received: Option<ReceivedDescription>,
     /// The moment at which the exchange was completed.
     pub exchanged: Option<Second>,
-    /// The starts of the inactivity timer and of the retransmission timers of the Database
-    /// Description, the Link State Request and the LSAs.
+    /// The start of the inactivity timer.
     pub last_heard: Second,
+    /// When the Database Description was last sent: the start of its RxmtInterval.
     pub described_at: Second,
+    /// When the Link State Request was last sent: the start of its RxmtInterval.
     pub requested_at: Second,
+    /// The start of RxmtInterval for the retransmission list: one for all of its LSAs.
     pub retransmitted_at: Second,
 }
 

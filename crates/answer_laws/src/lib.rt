@@ -20,9 +20,9 @@ pub fn descriptions_are_answered()
 
 /// In every history of two neighbors that are both done with their exchange: of each Description
 /// that one sent in it, but an empty opening one, the other accepted one with its number and role,
-/// which the first one sent in it too, and so the very Description, unless a number served twice; or
-/// else a Description of another conversation was taken for one of this (RFC 2328, sections 10.6 and
-/// 10.8).
+/// which the first one sent in it too, and so the very Description, unless a number served twice;
+/// or else a Description of another conversation was taken for one of this (RFC 2328, sections 10.6
+/// and 10.8).
 pub fn the_exchange_ends_together()
     ensures { TheExchangeEndsTogether }
 {

@@ -95,7 +95,8 @@ fn add_routers(
     Ok(())
 }
 
-// Whether it is a point-to-point link that may count.
+// Whether it is a point-to-point link of a metric above 0. Others don't count, unlike in RFC 2328,
+// section 16.1: the calculation needs costs above 0 (`routes::is_graph`).
 fn is_to_router(told: &ToldLink) -> bool
     ensures { IsTrue result ↔ ((told.now.kind ≡ LinkKind.PointToPoint) × (0 < told.now.metric)) }
 {
@@ -282,7 +283,7 @@ fn add_own_transits(
     Ok(())
 }
 
-// Whether it is a transit link to this ID that may count.
+// Whether it is a transit link to this ID, of a metric above 0.
 fn is_transit_to(told: &ToldLink, id: u32) -> bool
     ensures { IsTrue result ↔ ((told.now.kind ≡ LinkKind.Transit) × (told.now.link_id ≡ id)
         × (0 < told.now.metric)) }

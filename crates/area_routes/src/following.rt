@@ -67,7 +67,7 @@ fn follow_from(
     }
 }
 
-// The same if there may be none.
+// The same if candidates were kept; `None` if not.
 fn follow_some(
     alloc: Global,
     area: &Area,
@@ -99,7 +99,7 @@ fn follow_some(
     }
 }
 
-/// The same if there may be none, and the results from the LSAs of types 1 to 4 may be unknown.
+/// The same if the results from the LSAs of types 1 to 4 (`inner`) are known too; `None` if not.
 pub fn followed(
     alloc: Global,
     area: &Area,

@@ -126,7 +126,7 @@ fn add_neighbor(
     }
 }
 
-// Whether it is a point-to-point link that may count.
+// Whether it is a point-to-point link of a metric above 0: others don't count.
 fn may_count(told: &ToldLink) -> bool
     ensures { IsTrue result ↔ ((told.now.kind ≡ LinkKind.PointToPoint) × (0 < told.now.metric)) }
 {

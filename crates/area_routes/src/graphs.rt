@@ -21,7 +21,6 @@ use words::{RouterId, Second};
 ///
 /// # Errors
 /// `AllocError` if an allocation is refused.
-/// Where memory for the graph is refused.
 pub fn graph_at(
     alloc: Global,
     area: &Area,

@@ -1,3 +1,4 @@
+//! A line of assembly as a value.
 use asm_words::Numeral;
 use isa::{
     ByteOrder, Extension, Hook, LoadSize, Operation, Register, StoreSize, SwapWidth, Test, Width,

@@ -40,7 +40,7 @@ fn push_stubs(links: &[Link], way: Way, offers: &mut Vec<Offer>) -> Result<(), A
     Ok(())
 }
 
-// The root's own networks have only hop 0.
+// The way to the root's own networks: by interface 0 alone, the router itself, whose bit is 1.
 fn leaving(root: &Root, router: RouterId, way: Way) -> Way
     ensures value { result ≡ leaving root.now router way }
     ensures near { result.distance ≡ way.distance }

@@ -63,7 +63,6 @@ fn flagged_at<W: Ways>(ways: &W, key: &Key, body: &Body) -> Option<Flagged>
 ///
 /// # Errors
 /// `AllocError` if an allocation is refused.
-/// Where memory for them is refused.
 pub fn flagged_routers<W: Ways>(
     alloc: Global,
     ways: &W,

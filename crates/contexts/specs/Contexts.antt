@@ -84,11 +84,12 @@ route_kind_number Inter = 2
 route_kind_number External1 = 3
 route_kind_number External2 = 4
 
--- the number of the first interface in a set; 0 if there is none
+-- the number, or 0 if there is none
 abbrev pub found_or_0 : Option ℕ → ℕ
 found_or_0 (Some interface) = interface
 found_or_0 None = 0
 
+-- the number of the first interface in a set; 0 if there is none
 abbrev pub first_hop : (hops : ℕ) → InterfaceNumber
 first_hop hops = found_or_0 (find (has_interface hops) (range_with_len 0 64))
 

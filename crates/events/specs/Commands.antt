@@ -60,6 +60,8 @@ unannounce key r = record r {
 abbrev pub end_want : Moment → Key → EventState → EventState
 end_want moment key p = flush moment key (on_router (unannounce key) p)
 
+-- nothing, if exactly this is announced already; else the LSA is originated, or waits for its
+-- interval, even if there is no room for it
 abbrev pub announce_as : Moment → Key → External → EventState → EventState
 announce_as moment key e p =
     if is_announced_as e (finite.get p.router.announced key) then p
@@ -67,6 +69,8 @@ announce_as moment key e p =
 
 -- ---- the commands
 
+-- with the answers of `tag` and `price`; a metric of LSInfinity or more withholds the destination,
+-- and flushes an LSA that announces it
 abbrev pub after_redistribute : Moment → External → ℕ → ℕ → EventState → EventState
 after_redistribute moment e tag price p =
     if nat_le ls_infinity price then end_want moment (external_key p.router.id e.prefix) p

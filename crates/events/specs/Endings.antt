@@ -76,7 +76,8 @@ describe_router before moment p =
     if links_differ before p.router.area.links && not (is_current moment p.router)
     then originate_or_wait moment (router_key p.router.id) p else p
 
--- what changes the body after that waits for a Tick
+-- flooding the router-LSA may meet a neighbor's last request, which makes that neighbor Full: the
+-- link to it waits for a Tick
 abbrev pub describe_router_later : List Link → EventState → EventState
 describe_router_later before p =
     if links_differ before p.router.area.links then on_router (wait (router_key p.router.id)) p

@@ -19,7 +19,9 @@ use Rattle.events.specs.Ticks.{after_tick}
 
 -- ---- an event
 
--- the event's own part: from the state before it to the state after it
+-- the event's own part: from the state before it to the state after it; of Redistribute `tagged`
+-- isn't used, since the event is refused unless both answers are for one destination (Refusals,
+-- `clashes`)
 abbrev pub OwnPart : Moment → Occurrence → EventState → EventState → Type 0
 OwnPart moment (Occurrence.Packet number bytes) before after =
     (packet : Packet) × PacketText bytes packet

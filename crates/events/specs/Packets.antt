@@ -120,8 +120,8 @@ abbrev pub acknowledged_by : Moment → InterfaceNumber → List Header → Outc
 acknowledged_by moment number headers o =
     one_neighbor moment number (λ n. no_sends (after_acknowledgment moment headers n)) o
 
--- a packet from the interface's neighbor; Link State Requests, Updates and Acknowledgments are
--- ignored before Exchange
+-- a packet that is heard: a Hello of any other router, or another packet from the interface's
+-- neighbor; Link State Requests, Updates and Acknowledgments are ignored before Exchange
 abbrev pub from_neighbor : Moment → InterfaceNumber → RouterNumber → Bool → Body → EventState
     → EventState
 from_neighbor moment number from in_exchange (body.Hello h) p =
@@ -142,8 +142,8 @@ is_hello (body.Request keys) = false
 is_hello (body.Update lsas) = false
 is_hello (body.Acknowledgment headers) = false
 
--- a packet is discarded if it has no Router ID or this router's own, or if it isn't a Hello and its
--- sender isn't the interface's neighbor
+-- a packet is heard if its Router ID is neither 0 nor this router's own, and if it is a Hello or
+-- comes from the interface's neighbor; any other one is discarded
 abbrev pub is_heard : RouterNumber → Packet → Option Neighbor → Bool
 is_heard own packet n =
     is_foreign own packet.router && (is_hello packet.body || is_from packet.router n)

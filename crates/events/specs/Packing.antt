@@ -100,11 +100,12 @@ lsa_size lsa = lsa.header.length
 abbrev pub header_size : Header → ℕ
 header_size h = 20
 
--- a Link State Update has 28 bytes before its first LSA, a Link State Acknowledgment 24 before its
--- first header
+-- the LSAs as one Link State Update
 abbrev pub update_of : Seconds → List Lsa → Body
 update_of delay lsas = body.Update (map (λ (l : Lsa). text (sent_lsa delay l)) lsas)
 
+-- the bodies of all packets, by packet type: a Link State Update has 28 bytes before its first LSA,
+-- a Link State Acknowledgment 24 before its first header
 abbrev pub bodies : Seconds → List Content → List Body
 bodies delay contents =
     filter_map hellos contents

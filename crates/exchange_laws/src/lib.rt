@@ -11,8 +11,8 @@ use agreement_laws::ranks_follow_the_comparison;
 
 /// In each event a request stays on its list, unless an instance that is as new is held, or was and
 /// left at MaxAge in the event; or another Description with a header of its key is accepted; or the
-/// conversation is over (RFC 2328, sections 10.9, 13 and 13.3). It asks that the router is in order,
-/// as it is in every run.
+/// conversation is over (RFC 2328, sections 10.9, 13 and 13.3). It asks that the router is in
+/// order, as it is in every run.
 pub fn requests_are_met()
     ensures { RequestsAreMet }
 {
@@ -28,8 +28,8 @@ pub fn what_is_accepted_is_requested()
     ranks_follow_the_comparison();
 }
 
-/// What is requested stays so until an LSA of its key comes: where no copy is held, and the key isn't
-/// the router's own, the last header of a key in a Description that is accepted is requested after
+/// What is requested stays so until an LSA of its key comes: where no copy is held, and the key
+/// isn't the router's own, the last header of a key in an accepted Description is requested after
 /// the event; and a request stays in each event whose packet brings no LSA of the key, unless
 /// another Description with a header of it is accepted, or the conversation is over (RFC 2328,
 /// sections 10.6, 10.9, 13 and 13.3). It asks that the router is in order, as it is in every run.
@@ -49,8 +49,8 @@ pub fn what_a_full_neighbor_described_was_taken_in()
 }
 
 /// Worked cases: of two headers of a key the later one is requested, even an older instance, unless
-/// it isn't wanted; a Description for larger packets, with a header of an unknown type, or after the
-/// exchange isn't accepted; without an event nothing is taken in.
+/// it isn't wanted; a Description for larger packets, with a header of an unknown type, or after
+/// the exchange isn't accepted; without an event nothing is taken in.
 pub fn worked_requests()
     ensures { WorkedRequests }
 {}

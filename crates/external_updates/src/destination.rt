@@ -104,7 +104,6 @@ fn push_externals_to(
 ///
 /// # Errors
 /// `AllocError` if an allocation is refused.
-/// Where memory for the offers is refused.
 pub fn best_to(
     alloc: Global,
     db: &Lsdb,

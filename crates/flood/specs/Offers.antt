@@ -23,9 +23,9 @@ IsOffered r candidates rows = AreOffered r.id r.area r.moment r.answers candidat
 abbrev pub IsStaleNow : Router → Type 0
 IsStaleNow r = IsStaleOf r.id r.area r.moment r.answers
 
--- from one router to the next no walk is made, and the one that is kept stays valid, unless an LSA
--- of type 1 or 2 was added or removed, has reached MaxAge or says something else, or the addresses
--- differ
+-- From one router to the next no walk is made (here: one calculation of all shortest paths), and
+-- the one that is kept stays valid, unless an LSA of type 1 or 2 was added or removed, has reached
+-- MaxAge or says something else, or the addresses of the router's interfaces differ.
 abbrev pub WalksOnlyThen : (old : Router) → (new : Router) → KeptRoutes → KeptRoutes → Type 0
 WalksOnlyThen old new kept next =
     ServesOnlyThen old.moment new.moment new.id old.area new.area kept next

@@ -19,7 +19,8 @@ pub enum Event {
     /// The routes that were offered, each with the answer whether it is kept out of the routing
     /// table.
     Install(Sequence<VetoAnswer>),
-    /// The interface with this number went down, and so does its neighbor.
+    /// The neighbor at the interface with this number goes Down (LLDown, RFC 2328, section 10.3).
+    /// The interface stays up: it goes on sending Hellos, and its network stays announced.
     LinkDown(u16),
 }
 

@@ -84,7 +84,7 @@ pub fn take_and_keep(
     ensures settled { router.new.settled ≡ router.old.settled }
     ensures kept { IfOk result (λ outs. AreKeptNow router.new.present routes.new) }
     // No walk is made, and the one that is kept stays valid unless an LSA of type 1 or 2 was added
-    // or removed, has reached MaxAge or says something else, or the addresses differ.
+    // or removed, has reached MaxAge or says something else, or the interfaces' addresses differ.
     ensures walks { IfOk result (λ outs. WalksOnlyThen router.old.present router.new.present
         routes.old routes.new) }
     ensures err { OnErr result (routes.new ≡ routes.old) }

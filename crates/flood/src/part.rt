@@ -30,7 +30,7 @@ pub enum Part {
     Withdraw(Prefix),
     /// The routes that were offered, each with the program's answer.
     Install(Sequence<(Route, u64)>),
-    /// The interface with this number went down.
+    /// The neighbor at the interface with this number goes Down.
     LinkDown(usize),
 }
 

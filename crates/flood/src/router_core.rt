@@ -305,10 +305,10 @@ impl Core {
         Ok(made)
     }
 
-    /// The number of walks that were made and kept since the start or the copy, which saturates.
-    /// Events make none. [`stale`](Core::stale) makes at most one, and only if since the last one
-    /// an LSA of type 1 or 2 was added or removed, has reached MaxAge or says something else, or
-    /// the addresses differ.
+    /// The number of walks, calculations of all shortest paths, that were made and kept since the
+    /// start or the copy; it saturates. Events make none. [`stale`](Core::stale) makes at most one,
+    /// and only if since the last one an LSA of type 1 or 2 was added or removed, has reached
+    /// MaxAge or says something else, or the addresses of the interfaces differ.
     pub fn walks(&self) -> u64 {
         self.routes.walks()
     }

@@ -79,7 +79,7 @@ pub fn step_links<S: LinkStep>(
     Ok(())
 }
 
-// Marks the copies of the Link State Updates after the first `count` as sent.
+// Marks as sent the copies of the LSAs after the first `count`.
 fn mark_behind(
     moment: Second,
     count: usize,

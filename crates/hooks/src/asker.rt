@@ -82,7 +82,7 @@ impl Asker {
     }
 
     /// Runs the program that is attached at the input's hook. Never blocks or allocates. `None` if
-    /// the published programs can't be read.
+    /// the published programs can't be read, or are older than those that the asker knows.
     pub fn ask(&mut self, input: &Input, shared: &Shared, seat: &mut Seat) -> Option<Answer>
         requires asked { IsAsked (given_by input.now) }
         requires table { IsOf shared.now seat.old }

@@ -27,7 +27,8 @@ fn let_in(alloc: Global, routes: &[Route], moment: Second) -> Result<Vec<VetoAns
         .collect(alloc)
 }
 
-// The hooks without a program, by one reading; `None` if the published programs can't be read.
+// The hooks without a program, by one reading; `None` if the published programs can't be read, or
+// are older than those that the asker knows.
 fn look(reader: ProgramReader, front: &mut Front) -> (ProgramReader, Option<Vacancies>)
     requires { HasSeen front.old.seen.book (view reader.place) }
     ensures same { (front.new.seen.book ≡ front.old.seen.book)

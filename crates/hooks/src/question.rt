@@ -12,8 +12,9 @@ use machine::{Input, TableRow};
 use maps::{Seat, Shared};
 use words::{External, Route, Second};
 
-/// A question never blocks or allocates. `None` if the published programs can't be read, for an
-/// unspecified cause; asker and seat are then unchanged. The seat belongs to the table.
+/// A question never blocks or allocates. `None` if the published programs can't be read: entering
+/// was refused, or they are older than those that the asker knows. Asker and seat are then
+/// unchanged. The seat has to be one of the table.
 impl Asker {
     /// Asks `count` about a packet that came in on the interface at this moment, before it is
     /// parsed.

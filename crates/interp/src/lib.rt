@@ -1,5 +1,5 @@
-//! Runs programs on the machine: any code with every check that the machine requires, and accepted
-//! programs without checks.
+//! Runs any code on the machine, with every check that the machine requires. `run`, for accepted
+//! programs and without checks, is that of `word_machine`.
 //!
 //! A run never blocks or allocates. What it did to the shared words is the list of its labels, by
 //! exactly which the list of its seat has grown.

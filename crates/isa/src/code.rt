@@ -1,3 +1,4 @@
+//! Code: instructions at their slots.
 use crate::instruction::Instruction;
 use std::marker::Model;
 

@@ -1,3 +1,4 @@
+//! From bytes to code (RFC 9669, section 3).
 ghost use Rattle.std.specs.Prelude.{List, [], MatchResult, ◌≡◌, ◌+◌, ◌*◌, ◌≤◌, ◌<◌, ◌/◌, ◌%◌, ◌⊎◌};
 ghost use Rattle.std.specs.Prelude.{◌↔◌, ◌++◌, ℕ, take, length, IfSome, Some, Ok, IfErr, IfOk};
 ghost use Rattle.std.specs.Prelude.{OnOk, OnErr, IsTrue};
@@ -83,7 +84,8 @@ fn begins_wide(fields: Fields) -> bool
     fields.offset == 0 && (fields.source == 0 || fields.source == 6)
 }
 
-/// The wide instruction of two slots with these fields.
+/// The wide instruction of two slots with these fields: with source 0 it loads a number of 64 bits,
+/// with source 6 a pointer, `map_val(map_by_idx(imm)) + next_imm` (RFC 9669, section 5.4).
 fn wide_instruction(fields: Fields, second: Fields) -> Option<Instruction>
     requires opcode { fields.opcode ≡ 24 }
     requires target { fields.target ≤ 10 }

@@ -1,3 +1,4 @@
+//! The fields of a slot (RFC 9669, section 3).
 use std::alloc::AllocError;
 
 /// The fields of a slot, each as the number of its bits.

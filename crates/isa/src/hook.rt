@@ -1,3 +1,4 @@
+//! The four hooks.
 ghost use Rattle.std.specs.Prelude.{◌≡◌, IfSome, Some};
 ghost use Rattle.isa.specs.declared.hook.Hook.{Hook};
 ghost use Rattle.isa.specs.Hooks.{hook_number, hook_name};
@@ -7,9 +8,9 @@ ghost use Rattle.isa.specs.Hooks.{hook_number, hook_name};
 pub enum Hook {
     /// For each datagram, before it is read.
     Count,
-    /// For the tag of an external route.
+    /// For the tag of an external destination that is to be announced.
     Tag,
-    /// For the metric of an external route.
+    /// For the metric of an external destination that is to be announced.
     Price,
     /// For each route, before it enters the table.
     Veto,

@@ -1,3 +1,4 @@
+//! Instructions as values (RFC 9669, sections 4 and 5).
 use crate::register::Register;
 
 /// How many of a register's bits an instruction works on.

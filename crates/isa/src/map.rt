@@ -1,8 +1,9 @@
+//! The two maps.
 ghost use Rattle.std.specs.Prelude.{◌≡◌, IfSome, Some};
 ghost use Rattle.isa.specs.declared.map.Map.{Map};
 ghost use Rattle.isa.specs.Maps.{map_number};
 
-/// One of the two maps that programs share with the router.
+/// One of the two maps: counters that all seats share, or cells of the running seat's own.
 #[derive(Clone, Copy, PartialEq, Eq, Debug)]
 pub enum Map {
     /// 256 counters of 64 bits, summed over all seats. Programs only read them through this map.

@@ -1,3 +1,4 @@
+//! The registers r0 to r10.
 ghost use Rattle.std.specs.Prelude.{◌≡◌, ◌<◌, ◌≤◌, ◌↔◌, ℕ, IsSome, IfSome};
 
 use std::marker::Model;

@@ -1,3 +1,4 @@
+//! A map by LSA key whose edits can be undone.
 ghost use Rattle.std.specs.Prelude.{◌≡◌, ◌==◌, ◌↔◌, ◌<◌, ◌≤◌, Some, length, slice_get, IfOk, OnOk};
 ghost use Rattle.std.specs.Prelude.{OnErr, IfSome, IsTrue, None, Option, false, is_some};
 ghost use Rattle.std.specs.Prelude.{option_copied, take, true};
@@ -71,6 +72,7 @@ fn count<X>(slots: &BTreeMap<Key, Slot<X>>, len: usize, held: bool) -> usize
     requires { map.len (live (slots_of slots.now.entries)) ≡ count_after_change held true len }
     ensures { result ≡ map.len (live (slots_of slots.now.entries)) }
 {
+    // For the prover alone, by what the call ensures.
     let _slots = slots.len();
     if held { len } else { len + 1 }
 }

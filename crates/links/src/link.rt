@@ -22,9 +22,9 @@ pub trait Link {
 
     ghost hears: { Self → Option (List ℕ) → Self → Type 0 };
 
-    /// Receives a datagram; `None` if none came within a second, or if an allocation for it was
-    /// refused, in which case it is lost. One that is longer than the buffer is cut to 8,193 bytes,
-    /// one more than a packet may have. `None` is never an error.
+    /// Receives a datagram. `None` if none came within a second, if the system refused the receive
+    /// for a passing reason, or if an allocation for it was refused, in which case it is lost. One
+    /// that is longer than the buffer is cut to 8,193 bytes, one more than a packet may have.
     fn receive(
         &mut self,
         alloc: Global,

@@ -9,7 +9,7 @@ abbrev pub IsUpTo : Option ℕ → Key → Type 0
 IsUpTo None key = Unit {0}
 IsUpTo (Some last) key = key.ls_type ≤ last
 
--- both had one age at one moment
+-- both had the same age at the same moment
 abbrev pub HaveOneAge : DatabaseCopy → DatabaseCopy → Type 0
 HaveOneAge a b = (a.lsa.header.age ≡ b.lsa.header.age) × (a.stored ≡ b.stored)
 

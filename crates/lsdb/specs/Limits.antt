@@ -16,8 +16,8 @@ abbrev pub own_externals : RouterNumber → Database → ℕ
 own_externals router d = length (filter (is_own_external router) (finite.keys d))
 
 -- an LSA with this key stays within the limits: it replaces a copy, or there are fewer than 16,384
--- LSAs and, if it is a self-originated AS-external-LSA, fewer than 4,096 of these; copies that are
--- yet to be removed count
+-- LSAs and, if it is a self-originated AS-external-LSA, fewer than 4,096 of these; copies at MaxAge
+-- that wait for their removal count, too
 abbrev pub has_room : RouterNumber → Key → Database → Bool
 has_room router key d =
     finite.contains_key d key

@@ -9,7 +9,7 @@ use keyed_map::KeyedMap;
 use std::alloc::{AllocError, Global};
 use words::{Key, Second};
 
-/// The keys whose copies may have MaxAge before a moment. No other copies have.
+/// When copies may have MaxAge: before the moment `due`, only those of the `aged` keys.
 #[derive(Drop)]
 pub struct Ages {
     /// Before this moment, only copies of the aged keys have MaxAge.

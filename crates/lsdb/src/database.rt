@@ -45,8 +45,8 @@ pub struct Lsdb {
     externals: usize,
     settled_externals: usize,
     ages: Ages,
-    // at least the number of aged keys whose copies were removed or replaced since the ages were
-    // foreseen; only the time that a visit of the aged keys takes depends on it
+    // at least the number of keys in `ages.aged` whose copies were removed or replaced since `ages`
+    // was made: a hint when to make it anew, on which nothing but time depends
     past: usize,
 }
 
@@ -167,6 +167,7 @@ impl Lsdb {
             copies: KeyedMap::new(alloc),
             externals: 0,
             settled_externals: 0,
+            // There is no copy that could reach MaxAge.
             ages: Ages::new(alloc, Second::new(u64::MAX)),
             past: 0,
         }
@@ -186,6 +187,7 @@ impl Lsdb {
             copies,
             externals: self.externals,
             settled_externals: self.externals,
+            // Nothing is foreseen: the first `settle_at` scans all copies.
             ages: Ages::new(alloc, Second::new(0)),
             past: 0,
         })
@@ -202,7 +204,8 @@ impl Lsdb {
     pub fn get(&self, key: &Key) -> Option<DatabaseCopy<'_>>
         ensures { result ≡ finite.get self.now.present key.now }
     {
-        // LSAs that arrive in the order of their keys aren't searched for.
+        // A key above all others has no copy: LSAs that arrive in the order of their keys aren't
+        // searched for.
         if self.copies.is_beyond(key) {
             return None;
         }

@@ -50,6 +50,7 @@ pub fn recount(
         else externals) }
     ensures { result ≡ count_own_externals router copies.now.present }
 {
+    // For the prover alone, by what the call ensures.
     let _copies = copies.len();
     if !is_own_external(router, key) {
         return externals;

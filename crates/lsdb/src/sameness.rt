@@ -51,7 +51,7 @@ fn say_the_same(
     have_one_body(alloc, old.lsa(), new.lsa())
 }
 
-// Whether both copies had one age at one moment, or neither has MaxAge at this one.
+// Whether both copies had the same age at the same moment, or neither has MaxAge at this one.
 fn count_alike(moment: Second, old: &StoredLsa, new: &StoredLsa) -> bool
     ensures { IsTrue result ↔ (HaveOneAge old.now new.now ⊎ HaveNoMaxAge moment old.now new.now) }
 {

@@ -98,7 +98,7 @@ impl StoredLsa {
         age_at(self.times.age, self.times.stored, moment) == MAX_AGE
     }
 
-    /// A moment before which a copy that wasn't installed at MaxAge isn't at MaxAge.
+    /// The moment at which a copy that was stored below MaxAge reaches it.
     pub(crate) fn young_until(&self) -> Second
         requires { self.now.lsa.header.age < max_age }
         ensures { (moment : Moment) → moment < result → is_aged_out moment self.now ≡ false }
@@ -117,7 +117,7 @@ impl StoredLsa {
         Some(self.lsa().body())
     }
 
-    /// Whether both had one age at one moment.
+    /// Whether both had the same age at the same moment.
     pub(crate) fn has_age_of(&self, other: &StoredLsa) -> bool
         ensures { IsTrue result ↔ HaveOneAge self.now other.now }
     {

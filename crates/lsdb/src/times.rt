@@ -6,8 +6,9 @@ use words::Second;
 pub struct Times {
     /// Its age at the moment `stored`, in seconds, at most 3600.
     pub age: u16,
+    /// When it had this age: when it was installed, or was aged prematurely.
     pub stored: Second,
-    /// When it was installed by flooding, if it was.
+    /// When it was installed by flooding, for MinLSArrival; `None` if this router originated it.
     pub installed: Option<Second>,
     /// When it was last sent in a Link State Update, if it was.
     pub sent: Option<Second>,

@@ -9,7 +9,7 @@ pub enum Pointer {
     Context(u64),
     /// Into the 512 bytes of the stack.
     Stack(u64),
-    /// Into one of the shared maps.
+    /// Into one of the two maps.
     Map(Map, u64),
 }
 

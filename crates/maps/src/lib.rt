@@ -1,11 +1,14 @@
-//! The words that programs share while they run: counters that every seat adds to, and cells of
-//! each seat's own.
+//! The words that programs keep from run to run: counters that all seats share, and cells of each
+//! seat's own.
 //!
 //! A seat is the right to use the table from one thread. Its history is a list of accesses that
 //! exists in contracts alone. Between any two steps of any seats: a counter is the sum of all
 //! seats' adds to it; a read finds at least what its seat knows of the counter; a cell holds what
 //! its seat last stored there, or 0; a seat makes at most 2^31 adds, each of less than 2^24, so
 //! that no counter reaches 2^61.
+//!
+//! Nothing clears a word while the router runs: a program that is attached finds what earlier ones
+//! left, programs at all hooks use the same words, and a seat gets no new adds when they are spent.
 #![tactic(auto)]
 
 mod access;

@@ -111,7 +111,7 @@ impl<'a> LinkStep for Hearing<'a> {
 }
 
 /// A Hello from the router `from` at the interface with this number, to the router `own` (RFC 2328,
-/// section 10.5). It is discarded if it has no Router ID or this router's own, if it and the
+/// section 10.5). It is discarded if its Router ID is 0.0.0.0 or this router's own, if it and the
 /// interface differ in HelloInterval, RouterDeadInterval or the E-bit, or if the interface has
 /// another neighbor. Otherwise the inactivity timer is restarted, Down becomes Init, and
 /// 2-WayReceived or 1-WayReceived follows, by whether it lists this router.

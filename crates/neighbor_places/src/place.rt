@@ -26,6 +26,7 @@ use words::{RouterId, Second};
 #[derive(Drop)]
 pub struct Place {
     neighbor: Option<Neighbor>,
+    // the neighbor before this event, once it was replaced; `Some(None)` if it was Down then
     before: Option<Option<Neighbor>>,
 }
 

@@ -116,19 +116,22 @@ fn is_entry(moment: Second, header: &Header, entry: Option<ListEntry>) -> bool
     }
 }
 
+// A function, as those of `connectives` are.
 fn gets(from: bool, passes: bool) -> bool
     ensures { result ≡ (not from && passes) }
 {
     !from && passes
 }
 
+// A function, as those of `connectives` are.
 fn later(first: bool, moment: Second, before: Second) -> Second
     ensures { result ≡ (if first then moment else before) }
 {
     if first { moment } else { before }
 }
 
-// The DD sequence number of the next attempt (RFC 2328, section 10.8).
+// The DD sequence number of the next attempt: 1 more than the one with which the last attempt
+// began. RFC 2328, section 10.3, has 1 more than the present one: docs/reference/DEPARTURES.md.
 pub fn next_dd_sequence_start(moment: Second, dd_sequence_start: Option<u32>) -> u32
     ensures { result ≡ next_dd_sequence_start moment dd_sequence_start }
 {
@@ -138,7 +141,8 @@ pub fn next_dd_sequence_start(moment: Second, dd_sequence_start: Option<u32>) ->
     }
 }
 
-// The empty Database Description with the I, M and MS bits set, which starts the negotiation. It
+// The empty Database Description with the I, M and MS bits set, which starts the negotiation. Its
+// MTU is the length of the largest packet; the box writes the interface's (docs/use/HOST.md). It
 // doesn't allocate.
 pub fn initial_description(alloc: Global, sequence: u32) -> Description
     ensures { result ≡ initial_description sequence }
@@ -336,6 +340,7 @@ impl Neighbor {
             draft.update(alloc, delay, moment, copy)?;
             return Ok(true);
         }
+        // Nothing is sent, but an older instance leaves the list (RFC 2328, section 13 (5) (c)).
         self.release(&header)?;
         Ok(false)
     }

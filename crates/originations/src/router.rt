@@ -108,7 +108,8 @@ fn put_links(alloc: Global, links: &mut Vec<RouterLink>, link: &Link) -> Result<
     put_described(alloc, links, &interface, full)
 }
 
-// The body of the router-LSA: only bit E is set, and it has the links of each interface in order.
+// The body of the router-LSA: the links of each interface in order. Of the flags only bit E is set,
+// whether or not an external destination is announced.
 fn router_body(alloc: Global, links: &[Link]) -> Result<Body, AllocError>
     ensures { IfOk result (λ body. body ≡ router_body (map present links.now)) }
 {

@@ -3,6 +3,9 @@
 //! self-originated LSAs that are received, wait or are due (sections 12.4, 13.4 and 14.1), external
 //! destinations that an operator redistributes and withdraws (section 12.4.4), and the end that all
 //! events share (sections 10.3, 10.9, 12.4.1 and 14).
+//!
+//! A call that errors with `AllocError` may have done a part of its work. The caller then rolls
+//! back what it changes, and drops the drafts that it adds to.
 #![tactic(auto)]
 
 mod announcements;

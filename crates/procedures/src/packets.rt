@@ -159,7 +159,7 @@ fn from_neighbor_before_exchange(
 }
 
 /// Processes a packet that was received at the interface with this number (RFC 2328, section 8.2).
-/// It is discarded if it has no Router ID or this router's own, or if it isn't a Hello and its
+/// It is discarded if its Router ID is 0.0.0.0 or this router's own, or if it isn't a Hello and its
 /// sender isn't the interface's neighbor. Link State Requests, Updates and Acknowledgments are
 /// discarded before Exchange.
 ///

@@ -24,6 +24,7 @@ fn run_out(
     ensures drafts { OnOk result (length drafts.new ≡ length router.new.present.area.links) }
     ensures settled { router.new.settled ≡ router.old.settled }
 {
+    // Nothing is sent. The contract has the drafts, as that of each part of an event has.
     let _drafts = drafts;
     router.run_out(moment);
     router.forget_originations(alloc, moment)

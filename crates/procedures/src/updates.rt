@@ -123,7 +123,8 @@ fn receive_text(
 
 /// Processes the LSAs of a Link State Update that was received at the interface with this number,
 /// from a neighbor in Exchange or later: in turn, up to a bad request. Bytes that encode no LSA are
-/// skipped.
+/// skipped: they aren't acknowledged, so the neighbor goes on sending them, and a request for such
+/// an LSA stays.
 ///
 /// Errors with `AllocError` if an allocation is refused; the caller then rolls the router back and
 /// drops the drafts.

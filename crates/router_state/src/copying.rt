@@ -30,6 +30,7 @@ impl Router {
         ensures { IfOk result (λ made. made
             ≡ record { present = self.now.present; settled = self.now.present }) }
     {
+        // For the prover alone, by what the call ensures.
         let _links = self.area.links();
         let area = self.area.copy(alloc)?;
         let announced = self.announced.copied(alloc)?;

@@ -4,6 +4,9 @@
 //!
 //! Each call that is a part of an event says by `Makes` which part it is: wherever in an event it
 //! comes, it does to the router, and adds to what was sent, what that part of the rules does.
+//!
+//! A call that errors with `AllocError` may have done a part of its work. The caller then rolls
+//! back what it changes, and drops the drafts that it adds to.
 #![tactic(auto)]
 
 mod conversation;

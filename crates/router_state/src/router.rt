@@ -117,6 +117,7 @@ impl Router {
         } }
         ensures few { length self.now.present.area.links ≤ 63 }
     {
+        // For the prover alone, by what the call ensures.
         let _links = self.area.links();
         &self.area
     }
@@ -186,6 +187,7 @@ impl Router {
     pub fn settle(&mut self)
         ensures { self.new ≡ record { present = self.old.present; settled = self.old.present } }
     {
+        // For the prover alone, by what the call ensures.
         let _links = self.area.links();
         self.area.settle();
         self.announced.settle();
@@ -201,6 +203,7 @@ impl Router {
     pub fn settle_at(&mut self, alloc: Global, moment: Second)
         ensures { self.new ≡ record { present = self.old.present; settled = self.old.present } }
     {
+        // For the prover alone, by what the call ensures.
         let _links = self.area.links();
         self.area.settle_at(alloc, moment);
         self.announced.settle();

@@ -137,6 +137,7 @@ impl Router {
         ensures drafts { OnOk result (length drafts.new ≡ length self.new.present.area.links) }
         ensures settled { self.new.settled ≡ self.old.settled }
     {
+        // Nothing is sent. The contract has the drafts, as that of each part of an event has.
         let _drafts = drafts;
         timers::remove_aged(&mut self.area, alloc, moment)
     }

@@ -1,4 +1,4 @@
--- The routing table: the candidates that the operator's program let in when it was last asked about
+-- The routing table: the candidates that the program at `veto` let in when it was last asked about
 -- all of them.
 use Rattle.std.specs.Prelude.{ℕ, List, ◌↔◌}
 use Rattle.std.specs.List.{AllPairs, Contains}

@@ -7,7 +7,7 @@ use words::{External, ExternalType, Key, LinkStateId, Prefix, RouterId, Second};
 pub enum Happening {
     /// `tick`: time has passed.
     Tick,
-    /// `packet I HEX`: the packet of the last word comes in at interface I; `-` stands for no bytes.
+    /// `packet I HEX`: the packet of the last word comes in at interface I; `-` means no bytes.
     Packet(u16),
     /// `announce P METRIC`: the destination is announced, with a metric of type 2 and no tag.
     Announce(External),

@@ -96,7 +96,7 @@ pub fn pass_on<'a, D: Domain>(
 }
 
 /// Checks that a conditional jump may enter the statement at its target, if its test can hold. The
-/// resulting state serves the other edge.
+/// resulting state serves the other edge, where what it says of the two operands is replaced.
 fn take<'a, D: Domain>(
     targets: &[Option<Target<'a, D>>],
     segment: &Target<'a, D>,

@@ -138,6 +138,7 @@ pub fn check_places<'a, D: Domain>(
         (IsPlaceRefusal code.now statements slot) }
 {
     an_instruction_is_followed();
+    // For the prover alone: the slots are code.
     let _is_code = code.slots();
     let to = jump_of(slot, instruction);
     if jumps_nowhere(code, to) {

@@ -1,7 +1,7 @@
 //! `simulation`: networks of many routers in memory. It plays scenarios and tells how long they
 //! take to settle and how often packets go round meanwhile, and searches for histories that end
-//! with Full neighbors whose databases differ. It plays what happens at one router from a file, too,
-//! or line by line.
+//! with Full neighbors whose databases differ. It also plays what happens at one router, from a
+//! file or line by line.
 #![tactic(auto)]
 
 mod arguments;

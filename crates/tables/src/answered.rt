@@ -16,8 +16,8 @@ use std::alloc::{AllocError, Global};
 use words::Route;
 
 /// The routing table (RFC 2328, section 11): exactly the candidates whose equal route was answered
-/// with 0, in the order of their prefixes. The answers are those of the program that the operator
-/// asks about each route; 0 lets it in.
+/// with 0, in the order of their prefixes. The answers are those of the program at `veto`, which is
+/// asked about each route; 0 lets it in.
 ///
 /// If the answers are those to all candidates in turn, each is found at its own index, else by
 /// binary search. Sorted answers are used as they are, others as a sorted copy.

@@ -1,5 +1,5 @@
-//! The routing table: the candidates that the operator's program let in, and whether the program is
-//! to be asked again.
+//! The routing table: the candidates that the program at `veto` let in, and whether it is to be
+//! asked again.
 #![tactic(auto)]
 
 mod answered;

@@ -49,6 +49,7 @@ pub fn acknowledge_all(
     ensures settled { area.new.settled ≡ area.old.settled }
     ensures router { area.new.router ≡ area.old.router }
 {
+    // The moment is for the contract alone.
     let _tick = moment;
     area.step_links(alloc, &Acknowledgments, drafts)
 }

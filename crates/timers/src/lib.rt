@@ -1,5 +1,8 @@
 //! What a Tick and the end of each event do over all links and the database (RFC 2328, sections
 //! 9.5, 10.3, 10.8, 10.9, 13.5, 13.6 and 14).
+//!
+//! A call that errors with `AllocError` may have done a part of its work. The caller then rolls
+//! back what it changes, and drops the drafts that it adds to.
 #![tactic(auto)]
 
 mod acknowledgments;

@@ -32,7 +32,7 @@ impl LinkStep for Again {
     }
 }
 
-// The number of Link State Updates in each draft.
+// The number of LSAs to be sent in each draft.
 fn update_counts(alloc: Global, drafts: &[Draft]) -> Result<Vec<usize>, AllocError>
     ensures { IfOk result (λ counts. counts.items ≡ map update_count drafts.now) }
 {
@@ -43,7 +43,7 @@ fn update_counts(alloc: Global, drafts: &[Draft]) -> Result<Vec<usize>, AllocErr
     Ok(counts)
 }
 
-// Marks the copies of the Link State Updates after the first `count` as sent.
+// Marks as sent the copies of the LSAs after the first `count`.
 fn mark_behind(
     area: &mut Area,
     moment: Second,
@@ -63,7 +63,7 @@ fn mark_behind(
     Ok(())
 }
 
-// Marks the copies of the Link State Updates after the first ones of each draft as sent.
+// Marks as sent the copies of the LSAs that each draft got after its first ones.
 fn mark_all(
     area: &mut Area,
     moment: Second,

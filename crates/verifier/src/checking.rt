@@ -23,7 +23,8 @@ use transfer::rule::Rule;
 pub const BUDGET: u64 = 1_000_000;
 
 /// The bound of the instructions that a run may execute: the rank at the entry plus 1, times the
-/// slots of the code. Errors with `Budget` if that exceeds `BUDGET`.
+/// slots of the code. Between two jumps back a run passes each slot at most once, and each jump
+/// back lowers the rank, which never rises. Errors with `Budget` if that exceeds `BUDGET`.
 fn bound_of_runs(rank: u32, size: usize) -> Result<u64, Refusal>
     requires { size ≤ 4096 }
     ensures value { IfOk result (λ bound. bound ≡ (rank + 1) * size) }
@@ -41,19 +42,19 @@ fn bound_of_runs(rank: u32, size: usize) -> Result<u64, Refusal>
     Ok(bound)
 }
 
-/// Accepts the code only if it is safe within `(entry_rank + 1) * slots` instructions, at most
-/// 1,000,000.
-///
-/// Each run that reaches a slot with a statement is as stated there, as far as the domain
-/// distinguishes numbers.
+/// Accepts the code only if it is safe: no run is ever stuck, and each ends within
+/// `(entry_rank + 1) * slots` instructions, at most 1,000,000. Each run that reaches a slot with a
+/// statement is as stated there, as far as the domain distinguishes numbers.
 ///
 /// A refusal names the first slot that breaks a rule and, of the rules broken there, the one that
 /// is checked first. The rules on jumps, statements and the code's end are named only if they are
 /// broken and none of them is broken before; those on helpers, on the bound and on r10 only if they
-/// are broken; and `Memory` at slot 0 alone. That an allocation was refused then is how the code
-/// behaves, which no clause says. A plain program, one that uses only numbers in registers and
-/// states no more than that they are numbers, is refused for memory or not at all, whatever the
-/// domain. The statements are in the order of their slots, each slot once, as an object holds them.
+/// are broken. Any other rule may be named because the domain knows too little. `Memory`, at slot 0
+/// alone, means that an allocation was refused, which no clause says.
+///
+/// A plain program, one that uses only numbers in registers and states no more than that they are
+/// numbers, is refused for memory or not at all, whatever the domain. The statements are in the
+/// order of their slots, each slot once, as an object holds them.
 pub fn verify<D: Domain>(
     alloc: Global,
     hook: Hook,
@@ -79,6 +80,7 @@ pub fn verify<D: Domain>(
     ensures over { budget < (entry_rank + 1) * length code
         → IsErrOf result (record { slot = 0; rule = Rule.Budget }) }
 {
+    // For the prover alone: the slots are code.
     let _is_code = code.slots();
     let bound = bound_of_runs(entry_rank, code.len())?;
     let statement = entry_statement(entry_rank);

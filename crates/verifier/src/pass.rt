@@ -175,6 +175,7 @@ fn step<'a, D: Domain>(
         (slot + size instruction.now) (segment_of targets.now entry.now next.0) next.1) }
 {
     one_instruction_ends_at_a_slot();
+    // For the prover alone: the slots are code.
     let _is_code = code.slots();
     check_places(code, targets, is_passed_to, slot, instruction)?;
     let (here, arrived) = arrive(targets, slot, begun, known);
@@ -232,6 +233,7 @@ pub fn pass_all<'a, D: Domain>(
     a_wide_instruction_has_its_second_half();
     an_instruction_is_followed();
     one_instruction_ends_at_a_slot();
+    // For the prover alone: the slots are code.
     let _is_code = code.slots();
     let mut begun = None;
     let mut known = start;

@@ -67,6 +67,7 @@ impl Programs {
         let hook = hook_of(input);
         match self.slot(hook).program() {
             Some(program) => {
+                // For the prover alone, by what the calls ensure.
                 let _bound = program.bound();
                 let _code = program.slots();
                 let _regions = program.regions();

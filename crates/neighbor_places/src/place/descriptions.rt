@@ -129,14 +129,14 @@ impl Place {
     }
 
     /// A Database Description from the neighbor to the router with the Router ID `own` (RFC 2328,
-    /// sections 10.6 and 10.8). One with an MTU larger than 8,192 bytes is ignored. In Init it
-    /// first acts like a Hello that lists this router. One that completes the negotiation is then
-    /// accepted as the next in sequence. The LSAs that are newer than the database copies are added
-    /// to the request list; the next Database Description is sent, or the last one again if this
-    /// one is a duplicate; and after the last one of both sides the neighbor is Loading, or Full if
-    /// the request list is empty. One out of sequence, or with a header of an unknown LS type,
-    /// takes the neighbor back to ExStart (SeqNumberMismatch). It scans the database only when the
-    /// negotiation is done.
+    /// sections 10.6 and 10.8). One with an MTU larger than 8,192 bytes is ignored. In Init,
+    /// 2-WayReceived comes first, as by a Hello that lists this router, but the inactivity timer
+    /// isn't restarted. One that completes the negotiation is then accepted as the next in
+    /// sequence. The LSAs that are newer than the database copies are added to the request list;
+    /// the next Database Description is sent, or the last one again if this one is a duplicate; and
+    /// after the last one of both sides the neighbor is Loading, or Full if the request list is
+    /// empty. One out of sequence, or with a header of an unknown LS type, takes the neighbor back
+    /// to ExStart (SeqNumberMismatch). It scans the database only when the negotiation is done.
     ///
     /// Errors with `AllocError` if an allocation is refused; the caller then rolls back.
     pub fn description(

@@ -28,6 +28,7 @@ fn put_keys(keys_set: &mut KeyedMap<()>, keys: &[Key]) -> Result<(), AllocError>
     Ok(())
 }
 
+// A function, as those of `connectives` are.
 fn all_hold(synchronizing: bool, unrequested: bool, unasked: bool) -> bool
     ensures { result ≡ (synchronizing && not unrequested && unasked) }
 {
