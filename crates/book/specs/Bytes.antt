@@ -4,8 +4,8 @@ use Rattle.flood.specs.declared.event.Event.{Event}
 use Rattle.flood.specs.declared.event.Event.TheVariants as event
 use Rattle.book.specs.declared.entry.Entry.{Entry}
 
--- what an event holds outside of itself and keeps in the journal: the bytes of a packet. An Install
--- loses its answers to the next one
+-- what an event holds outside of its entry and keeps in the journal: the bytes of a packet. The
+-- answers of an Install don't count: at the next Install they are dropped
 abbrev pub held_by : Event → ℕ
 held_by (event.Packet number bytes) = length bytes
 held_by event.Tick = 0
@@ -14,8 +14,7 @@ held_by (event.Withdraw prefix) = 0
 held_by (event.Install answers) = 0
 held_by (event.LinkDown number) = 0
 
--- so many bytes, and those that an event takes: what it holds, and 256 beside. Where they are 2^64
--- or more, 2^64 - 1
+-- these bytes, and those of one more event: what it holds, and 256 for its entry; at most 2^64 - 1
 abbrev pub with_event : ℕ → Event → ℕ
 with_event bytes e = min (bytes + held_by e + 256) 18446744073709551615
 

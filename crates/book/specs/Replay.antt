@@ -123,7 +123,7 @@ IsNoted old e new = (before : BookView) × IsSameOrMarked old before × IsNotedI
 abbrev pub IsNotedAtLast : (old : BookView) → Entry → (new : BookView) → Type 0
 IsNotedAtLast old e new = (before : BookView) × IsSameOrAnew old before × IsNotedIn before e new
 
--- what holds of the fields of every book that began with this router, beside the total of its ledger
+-- what holds of the fields of every book that began with this router; `total` is its ledger's
 pub record IsKept (origin : Router) (start : Router) (journal : List Entry) (now : Router)
     (noted taken total : ℕ) : Type 0 where
   pub replays : Replays start journal now

@@ -33,7 +33,7 @@ pub fn last_install(journal: &[Entry]) -> Option<usize>
     }
 }
 
-// An Install gives its answers back; every other event stays.
+// Drops the answers of an Install; every other event stays as it is.
 fn forget(event: &mut Event)
     ensures { event.new ≡ without_answers event.old }
 {
@@ -43,7 +43,7 @@ fn forget(event: &mut Event)
     }
 }
 
-/// The event at this place, where that is an Install, gives its answers back. It takes no memory.
+/// Drops the answers of the event at this place, if that is an Install. It takes no memory.
 pub fn forget_answers(journal: &mut [Entry], place: usize)
     ensures { journal.new ≡ forgotten_at journal.old place }
 {

@@ -35,6 +35,8 @@ pub const TAKEN: u64 = 1 << 63;
 /// Clauses see these and how many events were taken in all, before the start too. `L` is the ledger
 /// in which every event counts once, for the share that it was taken with, and names the router
 /// that the first event found.
+///
+/// Start and journal are there for the contracts: only tests read them, and marks keep them small.
 #[derive(Drop)]
 pub struct Book<L: Origin> {
     alloc: Global,
@@ -84,7 +86,7 @@ impl<L: Origin> Model for Book<L> {
         b.noted b.taken b.total.total };
 }
 
-// The router at the start is kept for itself, whatever becomes of the router as it is now.
+// Makes the copy that is the router at the start, unless there is one already.
 fn hold(start: &mut Option<Core>, now: &Core) -> Result<(), AllocError>
     ensures ok { OnOk result (start.new ≡ Some (start_of start.old now.now)) }
     ensures err { OnErr result (start.new ≡ start.old) }
@@ -214,11 +216,11 @@ impl<L: Origin> Book<L> {
         }
     }
 
-    /// The book starts from the router as it is now, with an empty journal. It has taken no more
-    /// and no less than before.
+    /// Forgets the events so far: the book starts from the router as it is now, with an empty
+    /// journal. The number of the events that were taken stays.
     ///
-    /// It wants no memory, and gives back what the router at the start and the journal hold: the
-    /// router as it is now is copied when the next event comes. So no `AllocError` comes.
+    /// It wants no memory, and frees what the router at the start and the journal hold: the router
+    /// as it is now is copied when the next event comes. So no `AllocError` comes.
     pub fn mark(&mut self) -> Result<(), AllocError>
         ensures ok { IsOk result }
         ensures book { self.new ≡ marked_book self.old }
@@ -259,7 +261,7 @@ impl<L: Origin> Book<L> {
         }
     }
 
-    // Where the event that was taken last is an Install, the one before it gives its answers back.
+    // If the event that was taken last is an Install, drops the answers of the Install before it.
     fn lighten(&mut self)
         ensures book { self.new ≡ record self.old { journal = self.new.journal } }
         ensures journal { IsLightened self.old.journal self.new.journal }
@@ -336,7 +338,7 @@ impl<L: Origin> Book<L> {
         if self.taken == TAKEN {
             return Err(BookError::Journal);
         }
-        // These two come before any mark.
+        // `ClockBack` and `NoInterface` come before any mark.
         if let Some(error) = self.now().refuses(moment, &event) {
             return Err(BookError::Core(error));
         }

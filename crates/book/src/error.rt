@@ -12,8 +12,8 @@ pub enum BookError {
     /// The router refused it, or an allocation was refused (`CoreError::Memory`).
     #[error("{0}")]
     Core(CoreError),
-    /// The journal holds [`JOURNAL`](crate::JOURNAL) events, or the book has taken
-    /// [`TAKEN`](crate::TAKEN). It is tried first.
+    /// The book has taken [`TAKEN`](crate::TAKEN) events; or, from `apply` alone, its journal holds
+    /// [`JOURNAL`](crate::JOURNAL) events. It is tried first.
     #[error("the journal is full")]
     Journal,
 }

@@ -38,8 +38,8 @@ fn held_by(event: &Event) -> u64
     }
 }
 
-/// So many bytes, and those that this event takes: what it holds, and 256 beside. Its greatest
-/// value stands for itself and for more.
+/// `bytes`, and those that this event takes in a journal: what it holds, and 256 beside. The
+/// greatest value stands for all sums above it, too.
 pub fn with_event(bytes: u64, event: &Event) -> u64
     ensures { result ≡ with_event bytes event.now }
 {
