@@ -41,9 +41,9 @@ use Rattle.turns.specs.declared.work.Work.TheVariants as work
 
 -- ---- what the book is asked
 
--- What is said of an event that was taken, with what it sent and whether it left the router stale,
--- which isn't known where memory was refused; and of word that the programs are now those that
--- these operations leave.
+-- Two predicates that a `Taker` leaves open: an event was taken at a moment, sent these outs and
+-- left the router stale or not (None where that isn't known, for want of memory); and the workers
+-- were told that the programs are now those that these operations leave.
 pub record Took : Type 1 where
   pub taken : Moment → Event → List Out → (stale : Option Bool) → Type 0
   pub told : List Operation → Type 0
@@ -53,14 +53,14 @@ pub data Lack : Type 0 where
   Reading : (input : Given) → Lack
   Memory : Lack
 
--- What is said of an event that was refused, and why; of what was lacking; and of a number of
--- changes of the programs that was read.
+-- Three more: an event was refused at a moment, and why; a question got no reading, or memory was
+-- lacking; and this number of changes of the programs was read.
 pub record Refuses : Type 1 where
   pub refused : Moment → Event → BookError → Type 0
   pub lacks : Lack → Type 0
   pub counted : ℕ → Type 0
 
--- the same by a name of its own
+-- the fields by names of their own, for contracts
 abbrev pub IsTaken : Took → Moment → Event → List Out → (stale : Option Bool) → Type 0
 IsTaken took = took.taken
 
@@ -148,7 +148,7 @@ pub record AreNeighbors (at : InterfaceNumber → Option (RouterNumber × State)
   pub all : length neighbors ≡ interfaces
   pub each : (k : ℕ) → k < interfaces → slice_get neighbors k ≡ Some (at (k + 1))
 
--- they are those of one book, which is its own where there is an interface
+-- they are the neighbors of one book, of which `own` is so if there is an interface
 abbrev pub IsListed : {B : Type 0} → (own : B → Type 0)
     → (at : B → InterfaceNumber → Option (RouterNumber × State)) → (interfaces : ℕ)
     → List (Option (RouterNumber × State)) → Type 0

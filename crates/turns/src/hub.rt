@@ -102,9 +102,9 @@ impl<L: Site, B: Taker<L>> Hub<L, B> {
         self.shared.read(&mut port.seat, index)
     }
 
-    /// Tells the workers that the programs are now those of the notice: a refresh that follows a
-    /// turn which began before isn't taken any more, so that no answer of an earlier program comes
-    /// after those of the refresh that whoever changed them makes.
+    /// Tells the workers that the programs are now those of the notice. A refresh that follows a
+    /// turn from before is refused from now on, so that no answer of an earlier program comes after
+    /// those of the refresh that the caller makes next.
     pub fn programs_changed(&self, notice: &Notice)
         ensures { IsTold B.took (told_by notice.now) }
     {
@@ -141,7 +141,7 @@ impl<L: Site, B: Taker<L>> Hub<L, B> {
         book.take(mine, moment, event)
     }
 
-    /// The same, unless the programs were changed since they had been so often: `Away` then.
+    /// As `take`, but `Away` if the number of changes of the programs is no longer `changes`.
     pub(crate) fn take_unless_changed<R: Wait>(
         &self,
         rt: &R,
@@ -178,7 +178,7 @@ impl<L: Site, B: Taker<L>> Hub<L, B> {
         book.offered()
     }
 
-    /// The candidates now, for whom the rows beside them make no difference.
+    /// The candidates now, for a caller that needs no rows: less work than `offered`.
     pub(crate) fn candidates<R: Wait>(&self, rt: &R) -> Result<Vec<Route>, AllocError>
         ensures offered { IfOk result (λ c. (rows : List TableRow) × B.offers c.items rows) }
         ensures short { OnErr result (IsLacking B.refuses Lack.Memory) }

@@ -46,7 +46,7 @@ pub fn asked<L: Site, B: Taker<L>, R: Wait>(
 {
     match work {
         Work::Datagram(number, bytes) => {
-            // Where the programs give no reading, the datagram passes by.
+            // Without a reading of the programs the datagram isn't counted, and taken all the same.
             let _passed = B::count(asker, *number, moment, bytes.as_slice(), &hub.shared, seat);
             Ok(Event::Packet(*number, B::copied(bytes)?))
         }
@@ -58,8 +58,8 @@ pub fn asked<L: Site, B: Taker<L>, R: Wait>(
     }
 }
 
-// A destination that is to be announced, with its tag and its metric. Where no program stands at
-// the two hooks no table is asked for, which would take as long as the router's candidates.
+// A destination that is to be announced, with its tag and its metric. If neither hook has a program
+// the table isn't made, which would take as long as the router's candidates do.
 fn redistribution<L: Site, B: Taker<L>, R: Wait>(
     rt: &R,
     hub: &Hub<L, B>,
@@ -176,9 +176,8 @@ fn price<L: Site, B: Taker<L>>(
     }
 }
 
-/// An installation: of each candidate now, whether it is kept out of the table. Where no program
-/// stands at `veto`, one reading tells so for all of them, whatever rows the table has: these
-/// aren't asked for.
+/// An installation: of each candidate now, whether it is kept out of the table. If `veto` has no
+/// program, one reading of the programs answers for all of them, and the table isn't made.
 pub fn installation<L: Site, B: Taker<L>, R: Wait>(
     rt: &R,
     hub: &Hub<L, B>,

@@ -57,14 +57,14 @@ pub struct Taken {
     pub stale: Option<bool>,
 }
 
-/// Takes events, and tells what it offers. What a turn asks beside it asks by such a type too: the
-/// programs, memory, and whether the programs were changed.
+/// What a turn needs of a router: it takes events, and tells its candidates, its table and its
+/// neighbors. The programs, memory and the count of changes are asked here as well, although a
+/// [`Book`] only hands these on.
 ///
-/// What it says of an event that it took or refused, and of what it offers and wants, is left open
-/// here, and so is what it says where a question gets no reading or no memory: a turn, which is
-/// proved for any such type, can say it only by the call itself. So a turn that gave another event,
-/// at another moment, or to another book, couldn't say what it promises, nor could one that gave
-/// none, or that claims to lack what it didn't ask for.
+/// What each call says is left open here: a turn, which is proved for any such type, can say only
+/// what a call told it. So a turn that gave another event, at another moment, or to another book,
+/// couldn't say what it promises, nor could one that gave none, or that claims to lack what it
+/// didn't ask for.
 pub trait Taker<L: Origin> {
     ghost took: { Took };
 
@@ -105,8 +105,8 @@ pub trait Taker<L: Origin> {
         ensures offered { IfOk result (λ o. offers o.candidates.items o.rows.items) }
         ensures short { OnErr result (IsLacking refuses Lack.Memory) };
 
-    /// The candidates now, for whom the rows beside them make no difference: that takes less time
-    /// than [`offered`](Taker::offered).
+    /// The candidates now, for a caller that needs no rows: that takes less time than
+    /// [`offered`](Taker::offered).
     fn candidates(&self) -> Result<Vec<Route>, AllocError>
         ensures offered { IfOk result (λ c. (rows : List TableRow) × offers c.items rows) }
         ensures short { OnErr result (IsLacking refuses Lack.Memory) };

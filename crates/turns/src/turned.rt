@@ -8,7 +8,7 @@ use thiserror::Error;
 
 /// What a turn sends, and after it what the refresh sends that followed it, if one did.
 ///
-/// They stand apart: to put them together could want memory after both events stand.
+/// They stand apart: to join them could want memory when neither event can be undone any more.
 #[derive(Debug, Drop)]
 pub struct Turned {
     pub outs: Vec<Out>,
@@ -21,7 +21,8 @@ pub enum TurnError {
     /// The book refused the event, or an allocation was refused (`CoreError::Memory`).
     #[error("{0}")]
     Book(BookError),
-    /// `tag`, `price` or `veto` got no reading of the published programs.
+    /// `tag`, `price` or `veto` got no reading of the published programs; or, of the refresh that
+    /// follows a turn, the programs were changed since the turn began.
     #[error("no reading of the programs")]
     Away,
 }

@@ -37,14 +37,14 @@ use words::Second;
 /// installation happens at the moment of the router's last event, where that is later than the
 /// turn's: it may have passed while the programs were asked. All else happens at the turn's moment.
 ///
-/// Refused: `Away` where `tag`, `price` or `veto` got no reading; else as the book refuses it
-/// ([`Book::apply_anew`](book::Book::apply_anew)): its journal first, then the router's order.
-/// `Memory` may come before any of them, while the programs are asked. A refused turn gave the book
-/// nothing; the steps that the programs made on the shared words stand, and so does a mark. The
-/// refresh is refused too where the programs were changed since the turn began
-/// ([`Hub::programs_changed`]). A refusal of the refresh leaves the turn's outs as they are: the
-/// next turn tries again. So it does where it isn't known whether the router is stale, for want of
-/// memory.
+/// Refused: `Away` if `tag`, `price` or `veto` got no reading; else as the book refuses the event
+/// ([`Book::apply_anew`](book::Book::apply_anew)). `Memory` may come earlier, while the programs
+/// are asked. A refused turn adds no event to the book. What the programs did to the shared words
+/// stays, and so does a mark ([`Book::mark`](book::Book::mark)).
+///
+/// The refresh is refused too if the programs were changed since the turn began
+/// ([`Hub::programs_changed`]). A refusal of it leaves the turn's outs as they are, and the next
+/// turn tries again; so it does if memory was lacking to tell whether the router is stale.
 ///
 /// A turn that is refused before its event is given hasn't passed the gate.
 pub fn turn<L: Site, B: Taker<L>, G: Gate, R: Wait>(
@@ -123,7 +123,7 @@ fn follow<L: Site, B: Taker<L>, R: Wait>(
     }
 }
 
-// A refresh that passes no gate, unless the programs were changed since they had been so often.
+// A refresh that passes no gate. `Away` if the number of changes of the programs isn't `changes`.
 fn refresh<L: Site, B: Taker<L>, R: Wait>(
     rt: &R,
     hub: &Hub<L, B>,

@@ -12,7 +12,7 @@ pub enum Work {
     Add(External),
     /// A destination is to be announced no longer.
     Withdraw(Prefix),
-    /// The interface of this number went down.
+    /// The neighbor at the interface of this number goes Down. No line of the console asks for it.
     Down(u16),
     /// The programs are to be asked of each candidate whether it is kept out of the table.
     Refresh,
