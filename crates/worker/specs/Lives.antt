@@ -30,7 +30,7 @@ Turns = (moment : ℕ) → Work → (before after : ℕ) → Turned → Type 0
 abbrev pub Refusals : Type 1
 Refusals = (moment : ℕ) → Work → TurnError → Type 0
 
--- all of it, and the number of the worker's port
+-- all that is said of a worker: of its link, its clock and its turns; and the number of its port
 pub record Senses (Link Clock : Type 0) : Type 1 where
   pub gives : Gives Link
   pub hears : Hears Link

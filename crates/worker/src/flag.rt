@@ -5,8 +5,8 @@ use std::sync::atomic::{AtomicBool, Ordering};
 
 /// A flag that a worker looks at once a round, and ends where it is set.
 ///
-/// What is so of a flag that was found set, or unset, is left open here: a worker, which is proved
-/// for any flag, can say it only of one that it looked at.
+/// Which flag is set, or unset (`reads`), is left open: a worker, which is proved for any flag,
+/// knows it only of one that it looked at.
 pub trait Flag {
     ghost reads: { Self → Bool → Type 0 };
 

@@ -12,9 +12,9 @@ use std::alloc::{AllocError, Global};
 use std::sync::ledger::Share;
 use turns::{Book, Core, Hub, Place, Port, Site};
 
-/// Opens a hub with a book that begins with this router, the one that its type names, and a port for each seat of the setup. The
-/// last port has number 0, the one before it number 1, and so on. Beside them comes what is left of
-/// the ledger when each port has its part.
+/// Opens a hub with a book that begins with this router, the one that its type names, and a port
+/// for each seat of the setup. The last port has number 0, the one before it number 1, and so on.
+/// Beside them comes what is left of the ledger when each port has its part.
 ///
 /// `AllocError` comes where an allocation was refused.
 pub fn open_hub<L: Site>(

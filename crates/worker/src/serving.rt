@@ -41,9 +41,10 @@ impl Ended {
     }
 }
 
-/// A worker's life: each round it makes a Tick's turn where the second has changed, and a turn with
-/// the datagram that its link gave, and sends the outs. It ends when `quit` is set, which it looks
-/// at once a round, or when its link fails, and with a fault then alone.
+/// A worker's life. In each round it takes a Tick's turn if the second has changed, and a turn with
+/// the datagram that its link gave, if one came, and sends what these turns send. Once a round it
+/// looks at `quit`, and ends with `Quit` if that is set. With `Fault` it ends if its link failed,
+/// and only then.
 ///
 /// A refused turn sends nothing. After a fault in the midst of a turn's outs the event stands, and
 /// the later outs aren't sent.
@@ -119,7 +120,8 @@ fn round<L: Site, B: Taker<L>, G: Gate, K: Link, S: Seconds, R: Wait>(
     listen(rt, alloc, hub, port, gate, link, clock, buffer)
 }
 
-// A Tick's turn, where the clock shows another moment than that of the last one.
+// A Tick's turn, if the second has changed since this worker's last one. Each worker takes such
+// turns: of those in one second the first does what is due.
 #[tactic(auto, using(crate::proofs::Living::ticked_then, crate::proofs::Living::ticks_now, crate::proofs::Tries::known_first))]
 fn tick<L: Site, B: Taker<L>, G: Gate, K: Link, S: Seconds, R: Wait>(
     rt: &R,
@@ -203,8 +205,8 @@ fn hear<L: Site, B: Taker<L>, G: Gate, K: Link, S: Seconds, R: Wait>(
     serve(rt, hub, port, gate, link, clock, &mut now, &work)
 }
 
-// A turn, and its outs are sent. Where the turn is refused, nothing is. The moment is that of the
-// turn's last try then.
+// Takes a turn, and sends its outs; a refused one sends nothing. Afterwards `moment` is that of the
+// turn's last try.
 #[tactic(auto, using(crate::proofs::Living::served, crate::proofs::Living::refused, crate::proofs::Tries::known_first))]
 fn serve<L: Site, B: Taker<L>, G: Gate, K: Link, S: Seconds, R: Wait>(
     rt: &R,
@@ -243,9 +245,9 @@ fn is_clock_back(turned: &Result<Turned, TurnError>) -> bool
     )
 }
 
-/// A turn at the moment. Where the clock of the router is ahead of this one it is tried again, at
-/// most three times, each time at a new moment, which asks the programs anew. What it gives and how
-/// it is refused is as the last [`turn`] says; the moment is that of this last one then.
+/// A turn at the moment. While the router's clock is ahead of this one it is tried again, at most
+/// three times, each time at a new moment, and each try asks the programs anew. What it gives and
+/// how it is refused is as the last [`turn`] says; afterwards `moment` is that of this last one.
 #[tactic(auto, using(crate::proofs::Living::not_again, crate::proofs::Living::once_more, crate::proofs::Living::at_last, crate::proofs::Tries::turned_first, crate::proofs::Tries::known_still, crate::proofs::Tries::known_first))]
 pub fn tried<L: Site, B: Taker<L>, G: Gate, S: Seconds, R: Wait>(
     rt: &R,
