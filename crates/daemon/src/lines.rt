@@ -16,8 +16,8 @@ pub struct Unreadable {}
 
 /// Input, byte by byte.
 ///
-/// What is so of input that gave a byte, that gave none at its end, or that couldn't be read, is
-/// left open here: who reads any input can say it only by the call itself.
+/// Which input gives a byte, or none at its end (`gives`), and which can't be read (`fails`) is
+/// left open: code that is proved for any input knows it from the call alone.
 pub trait ReadsBytes {
     ghost gives: { Self → Option ℕ → Self → Type 0 };
 

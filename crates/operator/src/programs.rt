@@ -12,9 +12,8 @@ use whole_files::{ReadFault, read};
 
 /// Gives the bytes of files.
 ///
-/// What is so of the bytes that stand at a path, and of a path whose file can't be read, is left
-/// open here: who reads by this trait alone can say it only of bytes that were read there, and of a
-/// path that was tried.
+/// Which bytes stand at a path (`holds`) and which path's file can't be read (`unreadable`) is left
+/// open: code that is proved for any of these knows it from a call alone, of a path that it tried.
 pub trait ReadsFiles {
     ghost holds: { Holds };
 

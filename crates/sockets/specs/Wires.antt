@@ -51,7 +51,7 @@ abbrev pub IsHandedOver : {Socket : Type 0} → (takes : Socket → ℕ → List
 IsHandedOver takes wires interface bytes =
     MatchOption (wire_at wires interface) (Unit {0}) (λ wire. takes wire.socket wire.peer bytes)
 
--- a receive of the socket was refused for a reason after which it is of use, as there being none
+-- a receive was refused, and the socket is still of use: no datagram was there, or the like
 abbrev pub IsNoneThere : {Socket : Type 0} → (refuses : Socket → Error → Type 0) → Socket → Type 0
 IsNoneThere refuses socket =
     (error : Error) × refuses socket error × IsTrue (is_passing error)

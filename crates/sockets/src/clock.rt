@@ -7,8 +7,8 @@ use words::Second;
 
 /// Reads a clock of seconds.
 ///
-/// What it says of what it read is left open here: a thread's clock, proved for any such reader,
-/// can say it only by the call itself.
+/// What was read (`reads`) is left open: code that is proved for any reader knows it from the call
+/// alone.
 pub trait ReadsSeconds {
     ghost reads: { Option ℕ → Type 0 };
 
@@ -28,7 +28,9 @@ impl<R: Clock> ReadsSeconds for R {
     }
 }
 
-/// A clock's whole seconds since 1970, as one thread sees them: they never go back.
+/// A clock's whole seconds since 1970, as one thread sees them: they never go back. If the clock is
+/// set back they stand still until it has caught up: no Tick comes, so no Hello goes out. If it is
+/// set forward, timers expire at once, and LSAs that reach MaxAge by it are flooded.
 #[derive(Drop)]
 pub struct SystemSeconds<'a, R: ReadsSeconds> {
     rt: &'a R,

@@ -24,7 +24,7 @@ fn is_passing_kind(kind: ErrorKind) -> bool
     )
 }
 
-// EMSGSIZE, ENETRESET, ENOBUFS and EHOSTDOWN have no kind.
+// Linux's EMSGSIZE (90), ENETRESET (102), ENOBUFS (105) and EHOSTDOWN (112) have no kind.
 fn is_passing_number(number: Option<i32>) -> bool
     ensures { result ≡ is_passing_number number }
 {
@@ -34,8 +34,8 @@ fn is_passing_number(number: Option<i32>) -> bool
     }
 }
 
-// Whether the socket is of use after this error: its reason is the packet's, its way's or the
-// moment's.
+// Whether the socket is of use after this error: what went wrong is one packet, its path or a
+// passing condition.
 fn is_passing(error: &io::Error) -> bool
     ensures { result ≡ is_passing error.now }
 {

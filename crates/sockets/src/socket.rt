@@ -10,9 +10,9 @@ use std::net::{IpAddr, Ipv4Addr, SocketAddr};
 
 /// A socket of datagrams whose calls don't wait.
 ///
-/// What it says of bytes that it was handed for a port of 127.0.0.1, of a datagram that it gave,
-/// and of a receive that it refused, is left open here: a link, proved for any socket, can say it
-/// only by the call itself.
+/// Which bytes it took for a port of 127.0.0.1 (`takes`), which datagram it gave (`hands`) and why
+/// it refused a receive (`refuses`) is left open: code that is proved for any socket knows it from
+/// the calls alone.
 pub trait DatagramSocket {
     ghost takes: { Self → (port : ℕ) → List ℕ → Type 0 };
 
@@ -45,6 +45,7 @@ impl DatagramSocket for UdpSocket {
     }
 
     fn receive(&self, buffer: &mut [u8; 8193]) -> io::Result<usize> {
+        // Who sent it isn't asked: a neighbor is known by its Router ID (RFC 2328, section 8.2).
         let (length, _sender) = self.recv_from(buffer)?;
         Ok(length)
     }

@@ -167,7 +167,8 @@ fn take<S: DatagramSocket>(
     came(wire.socket.receive(buffer))
 }
 
-/// Waits until a datagram may be there, at most a second. Who has no ear doesn't wait.
+/// Waits until a datagram may be there, at most a second. A link without an ear, as the console's,
+/// doesn't wait.
 fn wait<E: Waits>(ear: &mut Option<E>) -> Result<(), LinkFault>
     ensures { OnOk result (HasWaited E.waited ear.old ear.new) }
 {
@@ -180,7 +181,8 @@ fn wait<E: Waits>(ear: &mut Option<E>) -> Result<(), LinkFault>
     }
 }
 
-/// A datagram that is there, or that comes within a second.
+/// A datagram that is there, or that comes within a second. The poll is edge-triggered: it needn't
+/// tell of a datagram that was left before, so the socket is read first.
 fn hear<S: DatagramSocket, E: Waits>(
     wire: &Wire<S>,
     ear: &mut Option<E>,
@@ -222,7 +224,8 @@ fn heard<S: DatagramSocket, E: Waits>(
     }
 }
 
-// To port 0 no packet can go: a socket whose peer has it is of no use.
+// Sends the bytes to the peer of this interface. To port 0 no packet can go: a socket whose peer
+// has it is of no use.
 fn say<S: DatagramSocket>(wire: &Wire<S>, bytes: &[u8]) -> Result<bool, LinkFault>
     ensures { OnOk result (S.takes wire.now.socket wire.now.peer bytes.now) }
 {

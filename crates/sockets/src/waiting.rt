@@ -12,8 +12,8 @@ use std::time::Duration;
 
 /// Waits until a datagram may be there.
 ///
-/// What it says of the time that it has waited is left open here: a link, proved for any such
-/// waiter, can say it only by the call itself.
+/// How long it has waited (`waited`) is left open: code that is proved for any waiter knows it from
+/// the call alone.
 pub trait Waits {
     ghost waited: { Self → (seconds : ℕ) → Self → Type 0 };
 
@@ -23,10 +23,10 @@ pub trait Waits {
         ensures { OnOk result (waited self.old seconds self.new) };
 }
 
-/// Makes what waits at a socket.
+/// Makes waiters, each for one socket.
 ///
-/// What it says of the socket is left open here: who makes it by this trait alone can say it only
-/// by the call itself.
+/// At which socket a waiter listens (`listens`) is left open: code that is proved for any of these
+/// knows it from the call alone.
 pub trait ListensAt<S, E> {
     ghost listens: { E → S → Type 0 };
 
@@ -35,7 +35,7 @@ pub trait ListensAt<S, E> {
         ensures { IfOk result (λ ear. listens ear socket.now) };
 }
 
-/// Waits by the system.
+/// A poll of the system with one socket: it waits until a datagram may be there.
 #[derive(Drop)]
 pub struct Ear {
     poll: Poll,
@@ -60,7 +60,7 @@ impl Waits for Ear {
     }
 }
 
-/// Makes what waits at a socket of the system, of which nothing is known.
+/// Makes an [`Ear`] for a socket of the system. No contract says what the system does.
 #[derive(Drop)]
 pub struct SystemPoller<'a, R> {
     pub rt: &'a R,

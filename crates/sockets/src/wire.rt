@@ -36,8 +36,8 @@ impl<S> Wire<S> {
 
 /// Binds sockets to ports of 127.0.0.1.
 ///
-/// What it says of a socket that it bound, and of a port that couldn't be had, is left open here:
-/// who binds by this trait alone can say it only by the call itself.
+/// Which socket was bound (`bound`) and which port couldn't be had (`refused`) is left open: code
+/// that is proved for any of these knows it from the call alone.
 pub trait BindsSockets<S> {
     ghost bound: { S → (port : ℕ) → Type 0 };
 
