@@ -96,12 +96,12 @@ class OfSimulation(unittest.TestCase):
 @unittest.skipIf(shutil.which("cc") is None, "no C compiler")
 class OfDaemons(unittest.TestCase):
     def test_the_same_is_the_same_at_the_tool_s_time(self) -> None:
-        said = played(OF_PORTS, {}, {}, "--daemons", "--steps", "60")
+        said = played(OF_PORTS, {}, {}, "--daemons", "--steps", "200")
         self.assertEqual(said.returncode, 0, said.stdout + said.stderr)
-        self.assertRegex(said.stdout, r"60 steps the same.*; programs attached: [1-9]")
+        self.assertRegex(said.stdout, r"200 steps the same.*; programs attached: [1-9]")
 
     def test_a_planted_difference_in_the_table_is_found(self) -> None:
-        said = played(OF_PORTS, {}, {"PLANTED": 100}, "--daemons", "--steps", "60")
+        said = played(OF_PORTS, {}, {"PLANTED": 100}, "--daemons", "--steps", "200")
         self.assertEqual(said.returncode, 1, said.stdout + said.stderr)
         self.assertIn("40.0.9.0/24", said.stdout.split("program-1")[1])
 
