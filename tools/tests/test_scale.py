@@ -1,10 +1,13 @@
-"""tools/scale: its area, and how it starts routerd."""
+"""tools/scale: its area, how it starts routerd, and daemons that load at once."""
+import argparse
 import importlib.machinery
 import importlib.util
 import pathlib
 import sys
 import tempfile
+import threading
 import unittest
+from unittest import mock
 
 TOP = pathlib.Path(__file__).resolve().parent.parent.parent
 sys.dont_write_bytecode = True
@@ -53,6 +56,46 @@ class Routerd(unittest.TestCase):
             said = routerd.ask("environment")
         for name, value in scale.ENVIRONMENT.items():
             self.assertIn(f"{name}={value}", said)
+
+
+class Together(unittest.TestCase):
+    """All daemons are brought to Full at once."""
+
+    def run_with(self, load) -> list:
+        class Measured:
+            def __init__(self, name: str, words: argparse.Namespace) -> None:
+                self.name, self.neighbor, self.figures, self.is_closed = name, scale.Neighbor(None, *scale.grid(2, 1)), {}, False
+                made.append(self)
+
+            def load(self) -> None:
+                load(self)
+
+            def end(self) -> None:
+                pass
+
+            def close(self) -> None:
+                self.is_closed = True
+
+        made: list[Measured] = []
+        words = argparse.Namespace(together=True, pause=1)
+        with mock.patch.object(scale, "Measure", Measured), mock.patch.object(scale.Changes, "all"), mock.patch("builtins.print"):
+            try:
+                scale.measured(["routerd", "bird"], words)
+            finally:
+                self.assertEqual([it.is_closed for it in made], [True, True])
+        return made
+
+    def test_each_is_loaded_while_the_others_are(self) -> None:
+        both = threading.Barrier(2)
+        self.assertEqual([it.name for it in self.run_with(lambda _: both.wait(20))], ["routerd", "bird"])
+
+    def test_one_that_does_not_get_there_is_told(self) -> None:
+        def load(measure) -> None:
+            if measure.name == "bird":
+                raise scale.NotFull("bird: not Full")
+
+        with self.assertRaises(scale.NotFull):
+            self.run_with(load)
 
 
 if __name__ == "__main__":
