@@ -68,7 +68,7 @@ def played(text: str, first: dict[str, int], second: dict[str, int], *words: str
             program.write_text(made)
             program.chmod(0o755)
             programs.append(program)
-        return subprocess.run([TOP / "tools/compare-builds", *programs, *words], capture_output=True, text=True, timeout=120)
+        return subprocess.run([TOP / "tools/compare-builds", *programs, *words], capture_output=True, text=True, timeout=600)
 
 
 class OfSimulation(unittest.TestCase):
