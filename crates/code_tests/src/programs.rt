@@ -1,57 +1,31 @@
-//! Runs of programs.
-mod runs;
-
-use crate::seats::{one_seat, two_seats};
+//! Runs of code within a limit. trials/runs.rows has the result of each instruction.
+use crate::seats::one_seat;
 use interp::{Run, Trap, run_checked};
 use isa::{Code, decode};
 use machine::{Hook, Input};
-use maps::{Seat, Shared};
 use std::alloc::Global;
 use std::process::Abort;
 
-// A slot is a little-endian number: from the highest bits, the immediate, the offset, the registers
-// (source and target) and the opcode.
-const EXIT: u64 = 0x95;
+// r1 = 10; r0 = 0; r0 += r1; r1 += -1; if r1 != 0 goto -3; exit
+const SUMMING: &[u8] =
+    b"\xb7\x01\x00\x00\x0a\x00\x00\x00\xb7\x00\x00\x00\x00\x00\x00\x00\x0f\x10\x00\x00\x00\x00\x00\
+        \x00\x07\x01\x00\x00\xff\xff\xff\xff\x55\x01\xfd\xff\x00\x00\x00\x00\x95\x00\x00\x00\x00\
+        \x00\x00\x00";
 
-fn bytes_of(slots: &[u64]) -> [u8; 128] {
-    let mut bytes = [0; 128];
-    for (index, slot) in slots.iter().take(16).enumerate() {
-        let place = index % 16 * 8;
-        bytes[place..place + 8].copy_from_slice(&slot.to_le_bytes());
-    }
-    bytes
-}
+// r0 = 7, with no instruction after it.
+const ENDLESS: &[u8] = b"\xb7\x00\x00\x00\x07\x00\x00\x00";
 
-// The code of at most 16 slots. Retries once: a test run may refuse one allocation.
-fn code(alloc: Global, slots: &[u64]) -> Option<Code> {
-    let bytes = bytes_of(slots);
-    let count = slots.len().min(16) * 8;
-    match decode(alloc, &bytes[..count]) {
-        Ok(code) => Some(code),
-        Err(_) => decode(alloc, &bytes[..count]).ok(),
-    }
-}
-
-// A Hello of 44 bytes.
-static HELLO: &[u8] = &[
-    2, 1, 0, 0x2c, 2, 2, 2, 2, 0, 0, 0, 0, 0xf8, 0x9a, 0, 0, 0, 0, 0, 0, 0, 0, 0, 0, 0xff, 0xff,
-    0xff, 0, 0, 0x0a, 2, 1, 0, 0, 0, 0x28, 0, 0, 0, 0, 0, 0, 0, 0,
+// A limit, a program, and the outcome: a run's answer and number of instructions, or a trap's
+// number and 0.
+const LIMITS: &[(u64, &[u8], (u64, u64))] = &[
+    (33, SUMMING, (55, 33)),
+    (u64::MAX, SUMMING, (55, 33)),
+    (32, SUMMING, (11, 0)),
+    (0, SUMMING, (11, 0)),
+    (1, ENDLESS, (11, 0)),
+    (2, ENDLESS, (1, 0)),
 ];
 
-// A Hello and no routes. Byte k of the context is 128 + k.
-fn input() -> Input<'static> {
-    let mut context = [0u8; 64];
-    for (index, byte) in context.iter_mut().enumerate() {
-        *byte = 128 + (index % 64) as u8;
-    }
-    Input {
-        context,
-        packet: HELLO,
-        rows: &[],
-    }
-}
-
-// A run's answer and number of instructions, or a trap's number and 0.
 fn shown(outcome: Result<Run, Trap>) -> (u64, u64) {
     match outcome {
         Ok(run) => (run.answer, run.used),
@@ -59,26 +33,33 @@ fn shown(outcome: Result<Run, Trap>) -> (u64, u64) {
     }
 }
 
-// The outcome of a run of the code, on a new table.
-fn outcome_of(alloc: Global, hook: Hook, limit: u64, code: &Code) -> Option<(u64, u64)> {
+// The outcome of a run of at most `limit` instructions, on a new table.
+fn outcome_of(alloc: Global, limit: u64, code: &Code) -> Option<(u64, u64)> {
     let (words, mut seat) = one_seat(alloc)?;
-    Some(shown(run_checked(code, hook, limit, &input(), &words, &mut seat)))
+    let input = Input {
+        context: [0; 64],
+        packet: &[],
+        rows: &[],
+    };
+    Some(shown(run_checked(code, Hook::Veto, limit, &input, &words, &mut seat)))
 }
 
-// The outcome of a run of at most `limit` instructions at a hook.
-fn outcome(alloc: Global, hook: Hook, limit: u64, slots: &[u64]) -> Option<(u64, u64)> {
-    let code = code(alloc, slots)?;
-    outcome_of(alloc, hook, limit, &code)
+// The same for the code in these bytes. Retries once: a test run may refuse one allocation.
+fn outcome(alloc: Global, limit: u64, bytes: &[u8]) -> Option<(u64, u64)> {
+    match decode(alloc, bytes) {
+        Ok(code) => outcome_of(alloc, limit, &code),
+        Err(_) => {
+            let code = decode(alloc, bytes).ok()?;
+            outcome_of(alloc, limit, &code)
+        },
+    }
 }
 
-// Asserts that a run of at most `limit` instructions at the hook has this outcome.
-fn comes_to_at<R: AllocGlobal + Abort>(
-    rt: &R,
-    hook: Hook,
-    limit: u64,
-    slots: &[u64],
-    want: (u64, u64),
-) {
-    let found = outcome(rt.alloc(), hook, limit, slots);
-    assert!(rt; found == Some(want), "{slots:?}: {found:?}");
+#[test]
+fn a_limit_that_is_just_enough(rt: HostRuntime) {
+    for row in LIMITS {
+        let (limit, bytes, want) = *row;
+        let found = outcome(rt.alloc(), limit, bytes);
+        assert!(rt; found == Some(want), "{limit}: {found:?}");
+    }
 }

@@ -127,60 +127,6 @@ fn a_read_shows_another_seats_add(rt: HostRuntime) {
     assert!(rt; found == [0, 3, 0, 16_777_215, 0], "{found:?}");
 }
 
-// Cells 63 and 0 of both seats, after the first has set its cell 63 and the second its cell 0.
-fn cells(words: &Shared, first: &mut Seat, second: &mut Seat) -> [u64; 4]
-    requires first { IsOf words.now first.old }
-    requires second { IsOf words.now second.old }
-{
-    words.set_cell(first, 63, u64::MAX);
-    words.set_cell(second, 0, 8);
-    [
-        words.cell(first, 63),
-        words.cell(first, 0),
-        words.cell(second, 63),
-        words.cell(second, 0),
-    ]
-}
-
-#[test]
-fn a_cell_is_the_seats_own(rt: HostRuntime) {
-    let (words, mut first, mut second) = two_seats(rt.alloc()).expect(&rt, "seats");
-    let found = cells(&words, &mut first, &mut second);
-    assert!(rt; found == [u64::MAX, 0, 0, 8], "{found:?}");
-}
-
-fn is_refused(alloc: Global, count: usize) -> bool {
-    matches!(Shared::new(alloc, count), Err(MapsError::Seats))
-}
-
-// What cell 63 of the seat holds after it is set.
-fn last_cell(words: &Shared, seat: &mut Seat) -> u64
-    requires { IsOf words.now seat.old }
-{
-    words.set_cell(seat, 63, 9);
-    words.cell(seat, 63)
-}
-
-// The number of seats of a table of 64, and what the last one's last cell holds after it is set.
-fn last_of_64(alloc: Global) -> Option<(usize, u64)> {
-    let Ok((words, mut seats)) = table(alloc, 64) else {
-        return None;
-    };
-    let count = seats.len();
-    let mut last = seats.pop()?;
-    Some((count, last_cell(&words, &mut last)))
-}
-
-const NO_COUNTS: &[usize] = &[0, 65, 1000];
-
-#[test]
-fn a_table_has_one_to_sixty_four_seats(rt: HostRuntime) {
-    for count in NO_COUNTS {
-        assert!(rt; is_refused(rt.alloc(), *count), "at {count}");
-    }
-    assert!(rt; last_of_64(rt.alloc()) == Some((64, 9)));
-}
-
 const REFUSALS: &[(MapsError, u8, &str)] = &[
     (MapsError::Seats, 1, "a table has 1 to 64 seats"),
     (MapsError::Memory, 2, "out of memory"),
