@@ -1,5 +1,5 @@
 //! The object of the sum of the numbers from 10 down to 1, with one bit of it flipped.
-use crate::trials::{code_of, file_of, object_in, object_of, runs_agree, verdict_on};
+use crate::trials::{file_of, runs_agree, tried};
 use crate::worked::sum_down_from;
 use std::alloc::Global;
 use std::test::Fail;
@@ -18,13 +18,11 @@ fn flip(bytes: &mut [u8], at: usize, bit: u8) {
 }
 
 // Whether its runs are correct; `None` if it is refused.
-fn tried(alloc: Global, bytes: &[u8]) -> Result<Option<bool>, Fail> {
-    let Ok(accepted) = verdict_on(alloc, bytes) else {
-        return Ok(None);
-    };
-    let object = object_in(alloc, bytes)?;
-    let code = code_of(alloc, &object)?;
-    Ok(Some(runs_agree(alloc, &accepted, &code)?))
+fn runs_well(alloc: Global, bytes: &[u8]) -> Result<Option<bool>, Fail> {
+    match tried(alloc, bytes) {
+        None => Ok(None),
+        Some(trial) => Ok(Some(runs_agree(alloc, &trial)?)),
+    }
 }
 
 // The number of objects with one flipped bit that are accepted. The runs of each have to be
@@ -34,7 +32,7 @@ fn tried_all(alloc: Global, bytes: &mut [u8]) -> Result<usize, Fail> {
     for at in 0..bytes.len() {
         for bit in BITS {
             flip(bytes, at, bit);
-            match tried(alloc, bytes)? {
+            match runs_well(alloc, bytes)? {
                 None => {}
                 Some(true) => accepted = accepted.saturating_add(1),
                 Some(false) => return Err(Fail::new(format_args!("bit {bit} of byte {at}"))),
@@ -47,8 +45,7 @@ fn tried_all(alloc: Global, bytes: &mut [u8]) -> Result<usize, Fail> {
 
 fn sum_to_ten(alloc: Global) -> Result<Vec<u8>, Fail> {
     let text = sum_down_from(alloc, 10)?;
-    let object = object_of(alloc, &text)?;
-    Ok(file_of(alloc, &object)?)
+    Ok(file_of(alloc, &text).ok_or("no object")?)
 }
 
 #[test]

@@ -1,6 +1,6 @@
 //! Accepted programs: `run` gives what `run_checked` gives, on a hundred inputs.
 //! trials/programs.rows has their bounds and answers.
-use crate::trials::{runs_agree, tried};
+use crate::trials::{runs_agree, trial_of};
 use std::alloc::Global;
 use std::test::Fail;
 
@@ -204,18 +204,18 @@ const SAFE: &[&str] = &[
 ];
 
 // Whether the program of the text is accepted, and both interpreters run it alike.
-fn runs_the_same(alloc: Global, text: &str) -> Result<bool, Fail> {
-    let tried = tried(alloc, text)?;
-    match &tried.verdict {
-        Ok(accepted) => runs_agree(alloc, accepted, &tried.code),
-        Err(_) => Ok(false),
+fn runs_alike(alloc: Global, text: &str) -> Result<bool, Fail> {
+    match trial_of(alloc, text) {
+        None => Ok(false),
+        Some(trial) => runs_agree(alloc, &trial),
     }
 }
 
 #[test]
 fn safe_programs_run_the_same_by_both_interpreters(rt: HostRuntime) -> Result<(), Fail> {
     for text in SAFE {
-        assert!(rt; runs_the_same(rt.alloc(), text)?, "{text}");
+        let is_alike = runs_alike(rt.alloc(), text)?;
+        assert!(rt; is_alike, "{text}");
     }
     Ok(())
 }

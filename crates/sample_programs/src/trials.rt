@@ -1,4 +1,5 @@
-//! How a program is tried: verified, and run on many inputs.
+//! How a program is tried: verified, and run on many inputs. Where memory was refused, the program is
+//! made once more, since a test run may refuse one allocation.
 ghost use Rattle.std.specs.Prelude.{◌≡◌, length, map, IfOk};
 ghost use Rattle.std.specs.List.{range_with_len, slice_range};
 ghost use Rattle.isa.specs.Hooks.{hook_number};
@@ -7,95 +8,77 @@ ghost use Rattle.maps.specs.Words.{IsOf, fresh};
 
 use asm::assemble;
 use interp::{Run, Trap, run, run_checked};
-use isa::{Code, DecodeError, DecodeFault, Hook, decode};
+use isa::{Code, Hook, decode};
 use machine::Input;
 use maps::{MapsError, Seat, Shared};
-use object::{Object, ReadError};
-use object_verdicts::{VerifyError, verify_object};
-use std::alloc::{AllocError, Global};
-use std::process::Abort;
+use object_verdicts::verify_object;
+use std::alloc::Global;
 use std::test::Fail;
-use verifier::{Accepted, Rule};
+use verifier::Accepted;
 use words::{Address, Prefix, TableRow};
 
-// Each of these is retried once, since a test run may refuse one allocation.
-
-// The text with a line feed after each semicolon and each label.
-fn lines_of(alloc: Global, text: &str) -> Option<String> {
-    let lines = text.replace(alloc, "; ", "\n").ok()?;
-    lines.replace(alloc, ": ", ":\n").ok()
-}
-
-// The same with the set of all numbers in place of `any`.
+// The text with a line feed after each semicolon and each label, and with the set of all numbers in
+// place of `any`.
 fn stated(alloc: Global, text: &str) -> Option<String> {
-    let lines = lines_of(alloc, text)?;
+    let lines = text.replace(alloc, "; ", "\n").ok()?;
+    let lines = lines.replace(alloc, ": ", ":\n").ok()?;
     lines
         .replace(alloc, "any", "number 0 18446744073709551615 0 0")
         .ok()
 }
 
-fn assembled(alloc: Global, text: &str) -> Option<Object> {
+fn made_once(alloc: Global, text: &str) -> Option<Vec<u8>> {
     let text = stated(alloc, text)?;
-    assemble(alloc, &text).ok()
+    let object = assemble(alloc, &text).ok()?;
+    object::write(alloc, &object).ok()
 }
 
-/// The program of a text in which a semicolon or a label's colon ends a line, and `any` is the set
-/// of all numbers.
-pub fn object_of(alloc: Global, text: &str) -> Result<Object, Fail> {
-    if let Some(object) = assembled(alloc, text) {
-        return Ok(object);
-    }
-    match assembled(alloc, text) {
-        Some(object) => Ok(object),
-        None => Err(Fail::new(text)),
-    }
-}
-
-/// The object file of the object.
-pub fn file_of(alloc: Global, object: &Object) -> Result<Vec<u8>, AllocError> {
-    match object::write(alloc, object) {
-        Err(_) => object::write(alloc, object),
+/// The object file of a text in which a semicolon or a label's colon ends a line, and `any` is the
+/// set of all numbers.
+pub fn file_of(alloc: Global, text: &str) -> Option<Vec<u8>> {
+    match made_once(alloc, text) {
+        None => made_once(alloc, text),
         made => made,
     }
 }
 
-/// The object that is read from the file.
-pub fn object_in(alloc: Global, bytes: &[u8]) -> Result<Object, ReadError> {
-    match object::read(alloc, bytes) {
-        Err(ReadError::Memory) => object::read(alloc, bytes),
+/// A program's code, and the program as it was accepted.
+#[derive(Drop)]
+pub struct Trial {
+    pub code: Code,
+    pub accepted: Accepted,
+}
+
+fn code_once(alloc: Global, bytes: &[u8]) -> Option<Code> {
+    let object = object::read(alloc, bytes).ok()?;
+    decode(alloc, object.code()).ok()
+}
+
+fn code_in(alloc: Global, bytes: &[u8]) -> Option<Code> {
+    match code_once(alloc, bytes) {
+        None => code_once(alloc, bytes),
         made => made,
     }
 }
 
-/// The object's code.
-pub fn code_of(alloc: Global, object: &Object) -> Result<Code, DecodeError> {
-    match decode(alloc, object.code()) {
-        Err(_) => decode(alloc, object.code()),
-        made => made,
-    }
-}
-
-/// The verifier's answer about the object file.
-pub fn verdict_on(alloc: Global, bytes: &[u8]) -> Result<Accepted, VerifyError> {
+fn accepted_in(alloc: Global, bytes: &[u8]) -> Option<Accepted> {
     match verify_object(alloc, bytes) {
-        Err(error) if is_of_memory(error) => verify_object(alloc, bytes),
-        verdict => verdict,
+        Err(_) => verify_object(alloc, bytes).ok(),
+        Ok(accepted) => Some(accepted),
     }
 }
 
-// Whether memory ran out, which the verifier reports at slot 0.
-fn is_of_memory(error: VerifyError) -> bool {
-    match error {
-        VerifyError::Object(fault) => fault == ReadError::Memory,
-        VerifyError::Code(fault) => fault.kind == DecodeFault::Memory,
-        VerifyError::Refused(refusal) => refusal.slot == 0 && refusal.rule == Rule::Memory,
-    }
+/// The program of an object file; `None` if it is refused.
+pub fn tried(alloc: Global, bytes: &[u8]) -> Option<Trial> {
+    let accepted = accepted_in(alloc, bytes)?;
+    let code = code_in(alloc, bytes)?;
+    Some(Trial { code, accepted })
 }
 
-/// The verifier's answer about the object.
-pub fn verdict_of(alloc: Global, object: &Object) -> Result<Result<Accepted, VerifyError>, Fail> {
-    let bytes = file_of(alloc, object)?;
-    Ok(verdict_on(alloc, &bytes))
+/// The program of a text; `None` if it is refused.
+pub fn trial_of(alloc: Global, text: &str) -> Option<Trial> {
+    let bytes = file_of(alloc, text)?;
+    tried(alloc, &bytes)
 }
 
 /// A table with `count` seats.
@@ -106,6 +89,15 @@ pub fn table(alloc: Global, count: usize) -> Result<(Shared, Vec<Seat>), MapsErr
         Err(MapsError::Memory) => Shared::new(alloc, count),
         made => made,
     }
+}
+
+/// A table with one seat, and its seat.
+pub fn one_seat(alloc: Global) -> Result<(Shared, Seat), Fail>
+    ensures { IfOk result (λ r. IsOf r.0 r.1) }
+{
+    let (words, mut seats) = table(alloc, 1)?;
+    let seat = seats.pop().ok_or("no seat")?;
+    Ok((words, seat))
 }
 
 /// A context of zeros except for its hook.
@@ -136,8 +128,8 @@ pub fn rich_context(hook: Hook) -> [u8; 64]
     context
 }
 
-/// A context in which some bytes are computed from this number.
-fn varied_context(hook: Hook, number: u8) -> [u8; 64]
+/// A context in which some bytes are computed from this number, and which has it at byte 24.
+pub fn varied_context(hook: Hook, number: u8) -> [u8; 64]
     ensures { number_of (slice_range result 0 4) ≡ hook_number hook }
 {
     let mut context = bare_context(hook);
@@ -146,6 +138,7 @@ fn varied_context(hook: Hook, number: u8) -> [u8; 64]
     context[15] = !number;
     context[16] = number.wrapping_mul(101);
     context[20] = number.wrapping_add(200);
+    context[24] = number;
     context[63] = number;
     context
 }
@@ -155,29 +148,10 @@ const PACKET: &[u8] = &[
     2, 1, 0, 44, 1, 1, 1, 1, 0, 0, 0, 0, 0xf8, 0x9a, 0, 0, 0, 0, 0, 0,
 ];
 
-fn one_row(alloc: Global) -> Result<Vec<TableRow>, AllocError> {
-    let mut rows = Vec::new(alloc);
-    if let Some(prefix) = Prefix::new(Address::new(0xc000_0200), 24) {
-        rows.push(TableRow { prefix, cost: 20 })?;
-    }
-    Ok(rows)
-}
-
-/// One row: 192.0.2.0/24 at cost 20.
-fn rows(alloc: Global) -> Result<Vec<TableRow>, AllocError> {
-    match one_row(alloc) {
-        Err(_) => one_row(alloc),
-        made => made,
-    }
-}
-
-/// A table with one seat, and its seat.
-pub fn one_seat(alloc: Global) -> Result<(Shared, Seat), Fail>
-    ensures { IfOk result (λ r. IsOf r.0 r.1) }
-{
-    let (words, mut seats) = table(alloc, 1)?;
-    let seat = seats.pop().ok_or("no seat")?;
-    Ok((words, seat))
+/// The row of a table for 192.0.2.0/24 with cost 20.
+pub fn row() -> Result<TableRow, Fail> {
+    let prefix = Prefix::new(Address::new(0xc000_0200), 24).ok_or("prefix")?;
+    Ok(TableRow { prefix, cost: 20 })
 }
 
 /// The outcome of a run of an accepted program, on a table of its own.
@@ -188,122 +162,61 @@ fn ended_of(alloc: Global, accepted: &Accepted, input: &Input) -> Result<Run, Fa
     Ok(run(accepted, input, &words, &mut seat))
 }
 
-/// The outcome of a checked run of code, within this limit and on a table of its own.
-fn checked_of(
-    alloc: Global,
-    code: &Code,
-    hook: Hook,
-    limit: u64,
-    input: &Input,
-) -> Result<Result<Run, Trap>, Fail> {
+/// The outcome of a checked run, on a table of its own. Its limit is the accepted program's bound.
+fn checked_of(alloc: Global, trial: &Trial, input: &Input) -> Result<Result<Run, Trap>, Fail> {
     let (words, mut seat) = one_seat(alloc)?;
-    Ok(run_checked(code, hook, limit, input, &words, &mut seat))
+    let (hook, limit) = (trial.accepted.hook(), trial.accepted.bound());
+    Ok(run_checked(&trial.code, hook, limit, input, &words, &mut seat))
 }
 
-/// The outcomes of the run and the checked run of an accepted program, each on a table of its own.
-/// The checked run has its bound as the limit.
-fn both_runs(
-    alloc: Global,
-    accepted: &Accepted,
-    code: &Code,
-    input: &Input,
-) -> Result<(Run, Result<Run, Trap>), Fail>
-    requires { number_of (slice_range input.now.context 0 4) ≡ hook_number accepted.now.hook }
+/// The outcomes of the run and of the checked run, each on a table of its own.
+fn both_runs(alloc: Global, trial: &Trial, input: &Input) -> Result<(Run, Result<Run, Trap>), Fail>
+    requires { number_of (slice_range input.now.context 0 4) ≡ hook_number trial.now.accepted.hook }
 {
-    let ended = ended_of(alloc, accepted, input)?;
-    let checked = checked_of(alloc, code, accepted.hook(), accepted.bound(), input)?;
+    let ended = ended_of(alloc, &trial.accepted, input)?;
+    let checked = checked_of(alloc, trial, input)?;
     Ok((ended, checked))
 }
 
-/// Whether `run` and `run_checked` agree on the accepted program, within its bound, on a hundred
-/// inputs: a packet of up to 20 bytes, one row or none, and different contexts.
-pub fn runs_agree(alloc: Global, accepted: &Accepted, code: &Code) -> Result<bool, Fail> {
-    let rows = rows(alloc)?;
-    runs_agree_beside(alloc, accepted, code, &rows)
+// Whether they agree on the input of this number, within the program's bound.
+fn agree_at(alloc: Global, trial: &Trial, rows: &[TableRow], number: u8) -> Result<bool, Fail> {
+    let input = Input {
+        context: varied_context(trial.accepted.hook(), number),
+        packet: PACKET.get(..usize::from(number % 21)).unwrap_or(&[]),
+        rows: rows.get(usize::from(number % 2)..).unwrap_or(&[]),
+    };
+    let (ended, checked) = both_runs(alloc, trial, &input)?;
+    Ok(checked == Ok(ended) && ended.used <= trial.accepted.bound())
 }
 
-// The same with these rows, or none.
-fn runs_agree_beside(
-    alloc: Global,
-    accepted: &Accepted,
-    code: &Code,
-    rows: &[TableRow],
-) -> Result<bool, Fail> {
-    let hook = accepted.hook();
+/// Whether `run` and `run_checked` agree on the program, within its bound, on a hundred inputs: a
+/// packet of up to 20 bytes, one row or none, and different contexts.
+pub fn runs_agree(alloc: Global, trial: &Trial) -> Result<bool, Fail> {
+    let rows = [row()?];
     for number in 0..100u8 {
-        let input = Input {
-            context: varied_context(hook, number),
-            packet: PACKET.get(..usize::from(number % 21)).unwrap_or(&[]),
-            rows: rows.get(usize::from(number % 2)..).unwrap_or(&[]),
-        };
-        let (ended, checked) = both_runs(alloc, accepted, code, &input)?;
-        if checked != Ok(ended) || ended.used > accepted.bound() {
+        if !agree_at(alloc, trial, &rows, number)? {
             return Ok(false);
         }
     }
     Ok(true)
 }
 
-/// A program's code, and the verifier's answer about it.
-#[derive(Drop)]
-pub struct Trial {
-    pub code: Code,
-    pub verdict: Result<Accepted, VerifyError>,
-}
-
-/// The program of a text, verified.
-pub fn tried(alloc: Global, text: &str) -> Result<Trial, Fail> {
-    let object = object_of(alloc, text)?;
-    let code = code_of(alloc, &object)?;
-    let verdict = verdict_of(alloc, &object)?;
-    Ok(Trial { code, verdict })
-}
-
-/// Asserts that the program is accepted with this bound.
-fn is_accepted(rt: &impl Abort, tried: &Trial, text: &str, bound: u64) {
-    match &tried.verdict {
-        Ok(accepted) => assert!(rt; accepted.bound() == bound, "{text}"),
-        Err(error) => assert!(rt; false, "{text}: {error:?}"),
-    }
-}
-
-// The outcomes of its run and its checked run on the rich context.
-fn rich_runs(alloc: Global, tried: &Trial) -> Result<Option<(Run, Result<Run, Trap>)>, Fail> {
-    let Ok(accepted) = &tried.verdict else {
-        return Ok(None);
-    };
-    let rows = rows(alloc)?;
+// Whether its run and its checked run on the rich context have this outcome.
+fn ends_so(alloc: Global, trial: &Trial, wanted: Run) -> Result<bool, Fail> {
+    let rows = [row()?];
     let input = Input {
-        context: rich_context(accepted.hook()),
+        context: rich_context(trial.accepted.hook()),
         packet: PACKET,
         rows: &rows,
     };
-    let runs = both_runs(alloc, accepted, &tried.code, &input)?;
-    Ok(Some(runs))
+    Ok(both_runs(alloc, trial, &input)? == (wanted, Ok(wanted)))
 }
 
-fn ends_so(
-    rt: &impl Abort,
-    alloc: Global,
-    tried: &Trial,
-    text: &str,
-    wanted: Run,
-) -> Result<(), Fail> {
-    let runs = rich_runs(alloc, tried)?;
-    assert!(rt; runs == Some((wanted, Ok(wanted))), "{text}: {runs:?}");
-    Ok(())
-}
-
-/// Asserts that the program is accepted with this bound, and that its run on the rich context, by
+/// Whether the program of the text is accepted with this bound, and its run on the rich context, by
 /// `run` and by `run_checked`, has this outcome.
-pub fn ends(
-    rt: &impl Abort,
-    alloc: Global,
-    text: &str,
-    bound: u64,
-    wanted: Run,
-) -> Result<(), Fail> {
-    let tried = tried(alloc, text)?;
-    is_accepted(rt, &tried, text, bound);
-    ends_so(rt, alloc, &tried, text, wanted)
+pub fn ends(alloc: Global, text: &str, bound: u64, wanted: Run) -> Result<bool, Fail> {
+    match trial_of(alloc, text) {
+        None => Ok(false),
+        Some(trial) => Ok(trial.accepted.bound() == bound && ends_so(alloc, &trial, wanted)?),
+    }
 }

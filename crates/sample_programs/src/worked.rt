@@ -1,12 +1,9 @@
 //! The worked programs of the documents: their bounds, their answers and the number of instructions
 //! that they execute.
-ghost use Rattle.std.specs.Prelude.{◌≡◌, ◌≤◌};
-ghost use Rattle.std.specs.List.{slice_range};
-ghost use Rattle.isa.specs.Hooks.{hook_number};
-ghost use Rattle.machine.specs.Memory.{number_of};
+ghost use Rattle.std.specs.Prelude.{◌≤◌, IfSome};
 ghost use Rattle.maps.specs.Words.{IsOf};
 
-use crate::trials::{ends, rich_context, table, tried};
+use crate::trials::{ends, one_seat, rich_context, table, trial_of, varied_context};
 use interp::{Run, run};
 use machine::Input;
 use maps::{Seat, Shared};
@@ -70,7 +67,10 @@ const WORKED: &[(&str, u64, u64, u64)] = &[
 fn worked_programs_end_as_told(rt: HostRuntime) -> Result<(), Fail> {
     for row in WORKED {
         let (text, bound, answer, used) = *row;
-        ends(&rt, rt.alloc(), text, bound, Run { answer, used })?;
+        assert!(rt;
+            ends(rt.alloc(), text, bound, Run { answer, used })?,
+            "{text}"
+        );
     }
     Ok(())
 }
@@ -91,40 +91,48 @@ pub fn sum_down_from(alloc: Global, n: u64) -> Result<String, AllocError> {
     }
 }
 
-/// Asserts that the sum of the numbers from n down to 1, for each of these n, takes 3 * n + 3
-/// instructions.
-fn sums(rt: &impl Abort, alloc: Global, least: u64, most: u64) -> Result<(), Fail>
+// Whether the sum of the numbers from n down to 1 takes 3 * n + 3 instructions.
+fn sum_ends(alloc: Global, n: u64) -> Result<bool, Fail>
+    requires { n ≤ 1000 }
+{
+    let text = sum_down_from(alloc, n)?;
+    let wanted = Run {
+        answer: n * (n + 1) / 2,
+        used: 3 * n + 3,
+    };
+    ends(alloc, &text, 6 * n + 6, wanted)
+}
+
+// The same for each of these n.
+fn sums_end(alloc: Global, least: u64, most: u64) -> Result<(), Fail>
     requires { most ≤ 1000 }
 {
     for n in least..=most {
-        let text = sum_down_from(alloc, n)?;
-        let wanted = Run {
-            answer: n * (n + 1) / 2,
-            used: 3 * n + 3,
-        };
-        ends(rt, alloc, &text, 6 * n + 6, wanted)?;
+        if !sum_ends(alloc, n)? {
+            return Err(Fail::new(format_args!("the sum from {n}")));
+        }
     }
     Ok(())
 }
 
 #[test]
 fn sums_of_up_to_250_numbers_end_within_their_bound(rt: HostRuntime) -> Result<(), Fail> {
-    sums(&rt, rt.alloc(), 1, 250)
+    sums_end(rt.alloc(), 1, 250)
 }
 
 #[test]
 fn sums_of_up_to_500_numbers_end_within_their_bound(rt: HostRuntime) -> Result<(), Fail> {
-    sums(&rt, rt.alloc(), 251, 500)
+    sums_end(rt.alloc(), 251, 500)
 }
 
 #[test]
 fn sums_of_up_to_750_numbers_end_within_their_bound(rt: HostRuntime) -> Result<(), Fail> {
-    sums(&rt, rt.alloc(), 501, 750)
+    sums_end(rt.alloc(), 501, 750)
 }
 
 #[test]
 fn sums_of_up_to_1000_numbers_end_within_their_bound(rt: HostRuntime) -> Result<(), Fail> {
-    sums(&rt, rt.alloc(), 751, 1_000)
+    sums_end(rt.alloc(), 751, 1_000)
 }
 
 /// Answers how often its seat has run it.
@@ -132,54 +140,109 @@ const COUNTS: &str =
     "hook price; rank 0; r6 = map 1 8; r0 = *u64 r6 0; r0 += 1; *u64 r6 0 = r0; exit";
 
 // Three runs with the first seat, and one with the second.
-fn four_runs(
-    accepted: &Accepted,
-    input: &Input,
-    words: &Shared,
-    first: &mut Seat,
-    second: &mut Seat,
-) -> [Run; 4]
-    requires hook { number_of (slice_range input.now.context 0 4) ≡ hook_number accepted.now.hook }
+fn four_runs(accepted: &Accepted, words: &Shared, first: &mut Seat, second: &mut Seat) -> [Run; 4]
     requires first { IsOf words.now first.old }
     requires second { IsOf words.now second.old }
 {
-    [
-        run(accepted, input, words, first),
-        run(accepted, input, words, first),
-        run(accepted, input, words, first),
-        run(accepted, input, words, second),
-    ]
-}
-
-// The same with the seats of a new table.
-fn runs_at_two_seats(alloc: Global, accepted: &Accepted) -> Result<[Run; 4], Fail> {
     let input = Input {
         context: rich_context(accepted.hook()),
         packet: &[],
         rows: &[],
     };
-    let (words, mut seats) = table(alloc, 2)?;
-    let mut second = seats.pop().ok_or("no seat")?;
-    let mut first = seats.pop().ok_or("no seat")?;
-    Ok(four_runs(accepted, &input, &words, &mut first, &mut second))
+    [
+        run(accepted, &input, words, first),
+        run(accepted, &input, words, first),
+        run(accepted, &input, words, first),
+        run(accepted, &input, words, second),
+    ]
 }
 
-fn counted(answer: u64) -> Run {
-    Run { answer, used: 5 }
+// A table with two seats, and its seats.
+fn two_seats(alloc: Global) -> Option<(Shared, Seat, Seat)>
+    ensures first { IfSome result (λ r. IsOf r.0 r.1) }
+    ensures second { IfSome result (λ r. IsOf r.0 r.2) }
+{
+    let Ok((words, mut seats)) = table(alloc, 2) else {
+        return None;
+    };
+    match (seats.pop(), seats.pop()) {
+        (Some(second), Some(first)) => Some((words, first, second)),
+        _ => None,
+    }
 }
 
-fn counts_at_its_seat(rt: &impl Abort, alloc: Global, accepted: &Accepted) -> Result<(), Fail> {
-    let runs = runs_at_two_seats(alloc, accepted)?;
-    let wanted = [counted(1), counted(2), counted(3), counted(1)];
-    assert!(rt; accepted.bound() == 6 && runs == wanted, "{runs:?}");
-    Ok(())
+// The runs with the seats of a new table.
+fn runs_at_two_seats(alloc: Global, accepted: &Accepted) -> Option<[Run; 4]> {
+    let (words, mut first, mut second) = two_seats(alloc)?;
+    Some(four_runs(accepted, &words, &mut first, &mut second))
 }
+
+// The bound of the program that counts, and its runs.
+fn counted(alloc: Global) -> Option<(u64, [Run; 4])> {
+    let trial = trial_of(alloc, COUNTS)?;
+    let runs = runs_at_two_seats(alloc, &trial.accepted)?;
+    Some((trial.accepted.bound(), runs))
+}
+
+const COUNTED: (u64, [Run; 4]) = (
+    6,
+    [
+        Run { answer: 1, used: 5 },
+        Run { answer: 2, used: 5 },
+        Run { answer: 3, used: 5 },
+        Run { answer: 1, used: 5 },
+    ],
+);
 
 #[test]
-fn each_seat_counts_its_own_runs(rt: HostRuntime) -> Result<(), Fail> {
-    let tried = tried(rt.alloc(), COUNTS)?;
-    match &tried.verdict {
-        Ok(accepted) => counts_at_its_seat(&rt, rt.alloc(), accepted),
-        Err(_) => Err(Fail::new("refused")),
-    }
+fn each_seat_counts_its_own_runs(rt: HostRuntime) {
+    let found = counted(rt.alloc());
+    assert!(rt; found == Some(COUNTED), "{found:?}");
+}
+
+/// The counter with the moment's number, if the moment is from 0 to 63 by two signed tests, else 0.
+const COUNTER_OF_THE_MOMENT: &str =
+    "hook price; rank 0; r1 = *u64 r1 24; if r1 s> 63 goto L; if r1 s< 0 goto L; r1 <<= 3; \
+        r2 = map 0 0; r2 += r1; r0 = *u64 r2 0; exit; L: r0 = 0; exit; state L rank 0";
+
+// The run at this moment, with 77 in counter 5.
+fn run_at(accepted: &Accepted, words: &Shared, seat: &mut Seat, moment: u8) -> Run
+    requires { IsOf words.now seat.old }
+    ensures { IsOf words.now seat.new }
+{
+    let input = Input {
+        context: varied_context(accepted.hook(), moment),
+        packet: &[],
+        rows: &[],
+    };
+    run(accepted, &input, words, seat)
+}
+
+// The bound of its program, and its runs at moments 5 and 64.
+fn of_moments(alloc: Global) -> Result<(u64, [Run; 2]), Fail> {
+    let trial = trial_of(alloc, COUNTER_OF_THE_MOMENT).ok_or("refused")?;
+    let (words, mut seat) = one_seat(alloc)?;
+    let _added = words.add(&mut seat, 5, 77);
+    let early = run_at(&trial.accepted, &words, &mut seat, 5);
+    let late = run_at(&trial.accepted, &words, &mut seat, 64);
+    Ok((trial.accepted.bound(), [early, late]))
+}
+
+// Counter 5 is read, and none at a moment that is too late.
+const OF_MOMENTS: (u64, [Run; 2]) = (
+    11,
+    [
+        Run {
+            answer: 77,
+            used: 8,
+        },
+        Run { answer: 0, used: 4 },
+    ],
+);
+
+#[test]
+fn the_counter_of_the_moment_is_read(rt: HostRuntime) -> Result<(), Fail> {
+    let found = of_moments(rt.alloc())?;
+    assert!(rt; found == OF_MOMENTS, "{found:?}");
+    Ok(())
 }

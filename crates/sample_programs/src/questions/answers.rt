@@ -1,18 +1,11 @@
 //! The answers to questions.
-ghost use Rattle.maps.specs.Words.{IsOf};
-
-use crate::questions::samples::{SEVEN, accepted, external, moment, route};
-use crate::questions::trial::{Trial, loader_and_asker};
-use crate::trials::table;
-use hooks::Asker;
+use crate::questions::samples::SEVEN;
+use crate::questions::trial::Trial;
 use machine::Hook;
-use maps::{Seat, Shared};
 use std::alloc::Global;
 use std::process::Abort;
 use std::sync::Wait;
 use std::test::Fail;
-use verifier::Accepted;
-use words::{External, Route};
 
 // A Hello of 44 bytes.
 const HELLO: &[u8] = &[
@@ -91,10 +84,10 @@ const CONFIGURED: &[Step<'_>] = &[
     Step::Attach(SEVEN),
     Step::Configured(None),
     Step::LetIn(Some(2)),
-    Step::Attach("hook veto\nrank 0\nr0 = 3\nexit\n"),
+    Step::Attach("hook veto; rank 0; r0 = 3; exit"),
     Step::LetIn(None),
     Step::Detach(Hook::Price),
-    Step::Attach("hook tag\nrank 0\nr0 = 3\nexit\n"),
+    Step::Attach("hook tag; rank 0; r0 = 3; exit"),
     Step::Configured(None),
     Step::Detach(Hook::Tag),
     Step::Detach(Hook::Veto),
@@ -112,8 +105,8 @@ const DETACHED: &[Step<'_>] = &[
 
 const REPLACED: &[Step<'_>] = &[
     Step::Attach(SEVEN),
-    Step::Attach("hook veto\nrank 0\nr0 = 3\nexit\n"),
-    Step::Attach("hook price\nrank 0\nr0 = 9\nexit\n"),
+    Step::Attach("hook veto; rank 0; r0 = 3; exit"),
+    Step::Attach("hook price; rank 0; r0 = 9; exit"),
     Step::Price(Some(9)),
     Step::Veto(Some(3)),
     Step::Count(HELLO, Some(0)),
@@ -123,23 +116,23 @@ const REPLACED: &[Step<'_>] = &[
 ];
 
 const COSTS: &[Step<'_>] = &[
-    Step::Attach("hook tag\nrank 0\nr1 = wide 3221225984\nr2 = 24\ncall 4\nexit\n"),
+    Step::Attach("hook tag; rank 0; r1 = wide 3221225984; r2 = 24; call 4; exit"),
     Step::Tag(Some((20, 20))),
-    Step::Attach("hook tag\nrank 0\nr1 = wide 3221225984\nr2 = 25\ncall 4\nexit\n"),
+    Step::Attach("hook tag; rank 0; r1 = wide 3221225984; r2 = 25; call 4; exit"),
     Step::Tag(Some((4_294_967_296, 0))),
 ];
 
 const BYTES: &[Step<'_>] = &[
-    Step::Attach("hook count\nrank 0\nr1 = 1\ncall 3\nexit\n"),
+    Step::Attach("hook count; rank 0; r1 = 1; call 3; exit"),
     Step::Count(HELLO, Some(1)),
     // the first byte alone
     Step::Count(&[2], Some(256)),
-    Step::Attach("hook count\nrank 0\nr1 = 44\ncall 3\nexit\n"),
+    Step::Attach("hook count; rank 0; r1 = 44; call 3; exit"),
     Step::Count(HELLO, Some(256)),
 ];
 
 const COST_OF_THE_ROUTE: &[Step<'_>] = &[
-    Step::Attach("hook veto\nrank 0\nr0 = *u32 r1 12\nexit\n"),
+    Step::Attach("hook veto; rank 0; r0 = *u32 r1 12; exit"),
     Step::Veto(Some(20)),
 ];
 
@@ -169,107 +162,5 @@ fn questions_are_answered(rt: HostRuntime) -> Result<(), Fail> {
         let went = play(rt.alloc(), &rt, steps)?;
         assert!(rt; went == steps.len(), "{name}: up to step {went}");
     }
-    Ok(())
-}
-
-fn tag_holds<R: Wait + Drop>(trial: &mut Trial<R>, external: &External) -> bool {
-    match trial.tag(external, &[]) {
-        Some(tag) => tag.external() == *external && tag.moment() == moment(),
-        None => false,
-    }
-}
-
-fn price_holds<R: Wait + Drop>(trial: &mut Trial<R>, external: &External) -> bool {
-    match trial.price(external) {
-        Some(price) => price.external() == *external && price.moment() == moment(),
-        None => false,
-    }
-}
-
-fn veto_holds<R: Wait + Drop>(trial: &mut Trial<R>, route: &Route) -> bool {
-    match trial.veto(route) {
-        Some(veto) => veto.route() == *route && veto.moment() == moment(),
-        None => false,
-    }
-}
-
-// Whether the answers of `tag`, `price` and `veto` contain their questions.
-fn hold<R: Wait + Drop>(trial: &mut Trial<R>) -> Result<[bool; 3], Fail> {
-    let (external, route) = (external()?, route()?);
-    Ok([
-        tag_holds(trial, &external),
-        price_holds(trial, &external),
-        veto_holds(trial, &route),
-    ])
-}
-
-// The same for a new trial.
-fn hold_from_nothing<R: Wait + Drop + Copy>(alloc: Global, rt: R) -> Result<[bool; 3], Fail> {
-    let mut trial = Trial::new(alloc, rt)?;
-    hold(&mut trial)
-}
-
-#[test]
-fn answers_hold_their_questions(rt: HostRuntime) -> Result<(), Fail> {
-    assert!(rt; hold_from_nothing(rt.alloc(), &rt)? == [true; 3]);
-    Ok(())
-}
-
-const COUNTING: &str =
-    "hook price\nrank 0\nr6 = map 1 8\nr0 = *u64 r6 0\nr0 += 1\n*u64 r6 0 = r0\nexit\n";
-
-// The word of `price`, with a seat of the table.
-fn price_of(asker: &mut Asker, external: &External, shared: &Shared, seat: &mut Seat) -> Option<u64>
-    requires { IsOf shared.now seat.old }
-    ensures { IsOf shared.now seat.new }
-{
-    let answer = asker.price(external, moment(), &[], shared, seat)?;
-    Some(answer.word())
-}
-
-// The words of three questions with the first seat, and of one with the second.
-fn words_at(
-    asker: &mut Asker,
-    external: &External,
-    shared: &Shared,
-    first: &mut Seat,
-    second: &mut Seat,
-) -> [Option<u64>; 4]
-    requires first { IsOf shared.now first.old }
-    requires second { IsOf shared.now second.old }
-{
-    [
-        price_of(asker, external, shared, first),
-        price_of(asker, external, shared, first),
-        price_of(asker, external, shared, first),
-        price_of(asker, external, shared, second),
-    ]
-}
-
-// The same with the seats of a new table.
-fn words(alloc: Global, asker: &mut Asker) -> Result<[Option<u64>; 4], Fail> {
-    let external = external()?;
-    let (shared, mut seats) = table(alloc, 2)?;
-    let mut second = seats.pop().ok_or("no second seat")?;
-    let mut first = seats.pop().ok_or("no first seat")?;
-    Ok(words_at(asker, &external, &shared, &mut first, &mut second))
-}
-
-// The same after the program that counts is attached.
-fn words_of_counting<R: Wait + Drop + Copy>(
-    alloc: Global,
-    rt: R,
-    program: Accepted,
-) -> Result<[Option<u64>; 4], Fail> {
-    let (mut loader, mut asker) = loader_and_asker(alloc, rt)?;
-    loader.attach(program)?;
-    words(alloc, &mut asker)
-}
-
-#[test]
-fn a_cell_is_kept_from_question_to_question_at_each_seat(rt: HostRuntime) -> Result<(), Fail> {
-    let program = accepted(rt.alloc(), COUNTING).ok_or("refused")?;
-    let words = words_of_counting(rt.alloc(), &rt, program)?;
-    assert!(rt; words == [Some(1), Some(2), Some(3), Some(1)], "{words:?}");
     Ok(())
 }

@@ -1,10 +1,9 @@
 //! What the tests ask questions with.
-use asm::assemble;
-use object_verdicts::verify_object;
+use crate::trials::{Trial, trial_of};
 use std::alloc::Global;
 use std::test::Fail;
 use verifier::Accepted;
-use words::{Address, External, ExternalType, Hops, Prefix, Route, RouteKind, Second, TableRow};
+use words::{Address, External, ExternalType, Hops, Prefix, Route, RouteKind, Second};
 
 /// The moment of every question.
 pub fn moment() -> Second {
@@ -12,20 +11,12 @@ pub fn moment() -> Second {
 }
 
 /// Answers 7 at `price`.
-pub const SEVEN: &str = "hook price\nrank 0\nr0 = 7\nexit\n";
+pub const SEVEN: &str = "hook price; rank 0; r0 = 7; exit";
 
-fn verified(alloc: Global, text: &str) -> Option<Accepted> {
-    let object = assemble(alloc, text).ok()?;
-    let bytes = object::write(alloc, &object).ok()?;
-    verify_object(alloc, &bytes).ok()
-}
-
-/// The program of the text. Retries once: a test run may refuse one allocation.
+/// The program of the text.
 pub fn accepted(alloc: Global, text: &str) -> Option<Accepted> {
-    match verified(alloc, text) {
-        None => verified(alloc, text),
-        made => made,
-    }
+    let Trial { code: _, accepted } = trial_of(alloc, text)?;
+    Some(accepted)
 }
 
 /// 203.0.113.0/24 of type 2 with the configured metric 20 and the configured tag 0x05060708.
@@ -50,10 +41,4 @@ pub fn route() -> Result<Route, Fail> {
         hops: Hops::only(1),
         tag: 0,
     })
-}
-
-/// The row for 192.0.2.0/24 with cost 20.
-pub fn row() -> Result<TableRow, Fail> {
-    let prefix = Prefix::new(Address::new(0xc000_0200), 24).ok_or("prefix")?;
-    Ok(TableRow { prefix, cost: 20 })
 }

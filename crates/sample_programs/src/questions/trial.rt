@@ -3,15 +3,14 @@ ghost use Rattle.std.specs.Prelude.{◌≡◌, All, IfOk};
 ghost use Rattle.maps.specs.Words.{IsOf};
 ghost use Rattle.hooks.specs.Known.{IsNew, asks_of, history_of};
 
-use crate::questions::samples::{accepted, external, moment, route, row};
-use crate::trials::one_seat;
-use hooks::{Asker, HookError, Loader, PriceAnswer, TagAnswer, VetoAnswer, programs};
-use machine::{Hook, TableRow};
+use crate::questions::samples::{accepted, external, moment, route};
+use crate::trials::{one_seat, row};
+use hooks::{Asker, HookError, Loader, programs};
+use machine::Hook;
 use maps::{Seat, Shared};
 use std::alloc::{AllocError, Global};
 use std::sync::Wait;
 use std::test::Fail;
-use words::{External, Route};
 
 /// The asker belongs to the loader, and the seat to the table.
 #[derive(Drop)]
@@ -68,9 +67,7 @@ impl<R: Wait + Drop + Copy> Trial<R> {
 
 impl<R: Wait + Drop> Trial<R> {
     /// Attaches the program of the text.
-    pub fn attach(&mut self, alloc: Global, text: &str) -> Result<(), Fail>
-        ensures history { asks_of self.new.asker ≡ asks_of self.old.asker }
-    {
+    pub fn attach(&mut self, alloc: Global, text: &str) -> Result<(), Fail> {
         let program = accepted(alloc, text).ok_or("refused")?;
         self.loader.attach(program)?;
         Ok(())
@@ -93,42 +90,28 @@ impl<R: Wait + Drop> Trial<R> {
         Some(answer.word())
     }
 
-    pub fn tag(&mut self, external: &External, rows: &[TableRow]) -> Option<TagAnswer> {
-        self.asker
-            .tag(external, moment(), rows, &self.shared, &mut self.seat)
-    }
-
-    pub fn price(&mut self, external: &External) -> Option<PriceAnswer>
-        ensures history { asks_of self.new.asker ≡ asks_of self.old.asker }
-    {
-        self.asker
-            .price(external, moment(), &[], &self.shared, &mut self.seat)
-    }
-
-    pub fn veto(&mut self, route: &Route) -> Option<VetoAnswer> {
-        self.asker
-            .veto(route, moment(), &[], &self.shared, &mut self.seat)
-    }
-
     /// The word of `tag` with a table of one row, and the tag in it.
     pub fn tag_words(&mut self) -> Result<Option<(u64, u32)>, Fail> {
-        let (external, row) = (external()?, row()?);
-        let found = self.tag(&external, &[row]);
+        let (external, rows) = (external()?, [row()?]);
+        let (shared, seat) = (&self.shared, &mut self.seat);
+        let found = self.asker.tag(&external, moment(), &rows, shared, seat);
         Ok(found.map(|answer| (answer.word(), answer.tag())))
     }
 
     /// The word of `price`.
-    pub fn price_word(&mut self) -> Result<Option<u64>, Fail>
-        ensures history { asks_of self.new.asker ≡ asks_of self.old.asker }
-    {
+    pub fn price_word(&mut self) -> Result<Option<u64>, Fail> {
         let external = external()?;
-        Ok(self.price(&external).map(|answer| answer.word()))
+        let (shared, seat) = (&self.shared, &mut self.seat);
+        let found = self.asker.price(&external, moment(), &[], shared, seat);
+        Ok(found.map(|answer| answer.word()))
     }
 
     /// The word of `veto`.
     pub fn veto_word(&mut self) -> Result<Option<u64>, Fail> {
         let route = route()?;
-        Ok(self.veto(&route).map(|answer| answer.word()))
+        let (shared, seat) = (&self.shared, &mut self.seat);
+        let found = self.asker.veto(&route, moment(), &[], shared, seat);
+        Ok(found.map(|answer| answer.word()))
     }
 
     /// The words of `tag` and `price`, if neither hook has a program.
@@ -140,16 +123,8 @@ impl<R: Wait + Drop> Trial<R> {
 
     /// How many of two routes are accepted, if `veto` has no program.
     pub fn let_in(&mut self, alloc: Global) -> Result<Option<usize>, Fail> {
-        let routes = two_routes(alloc)?;
+        let routes = [route()?, route()?];
         let found = self.asker.all_let_in(alloc, &routes, moment())?;
         Ok(found.map(|answers| answers.len()))
     }
-}
-
-fn two_routes(alloc: Global) -> Result<Vec<Route>, Fail> {
-    let mut routes = Vec::new(alloc);
-    for _ in 0..2 {
-        routes.push(route()?)?;
-    }
-    Ok(routes)
 }
