@@ -7,7 +7,7 @@ use std::sync::Wait;
 use std::sync::atomic::AtomicBool;
 use std::test::Fail;
 use words::Sequence;
-use worker::{Ended, Hub, Open, Port, Site, Taker, run};
+use worker::{Hub, Open, Port, Site, Taker, run};
 
 // Forty calls of a link, of which one fails: the others send, or receive the Hello.
 fn calls(alloc: Global, fails: usize) -> Result<Vec<Answer>, AllocError> {
@@ -64,12 +64,13 @@ fn a_worker_ends_at_a_fault_and_keeps_the_events_before(rt: HostRuntime) -> Resu
             journal: events,
             taken: events as u64,
         };
-        ends(&rt, rt.alloc(), Scene::FailingLink(fails), wanted)?;
+        ends(
+            &rt,
+            rt.alloc(),
+            "a link that fails",
+            Scene::FailingLink(fails),
+            wanted,
+        )?;
     }
     Ok(())
-}
-
-#[test]
-fn a_fault_is_status_3(rt: HostRuntime) {
-    assert_eq!(rt; (Ended::Quit.status(), Ended::Fault.status()), (0, 3));
 }

@@ -22,24 +22,7 @@ enum Call {
 
 // So many calls, what the last one is answered (0, or the number of the refusal), and what the
 // journal holds and the book has taken after it.
-#[derive(Clone, Copy)]
-struct Row {
-    times: u32,
-    call: Call,
-    answer: u8,
-    journal: usize,
-    taken: u64,
-}
-
-fn calls(times: u32, call: Call, answer: u8, journal: usize, taken: u64) -> Row {
-    Row {
-        times,
-        call,
-        answer,
-        journal,
-        taken,
-    }
-}
+type Row = (u32, Call, u8, usize, u64);
 
 fn number_of(answer: Result<Vec<Out>, BookError>) -> u8 {
     match answer {
@@ -111,9 +94,10 @@ fn called_often<L: Origin>(book: &mut Book<L>, share: &mut Share<L>, row: &Row, 
     requires { 0 < share.old.parts }
     ensures { share.new.parts ≡ share.old.parts }
 {
+    let (times, call, ..) = *row;
     let mut answer = 0;
-    for _time in 0..row.times {
-        answer = answered(book, share, row.call, event);
+    for _time in 0..times {
+        answer = answered(book, share, call, event);
     }
     answer
 }
@@ -130,13 +114,14 @@ fn play_rows<L: Origin, R: Abort>(
 {
     let mut is_early = false;
     for row in rows {
-        let answer = called_often(book, share, row, event);
-        let after = (answer, book.journal().len(), book.taken());
-        if row.call == Call::ApplyAnew && after.1 < row.journal {
+        let (_, call, answer, journal, taken) = *row;
+        let found = called_often(book, share, row, event);
+        let after = (found, book.journal().len(), book.taken());
+        if call == Call::ApplyAnew && after.1 < journal {
             is_early = true;
             break;
         }
-        assert_eq!(rt; after, (row.answer, row.journal, row.taken));
+        assert!(rt; after == (answer, journal, taken), "{after:?}");
     }
     is_early
 }
@@ -171,25 +156,27 @@ fn play_all<R: Abort>(rt: &R, alloc: Global, event: &Event, rows: &[Row]) -> Res
     Ok(())
 }
 
+const FULL: &[Row] = &[
+    (65_536, Call::Apply, 0, 65_536, 65_536),
+    (1, Call::Apply, 7, 65_536, 65_536),
+    (1, Call::Mark, 0, 0, 65_536),
+    (1, Call::Apply, 0, 1, 65_537),
+    // the networks of its interfaces
+    (1, Call::Candidates, 2, 1, 65_537),
+];
+
 #[test]
 fn a_full_journal_takes_nothing_until_it_is_marked(rt: HostRuntime) -> Result<(), Fail> {
-    let rows = [
-        calls(65_536, Call::Apply, 0, 65_536, 65_536),
-        calls(1, Call::Apply, 7, 65_536, 65_536),
-        calls(1, Call::Mark, 0, 0, 65_536),
-        calls(1, Call::Apply, 0, 1, 65_537),
-        // the networks of its interfaces
-        calls(1, Call::Candidates, 2, 1, 65_537),
-    ];
-    play_all(&rt, rt.alloc(), &Event::Tick, &rows)
+    play_all(&rt, rt.alloc(), &Event::Tick, FULL)
 }
 
 // Each Tick counts as 256 bytes, and so does the one LSA, beside 256 KiB.
+const HEAVY: &[Row] = &[
+    (1_026, Call::ApplyAnew, 0, 1_026, 1_026),
+    (1, Call::ApplyAnew, 0, 1, 1_027),
+];
+
 #[test]
 fn a_heavy_journal_starts_anew(rt: HostRuntime) -> Result<(), Fail> {
-    let rows = [
-        calls(1_026, Call::ApplyAnew, 0, 1_026, 1_026),
-        calls(1, Call::ApplyAnew, 0, 1, 1_027),
-    ];
-    play_all(&rt, rt.alloc(), &Event::Tick, &rows)
+    play_all(&rt, rt.alloc(), &Event::Tick, HEAVY)
 }

@@ -2,7 +2,6 @@
 ghost use Rattle.std.specs.Prelude.{◌≡◌};
 ghost use Rattle.hooks.specs.Known.{history_of};
 
-use crate::scenes::{End, Scene, ends};
 use crate::side_by_side::number_of;
 use hooks::Loader;
 use links::{Script, Times};
@@ -11,7 +10,6 @@ use std::alloc::{AllocError, Global};
 use std::marker::PhantomData;
 use std::sync::atomic::AtomicBool;
 use std::sync::{Mutex, Wait};
-use std::test::Fail;
 use whole_files::ReadFault;
 use words::Second;
 use worker::{Gate, Hub, Port, Site, Taker, Work, turn};
@@ -85,20 +83,4 @@ pub fn operate<L: Site, B: Taker<L>, R: Wait, Q: Wait + Drop>(
     let mut port = ticks;
     let turned = turn(rt, hub, &mut port, &mut gate, Second::new(5), &Work::Tick);
     Ok(number_of(turned))
-}
-
-// The operator's own refresh is refused, so the router is stale after the Tick. No refresh follows
-// it, since the programs were changed after the turn began: what it would install may be answers of
-// earlier programs.
-#[test]
-fn no_refresh_follows_a_turn_during_which_an_operator_detaches(
-    rt: HostRuntime,
-) -> Result<(), Fail> {
-    let wanted = End {
-        status: 0,
-        sent: 0,
-        journal: 1,
-        taken: 1,
-    };
-    ends(&rt, rt.alloc(), Scene::Operated, wanted)
 }

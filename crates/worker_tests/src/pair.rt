@@ -174,45 +174,45 @@ fn found<R: Wait>(rt: &R, alloc: Global, work: Option<&Work>) -> Result<String, 
     table::<Brand, Brand, R, &R>(rt, alloc, one, other, work, &one_loader, &other_loader)
 }
 
-#[test]
-fn a_router_has_the_routes_of_its_neighbor(rt: HostRuntime) -> Result<(), Fail> {
-    let lines = found(&rt, rt.alloc(), None)?;
-    assert_eq!(rt;
-        lines.as_str(),
-        "10.0.1.0/24 intra 10 via 0\n10.0.2.0/24 intra 15 via 1\nend\n"
-    );
-    Ok(())
-}
-
-// A destination of this type, which the neighbor announces, comes into the table with this line.
-fn comes<R: Wait + Abort>(
+// The same where the neighbor announces a destination of this type.
+fn found_beside<R: Wait>(
     rt: &R,
     alloc: Global,
-    kind: ExternalType,
-    line: &str,
-) -> Result<(), Fail> {
-    let work = Work::Add(destination(kind)?);
-    let lines = found(rt, alloc, Some(&work))?;
-    let wanted = format!(in alloc;
-        "10.0.1.0/24 intra 10 via 0\n10.0.2.0/24 intra 15 via 1\n{line}end\n"
-    )?;
-    assert_eq!(rt; lines.as_str(), wanted.as_str());
-    Ok(())
+    announced: Option<ExternalType>,
+) -> Result<String, Fail> {
+    match announced {
+        None => found(rt, alloc, None),
+        Some(kind) => {
+            let work = Work::Add(destination(kind)?);
+            found(rt, alloc, Some(&work))
+        },
+    }
 }
 
+// What the neighbor announces, and the lines of the table.
+const TABLES: &[(Option<ExternalType>, &str)] = &[
+    (
+        None,
+        "10.0.1.0/24 intra 10 via 0\n10.0.2.0/24 intra 15 via 1\nend\n",
+    ),
+    (
+        Some(ExternalType::Type1),
+        "10.0.1.0/24 intra 10 via 0\n10.0.2.0/24 intra 15 via 1\n203.0.113.0/24 ext1 30 via 1\n\
+            end\n",
+    ),
+    (
+        Some(ExternalType::Type2),
+        "10.0.1.0/24 intra 10 via 0\n10.0.2.0/24 intra 15 via 1\n203.0.113.0/24 ext2 20 via 1\n\
+            end\n",
+    ),
+];
+
 #[test]
-fn a_router_has_the_destinations_of_its_neighbor(rt: HostRuntime) -> Result<(), Fail> {
-    let alloc = rt.alloc();
-    comes(
-        &rt,
-        alloc,
-        ExternalType::Type1,
-        "203.0.113.0/24 ext1 30 via 1\n",
-    )?;
-    comes(
-        &rt,
-        alloc,
-        ExternalType::Type2,
-        "203.0.113.0/24 ext2 20 via 1\n",
-    )
+fn a_router_has_the_routes_and_destinations_of_its_neighbor(rt: HostRuntime) -> Result<(), Fail> {
+    for row in TABLES {
+        let (announced, wanted) = *row;
+        let lines = found_beside(&rt, rt.alloc(), announced)?;
+        assert!(rt; lines.as_str() == wanted, "{lines}");
+    }
+    Ok(())
 }

@@ -8,7 +8,7 @@ use crate::operated::operate;
 use crate::samples::{destination, first};
 use crate::side_by_side::{Holds, hold, tick};
 use crate::stage::{Stage, Step};
-use crate::times::{Trial, follow, try_again};
+use crate::times::{follow, try_again};
 use crate::watching::watch;
 use hooks::{HookError, Loader};
 use std::alloc::Global;
@@ -30,8 +30,9 @@ pub enum Scene<'a> {
     FailingLink(usize),
     /// Port 1 makes a Tick's turn at each moment below this.
     Ticks(u64),
-    /// After a Tick at moment 6 a turn is tried.
-    Tries(Trial<'a>),
+    /// After a Tick at moment 6 a turn is tried by a clock that shows these moments, and then the
+    /// last one: where the interface of a number went down, or for a Tick.
+    Tries(Option<u16>, &'a [u64], u64),
     /// The worker at interface 1 runs by a clock that shows these moments, one a round, and hears
     /// nothing.
     Clock(&'a [u64]),
@@ -91,7 +92,10 @@ fn act<
         }
         Scene::FailingLink(fails) => Ok(serve(rt, alloc, hub, &mut stage.first, fails)?),
         Scene::Ticks(until) => Ok((tick(rt, hub, &mut stage.first, 0, until), 0)),
-        Scene::Tries(trial) => Ok((try_again(rt, alloc, hub, &mut stage.first, &trial)?, 0)),
+        Scene::Tries(down, moments, next) => {
+            let port = &mut stage.first;
+            Ok((try_again(rt, alloc, hub, port, down, moments, next)?, 0))
+        }
         Scene::Clock(moments) => Ok(follow(rt, alloc, hub, &mut stage.first, moments)?),
         Scene::Held(held, until) => Ok((hold(rt, alloc, hub, stage, held, until)?, 0)),
         Scene::Watched | Scene::Operated => Ok((0, 0)),
@@ -199,6 +203,7 @@ pub fn play<R: Threads + Wait + Clock + Abort + Sync>(
 pub fn ends<R: Threads + Wait + Clock + Abort + Sync>(
     rt: &R,
     alloc: Global,
+    name: &str,
     scene: Scene<'_>,
     wanted: End,
 ) -> Result<(), Fail> {
@@ -213,7 +218,7 @@ pub fn ends<R: Threads + Wait + Clock + Abort + Sync>(
         if end != wanted && may_differ && !is_refused {
             is_refused = true;
         } else {
-            assert_eq!(rt; end, wanted);
+            assert!(rt; end == wanted, "{name}: {end:?}");
         }
         if is_long && !is_refused {
             break;

@@ -137,42 +137,6 @@ pub fn hold<
     })
 }
 
-// The first Tick is followed by a refresh, and the Hello comes third.
-#[test]
-fn a_worker_is_answered_while_another_is_held(rt: HostRuntime) -> Result<(), Fail> {
-    let wanted = End {
-        status: 0,
-        sent: 0,
-        journal: 3,
-        taken: 3,
-    };
-    ends(&rt, rt.alloc(), Scene::Held(Holds::Hello, 6), wanted)
-}
-
-// 996 Ticks, and the refresh that follows the first: the Hello's moment has passed.
-#[test]
-fn a_turn_whose_moment_has_passed_is_refused(rt: HostRuntime) -> Result<(), Fail> {
-    let wanted = End {
-        status: 4,
-        sent: 0,
-        journal: 997,
-        taken: 997,
-    };
-    ends(&rt, rt.alloc(), Scene::Held(Holds::Hello, 1_001), wanted)
-}
-
-// The same Ticks, and then the refresh that was held, at the last Tick's moment.
-#[test]
-fn a_refresh_whose_moment_has_passed_is_taken(rt: HostRuntime) -> Result<(), Fail> {
-    let wanted = End {
-        status: 0,
-        sent: 0,
-        journal: 998,
-        taken: 998,
-    };
-    ends(&rt, rt.alloc(), Scene::Held(Holds::Refresh, 1_001), wanted)
-}
-
 // The first Tick is followed by a refresh. The journal of a router with one LSA starts anew after
 // each 1,026 events.
 #[test]
@@ -183,5 +147,5 @@ fn no_turn_is_refused_for_its_journal(rt: HostRuntime) -> Result<(), Fail> {
         journal: 900,
         taken: 65_538,
     };
-    ends(&rt, rt.alloc(), Scene::Ticks(65_537), wanted)
+    ends(&rt, rt.alloc(), "many Ticks", Scene::Ticks(65_537), wanted)
 }

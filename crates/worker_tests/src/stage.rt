@@ -7,7 +7,6 @@ use hooks::{Loader, Notice};
 use isa::Hook;
 use object_verdicts::verify_object;
 use std::alloc::{AllocError, Global};
-use std::process::Abort;
 use std::sync::Wait;
 use std::test::Fail;
 use words::{External, Second};
@@ -49,13 +48,8 @@ pub struct Seen {
     pub counted: u64,
 }
 
-/// What is done at a moment, and what is seen after it.
-#[derive(Clone, Copy)]
-pub struct Step {
-    pub moment: u64,
-    pub deed: Deed,
-    pub seen: Seen,
-}
+/// A moment, what is done at it, and what is seen after it.
+pub type Step = (u64, Deed, Seen);
 
 /// The ports 0, 1 and 2 of a router, and the loader of their programs.
 #[derive(Drop)]
@@ -187,19 +181,15 @@ impl<L: Site, Q: Wait + Drop> Stage<L, Q> {
         self.turned(rt, hub, port, Second::new(moment), work)
     }
 
-    // A refresh that was to follow and didn't, which the next turn tries again.
+    // The next turn tries a refresh again that was to follow and didn't.
     fn late<B: Taker<L>, R: Wait>(
         &mut self,
         rt: &R,
         hub: &Hub<L, B>,
-        step: &Step,
-        answer: Result<bool, TurnError>,
+        moment: u64,
     ) -> Result<bool, TurnError> {
-        if step.seen.answer != Ok(true) || answer != Ok(false) {
-            return answer;
-        }
         self.is_late = true;
-        match self.turned(rt, hub, 0, Second::new(step.moment), &Work::Refresh) {
+        match self.turned(rt, hub, 0, Second::new(moment), &Work::Refresh) {
             Ok(_) => Ok(true),
             Err(error) => Err(error),
         }
@@ -272,19 +262,35 @@ impl<L: Site, Q: Wait + Drop> Stage<L, Q> {
         })
     }
 
+    // What is seen after the step.
+    fn seen_after<B: Taker<L>, R: Wait>(
+        &mut self,
+        rt: &R,
+        alloc: Global,
+        hub: &Hub<L, B>,
+        step: &Step,
+    ) -> Result<Seen, Fail> {
+        let (moment, deed, wanted) = *step;
+        let mut answer = self.perform(rt, alloc, hub, moment, deed)?;
+        if wanted.answer == Ok(true) && answer == Ok(false) {
+            answer = self.late(rt, hub, moment);
+        }
+        Ok(self.look(rt, hub, answer)?)
+    }
+
     /// Does the steps, and looks after each.
-    pub fn play<B: Taker<L>, R: Wait + Abort>(
+    pub fn play<B: Taker<L>, R: Wait>(
         &mut self,
         rt: &R,
         alloc: Global,
         hub: &Hub<L, B>,
         steps: &[Step],
     ) -> Result<(), Fail> {
-        for step in steps {
-            let answer = self.perform(rt, alloc, hub, step.moment, step.deed)?;
-            let answer = self.late(rt, hub, step, answer);
-            let seen = self.look(rt, hub, answer)?;
-            assert_eq!(rt; seen, step.seen, "moment {}", step.moment);
+        for (number, step) in steps.iter().enumerate() {
+            let seen = self.seen_after(rt, alloc, hub, step)?;
+            if seen != step.2 {
+                return Err(Fail::new(format_args!("step {number}: {seen:?}")));
+            }
         }
         Ok(())
     }

@@ -1,16 +1,13 @@
-//! Turns one after the other, and what is seen after each.
+//! What is played at a router, row by row: turns one after the other with what is seen after each,
+//! turns by a clock, turns beside others.
 use crate::samples::{COUNTING, VETOING};
 use crate::scenes::{End, Scene, ends};
+use crate::side_by_side::Holds;
 use crate::stage::{Deed, Seen, Step};
 use events::CoreError;
 use isa::Hook;
 use packet::Fault;
-use std::alloc::Global;
-use std::process::Abort;
-use std::sync::Wait;
 use std::test::Fail;
-use std::thread::Threads;
-use std::time::Clock;
 use worker::{BookError, TurnError};
 
 // What is seen at the router after the first Tick: its two own routes are in the table.
@@ -22,26 +19,6 @@ const STARTED: Seen = Seen {
     counted: 0,
 };
 
-const fn step(moment: u64, deed: Deed, seen: Seen) -> Step {
-    Step { moment, deed, seen }
-}
-
-// Plays the steps. So many events were taken.
-fn play_steps<R: Threads + Wait + Clock + Abort + Sync>(
-    rt: &R,
-    alloc: Global,
-    steps: &[Step],
-    events: usize,
-) -> Result<(), Fail> {
-    let wanted = End {
-        status: 0,
-        sent: 0,
-        journal: events,
-        taken: events as u64,
-    };
-    ends(rt, alloc, Scene::Steps(steps), wanted)
-}
-
 const FIRST: Seen = Seen {
     answer: Ok(true),
     ..STARTED
@@ -52,125 +29,258 @@ const HEARD: Seen = Seen {
     ..STARTED
 };
 
-#[test]
-fn a_refresh_follows_until_nothing_is_stale(rt: HostRuntime) -> Result<(), Fail> {
-    let vetoed = Seen { rows: 0, ..STARTED };
-    let steps = [
-        step(1, Deed::Tick, FIRST),
-        step(2, Deed::Tick, STARTED),
-        step(2, Deed::Attach(VETOING), STARTED),
-        step(2, Deed::Refresh, vetoed),
-        step(3, Deed::Tick, vetoed),
-        step(3, Deed::Detach(Hook::Veto), vetoed),
-        step(3, Deed::Refresh, STARTED),
-    ];
-    play_steps(&rt, rt.alloc(), &steps, 6)
-}
+const WITHOUT_ROWS: Seen = Seen { rows: 0, ..STARTED };
 
-// A refresh that was asked before the programs were changed isn't taken after it; the next turn
-// tries again.
-#[test]
-fn a_refresh_of_earlier_programs_is_not_taken(rt: HostRuntime) -> Result<(), Fail> {
-    let not_asked = Seen { rows: 0, ..STARTED };
-    let steps = [
-        step(1, Deed::TickAtChange, not_asked),
-        step(2, Deed::Tick, FIRST),
-        step(3, Deed::TickAtChange, STARTED),
-    ];
-    play_steps(&rt, rt.alloc(), &steps, 4)
-}
+const FOLLOWED: &[Step] = &[
+    (1, Deed::Tick, FIRST),
+    (2, Deed::Tick, STARTED),
+    (2, Deed::Attach(VETOING), STARTED),
+    (2, Deed::Refresh, WITHOUT_ROWS),
+    (3, Deed::Tick, WITHOUT_ROWS),
+    (3, Deed::Detach(Hook::Veto), WITHOUT_ROWS),
+    (3, Deed::Refresh, STARTED),
+];
 
-#[test]
-fn the_book_takes_what_the_ports_bring(rt: HostRuntime) -> Result<(), Fail> {
-    let one = Seen {
-        neighbors: (true, false),
-        ..STARTED
-    };
-    let announced = Seen {
-        wanted: true,
-        ..HEARD
-    };
-    let down = Seen {
-        neighbors: (false, true),
-        ..STARTED
-    };
-    let steps = [
-        step(
-            5,
-            Deed::Hear(1, 0),
-            Seen {
-                answer: Ok(true),
-                ..one
-            },
-        ),
-        step(5, Deed::Hear(2, 0), HEARD),
-        step(6, Deed::Add, announced),
-        step(7, Deed::Withdraw, HEARD),
-        step(7, Deed::Withdraw, HEARD),
-        step(8, Deed::Down(1), down),
-    ];
-    play_steps(&rt, rt.alloc(), &steps, 7)
-}
+// What was asked before the programs were changed isn't taken; the next turn tries again.
+const CHANGED: &[Step] = &[
+    (1, Deed::TickAtChange, WITHOUT_ROWS),
+    (2, Deed::Tick, FIRST),
+    (3, Deed::TickAtChange, STARTED),
+];
 
-fn refused(error: CoreError) -> Seen {
-    Seen {
-        answer: Err(TurnError::Book(BookError::Core(error))),
-        ..STARTED
-    }
-}
+const ONE_HEARD: Seen = Seen {
+    answer: Ok(true),
+    neighbors: (true, false),
+    ..STARTED
+};
 
-// A datagram of more than 8,192 bytes has a wrong length.
-#[test]
-fn a_refused_turn_changes_nothing(rt: HostRuntime) -> Result<(), Fail> {
-    let steps = [
-        step(5, Deed::Tick, FIRST),
-        step(4, Deed::Tick, refused(CoreError::ClockBack)),
-        step(4, Deed::Hear(1, 0), refused(CoreError::ClockBack)),
-        step(5, Deed::Hear(3, 0), refused(CoreError::NoInterface)),
-        step(5, Deed::Down(3), refused(CoreError::NoInterface)),
-        step(
-            5,
-            Deed::Hear(1, 8_149),
-            refused(CoreError::BadPacket(Fault::Length)),
-        ),
-    ];
-    play_steps(&rt, rt.alloc(), &steps, 2)
-}
+const ANNOUNCED: Seen = Seen {
+    wanted: true,
+    ..HEARD
+};
 
-fn counted(counted: u64) -> Seen {
-    Seen { counted, ..HEARD }
-}
+const FIRST_IS_DOWN: Seen = Seen {
+    neighbors: (false, true),
+    ..STARTED
+};
+
+const BROUGHT: &[Step] = &[
+    (5, Deed::Hear(1, 0), ONE_HEARD),
+    (5, Deed::Hear(2, 0), HEARD),
+    (6, Deed::Add, ANNOUNCED),
+    (7, Deed::Withdraw, HEARD),
+    (7, Deed::Withdraw, HEARD),
+    (8, Deed::Down(1), FIRST_IS_DOWN),
+];
+
+const TOO_EARLY: Seen = Seen {
+    answer: Err(TurnError::Book(BookError::Core(CoreError::ClockBack))),
+    ..STARTED
+};
+
+const NO_INTERFACE: Seen = Seen {
+    answer: Err(TurnError::Book(BookError::Core(CoreError::NoInterface))),
+    ..STARTED
+};
+
+// A datagram of more than 8,192 bytes, or with a byte behind it.
+const WRONG_LENGTH: Seen = Seen {
+    answer: Err(TurnError::Book(BookError::Core(CoreError::BadPacket(Fault::Length)))),
+    ..STARTED
+};
+
+const REFUSED: &[Step] = &[
+    (5, Deed::Tick, FIRST),
+    (4, Deed::Tick, TOO_EARLY),
+    (4, Deed::Hear(1, 0), TOO_EARLY),
+    (5, Deed::Hear(3, 0), NO_INTERFACE),
+    (5, Deed::Down(3), NO_INTERFACE),
+    (5, Deed::Hear(1, 8_149), WRONG_LENGTH),
+];
+
+const THREE_COUNTED: Seen = Seen {
+    counted: 3,
+    ..HEARD
+};
+
+const SIX_COUNTED: Seen = Seen {
+    counted: 6,
+    ..HEARD
+};
+
+const REFUSED_AND_COUNTED: Seen = Seen {
+    neighbors: (true, true),
+    counted: 6,
+    ..WRONG_LENGTH
+};
 
 // The program adds 3 at counter 5 for each datagram of interface 1, a refused one too, and for
 // nothing else: those of interface 2 count elsewhere.
+const COUNTED: &[Step] = &[
+    (5, Deed::Hear(1, 0), ONE_HEARD),
+    (5, Deed::Hear(2, 0), HEARD),
+    (5, Deed::Attach(COUNTING), HEARD),
+    (5, Deed::Tick, HEARD),
+    (5, Deed::Hear(1, 0), THREE_COUNTED),
+    (5, Deed::Hear(2, 0), THREE_COUNTED),
+    (5, Deed::Hear(1, 1), REFUSED_AND_COUNTED),
+    (6, Deed::Tick, SIX_COUNTED),
+    (6, Deed::Refresh, SIX_COUNTED),
+];
+
+// A name, what is played, its status, and how many events are taken, all of which stand in the
+// journal. Nothing is sent.
+type Row = (&'static str, Scene<'static>, u8, usize);
+
+const SCENES: &[Row] = &[
+    (
+        "a refresh follows until nothing is stale",
+        Scene::Steps(FOLLOWED),
+        0,
+        6,
+    ),
+    (
+        "a refresh of earlier programs is not taken",
+        Scene::Steps(CHANGED),
+        0,
+        4,
+    ),
+    (
+        "the book takes what the ports bring",
+        Scene::Steps(BROUGHT),
+        0,
+        7,
+    ),
+    (
+        "a refused turn changes nothing",
+        Scene::Steps(REFUSED),
+        0,
+        2,
+    ),
+    ("each datagram is counted once", Scene::Steps(COUNTED), 0, 8),
+    // A try at moment 6 is taken. After the first try come three more, and no fourth.
+    // Before it come a Tick and the refresh that follows it.
+    (
+        "a turn is tried three times again",
+        Scene::Tries(None, &[5, 6, 6, 6, 6], 6),
+        0,
+        3,
+    ),
+    (
+        "a turn is tried three times again",
+        Scene::Tries(None, &[5, 6, 7, 8, 9], 7),
+        0,
+        3,
+    ),
+    (
+        "a turn is tried three times again",
+        Scene::Tries(None, &[5, 5, 5, 6, 6], 6),
+        0,
+        3,
+    ),
+    (
+        "a turn is tried three times again",
+        Scene::Tries(None, &[5, 5, 5, 5, 6], 6),
+        4,
+        2,
+    ),
+    (
+        "a turn is tried three times again",
+        Scene::Tries(None, &[5, 5, 5, 5], 5),
+        4,
+        2,
+    ),
+    // A turn that is taken is tried once, and so is one that is refused since there is no interface
+    // 3, once the clock isn't behind the router's.
+    (
+        "a turn is tried again only for its moment",
+        Scene::Tries(None, &[6, 7, 8, 9, 10], 7),
+        0,
+        3,
+    ),
+    (
+        "a turn is tried again only for its moment",
+        Scene::Tries(Some(3), &[6, 7, 8, 9, 10], 7),
+        2,
+        2,
+    ),
+    (
+        "a turn is tried again only for its moment",
+        Scene::Tries(Some(3), &[5, 6, 7, 8, 9], 7),
+        2,
+        2,
+    ),
+    // a Tick at each moment that differs from the last one's, and the refresh that follows the
+    // first
+    (
+        "a worker ticks where the second has changed",
+        Scene::Clock(&[5]),
+        0,
+        2,
+    ),
+    (
+        "a worker ticks where the second has changed",
+        Scene::Clock(&[5, 5, 5]),
+        0,
+        2,
+    ),
+    (
+        "a worker ticks where the second has changed",
+        Scene::Clock(&[5, 5, 6, 7, 7]),
+        0,
+        4,
+    ),
+    (
+        "a worker ticks where the second has changed",
+        Scene::Clock(&[5, 6, 7, 8]),
+        0,
+        5,
+    ),
+    // the first Tick is followed by a refresh, and the Hello comes third
+    (
+        "a worker is answered while another is held",
+        Scene::Held(Holds::Hello, 6),
+        0,
+        3,
+    ),
+    // 996 Ticks, and the refresh that follows the first: the Hello's moment has passed
+    (
+        "a turn whose moment has passed is refused",
+        Scene::Held(Holds::Hello, 1_001),
+        4,
+        997,
+    ),
+    // the same Ticks, and then the refresh that was held, at the last Tick's moment
+    (
+        "a refresh whose moment has passed is taken",
+        Scene::Held(Holds::Refresh, 1_001),
+        0,
+        998,
+    ),
+    // the Hello, and the refresh that follows
+    ("a turn passes once after it asked", Scene::Watched, 0, 2),
+    // The operator's own refresh is refused, so the router is stale after the Tick. No refresh
+    // follows it, since the programs were changed after the turn began: what it would install may
+    // be answers of earlier programs.
+    (
+        "no refresh follows a turn during which an operator detaches",
+        Scene::Operated,
+        0,
+        1,
+    ),
+];
+
 #[test]
-fn each_datagram_is_counted_once(rt: HostRuntime) -> Result<(), Fail> {
-    let steps = [
-        step(
-            5,
-            Deed::Hear(1, 0),
-            Seen {
-                answer: Ok(true),
-                neighbors: (true, false),
-                ..STARTED
-            },
-        ),
-        step(5, Deed::Hear(2, 0), HEARD),
-        step(5, Deed::Attach(COUNTING), HEARD),
-        step(5, Deed::Tick, HEARD),
-        step(5, Deed::Hear(1, 0), counted(3)),
-        step(5, Deed::Hear(2, 0), counted(3)),
-        step(
-            5,
-            Deed::Hear(1, 1),
-            Seen {
-                counted: 6,
-                neighbors: (true, true),
-                ..refused(CoreError::BadPacket(Fault::Length))
-            },
-        ),
-        step(6, Deed::Tick, counted(6)),
-        step(6, Deed::Refresh, counted(6)),
-    ];
-    play_steps(&rt, rt.alloc(), &steps, 8)
+fn scenes_end_as_told(rt: HostRuntime) -> Result<(), Fail> {
+    for row in SCENES {
+        let (name, scene, status, events) = *row;
+        let wanted = End {
+            status,
+            sent: 0,
+            journal: events,
+            taken: events as u64,
+        };
+        ends(&rt, rt.alloc(), name, scene, wanted)?;
+    }
+    Ok(())
 }

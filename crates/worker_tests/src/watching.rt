@@ -3,7 +3,6 @@ ghost use Rattle.std.specs.Prelude.{◌≡◌};
 ghost use Rattle.hooks.specs.Known.{history_of};
 
 use crate::samples::{COUNTING, hello};
-use crate::scenes::{End, Scene, ends};
 use crate::side_by_side::number_of;
 use hooks::Loader;
 use object_verdicts::verify_object;
@@ -66,16 +65,4 @@ pub fn watch<L: Site, B: Taker<L>, R: Wait, Q: Wait + Drop>(
     let answer = number_of(turn(rt, hub, &mut port, &mut gate, Second::new(5), &work));
     let noted = gate.noted.load(Ordering::SeqCst);
     Ok(if noted == 4 { answer } else { 9 })
-}
-
-// The Hello, and the refresh that follows.
-#[test]
-fn a_turn_passes_once_after_it_asked(rt: HostRuntime) -> Result<(), Fail> {
-    let wanted = End {
-        status: 0,
-        sent: 0,
-        journal: 2,
-        taken: 2,
-    };
-    ends(&rt, rt.alloc(), Scene::Watched, wanted)
 }
