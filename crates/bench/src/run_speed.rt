@@ -22,83 +22,11 @@ const SLOTS: usize = 4_000;
 /// The number of runs in a measurement.
 const ROUNDS: u64 = 1_000;
 
-// Runs the code once, and returns how many instructions it took; 0 if it didn't end.
-fn once(code: &Code, input: &Input, shared: &Shared, seat: &mut Seat) -> u64
-    requires { IsOf shared.now seat.old }
-    ensures { IsOf shared.now seat.new }
-{
-    match run_checked(code, Hook::Count, 10_000_000, input, shared, seat) {
-        Ok(run) => run.used,
-        Err(_) => 0,
-    }
-}
-
-// An input of zeros with no packet and no table rows.
-fn empty_input() -> Input<'static> {
-    Input {
-        context: [0; 64],
-        packet: &[],
-        rows: &[],
-    }
-}
-
-// Runs code that takes that many instructions, on the only seat of a table of its own.
+/// A program as code, and as it was accepted.
 #[derive(Drop)]
-struct Checked<'a> {
-    code: &'a Code,
-    input: Input<'static>,
-    used: u64,
-    shared: Shared,
-    seat: Seat,
-    ghost table: { IsOf shared seat },
-}
-
-impl<'a> Checked<'a> {
-    fn new(alloc: Global, code: &'a Code) -> Result<Checked<'a>> {
-        let (shared, mut seats) = Shared::new(alloc, 1)?;
-        let mut seat = seats.remove(0);
-        let input = empty_input();
-        match once(code, &input, &shared, &mut seat) {
-            0 => Err(anyhow!("a run that didn't end")),
-            used => Ok(Checked {
-                code,
-                input,
-                used,
-                shared,
-                seat,
-            }),
-        }
-    }
-}
-
-impl Round for Checked<'_> {
-    fn succeeds(&mut self) -> bool {
-        once(self.code, &self.input, &self.shared, &mut self.seat) == self.used
-    }
-}
-
-fn print_runs<R: Clock + Print, W: Round>(
-    rt: &R,
-    what: &str,
-    used: u64,
-    work: &mut W,
-) -> Result<()> {
-    println!(rt; "{what}, 4,000 slots: {used} instructions a run")?;
-    report(rt, "  they take", ROUNDS, used, "each", work)
-}
-
-fn print_code<R: Clock + Print + AllocGlobal>(rt: &R, code: &Code) -> Result<()> {
-    let mut running = Checked::new(rt.alloc(), code)?;
-    let used = running.used;
-    print_runs(rt, "straight-line arithmetic", used, &mut running)
-}
-
-fn print_checked<R: Clock + Print + AllocGlobal>(rt: &R) -> Result<()> {
-    let bytes = straight_line(rt.alloc(), SLOTS)?;
-    let Ok(code) = decode(rt.alloc(), &bytes) else {
-        return Err(anyhow!("the code isn't decoded"));
-    };
-    print_code(rt, &code)
+struct Program {
+    code: Code,
+    accepted: Accepted,
 }
 
 /// The context of a hook: its number, and zeros.
@@ -115,23 +43,32 @@ fn context_of(hook: Hook) -> [u8; 64]
     context
 }
 
-// Runs the program once, and returns how many instructions it took.
-fn run_once(accepted: &Accepted, shared: &Shared, seat: &mut Seat) -> u64
+// Runs the program once, on no packet and no table rows, and returns how many instructions it took;
+// 0 if a checked run didn't end.
+fn once(program: &Program, is_checked: bool, shared: &Shared, seat: &mut Seat) -> u64
     requires { IsOf shared.now seat.old }
     ensures { IsOf shared.now seat.new }
 {
+    let hook = program.accepted.hook();
     let input = Input {
-        context: context_of(accepted.hook()),
+        context: context_of(hook),
         packet: &[],
         rows: &[],
     };
-    run(accepted, &input, shared, seat).used
+    if !is_checked {
+        return run(&program.accepted, &input, shared, seat).used;
+    }
+    match run_checked(&program.code, hook, 10_000_000, &input, shared, seat) {
+        Ok(run) => run.used,
+        Err(_) => 0,
+    }
 }
 
 // Runs a program that takes that many instructions, on the only seat of a table of its own.
 #[derive(Drop)]
 struct Running<'a> {
-    accepted: &'a Accepted,
+    program: &'a Program,
+    is_checked: bool,
     used: u64,
     shared: Shared,
     seat: Seat,
@@ -139,12 +76,13 @@ struct Running<'a> {
 }
 
 impl<'a> Running<'a> {
-    fn new(alloc: Global, accepted: &'a Accepted) -> Result<Running<'a>> {
+    fn new(alloc: Global, program: &'a Program, is_checked: bool) -> Result<Running<'a>> {
         let (shared, mut seats) = Shared::new(alloc, 1)?;
         let mut seat = seats.remove(0);
-        let used = run_once(accepted, &shared, &mut seat);
+        let used = once(program, is_checked, &shared, &mut seat);
         Ok(Running {
-            accepted,
+            program,
+            is_checked,
             used,
             shared,
             seat,
@@ -154,17 +92,24 @@ impl<'a> Running<'a> {
 
 impl Round for Running<'_> {
     fn succeeds(&mut self) -> bool {
-        run_once(self.accepted, &self.shared, &mut self.seat) == self.used
+        let used = once(self.program, self.is_checked, &self.shared, &mut self.seat);
+        used > 0 && used == self.used
     }
 }
 
-fn print_program<R: Clock + Print + AllocGlobal>(rt: &R, accepted: &Accepted) -> Result<()> {
-    let mut running = Running::new(rt.alloc(), accepted)?;
+fn print_runs<R: Clock + Print + AllocGlobal>(
+    rt: &R,
+    what: &str,
+    program: &Program,
+    is_checked: bool,
+) -> Result<()> {
+    let mut running = Running::new(rt.alloc(), program, is_checked)?;
     let used = running.used;
-    print_runs(rt, "accepted straight-line arithmetic", used, &mut running)
+    println!(rt; "{what}, 4,000 slots: {used} instructions a run")?;
+    report(rt, "  they take", ROUNDS, used, "each", &mut running)
 }
 
-// The object of the code, at `price`.
+// The object of straight-line code, at `price`.
 fn object_of(alloc: Global) -> Result<Object> {
     let code = straight_line(alloc, SLOTS)?;
     match Object::new(Hook::Price, 1, code, Vec::new(alloc)) {
@@ -173,10 +118,18 @@ fn object_of(alloc: Global) -> Result<Object> {
     }
 }
 
+fn whole_program(alloc: Global, object: &Object) -> Result<Program> {
+    let Ok(code) = decode(alloc, object.code()) else {
+        return Err(anyhow!("the code isn't decoded"));
+    };
+    let accepted = program_of(alloc, object)?;
+    Ok(Program { code, accepted })
+}
+
 /// Prints how long an instruction takes: in a checked run, and in a run of an accepted program.
 pub fn print<R: Clock + Print + AllocGlobal>(rt: &R) -> Result<()> {
-    print_checked(rt)?;
     let object = object_of(rt.alloc())?;
-    let accepted = program_of(rt.alloc(), &object)?;
-    print_program(rt, &accepted)
+    let program = whole_program(rt.alloc(), &object)?;
+    print_runs(rt, "straight-line arithmetic", &program, true)?;
+    print_runs(rt, "accepted straight-line arithmetic", &program, false)
 }
