@@ -52,9 +52,9 @@ fn each_call_answers(rt: HostRuntime) -> Result<(), Fail> {
 
 #[test]
 fn refusals_have_texts(rt: HostRuntime) -> Result<(), Fail> {
-    let text = format!(in rt.alloc(); "{}", CoreError::BadPacket(Fault::Short))?;
-    assert_eq!(rt; text.as_str(), "the packet is too short");
-    let text = format!(in rt.alloc(); "{}", ConfigError::Interface)?;
-    assert_eq!(rt; text.as_str(), "the configuration is not in the profile");
+    let (core, config) = (CoreError::BadPacket(Fault::Short), ConfigError::Interface);
+    let text = format!(in rt.alloc(); "{core}; {config}")?;
+    let wanted = "the packet is too short; the configuration is not in the profile";
+    assert!(rt; text.as_str() == wanted, "{text}");
     Ok(())
 }
