@@ -1,5 +1,7 @@
 -- Why there is no object: shortfalls that are no verdicts say nothing of the code.
-use Rattle.std.proofs.Common.{◌≡◌, ℕ, List, Option, Result, Err, IfErr, subst}
+use Rattle.std.proofs.Common.{◌≡◌, ◌<◌, ◌≤◌, ◌⊎◌, ℕ, List, Option, Result, Err, IfErr, inl, inr}
+use Rattle.std.proofs.Common.{subst, sym}
+use Rattle.isa.specs.declared.code.Slot.{Slot}
 use Rattle.isa.specs.declared.hook.Hook.{Hook}
 use Rattle.annotations.specs.declared.shortfall.Shortfall.{Shortfall}
 use Rattle.annotations.specs.declared.fuel.Fuel.{Fuel}
@@ -7,27 +9,46 @@ use Rattle.annotations.specs.declared.shortfall.Shortfall.TheVariants as shortfa
 use Rattle.object_verdicts.specs.Verdicts.{Refuses}
 use Rattle.object_verdicts.specs.declared.error.VerifyError.{VerifyError}
 use Rattle.verifier.specs.Programs.{Program}
-use Rattle.annotations.specs.Verdict.{IsNoVerdict, IsShortfall, IsTurnsShortfall}
+use Rattle.annotations.specs.Annotated.{IsProgram, fuel_of}
+use Rattle.annotations.specs.CountedCode.{IsUncounted, IsUnnamed, NamesAll}
+use Rattle.annotations.specs.declared.count_error.CountError.{CountError}
+use Rattle.annotations.specs.declared.count_error.CountError.TheVariants as errors
+use Rattle.annotations.specs.Verdict.{IsCountFault, IsShortfall, IsTurnsShortfall, IsUnjudged}
 
-pub no_verdict : (hook : Hook) (text : List ℕ) (s : Shortfall) → IsNoVerdict s
+pub unjudged : (hook : Hook) (text : List ℕ) (s : Shortfall) → IsProgram text → IsUnjudged s
     → IsShortfall hook text s
-no_verdict hook text (shortfalls.Code error) h = tt
-no_verdict hook text (shortfalls.Object error) h = absurd h
-no_verdict hook text (shortfalls.OtherHook other) h = absurd h
-no_verdict hook text (shortfalls.Uncounted error) h = tt
-no_verdict hook text (shortfalls.Refused r endless) h = absurd h
-no_verdict hook text shortfalls.Statements h = tt
-no_verdict hook text shortfalls.Memory h = tt
+unjudged hook text (shortfalls.Code error) is h = absurd h
+unjudged hook text (shortfalls.Object error) is h = absurd h
+unjudged hook text (shortfalls.OtherHook other) is h = absurd h
+unjudged hook text (shortfalls.Uncounted error) is h = absurd h
+unjudged hook text (shortfalls.Refused r endless) is h = absurd h
+unjudged hook text shortfalls.Statements is h = is
+unjudged hook text shortfalls.Memory is h = tt
 
-pub no_verdict_with_turns : (hook : Hook) (fuel : Fuel) (text : List ℕ) (s : Shortfall)
-    → IsNoVerdict s → IsTurnsShortfall hook fuel text s
-no_verdict_with_turns hook fuel text (shortfalls.Code error) h = tt
-no_verdict_with_turns hook fuel text (shortfalls.Object error) h = absurd h
-no_verdict_with_turns hook fuel text (shortfalls.OtherHook other) h = absurd h
-no_verdict_with_turns hook fuel text (shortfalls.Uncounted error) h = tt
-no_verdict_with_turns hook fuel text (shortfalls.Refused r endless) h = absurd h
-no_verdict_with_turns hook fuel text shortfalls.Statements h = tt
-no_verdict_with_turns hook fuel text shortfalls.Memory h = tt
+pub count_fault : (hook : Hook) (answer turns : ℕ) (text : List ℕ) (s : Shortfall)
+    → IsCountFault answer turns text s → IsTurnsShortfall hook (fuel_of turns answer) text s
+count_fault hook answer turns text (shortfalls.Code error) h = absurd h
+count_fault hook answer turns text (shortfalls.Object error) h = absurd h
+count_fault hook answer turns text (shortfalls.OtherHook other) h = absurd h
+count_fault hook answer turns text (shortfalls.Uncounted error) h = h
+count_fault hook answer turns text (shortfalls.Refused r endless) h = absurd h
+count_fault hook answer turns text shortfalls.Statements h = absurd h
+count_fault hook answer turns text shortfalls.Memory h = tt
+
+-- a register that isn't named
+pub not_all : (code : List Slot) (register : ℕ) → 6 ≤ register → register ≤ 9
+    → IsUnnamed code register → NamesAll code → ⊥
+not_all code register least most unnamed all = all register least most unnamed
+
+-- where the code couldn't be built
+pub unbuilt : (answer turns : ℕ) (code : List Slot) (error : CountError) → (NamesAll code → ⊥)
+    → turns < 1000000 → answer ≤ 2147483647 → (error ≡ errors.TooLong) ⊎ (error ≡ errors.Memory)
+    → IsUncounted answer turns code error
+unbuilt answer turns code error some few small is = elim is [
+  | inl long ↦ subst (λ (e : CountError). IsUncounted answer turns code e) (sym long)
+      (some, few, small)
+  | inr memory ↦ subst (λ (e : CountError). IsUncounted answer turns code e) (sym memory) tt
+]
 
 -- what the verifier said of the bytes, where it gave this error
 pub why : (given bytes : List ℕ) (said : Result Program VerifyError) (error same : VerifyError)

@@ -1,9 +1,10 @@
 -- Code whose turns are counted: a register that the code doesn't name falls with each jump back to
 -- one of some heads, and where it comes to 0 the program answers a fixed number.
-use Rattle.std.specs.Prelude.{◌≡◌, ℕ, ◌+◌, ◌*◌, ◌≤◌, pos, negsuc, ℤ, ◌-ℤ◌, ◌==◌, nat_le, ◌||◌, Bool}
+use Rattle.std.specs.Prelude.{◌≡◌, ℕ, ◌+◌, ◌*◌, ◌<◌, ◌≤◌, pos, negsuc, ℤ, ◌-ℤ◌, ◌==◌, nat_le, ◌||◌}
+use Rattle.std.specs.Prelude.{Bool}
 use Rattle.std.specs.Prelude.{false, min}
 use Rattle.std.specs.Prelude.{List, [], ◌∷◌, ◌++◌, length, position, Option, Some, None}
-use Rattle.std.specs.Prelude.{if◌then◌else◌}
+use Rattle.std.specs.Prelude.{if◌then◌else◌, IfSome, true}
 use Rattle.isa.specs.declared.instruction.Instruction.{Instruction}
 use Rattle.isa.specs.declared.instruction.Instruction.TheVariants as instructions
 use Rattle.isa.specs.declared.instruction.Operation.{Operation}
@@ -17,7 +18,10 @@ use Rattle.isa.specs.declared.hook.Hook.TheVariants as hooks
 use Rattle.isa.specs.declared.code.Slot.{Slot}
 use Rattle.isa.specs.declared.code.Slot.TheVariants.{Start, SecondHalf}
 use Rattle.isa.specs.Code.{slots_of}
-use Rattle.isa.specs.Flow.{jump_target, BeginsAt}
+use Rattle.isa.specs.Flow.{jump_target, size, Begins, BeginsAt}
+use Rattle.segments.specs.Places.{goes_on}
+use Rattle.annotations.specs.declared.count_error.CountError.{CountError}
+use Rattle.annotations.specs.declared.count_error.CountError.TheVariants as errors
 
 -- ---- a register that the code doesn't name
 
@@ -46,6 +50,17 @@ names register other = false
 abbrev pub IsUnnamed : List Slot → ℕ → Type 0
 IsUnnamed code register = (slot : ℕ) (i : Instruction) → BeginsAt i code slot
     → names register i ≡ false
+
+-- ---- code that stays inside of itself
+
+-- the instruction leads to others of the code: the one behind it, if it goes on, and the one that
+-- it jumps to, if it jumps
+abbrev pub LeadsInside : List Slot → ℕ → Instruction → Type 0
+LeadsInside code slot i = (goes_on i ≡ true → Begins code (slot + size i))
+    × IfSome (jump_target slot i) (Begins code)
+
+abbrev pub StaysInside : List Slot → Type 0
+StaysInside code = (slot : ℕ) (i : Instruction) → BeginsAt i code slot → LeadsInside code slot i
 
 -- ---- the code, one slot later
 
@@ -135,3 +150,20 @@ pub record IsCounted (answer : ℕ) (turns : ℕ) (heads : List ℕ) (code count
   pub most : counter ≤ 9
   pub unnamed : IsUnnamed code counter
   pub counted_is : counted ≡ counted_code answer counter turns heads code
+
+-- ---- why turns can't be counted
+
+-- The code names each register that a call leaves as it is.
+abbrev pub NamesAll : List Slot → Type 0
+NamesAll code = (register : ℕ) → 6 ≤ register → register ≤ 9 → IsUnnamed code register → ⊥
+
+-- Why not, each reason only where none before it is one. (Whether the code would be too long, or a
+-- jump go too far, isn't said.)
+abbrev pub IsUncounted : (answer turns : ℕ) → List Slot → CountError → Type 0
+IsUncounted answer turns code errors.NoRegister = NamesAll code
+IsUncounted answer turns code errors.TooMany = (NamesAll code → ⊥) × (1000000 ≤ turns)
+IsUncounted answer turns code errors.TooGreat =
+    (NamesAll code → ⊥) × (turns < 1000000) × (2147483647 < answer)
+IsUncounted answer turns code errors.TooLong =
+    (NamesAll code → ⊥) × (turns < 1000000) × (answer ≤ 2147483647)
+IsUncounted answer turns code errors.Memory = Unit {0}

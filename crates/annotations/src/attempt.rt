@@ -1,4 +1,6 @@
 //! One search for statements and ranks, judged by the verifier.
+ghost use Rattle.std.specs.Prelude.{IfOk};
+ghost use Rattle.annotations.specs.Annotated.{IsProgram};
 ghost use Rattle.annotations.specs.Verdict.{IsOutcome};
 
 use crate::shortfall::Shortfall;
@@ -7,7 +9,7 @@ use crate::verdict::{Annotated, judged};
 use inference::{Inference, infer_statements};
 use isa::{Code, Hook, decode};
 use object::{Kind, Rank, Statement};
-use ranking_functions::{Plan, Ranking, Unranked, rank_statements};
+use ranking_functions::{RankPlan, Ranking, Unranked, rank_statements};
 use std::alloc::{AllocError, Global};
 use verifier::BUDGET;
 
@@ -50,7 +52,7 @@ fn ranked(stated: &Option<Statement>, rank: Rank) -> Option<Statement> {
 fn statements_of(
     alloc: Global,
     found: &Inference,
-    plan: &Plan,
+    plan: &RankPlan,
 ) -> Result<Vec<Statement>, AllocError> {
     let mut statements = Vec::new(alloc);
     for (site, stated) in found.stated.iter().enumerate() {
@@ -69,6 +71,7 @@ fn judged_with(
     found: &Inference,
     ranking: &Ranking,
 ) -> Result<Annotated, Shortfall>
+    requires { IsProgram task.now.bytes.now }
     ensures { IsOutcome task.now.hook task.now.bytes.now result }
 {
     let entry_rank = ranking.plan.rank_at(found.stated.len()).constant;
@@ -87,6 +90,7 @@ fn try_found(
     are_kept: bool,
     unranked: &mut Unranked,
 ) -> Result<Annotated, Shortfall>
+    requires { IsProgram task.now.bytes.now }
     ensures { IsOutcome task.now.hook task.now.bytes.now result }
 {
     match rank_statements(task.alloc, found, task.given, are_kept, most_for(code)) {
@@ -106,6 +110,7 @@ fn try_code(
     are_kept: bool,
     unranked: &mut Unranked,
 ) -> Result<Annotated, Shortfall>
+    requires { IsProgram task.now.bytes.now }
     ensures { IsOutcome task.now.hook task.now.bytes.now result }
 {
     match infer_statements(task.alloc, code, task.hook, task.given, are_kept) {
@@ -122,7 +127,8 @@ fn try_statements(
     are_kept: bool,
     unranked: &mut Unranked,
 ) -> Result<Annotated, Shortfall>
-    ensures { IsOutcome task.now.hook task.now.bytes.now result }
+    ensures program { IfOk result (λ _. IsProgram task.now.bytes.now) }
+    ensures outcome { IsOutcome task.now.hook task.now.bytes.now result }
 {
     match decode(task.alloc, task.bytes) {
         Ok(code) => try_code(task, &code, are_kept, unranked),

@@ -1,4 +1,5 @@
 //! Why turns can't be counted.
+ghost use Rattle.std.specs.Prelude.{◌≡◌, ◌⊎◌};
 
 use isa::BuildError;
 
@@ -18,6 +19,10 @@ pub enum CountError {
 }
 
 impl From<BuildError> for CountError {
+    ghost use Rattle.annotations.specs.declared.count_error.CountError.TheVariants.{Memory, TooLong};
+
+    ghost from_gives = { λ _ error. (error ≡ TooLong) ⊎ (error ≡ Memory) };
+
     fn from(error: BuildError) -> CountError {
         match error {
             BuildError::TooLong => CountError::TooLong,

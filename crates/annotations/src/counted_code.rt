@@ -1,8 +1,8 @@
 //! Counted code.
-ghost use Rattle.std.specs.Prelude.{◌≡◌, ◌==◌, ◌+◌, ◌*◌, ◌^◌, ◌<◌, ◌≤◌, ◌++◌, IfOk, OnOk, length};
-ghost use Rattle.std.specs.Prelude.{position};
+ghost use Rattle.std.specs.Prelude.{◌≡◌, ◌==◌, ◌+◌, ◌*◌, ◌^◌, ◌<◌, ◌≤◌, ◌++◌, IfErr, IfOk, OnOk};
+ghost use Rattle.std.specs.Prelude.{length, position};
 ghost use Rattle.isa.specs.Flow.{jump_target};
-ghost use Rattle.annotations.specs.CountedCode.{IsCounted, detour, detour_at, detours};
+ghost use Rattle.annotations.specs.CountedCode.{IsCounted, IsUncounted, detour, detour_at, detours};
 ghost use Rattle.annotations.specs.CountedCode.{distance_between, distance_of, place_of};
 ghost use Rattle.annotations.specs.CountedCode.{redirected_from, slots_at};
 ghost use Rattle.annotations.specs.CountedCode.{counted_code, with_distance, with_number};
@@ -243,7 +243,8 @@ pub fn counted(
     turns: u32,
     answer: u32,
 ) -> Result<Code, CountError>
-    ensures { IfOk result (λ counted. IsCounted answer turns heads.now code.now counted) }
+    ensures counted { IfOk result (λ counted. IsCounted answer turns heads.now code.now counted) }
+    ensures fault { IfErr result (IsUncounted answer turns code.now) }
 {
     let Some(counter) = unnamed(code) else {
         return Err(CountError::NoRegister);

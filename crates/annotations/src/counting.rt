@@ -1,20 +1,21 @@
 //! The same for code with loops that have no rank: their turns are counted.
-ghost use Rattle.std.specs.Prelude.{IfOk, IfErr};
+ghost use Rattle.std.specs.Prelude.{◌≡◌, ◌⊎◌, [], IfOk, IfErr};
 ghost use Rattle.isa.specs.Spelling.{Spells};
 ghost use Rattle.annotations.specs.Annotated.{CountsLoops, IsRejected, fuel_of, no_fuel};
-ghost use Rattle.annotations.specs.Verdict.{IsFoundOutcome, IsNoVerdict, IsOutcome, IsTurnsOutcome};
-ghost use Rattle.annotations.specs.Verdict.{IsCountedOutcome};
+ghost use Rattle.annotations.specs.CountedCode.{StaysInside};
+ghost use Rattle.annotations.specs.Verdict.{IsCountFault, IsCountedOutcome, IsFoundOutcome};
+ghost use Rattle.annotations.specs.Verdict.{IsLoopFor, IsOutcome, IsTurnsOutcome};
 
 use crate::attempt::{Task, annotate, kinds_of};
 use crate::count_error::CountError;
 use crate::counted_code::counted;
 use crate::inside::stays_inside;
 use crate::shortfall::Shortfall;
-use crate::verdict::{Annotated, Found, Rejected};
+use crate::verdict::{Annotated, AnnotatedObject, EndlessLoop, Rejected};
 use inference::most_turns;
 use isa::{Code, decode, encode};
 use object::Statement;
-use ranking_functions::{Endless, Unranked};
+use ranking_functions::Unranked;
 use std::alloc::{AllocError, Global};
 use verifier::BUDGET;
 
@@ -32,7 +33,9 @@ struct Heads {
     lacks_memory: bool,
 }
 
-fn no_heads(alloc: Global) -> Heads {
+fn no_heads(alloc: Global) -> Heads
+    ensures { result.slots.items ≡ [] }
+{
     Heads {
         slots: Vec::new(alloc),
         lacks_memory: false,
@@ -113,10 +116,11 @@ fn counted_text(
     heads: &[usize],
     turns: u32,
 ) -> Result<Vec<u8>, Shortfall>
-    requires { Spells task.now.bytes.now code.now }
+    requires code { Spells task.now.bytes.now code.now }
+    requires inside { StaysInside code.now }
     ensures counts { IfOk result (λ written. CountsLoops task.now.answer turns task.now.bytes.now
         written.items) }
-    ensures fault { IfErr result IsNoVerdict }
+    ensures fault { IfErr result (IsCountFault task.now.answer turns task.now.bytes.now) }
 {
     let counted = match counted(task.alloc, code, heads, turns, task.answer) {
         Ok(counted) => counted,
@@ -155,7 +159,8 @@ fn try_heads(
     turns: u32,
     unranked: &mut Unranked,
 ) -> Result<Annotated, Shortfall>
-    requires { Spells task.now.bytes.now code.now }
+    requires code { Spells task.now.bytes.now code.now }
+    requires inside { (heads.now.slots.items ≡ []) ⊎ StaysInside code.now }
     ensures { IsTurnsOutcome task.now.hook (fuel_of turns task.now.answer) task.now.bytes.now
         result }
 {
@@ -180,7 +185,8 @@ fn annotate_loops(
     turns: u32,
     unranked: &mut Unranked,
 ) -> Result<Annotated, Shortfall>
-    requires { Spells task.now.bytes.now code.now }
+    requires code { Spells task.now.bytes.now code.now }
+    requires none { heads.old.slots.items ≡ [] }
     ensures { IsTurnsOutcome task.now.hook (fuel_of turns task.now.answer) task.now.bytes.now
         result }
 {
@@ -221,8 +227,9 @@ fn try_bounded(
     code: &Code,
     heads: &Heads,
     unranked: &mut Unranked,
-) -> Result<Option<Found>, Shortfall>
-    requires { Spells task.now.bytes.now code.now }
+) -> Result<Option<AnnotatedObject>, Shortfall>
+    requires code { Spells task.now.bytes.now code.now }
+    requires inside { StaysInside code.now }
     ensures { IsCountedOutcome task.now.hook task.now.answer task.now.bytes.now result }
 {
     let turns = match most_turns(task.alloc, code, task.hook, &heads.slots, most_for(code)) {
@@ -231,7 +238,7 @@ fn try_bounded(
         Err(_) => return Err(Shortfall::Memory),
     };
     match try_heads(task, code, heads, turns, unranked) {
-        Ok(annotated) => Ok(Some(Found {
+        Ok(annotated) => Ok(Some(AnnotatedObject {
             annotated,
             turns: Some(turns),
         })),
@@ -248,8 +255,9 @@ fn count_bounded(
     task: &Task<'_>,
     code: &Code,
     unranked: &mut Unranked,
-) -> Result<Option<Found>, Shortfall>
-    requires { Spells task.now.bytes.now code.now }
+) -> Result<Option<AnnotatedObject>, Shortfall>
+    requires code { Spells task.now.bytes.now code.now }
+    requires inside { StaysInside code.now }
     ensures { IsCountedOutcome task.now.hook task.now.answer task.now.bytes.now result }
 {
     let mut heads = no_heads(task.alloc);
@@ -266,13 +274,16 @@ fn count_bounded(
 }
 
 /// The same for code that is refused for a loop without a rank.
-fn count_refused(task: &Task<'_>, unranked: &mut Unranked) -> Result<Option<Found>, Shortfall>
+fn count_refused(
+    task: &Task<'_>,
+    unranked: &mut Unranked,
+) -> Result<Option<AnnotatedObject>, Shortfall>
     ensures { IsCountedOutcome task.now.hook task.now.answer task.now.bytes.now result }
 {
     match decode(task.alloc, task.bytes) {
         Ok(code) if stays_inside(&code) => count_bounded(task, &code, unranked),
         Ok(_) => Ok(None),
-        Err(error) => Err(Shortfall::Code(error)),
+        Err(_) => Err(Shortfall::Memory),
     }
 }
 
@@ -281,20 +292,20 @@ fn count_refused(task: &Task<'_>, unranked: &mut Unranked) -> Result<Option<Foun
 fn count_endless(
     task: &Task<'_>,
     rejected: Rejected,
-    endless: Endless,
+    endless: EndlessLoop,
     unranked: &mut Unranked,
-) -> Result<Found, Shortfall>
-    requires { IsRejected task.now.hook task.now.bytes.now rejected.object rejected.bytes.items
-        rejected.refusal }
+) -> Result<AnnotatedObject, Shortfall>
+    requires rejected { IsRejected task.now.hook task.now.bytes.now rejected.object
+        rejected.bytes.items rejected.refusal }
+    requires endless { IsLoopFor rejected.refusal.rule endless }
     ensures { IsFoundOutcome task.now.hook (no_fuel task.now.answer) task.now.bytes.now result }
 {
     match count_refused(task, unranked) {
         Ok(Some(found)) => Ok(found),
         Ok(None) => Err(Shortfall::Refused(rejected, Some(endless))),
-        Err(Shortfall::Uncounted(_)) => {
-            let told = Endless {
-                slot: endless.slot,
-                trouble: endless.trouble,
+        Err(Shortfall::Uncounted(CountError::NoRegister)) => {
+            let told = EndlessLoop {
+                why: endless.why,
                 lacks_register: true,
             };
             Err(Shortfall::Refused(rejected, Some(told)))
@@ -306,11 +317,14 @@ fn count_endless(
 /// Finds statements and ranks as `annotate` does. Where a loop has no rank, and it is found how
 /// many turns the loops take at most, those are counted. Where the verifier refuses that too, what
 /// it says of the given code is told.
-pub fn annotate_bounded(task: &Task<'_>, unranked: &mut Unranked) -> Result<Found, Shortfall>
+pub fn annotate_bounded(
+    task: &Task<'_>,
+    unranked: &mut Unranked,
+) -> Result<AnnotatedObject, Shortfall>
     ensures { IsFoundOutcome task.now.hook (no_fuel task.now.answer) task.now.bytes.now result }
 {
     match annotate(task, unranked) {
-        Ok(annotated) => Ok(Found {
+        Ok(annotated) => Ok(AnnotatedObject {
             annotated,
             turns: None,
         }),

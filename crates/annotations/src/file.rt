@@ -1,5 +1,5 @@
 //! From a file with code, bare or in an object, to an object that the verifier accepts.
-ghost use Rattle.std.specs.Prelude.{◌≡◌, ◌↔◌, IfOk, IfErr, IsTrue, take};
+ghost use Rattle.std.specs.Prelude.{◌≡◌, ◌↔◌, IfOk, IfErr, IsSome, IsTrue, None, take};
 ghost use Rattle.object.specs.Spelling.{magic};
 ghost use Rattle.annotations.specs.Annotated.{IsAnnotation, with_found};
 ghost use Rattle.annotations.specs.Verdict.{IsFileOutcome, IsFileShortfall, IsFoundOutcome};
@@ -8,7 +8,7 @@ use crate::attempt::Task;
 use crate::counting::{annotate_bounded, annotate_counted};
 use crate::fuel::Fuel;
 use crate::shortfall::Shortfall;
-use crate::verdict::Found;
+use crate::verdict::AnnotatedObject;
 use isa::Hook;
 use object::read;
 use ranking_functions::Unranked;
@@ -23,14 +23,15 @@ fn is_object(bytes: &[u8]) -> bool
 }
 
 /// Finds statements and ranks for the code.
-fn annotate_code(task: &Task<'_>, turns: Option<u32>) -> Result<Found, Shortfall>
-    ensures { IsFoundOutcome task.now.hook (record { turns = turns; answer = task.now.answer })
-        task.now.bytes.now result }
+fn annotate_code(task: &Task<'_>, turns: Option<u32>) -> Result<AnnotatedObject, Shortfall>
+    ensures outcome { IsFoundOutcome task.now.hook
+        (record { turns = turns; answer = task.now.answer }) task.now.bytes.now result }
+    ensures found { IfOk result (λ found. IsSome turns → found.turns ≡ None) }
 {
     let mut unranked = Unranked::Alone(Vec::new(task.alloc));
     match turns {
         Some(turns) => match annotate_counted(task, turns, &mut unranked) {
-            Ok(annotated) => Ok(Found {
+            Ok(annotated) => Ok(AnnotatedObject {
                 annotated,
                 turns: None,
             }),
@@ -41,8 +42,14 @@ fn annotate_code(task: &Task<'_>, turns: Option<u32>) -> Result<Found, Shortfall
 }
 
 /// The same for a file that has to be an object.
-fn annotate_object(alloc: Global, hook: Hook, file: &[u8], fuel: Fuel) -> Result<Found, Shortfall>
-    ensures { IsFileOutcome hook fuel file.now result }
+fn annotate_object(
+    alloc: Global,
+    hook: Hook,
+    file: &[u8],
+    fuel: Fuel,
+) -> Result<AnnotatedObject, Shortfall>
+    ensures outcome { IsFileOutcome hook fuel file.now result }
+    ensures found { IfOk result (λ found. IsSome fuel.turns → found.turns ≡ None) }
 {
     match read(alloc, file) {
         Ok(object) => {
@@ -73,9 +80,15 @@ fn annotate_object(alloc: Global, hook: Hook, file: &[u8], fuel: Fuel) -> Result
 /// Where the file is no code, or begins as an object's and is none, or is an object for another
 /// hook; where the verifier refuses the code with the best statements that were found; where turns
 /// can't be counted; and where memory is refused.
-pub fn annotate_file(alloc: Global, hook: Hook, file: &[u8], fuel: Fuel) -> Result<Found, Shortfall>
+pub fn annotate_file(
+    alloc: Global,
+    hook: Hook,
+    file: &[u8],
+    fuel: Fuel,
+) -> Result<AnnotatedObject, Shortfall>
     ensures accepted { IfOk result (λ found. IsAnnotation hook (with_found fuel found.turns)
         file.now found.annotated.object found.annotated.bytes.items found.annotated.accepted) }
+    ensures found { IfOk result (λ found. IsSome fuel.turns → found.turns ≡ None) }
     ensures refused { IfErr result (IsFileShortfall hook fuel file.now) }
 {
     if is_object(file) {

@@ -1,18 +1,17 @@
 //! Whether code goes on at its own instructions alone.
-ghost use Rattle.std.specs.Prelude.{◌<◌};
+ghost use Rattle.std.specs.Prelude.{◌≡◌, ◌<◌, true};
+ghost use Rattle.isa.specs.declared.instruction.Instruction.{Instruction};
+ghost use Rattle.isa.specs.Flow.{BeginsAt};
+ghost use Rattle.annotations.specs.CountedCode.{LeadsInside, StaysInside};
 
 use isa::{Code, Instruction, Slot};
-use segments::places::{falls_through, jump_of, slots_of};
-
-/// Whether an instruction begins at the slot.
-fn begins(code: &Code, slot: usize) -> bool {
-    matches!(code.at(slot as u64), Some(Slot::Start(_)))
-}
+use segments::places::{begins, falls_through, jump_of, slots_of};
 
 /// Whether an instruction begins behind the one at the slot, if that goes on, and where it jumps
 /// to, if it jumps.
 fn leads_inside(code: &Code, slot: usize, instruction: &Instruction) -> bool
     requires { slot < 4096 }
+    ensures { result ≡ true → LeadsInside code.now slot instruction.now }
 {
     if falls_through(instruction) && !begins(code, slot + slots_of(instruction)) {
         return false;
@@ -23,14 +22,26 @@ fn leads_inside(code: &Code, slot: usize, instruction: &Instruction) -> bool
     }
 }
 
+/// The same of the instruction that begins at the slot, if one does.
+fn leads_inside_at(code: &Code, slot: usize) -> bool
+    requires { slot < 4096 }
+    ensures { result ≡ true → (i : Instruction) → BeginsAt i code.now slot
+        → LeadsInside code.now slot i }
+{
+    match code.at(slot as u64) {
+        Some(Slot::Start(instruction)) => leads_inside(code, slot, &instruction),
+        Some(Slot::SecondHalf) | None => true,
+    }
+}
+
 /// Whether each instruction leads to another one of the code. Behind code that counts turns stand
 /// instructions that the given code doesn't have.
-pub fn stays_inside(code: &Code) -> bool {
+pub fn stays_inside(code: &Code) -> bool
+    ensures { result ≡ true → StaysInside code.now }
+{
     for slot in 0..code.len() {
-        if let Some(Slot::Start(instruction)) = code.at(slot as u64) {
-            if !leads_inside(code, slot, &instruction) {
-                return false;
-            }
+        if !leads_inside_at(code, slot) {
+            return false;
         }
     }
     true

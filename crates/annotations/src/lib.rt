@@ -20,4 +20,4 @@ pub use file::annotate_file;
 pub use fuel::{Fuel, answer_without_turns};
 pub use ranking_functions::{Endless, Trouble};
 pub use shortfall::Shortfall;
-pub use verdict::{Annotated, Found, Rejected};
+pub use verdict::{Annotated, AnnotatedObject, EndlessLoop, Rejected};

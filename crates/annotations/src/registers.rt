@@ -1,6 +1,6 @@
 //! Which registers a program names.
-ghost use Rattle.std.specs.Prelude.{◌≡◌, ◌≤◌, IfSome, false};
-ghost use Rattle.annotations.specs.CountedCode.{IsUnnamed, is_operand, names};
+ghost use Rattle.std.specs.Prelude.{◌≡◌, ◌≤◌, IfNone, IfSome, false, true};
+ghost use Rattle.annotations.specs.CountedCode.{IsUnnamed, NamesAll, is_operand, names};
 
 use isa::{Code, Instruction, Register, Slot, Source};
 
@@ -54,7 +54,8 @@ fn names(instruction: &Instruction, register: Register) -> bool
 
 /// Whether an instruction of the code names the register.
 fn is_named(code: &Code, register: Register) -> bool
-    ensures { result ≡ false → IsUnnamed code.now register }
+    ensures unnamed { result ≡ false → IsUnnamed code.now register }
+    ensures named { result ≡ true → IsUnnamed code.now register → ⊥ }
 {
     for slot in code.slots() {
         if let Slot::Start(instruction) = slot {
@@ -71,12 +72,14 @@ pub fn unnamed(code: &Code) -> Option<Register>
     ensures unnamed { IfSome result (λ register. IsUnnamed code.now register) }
     ensures least { IfSome result (λ register. 6 ≤ register) }
     ensures most { IfSome result (λ register. register ≤ 9) }
+    ensures none { IfNone result (NamesAll code.now) }
 {
     for number in 6..10u8 {
-        if let Some(register) = Register::new(number) {
-            if !is_named(code, register) {
-                return Some(register);
-            }
+        let Some(register) = Register::new(number) else {
+            unreachable!()
+        };
+        if !is_named(code, register) {
+            return Some(register);
         }
     }
     None

@@ -1,10 +1,9 @@
 //! Why there is no object that the verifier accepts.
 
 use crate::count_error::CountError;
-use crate::verdict::Rejected;
+use crate::verdict::{EndlessLoop, Rejected};
 use isa::{DecodeError, Hook};
 use object::ReadError;
-use ranking_functions::Endless;
 
 /// Why there is no object that the verifier accepts.
 #[derive(Drop)]
@@ -18,8 +17,8 @@ pub enum Shortfall {
     /// The turns of its loops can't be counted.
     Uncounted(CountError),
     /// The verifier refuses the program with the best statements that were found; where that is for
-    /// a loop, why the loop has no rank.
-    Refused(Rejected, Option<Endless>),
+    /// a loop without a rank, which loop it is.
+    Refused(Rejected, Option<EndlessLoop>),
     /// The statements that were found can't stand in an object.
     Statements,
     /// Memory ran out.

@@ -1,6 +1,6 @@
 //! Statements without the known bits that the verifier does without.
 ghost use Rattle.std.specs.Prelude.{IfErr};
-ghost use Rattle.annotations.specs.Annotated.{IsAnnotated};
+ghost use Rattle.annotations.specs.Annotated.{IsAnnotated, IsProgram};
 ghost use Rattle.annotations.specs.Verdict.{IsShortfall};
 
 use crate::attempt::{Task, kinds_of};
@@ -61,7 +61,8 @@ fn try_with(
     annotated: &mut Annotated,
     statements: Vec<Statement>,
 ) -> Result<(), Shortfall>
-    requires { IsAnnotated task.now.hook task.now.bytes.now annotated.old.object
+    requires program { IsProgram task.now.bytes.now }
+    requires annotated { IsAnnotated task.now.hook task.now.bytes.now annotated.old.object
         annotated.old.bytes.items annotated.old.accepted }
     ensures annotated { IsAnnotated task.now.hook task.now.bytes.now annotated.new.object
         annotated.new.bytes.items annotated.new.accepted }
@@ -86,7 +87,8 @@ fn trim_within(
     from: usize,
     to: usize,
 ) -> Result<(), Shortfall>
-    requires { IsAnnotated task.now.hook task.now.bytes.now annotated.old.object
+    requires program { IsProgram task.now.bytes.now }
+    requires annotated { IsAnnotated task.now.hook task.now.bytes.now annotated.old.object
         annotated.old.bytes.items annotated.old.accepted }
     ensures annotated { IsAnnotated task.now.hook task.now.bytes.now annotated.new.object
         annotated.new.bytes.items annotated.new.accepted }
@@ -107,7 +109,8 @@ fn trim_within(
 /// Leaves out the known bits that the verifier does without: of all statements, and where there are
 /// few also of one after the other.
 pub fn trim(task: &Task<'_>, annotated: &mut Annotated) -> Result<(), Shortfall>
-    requires { IsAnnotated task.now.hook task.now.bytes.now annotated.old.object
+    requires program { IsProgram task.now.bytes.now }
+    requires annotated { IsAnnotated task.now.hook task.now.bytes.now annotated.old.object
         annotated.old.bytes.items annotated.old.accepted }
     ensures annotated { IsAnnotated task.now.hook task.now.bytes.now annotated.new.object
         annotated.new.bytes.items annotated.new.accepted }

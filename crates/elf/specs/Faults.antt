@@ -2,8 +2,8 @@
 use Rattle.std.specs.Prelude.{◌≡◌, ◌≢◌, ℕ, ◌/◌, ◌<◌, List, length}
 use Rattle.elf.specs.declared.section.SectionKind.{SectionKind}
 use Rattle.elf.specs.declared.section.SectionKind.TheVariants as kinds
-use Rattle.elf.specs.declared.fault.Fault.{Fault}
-use Rattle.elf.specs.declared.fault.Fault.TheVariants as faults
+use Rattle.elf.specs.declared.fault.ElfFault.{ElfFault}
+use Rattle.elf.specs.declared.fault.ElfFault.TheVariants as faults
 use Rattle.elf.specs.Numbers.{half}
 use Rattle.elf.specs.Files.{IsElf, IsLittleEndian64, HasSectionTable, section_count, names_section}
 use Rattle.elf.specs.Files.{section_at, contents_of, section_names, InFile, IsStringTable, IsTable}
@@ -13,7 +13,7 @@ use Rattle.elf.specs.Files.{IsSymbol, IsRelocation}
 abbrev pub IsOfKind : List ℕ → ℕ → SectionKind → Type 0
 IsOfKind bytes i kind = (i < section_count bytes) × ((section_at bytes i).kind ≡ kind)
 
-abbrev pub Breaks : List ℕ → Fault → Type 0
+abbrev pub Breaks : List ℕ → ElfFault → Type 0
 Breaks bytes faults.NotElf = ¬ IsElf bytes
 Breaks bytes faults.Form = ¬ IsLittleEndian64 bytes
 Breaks bytes (faults.Type found) = (half bytes 16 ≡ found) × (found ≢ 1)

@@ -6,7 +6,7 @@ ghost use Rattle.elf.specs.Files.{IsSymbol, IsSymbolTable, IsRelocation, IsReloc
 ghost use Rattle.elf.specs.Files.{IsSection, IsObjectFile};
 ghost use Rattle.elf.specs.Faults.{Breaks};
 
-use crate::fault::Fault;
+use crate::fault::ElfFault;
 use crate::number::{half, word, xword};
 use crate::relocation::relocation_at;
 use crate::section::SectionKind;
@@ -16,14 +16,14 @@ use crate::tables::{contents_of, is_in_file, section_at, section_count, section_
 /// The bytes 7f 'E' 'L' 'F' as a number.
 const MAGIC: u32 = 0x464c_457f;
 
-fn check_elf(bytes: &[u8]) -> Result<(), Fault>
+fn check_elf(bytes: &[u8]) -> Result<(), ElfFault>
     ensures { MatchResult result (λ _. IsElf bytes.now) (λ fault. Breaks bytes.now fault) }
 {
     if bytes.len() < 64 {
-        return Err(Fault::NotElf);
+        return Err(ElfFault::NotElf);
     }
     if word(bytes, 0) != MAGIC {
-        return Err(Fault::NotElf);
+        return Err(ElfFault::NotElf);
     }
     Ok(())
 }
@@ -49,34 +49,34 @@ fn has_section_table(bytes: &[u8]) -> bool
         && half(bytes, 62) < half(bytes, 60)
 }
 
-fn check_header(bytes: &[u8]) -> Result<(), Fault>
+fn check_header(bytes: &[u8]) -> Result<(), ElfFault>
     ensures { MatchResult result (λ _. IsHeader bytes.now) (λ fault. Breaks bytes.now fault) }
 {
     check_elf(bytes)?;
     if !is_little_endian_64(bytes) {
-        return Err(Fault::Form);
+        return Err(ElfFault::Form);
     }
     let found = half(bytes, 16);
     if found != 1 {
-        return Err(Fault::Type { found });
+        return Err(ElfFault::Type { found });
     }
     let found = half(bytes, 18);
     if found != 247 {
-        return Err(Fault::Machine { found });
+        return Err(ElfFault::Machine { found });
     }
     if !has_section_table(bytes) {
-        return Err(Fault::SectionTable);
+        return Err(ElfFault::SectionTable);
     }
     Ok(())
 }
 
-fn check_contents(bytes: &[u8]) -> Result<(), Fault>
+fn check_contents(bytes: &[u8]) -> Result<(), ElfFault>
     requires { IsHeader bytes.now }
     ensures { MatchResult result (λ _. HasSections bytes.now) (λ fault. Breaks bytes.now fault) }
 {
     for section in 0..section_count(bytes) {
         if !is_in_file(bytes, section_at(bytes, section)) {
-            return Err(Fault::Contents { section });
+            return Err(ElfFault::Contents { section });
         }
     }
     Ok(())
@@ -125,7 +125,7 @@ fn is_symbol(bytes: &[u8], section: usize, symbol: usize) -> bool
     (symbol.section as usize) < section_count(bytes) || symbol.section >= 0xff00
 }
 
-fn check_symbols(bytes: &[u8], section: usize) -> Result<(), Fault>
+fn check_symbols(bytes: &[u8], section: usize) -> Result<(), ElfFault>
     requires sections { HasSections bytes.now }
     requires index { section < section_count bytes.now }
     requires kind { (section_at bytes.now section).kind ≡ SectionKind.SymbolTable }
@@ -133,11 +133,11 @@ fn check_symbols(bytes: &[u8], section: usize) -> Result<(), Fault>
         (λ fault. Breaks bytes.now fault) }
 {
     if !is_table(bytes, section, 24, SectionKind::StringTable) {
-        return Err(Fault::Symbols { section });
+        return Err(ElfFault::Symbols { section });
     }
     for symbol in 0..contents_of(bytes, section).len() / 24 {
         if !is_symbol(bytes, section, symbol) {
-            return Err(Fault::Symbol { section, symbol });
+            return Err(ElfFault::Symbol { section, symbol });
         }
     }
     Ok(())
@@ -158,7 +158,7 @@ fn is_relocation(bytes: &[u8], section: usize, relocation: usize) -> bool
     (relocation.symbol as usize) < symbols && relocation.offset < target.size
 }
 
-fn check_relocations(bytes: &[u8], section: usize) -> Result<(), Fault>
+fn check_relocations(bytes: &[u8], section: usize) -> Result<(), ElfFault>
     requires sections { HasSections bytes.now }
     requires index { section < section_count bytes.now }
     requires kind { (section_at bytes.now section).kind ≡ SectionKind.Relocations }
@@ -166,14 +166,14 @@ fn check_relocations(bytes: &[u8], section: usize) -> Result<(), Fault>
         (λ fault. Breaks bytes.now fault) }
 {
     if !is_table(bytes, section, 16, SectionKind::SymbolTable) {
-        return Err(Fault::Relocations { section });
+        return Err(ElfFault::Relocations { section });
     }
     if section_at(bytes, section).info as usize >= section_count(bytes) {
-        return Err(Fault::Relocations { section });
+        return Err(ElfFault::Relocations { section });
     }
     for relocation in 0..contents_of(bytes, section).len() / 16 {
         if !is_relocation(bytes, section, relocation) {
-            return Err(Fault::Relocation {
+            return Err(ElfFault::Relocation {
                 section,
                 relocation,
             });
@@ -182,7 +182,7 @@ fn check_relocations(bytes: &[u8], section: usize) -> Result<(), Fault>
     Ok(())
 }
 
-fn check_section(bytes: &[u8], section: usize) -> Result<(), Fault>
+fn check_section(bytes: &[u8], section: usize) -> Result<(), ElfFault>
     requires sections { HasSections bytes.now }
     requires index { section < section_count bytes.now }
     ensures { MatchResult result (λ _. IsSection bytes.now (section_at bytes.now section))
@@ -190,12 +190,12 @@ fn check_section(bytes: &[u8], section: usize) -> Result<(), Fault>
 {
     let header = section_at(bytes, section);
     if header.name as usize >= section_names(bytes).len() {
-        return Err(Fault::SectionName { section });
+        return Err(ElfFault::SectionName { section });
     }
     match header.kind {
         SectionKind::StringTable => {
             if !is_string_table(contents_of(bytes, section)) {
-                return Err(Fault::Strings { section });
+                return Err(ElfFault::Strings { section });
             }
             Ok(())
         }
@@ -207,19 +207,19 @@ fn check_section(bytes: &[u8], section: usize) -> Result<(), Fault>
             check_relocations(bytes, section)?;
             Ok(())
         }
-        SectionKind::OtherRelocations => Err(Fault::OtherRelocations { section }),
+        SectionKind::OtherRelocations => Err(ElfFault::OtherRelocations { section }),
         _ => Ok(()),
     }
 }
 
 /// Finds the first fault.
-pub(crate) fn check(bytes: &[u8]) -> Result<(), Fault>
+pub(crate) fn check(bytes: &[u8]) -> Result<(), ElfFault>
     ensures { MatchResult result (λ _. IsObjectFile bytes.now) (λ fault. Breaks bytes.now fault) }
 {
     check_header(bytes)?;
     check_contents(bytes)?;
     if section_at(bytes, half(bytes, 62) as usize).kind != SectionKind::StringTable {
-        return Err(Fault::SectionNames);
+        return Err(ElfFault::SectionNames);
     }
     for section in 0..section_count(bytes) {
         check_section(bytes, section)?;

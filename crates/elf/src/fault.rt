@@ -3,8 +3,8 @@
 use thiserror::Error;
 
 /// What isn't as it has to be. Sections, symbols and relocations are told by their indices.
-#[derive(Clone, Copy, Debug, PartialEq, Eq, Error)]
-pub enum Fault {
+#[derive(Clone, Copy, Debug, Error)]
+pub enum ElfFault {
     /// Fewer than 64 bytes, or other ones than 7f 'E' 'L' 'F' in front.
     #[error("it is no ELF file")]
     NotElf,

@@ -9,7 +9,7 @@ ghost use Rattle.elf.specs.Lists.{HasSymbol, symbol_count, symbol_of, symbol_nam
 ghost use Rattle.elf.specs.Lists.{functions_of, relocations_of, HasBytes, symbol_bytes};
 
 use crate::checks::check;
-use crate::fault::Fault;
+use crate::fault::ElfFault;
 use crate::lists::{LinkedRelocation, LinkedSymbol};
 use crate::number::string_at;
 use crate::section::Section;
@@ -37,7 +37,7 @@ impl<'a> Model for ObjectFile<'a> {
 }
 
 /// The object that these bytes are. It takes no memory beside them.
-pub fn read(bytes: &[u8]) -> Result<ObjectFile<'_>, Fault>
+pub fn read(bytes: &[u8]) -> Result<ObjectFile<'_>, ElfFault>
     ensures found { IfOk result (λ file. (file ≡ bytes.now) × IsObjectFile bytes.now) }
     // What is such an object is read.
     ensures only { IsObjectFile bytes.now → IsOk result }

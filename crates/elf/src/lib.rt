@@ -14,7 +14,7 @@ mod section;
 mod symbol;
 mod tables;
 
-pub use fault::Fault;
+pub use fault::ElfFault;
 pub use file::{ObjectFile, read};
 pub use lists::{LinkedRelocation, LinkedSymbol};
 pub use relocation::Relocation;

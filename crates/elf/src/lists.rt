@@ -4,7 +4,7 @@ use crate::relocation::Relocation;
 use crate::symbol::Symbol;
 
 /// A symbol, with its place in a symbol table.
-#[derive(Clone, Copy, Debug, PartialEq, Eq)]
+#[derive(Clone, Copy)]
 pub struct LinkedSymbol {
     /// The section that is the symbol table.
     pub table: usize,
@@ -13,7 +13,7 @@ pub struct LinkedSymbol {
 }
 
 /// A relocation, with the section that is its symbol table.
-#[derive(Clone, Copy, Debug, PartialEq, Eq)]
+#[derive(Clone, Copy)]
 pub struct LinkedRelocation {
     pub table: usize,
     pub relocation: Relocation,

@@ -5,7 +5,7 @@ ghost use Rattle.elf.specs.Entries.{relocation_at};
 use crate::number::{word, xword};
 
 /// A place that a linker would change, and the symbol that it would take for it.
-#[derive(Clone, Copy, Debug, PartialEq, Eq)]
+#[derive(Clone, Copy)]
 pub struct Relocation {
     /// The place in the section that is changed.
     pub offset: u64,

@@ -5,7 +5,7 @@ ghost use Rattle.elf.specs.Entries.{section_kind, section_header, has_bytes};
 use crate::number::{word, xword};
 
 /// What a section is for (sh_type).
-#[derive(Clone, Copy, Debug, PartialEq, Eq)]
+#[derive(Clone, Copy, PartialEq, Eq)]
 pub enum SectionKind {
     /// No section: the first header.
     Null,
@@ -46,7 +46,7 @@ impl SectionKind {
 }
 
 /// A section header.
-#[derive(Clone, Copy, Debug, PartialEq, Eq)]
+#[derive(Clone, Copy)]
 pub struct Section {
     /// Where the name begins in the table of names.
     pub name: u32,

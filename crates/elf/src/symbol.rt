@@ -5,7 +5,7 @@ ghost use Rattle.elf.specs.Entries.{symbol_kind, symbol_at};
 use crate::number::{half, word, xword};
 
 /// What a symbol stands for (the lower half of st_info).
-#[derive(Clone, Copy, Debug, PartialEq, Eq)]
+#[derive(Clone, Copy, PartialEq, Eq)]
 pub enum SymbolKind {
     NoType,
     /// Data.
@@ -33,7 +33,7 @@ impl SymbolKind {
 }
 
 /// A symbol.
-#[derive(Clone, Copy, Debug, PartialEq, Eq)]
+#[derive(Clone, Copy)]
 pub struct Symbol {
     /// Where the name begins in the table of names.
     pub name: u32,

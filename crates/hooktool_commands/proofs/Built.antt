@@ -2,7 +2,7 @@
 use Rattle.std.proofs.Common.{◌≡◌, ◌∙◌, ◌+◌, ◌||◌, ◌++◌, ap, subst, sym, refl, ℕ, List, [], Bool}
 use Rattle.std.proofs.Common.{true, false, Option, Some, None, Ok, Err, codes, inl, inr, length}
 use Rattle.std.proofs.Common.{add-one}
-use Rattle.std.specs.Prelude.{◌⊎◌, IfOk, IfSome, Result, is_err, slice_get, string_bytes}
+use Rattle.std.specs.Prelude.{◌⊎◌, IfOk, IfSome, IsSome, Result, is_err, slice_get, string_bytes}
 use Rattle.annotations.specs.Annotated.{IsAnnotation, with_found}
 use Rattle.annotations.specs.declared.fuel.Fuel.{Fuel}
 use Rattle.elf.specs.Files.{IsObjectFile, section_count, section_name}
@@ -17,9 +17,10 @@ use Rattle.object_verdicts.specs.declared.error.VerifyError.{VerifyError}
 use Rattle.verifier.specs.Programs.{Program}
 use Rattle.isa.specs.declared.hook.Hook.{Hook}
 use Rattle.hooktool_commands.specs.Annotations.{fuel_for}
-use Rattle.hooktool_commands.specs.Builds.{AreBuiltFunctions, AreBuiltSections, IsBuilt, IsBuiltAt}
+use Rattle.hooktool_commands.specs.Builds.{AreBuiltFunctions, AreBuiltSections, HasProgram}
+use Rattle.hooktool_commands.specs.Builds.{IsBuilt, IsBuiltAt}
 use Rattle.hooktool_commands.specs.Builds.{IsBuiltFunction, IsBuiltSection, IsHookOf, TellsFunction}
-use Rattle.hooktool_commands.specs.Builds.{Wanted, built_text}
+use Rattle.hooktool_commands.specs.Builds.{Wanted, built_text, is_file_name}
 use Rattle.hooktool_commands.specs.Explanations.{IsExplained}
 use Rattle.hooktool_commands.specs.Orders.{IsBuiltCode}
 use Rattle.hooktool_commands.specs.declared.report.Report.{Report}
@@ -36,11 +37,13 @@ function_built file wanted hook function name code report named name_is has code
       | inl refused ↦ inl refused
       | inr found ↦ inr (record {
         named = named;
+        plain = subst (λ (n : List ℕ). is_file_name n ≡ true) name_is found.plain;
         has_code = has;
         object = found.object;
         bytes = found.bytes;
         accepted = found.accepted;
         found = found.found;
+        untold = found.untold;
         annotation = subst (λ (c : List ℕ). IsAnnotation hook
             (with_found (fuel_for hook wanted.fuel) found.found) c found.object found.bytes
             found.accepted) code_is found.annotation;
@@ -137,13 +140,14 @@ section_built file wanted i hook functions report hook_is none are built = elim 
 
 -- what is told of a whole file
 pub file_built : (file bytes : List ℕ) (wanted : Wanted) (report : Report) → file ≡ bytes
-    → IsObjectFile bytes → (report.is_refused ≡ true)
+    → IsObjectFile bytes → HasProgram file → (report.is_refused ≡ true)
     ⊎ AreBuiltSections file wanted (section_count file) (string_bytes report.text)
     → IsBuilt bytes wanted report
-file_built file bytes wanted report is object built = elim built [
+file_built file bytes wanted report is object has built = elim built [
   | inl refused ↦ inl refused
   | inr sections ↦ inr (
     object,
+    subst (λ (f : List ℕ). HasProgram f) is has,
     subst
         (λ (f : List ℕ). AreBuiltSections f wanted (section_count f) (string_bytes report.text)) is
         sections,
@@ -194,13 +198,16 @@ pub code_built : (wanted : Wanted) (hook : Hook) (folder shown name code : List 
     (report : Report) → wanted.folder ≡ Some folder → fuel ≡ fuel_for hook wanted.fuel
     → IsAnnotation hook (with_found fuel turns) code object bytes accepted → shown ≡ name
     → string_bytes report.text ≡ built_text folder shown (hook_name hook) accepted turns
+    → is_file_name name ≡ true → (IsSome fuel.turns → turns ≡ None)
     → IsBuiltCode wanted hook name code report
 code_built wanted hook folder shown name code object bytes accepted fuel turns report folder_is
-    fuel_is annotation is told = inr (record {
+    fuel_is annotation is told plain untold = inr (record {
+      plain = plain;
       object = object;
       bytes = bytes;
       accepted = accepted;
       found = turns;
+      untold = subst (λ (f : Fuel). IsSome f.turns → turns ≡ None) fuel_is untold;
       annotation = subst (λ (f : Fuel). IsAnnotation hook (with_found f turns) code object bytes
           accepted) fuel_is annotation;
       told = subst (λ (f : Option (List ℕ)). TellsFunction f name (hook_name hook) accepted turns
@@ -230,13 +237,16 @@ verdict_told : (wanted : Wanted) (hook : Hook) (name code : List ℕ) (object : 
     → IsAnnotation hook (with_found (fuel_for hook wanted.fuel) turns) code object bytes
     accepted → IfOk verdict (Accepts bytes) → TellsVerdict verdict told
     → string_bytes report.text ≡ before ++ told → report.is_refused ≡ is_err verdict
+    → is_file_name name ≡ true → (IsSome wanted.fuel.turns → turns ≡ None)
     → IsBuiltCode wanted hook name code report
 verdict_told wanted hook name code object bytes accepted turns report (Ok program) before told none
-    annotation accepts tells text refused = inr (record {
+    annotation accepts tells text refused plain untold = inr (record {
+      plain = plain;
       object = object;
       bytes = bytes;
       accepted = program;
       found = turns;
+      untold = untold;
       annotation = accepted_too hook (with_found (fuel_for hook wanted.fuel) turns) code object
           bytes
           accepted program annotation accepts;
@@ -245,16 +255,18 @@ verdict_told wanted hook name code object bytes accepted turns report (Ok progra
           (before, text ∙ ap (λ (t : List ℕ). before ++ t) tells);
     })
 verdict_told wanted hook name code object bytes accepted turns report (Err error) before told none
-    annotation accepts tells text refused = inl refused
+    annotation accepts tells text refused plain untold = inl refused
 
 pub code_explained : (wanted : Wanted) (hook : Hook) (name code : List ℕ) (object : ObjectParts)
     (bytes : List ℕ) (accepted : Program) (fuel : Fuel) (turns : Option ℕ) (report : Report)
     → wanted.folder ≡ None → fuel ≡ fuel_for hook wanted.fuel
     → IsAnnotation hook (with_found fuel turns) code object bytes accepted
-    → IsExplained bytes report → IsBuiltCode wanted hook name code report
+    → IsExplained bytes report → is_file_name name ≡ true
+    → (IsSome fuel.turns → turns ≡ None) → IsBuiltCode wanted hook name code report
 code_explained wanted hook name code object bytes accepted fuel turns report none fuel_is annotation
-    is =
+    is plain untold =
     verdict_told wanted hook name code object bytes accepted turns report is.verdict is.before
     is.told none
     (subst (λ (f : Fuel). IsAnnotation hook (with_found f turns) code object bytes accepted) fuel_is
-    annotation) is.accepts is.tells is.text_is is.refused
+    annotation) is.accepts is.tells is.text_is is.refused plain
+    (subst (λ (f : Fuel). IsSome f.turns → turns ≡ None) fuel_is untold)

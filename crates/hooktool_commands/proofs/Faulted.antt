@@ -13,27 +13,28 @@ use Rattle.hooktool_commands.specs.Faults.{IsAnnotationFault, IsBuildFault, IsBy
 use Rattle.hooktool_commands.specs.Faults.{IsFaultOfShortfall, IsObjectFault}
 use Rattle.hooktool_commands.specs.declared.building.Purpose.{Purpose}
 use Rattle.hooktool_commands.specs.declared.building.Purpose.TheVariants as purposes
-use Rattle.hooktool_commands.specs.declared.fault.Fault.{Fault}
-use Rattle.hooktool_commands.specs.declared.fault.Fault.TheVariants as faults
+use Rattle.hooktool_commands.specs.declared.fault.HooktoolFault.{HooktoolFault}
+use Rattle.hooktool_commands.specs.declared.fault.HooktoolFault.TheVariants as faults
 use Rattle.hooktool_commands.specs.declared.report.Report.{Report}
 
 -- want of memory, whatever the bytes are
-pub memory_at_object : {T : Type 0} (bytes : List ℕ) (r : Result T Fault)
+pub memory_at_object : {T : Type 0} (bytes : List ℕ) (r : Result T HooktoolFault)
     → IfErr r (λ fault. fault ≡ faults.Memory) → IfErr r (IsObjectFault bytes)
 memory_at_object {T} bytes (Ok value) memory = tt
 memory_at_object {T} bytes (Err fault) memory = inl memory
 
 -- why an object that was found wasn't written
-pub unwritten : {T : Type 0} (hook : Hook) (fuel : FuelAsked) (file : List ℕ) (written : Fault)
-    (r : Result T Fault) → IfErr r (λ fault. (fault ≡ written) ⊎ (fault ≡ faults.Memory))
+pub unwritten : {T : Type 0} (hook : Hook) (fuel : FuelAsked) (file : List ℕ)
+    (written : HooktoolFault) (r : Result T HooktoolFault)
+    → IfErr r (λ fault. (fault ≡ written) ⊎ (fault ≡ faults.Memory))
     → IfErr r (λ fault. (fault ≡ written) ⊎ IsAnnotationFault hook fuel file fault)
 unwritten {T} hook fuel file written (Ok value) is = tt
 unwritten {T} hook fuel file written (Err fault) is =
     elim is [ inl unwritable ↦ inl unwritable | inr memory ↦ inr (inl memory) ]
 
 -- why no object was found
-pub unfound : {T : Type 0} (hook : Hook) (fuel : FuelAsked) (file : List ℕ) (written : Fault)
-    (shortfall : Shortfall) (r : Result T Fault)
+pub unfound : {T : Type 0} (hook : Hook) (fuel : FuelAsked) (file : List ℕ)
+    (written : HooktoolFault) (shortfall : Shortfall) (r : Result T HooktoolFault)
     → IsFileShortfall hook (fuel_for hook fuel) file shortfall
     → IfErr r (IsFaultOfShortfall shortfall)
     → IfErr r (λ fault. (fault ≡ written) ⊎ IsAnnotationFault hook fuel file fault)
@@ -53,7 +54,7 @@ refused_file hook fuel file (shortfalls.Refused rejected endless) is_so by_verif
       object = rejected.object;
       bytes = rejected.bytes.items;
       refusal = rejected.refusal;
-      rejection = is_so;
+      rejection = is_so.0;
     }
 refused_file hook fuel file (shortfalls.Code error) is_so by_verifier = absurd by_verifier
 refused_file hook fuel file (shortfalls.Object error) is_so by_verifier = absurd by_verifier
@@ -77,8 +78,9 @@ pub elf_told : {E : Type 0} (hook : Hook) (fuel : FuelAsked) (file : List ℕ) (
 elf_told {E} hook fuel file (Ok report) elf is = inr (is, inr elf)
 elf_told {E} hook fuel file (Err e) elf is = tt
 
-pub elf_fault : {T : Type 0} (hook : Hook) (fuel : FuelAsked) (file : List ℕ) (written : Fault)
-    (r : Result T Fault) → IfErr r (λ fault. fault ≡ faults.Memory)
+pub elf_fault : {T : Type 0} (hook : Hook) (fuel : FuelAsked) (file : List ℕ)
+    (written : HooktoolFault) (r : Result T HooktoolFault)
+    → IfErr r (λ fault. fault ≡ faults.Memory)
     → IfErr r (λ fault. (fault ≡ written) ⊎ IsAnnotationFault hook fuel file fault)
 elf_fault {T} hook fuel file written (Ok value) memory = tt
 elf_fault {T} hook fuel file written (Err fault) memory = inr (inl memory)
@@ -91,7 +93,7 @@ some_file {E} hook fuel file (Ok report) is = (file, is)
 some_file {E} hook fuel file (Err e) is = tt
 
 pub some_file_fault : {T : Type 0} (hook : Hook) (fuel : FuelAsked) (file : List ℕ)
-    (unread written : Fault) (r : Result T Fault)
+    (unread written : HooktoolFault) (r : Result T HooktoolFault)
     → IfErr r (λ fault. (fault ≡ written) ⊎ IsAnnotationFault hook fuel file fault)
     → IfErr r (λ fault. (fault ≡ unread) ⊎ (fault ≡ written)
     ⊎ ((f : List ℕ) × IsAnnotationFault hook fuel f fault))
@@ -100,7 +102,7 @@ some_file_fault {T} hook fuel file unread written (Err fault) is =
     elim is [ inl unwritable ↦ inr (inl unwritable) | inr other ↦ inr (inr (file, other)) ]
 
 -- a file of code that can't be read
-pub unread_code : (hook : Hook) (fuel : FuelAsked) (unread written fault : Fault)
+pub unread_code : (hook : Hook) (fuel : FuelAsked) (unread written fault : HooktoolFault)
     → (fault ≡ unread) ⊎ (fault ≡ faults.Memory)
     → (fault ≡ unread) ⊎ (fault ≡ written)
     ⊎ ((f : List ℕ) × IsAnnotationFault hook fuel f fault)
@@ -108,15 +110,16 @@ unread_code hook fuel unread written fault is =
     elim is [ inl path ↦ inl path | inr memory ↦ inr (inr ([], inl memory)) ]
 
 -- a fault that isn't of the packet's file
-pub fault_at_packet : {T : Type 0} (packet : Packet) (bytes : List ℕ) (r : Result T Fault)
-    → IfErr r (IsObjectFault bytes) → IfErr r
-    (λ fault. IsPacketFault packet fault ⊎ ((b : List ℕ) × IsObjectFault b fault))
+pub fault_at_packet : {T : Type 0} (packet : Packet) (bytes : List ℕ)
+    (r : Result T HooktoolFault) → IfErr r (IsObjectFault bytes)
+    → IfErr r (λ fault. IsPacketFault packet fault ⊎ ((b : List ℕ) × IsObjectFault b fault))
 fault_at_packet {T} packet bytes (Ok value) is = tt
 fault_at_packet {T} packet bytes (Err fault) is = inr (bytes, is)
 
 -- a fault that isn't of the object's file
-pub fault_at_question : {T : Type 0} (packet : Packet) (unread : Fault) (r : Result T Fault)
-    → IfErr r (λ fault. IsPacketFault packet fault ⊎ ((b : List ℕ) × IsObjectFault b fault))
+pub fault_at_question : {T : Type 0} (packet : Packet) (unread : HooktoolFault)
+    (r : Result T HooktoolFault) → IfErr r
+    (λ fault. IsPacketFault packet fault ⊎ ((b : List ℕ) × IsObjectFault b fault))
     → IfErr r (λ fault. (fault ≡ unread) ⊎ IsPacketFault packet fault
     ⊎ ((b : List ℕ) × IsObjectFault b fault))
 fault_at_question {T} packet unread (Ok value) is = tt
@@ -124,22 +127,22 @@ fault_at_question {T} packet unread (Err fault) is =
     elim is [ inl path ↦ inr (inl path) | inr object ↦ inr (inr object) ]
 
 -- an object's file that can't be read
-pub unread_object : (packet : Packet) (unread fault : Fault)
+pub unread_object : (packet : Packet) (unread fault : HooktoolFault)
     → (fault ≡ unread) ⊎ (fault ≡ faults.Memory)
     → (fault ≡ unread) ⊎ IsPacketFault packet fault ⊎ ((b : List ℕ) × IsObjectFault b fault)
 unread_object packet unread fault is =
     elim is [ inl path ↦ inl path | inr memory ↦ inr (inr ([], inl memory)) ]
 
 -- an object file, in some bytes
-pub some_bytes : {T : Type 0} (bytes : List ℕ) (unread : Fault) (r : Result T Fault)
+pub some_bytes : {T : Type 0} (bytes : List ℕ) (unread : HooktoolFault) (r : Result T HooktoolFault)
     → IfErr r (IsObjectFault bytes) → IfErr r
     (λ fault. (fault ≡ unread) ⊎ ((b : List ℕ) × IsObjectFault b fault))
 some_bytes {T} bytes unread (Ok value) is = tt
 some_bytes {T} bytes unread (Err fault) is = inr (bytes, is)
 
 -- explanations write nothing
-pub explaining_fault : {T : Type 0} (purpose : Purpose) (bytes : List ℕ) (r : Result T Fault)
-    → purpose ≡ purposes.Explanation → IfErr r (IsBuildFault purpose)
+pub explaining_fault : {T : Type 0} (purpose : Purpose) (bytes : List ℕ)
+    (r : Result T HooktoolFault) → purpose ≡ purposes.Explanation → IfErr r (IsBuildFault purpose)
     → IfErr r (IsObjectFault bytes)
 explaining_fault {T} purposes.Explanation bytes (Err fault) purpose_is is =
     elim is [ inl memory ↦ inl memory | inr impossible ↦ absurd impossible ]
@@ -147,6 +150,6 @@ explaining_fault {T} (purposes.Object folder) bytes (Err fault) purpose_is is = 
 explaining_fault {T} purpose bytes (Ok value) purpose_is is = tt
 
 -- a file that can't be read, whatever is asked for of its bytes
-pub unread_bytes : (unread fault : Fault) → (fault ≡ unread) ⊎ (fault ≡ faults.Memory)
+pub unread_bytes : (unread fault : HooktoolFault) → (fault ≡ unread) ⊎ (fault ≡ faults.Memory)
     → (fault ≡ unread) ⊎ ((b : List ℕ) × IsObjectFault b fault)
 unread_bytes unread fault is = elim is [ inl path ↦ inl path | inr memory ↦ inr ([], inl memory) ]

@@ -1,6 +1,6 @@
 -- What is told of what was found for a file.
-use Rattle.std.proofs.Common.{◌≡◌, false, ℕ, List, Ok, Err, Option, inl}
-use Rattle.std.specs.Prelude.{IfOk, Result, string_bytes}
+use Rattle.std.proofs.Common.{◌≡◌, false, ℕ, List, Ok, Err, None, Option, inl}
+use Rattle.std.specs.Prelude.{IfOk, IsSome, Result, string_bytes}
 use Rattle.annotations.specs.Annotated.{IsAnnotation, with_found}
 use Rattle.isa.specs.declared.hook.Hook.{Hook}
 use Rattle.object.specs.Objects.{ObjectParts}
@@ -13,8 +13,9 @@ pub found : {E : Type 0} (hook : Hook) (fuel : FuelAsked) (file : List ℕ) (obj
     (bytes : List ℕ) (accepted : Program) (turns : Option ℕ) (r : Result Report E)
     → IsAnnotation hook (with_found (fuel_for hook fuel) turns) file object bytes accepted
     → IfOk r (λ report. string_bytes report.text ≡ accepted_text accepted turns)
-    → IfOk r (λ report. report.is_refused ≡ false) → IfOk r (IsAnnotated hook fuel file)
-found {E} hook fuel file object bytes accepted turns (Ok report) is told done =
+    → IfOk r (λ report. report.is_refused ≡ false) → (IsSome fuel.turns → turns ≡ None)
+    → IfOk r (IsAnnotated hook fuel file)
+found {E} hook fuel file object bytes accepted turns (Ok report) is told done untold =
     inl (record {
       object = object;
       bytes = bytes;
@@ -22,6 +23,7 @@ found {E} hook fuel file object bytes accepted turns (Ok report) is told done =
       found = turns;
       annotation = is;
       told = told;
+      untold = untold;
       done = done;
     })
-found {E} hook fuel file object bytes accepted turns (Err e) is told done = tt
+found {E} hook fuel file object bytes accepted turns (Err e) is told done untold = tt

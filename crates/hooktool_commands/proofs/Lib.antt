@@ -4,3 +4,4 @@ pub mod Faulted
 pub mod Found
 pub mod Told
 pub mod Tried
+pub mod Unchanged

@@ -1,6 +1,7 @@
 -- What is told of an object that was found for code.
-use Rattle.std.specs.Prelude.{◌≡◌, ◌⊎◌, ℕ, ◌∷◌, ◌++◌, [], List, Option, Some, None, true, false, codes, decimal}
-use Rattle.std.specs.Prelude.{string_bytes, take}
+use Rattle.std.specs.Prelude.{◌≡◌, ◌⊎◌, ℕ, ◌∷◌, ◌++◌, [], List, Option, Some, None, true, false}
+use Rattle.std.specs.Prelude.{codes, decimal}
+use Rattle.std.specs.Prelude.{IsSome, string_bytes, take}
 use Rattle.isa.specs.declared.hook.Hook.{Hook}
 use Rattle.object.specs.Objects.{ObjectParts}
 use Rattle.verifier.specs.Programs.{Program}
@@ -30,7 +31,8 @@ accepted_text program found = codes "accepted bound "
     ++ (decimal program.bound ++ (counted_words found ++ cells_note program))
 
 -- An object was found of the file's code (with --fuel, or where that is told, of that code with its
--- turns counted) that the verifier accepts, and its bound is told.
+-- turns counted) that the verifier accepts, and its bound is told. Turns that --fuel asked for
+-- aren't told as found.
 pub record IsFound (hook : Hook) (fuel : FuelAsked) (file : List ℕ) (report : Report) : Type 0 where
   pub object : ObjectParts
   pub bytes : List ℕ
@@ -39,6 +41,7 @@ pub record IsFound (hook : Hook) (fuel : FuelAsked) (file : List ℕ) (report : 
   pub annotation : IsAnnotation hook (with_found (fuel_for hook fuel) found) file object bytes
       accepted
   pub told : string_bytes report.text ≡ accepted_text accepted found
+  pub untold : IsSome fuel.turns → found ≡ None
   pub done : report.is_refused ≡ false
 
 -- The verifier refuses the best object that was found of the file's code.

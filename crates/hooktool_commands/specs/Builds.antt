@@ -1,7 +1,10 @@
 -- What is told of an ELF file whose functions were built: some lines for each, in the order of the
 -- file.
-use Rattle.std.specs.Prelude.{◌≡◌, ◌⊎◌, ◌==◌, ◌&&◌, ℕ, zero, suc, List, [], ◌++◌, Option, Some, None, Bool, true, false, not, codes}
-use Rattle.std.specs.Prelude.{length, slice_get, string_bytes}
+use Rattle.std.specs.Prelude.{◌≡◌, ◌⊎◌, ◌==◌, ◌&&◌, ◌||◌, ◌<◌, ℕ, zero, suc, List, [], ◌++◌, Option}
+use Rattle.std.specs.Prelude.{Some, None, Bool, true, false, not, codes}
+use Rattle.std.specs.Prelude.{IsSome, length, slice_get, string_bytes}
+use Rattle.std.specs.Char.{is_ascii_alphanumeric}
+use Rattle.std.specs.List.{list_all}
 use Rattle.explanations.specs.Told as explained
 use Rattle.isa.specs.declared.hook.Hook.{Hook}
 use Rattle.isa.specs.Hooks.{hook_name}
@@ -11,7 +14,8 @@ use Rattle.annotations.specs.Annotated.{IsAnnotation, with_found}
 use Rattle.elf.specs.declared.lists.LinkedSymbol.{LinkedSymbol}
 use Rattle.elf.specs.Entries.{is_code}
 use Rattle.elf.specs.Files.{IsObjectFile, contents_of, section_at, section_count, section_name}
-use Rattle.elf.specs.Lists.{HasBytes, HasSymbol, functions_of, relocations_of, symbol_bytes, symbol_name}
+use Rattle.elf.specs.Lists.{HasBytes, HasSymbol, functions_of, relocations_of, symbol_bytes}
+use Rattle.elf.specs.Lists.{symbol_name}
 use Rattle.hooktool_commands.specs.Annotations.{accepted_text, fuel_for}
 use Rattle.hooktool_commands.specs.Explanations.{IsExplained}
 use Rattle.hooktool_line.specs.declared.requests.FuelAsked.{FuelAsked}
@@ -23,6 +27,14 @@ pub record Wanted : Type 0 where
   pub folder : Option (List ℕ)
   pub hook : Option Hook
   pub fuel : FuelAsked
+
+-- a function's name that is its object's file name, too: letters, digits, '_' and '.', so that no
+-- name leads into another folder
+abbrev pub may_stand : ℕ → Bool
+may_stand byte = is_ascii_alphanumeric byte || (byte == 95) || (byte == 46)
+
+abbrev pub is_file_name : List ℕ → Bool
+is_file_name name = list_all may_stand name
 
 -- FOLDER/FUNCTION.o: HOOK, accepted bound N, and what the program's author has to know
 abbrev pub built_text : (folder function hook : List ℕ) → Program → (found : Option ℕ) → List ℕ
@@ -47,6 +59,7 @@ IsHookOf asked section hook = (section ≡ hook_name hook)
 pub record IsBuiltFunction (file : List ℕ) (wanted : Wanted) (hook : Hook) (function : LinkedSymbol)
     (line : List ℕ) : Type 0 where
   pub named : HasSymbol file function.table function.index
+  pub plain : is_file_name (symbol_name file function.table function.index) ≡ true
   pub has_code : HasBytes file function.symbol
   pub object : ObjectParts
   pub bytes : List ℕ
@@ -54,6 +67,7 @@ pub record IsBuiltFunction (file : List ℕ) (wanted : Wanted) (hook : Hook) (fu
   pub found : Option ℕ
   pub annotation : IsAnnotation hook (with_found (fuel_for hook wanted.fuel) found)
       (symbol_bytes file function.symbol) object bytes accepted
+  pub untold : IsSome wanted.fuel.turns → found ≡ None
   pub told : TellsFunction wanted.folder (symbol_name file function.table function.index)
       (hook_name hook) accepted found line
 
@@ -77,6 +91,13 @@ pub record IsBuiltSection (file : List ℕ) (wanted : Wanted) (i : ℕ) (lines :
 abbrev pub is_program_section : List ℕ → ℕ → Bool
 is_program_section file i = is_code (section_at file i) && not (length (contents_of file i) == 0)
 
+-- some section has instructions; or none has
+abbrev pub HasProgram : List ℕ → Type 0
+HasProgram file = (i : ℕ) × (i < section_count file) × (is_program_section file i ≡ true)
+
+abbrev pub HasNoProgram : List ℕ → Type 0
+HasNoProgram file = (i : ℕ) → i < section_count file → is_program_section file i ≡ false
+
 -- What is told of section i: of one without instructions nothing.
 abbrev pub IsBuiltAt : List ℕ → Wanted → ℕ → List ℕ → Type 0
 IsBuiltAt file wanted i lines =
@@ -90,11 +111,13 @@ AreBuiltSections file wanted (suc i) lines = (before more : List ℕ)
     × AreBuiltSections file wanted i before × IsBuiltAt file wanted i more
     × (lines ≡ before ++ more)
 
--- Each function of each section with instructions was built, and nothing else is told. Or something
+-- Each function of each section with instructions was built, of which there is one, and nothing
+-- else is told. Or something
 -- is told that wasn't.
 abbrev pub IsBuilt : List ℕ → Wanted → Report → Type 0
 IsBuilt file wanted report = (report.is_refused ≡ true)
-    ⊎ (IsObjectFile file × AreBuiltSections file wanted (section_count file) (string_bytes report.text))
+    ⊎ (IsObjectFile file × HasProgram file × AreBuiltSections file wanted (section_count file)
+    (string_bytes report.text))
 
 -- Each function is explained, none of .text.
 abbrev pub explanations_wanted : Wanted

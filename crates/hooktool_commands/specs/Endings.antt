@@ -21,8 +21,8 @@ use Rattle.hooktool_commands.specs.declared.testing.Tested.TheVariants as tests
 use Rattle.object_trials.specs.Plays.{PacketIs}
 use Rattle.hooktool_line.specs.declared.requests.Packet.{Packet}
 use Rattle.hooktool_line.specs.declared.requests.Packet.TheVariants as packets
-use Rattle.hooktool_commands.specs.declared.fault.Fault.{Fault}
-use Rattle.hooktool_commands.specs.declared.fault.Fault.TheVariants as faults
+use Rattle.hooktool_commands.specs.declared.fault.HooktoolFault.{HooktoolFault}
+use Rattle.hooktool_commands.specs.declared.fault.HooktoolFault.TheVariants as faults
 use Rattle.hooktool_commands.specs.declared.report.Report.{Report}
 
 -- The request was carried out, and this is told: of some file, since no contract says what a file
@@ -38,12 +38,12 @@ IsMadeOf (requests.Try object question) report =
 IsMadeOf (requests.Test file) report = ⊥
 
 -- The file of a packet can't be read.
-abbrev pub IsPacketFault : Packet → Fault → Type 0
+abbrev pub IsPacketFault : Packet → HooktoolFault → Type 0
 IsPacketFault (packets.File path) fault = fault ≡ faults.Read path
 IsPacketFault other fault = ⊥
 
 -- The request can't be carried out, for this fault.
-abbrev pub IsFaultOf : Request → Fault → Type 0
+abbrev pub IsFaultOf : Request → HooktoolFault → Type 0
 IsFaultOf (requests.Annotate hook code object fuel) fault =
     (fault ≡ faults.Read code) ⊎ (fault ≡ faults.Write object)
     ⊎ ((file : List ℕ) × IsAnnotationFault hook fuel file fault)
@@ -56,7 +56,7 @@ IsFaultOf (requests.Try object question) fault =
     ⊎ ((bytes : List ℕ) × IsObjectFault bytes fault)
 IsFaultOf (requests.Test file) fault = ⊥
 
-abbrev pub IsOutcomeOf : Request → Result Report Fault → Type 0
+abbrev pub IsOutcomeOf : Request → Result Report HooktoolFault → Type 0
 IsOutcomeOf request outcome = IfOk outcome (IsMadeOf request) × IfErr outcome (IsFaultOf request)
 
 -- a program that is refused and a run that gave no answer have status 1
@@ -75,16 +75,17 @@ Prints report output output_after status = Fails output_after status
     × Appends output.contents output_after.contents (string_bytes report.text))
 
 -- The status is the fault's own, or the text couldn't be told.
-abbrev pub IsTold : Fault → (output_after : StreamState) → ℕ → Type 0
+abbrev pub IsTold : HooktoolFault → (output_after : StreamState) → ℕ → Type 0
 IsTold fault output_after status = Fails output_after status ⊎ (status ≡ status_of fault)
 
 -- What a command made is printed, or its fault is told. The status says which it was.
-abbrev pub Ends : Result Report Fault → (output output_after : StreamState) → ℕ → Type 0
+abbrev pub Ends : Result Report HooktoolFault → (output output_after : StreamState) → ℕ → Type 0
 Ends (Ok report) output output_after status = Prints report output output_after status
 Ends (Err fault) output output_after status = IsTold fault output_after status
 
 -- A line that can't be played is told too, with status 2.
-abbrev pub EndsPlayed : Result Tested Fault → (output output_after : StreamState) → ℕ → Type 0
+abbrev pub EndsPlayed : Result Tested HooktoolFault → (output output_after : StreamState) → ℕ
+    → Type 0
 EndsPlayed (Ok (tests.Played report)) output output_after status =
     Prints report output output_after status
 EndsPlayed (Ok (tests.Unread text)) output output_after status =
@@ -94,7 +95,7 @@ EndsPlayed (Err fault) output output_after status = IsTold fault output_after st
 -- A test was asked for, and played; or its file can't be read, or memory was refused.
 abbrev pub EndsTest : Request → (output output_after : StreamState) → ℕ → Type 0
 EndsTest (requests.Test file) output output_after status =
-    (outcome : Result Tested Fault) × IfOk outcome IsTested
+    (outcome : Result Tested HooktoolFault) × IfOk outcome IsTested
     × IfErr outcome (λ fault. (fault ≡ faults.Read file) ⊎ (fault ≡ faults.Memory))
     × EndsPlayed outcome output output_after status
 EndsTest other output output_after status = ⊥
@@ -102,7 +103,7 @@ EndsTest other output output_after status = ⊥
 -- What the request made is printed, or why it can't be carried out.
 abbrev pub EndsRequest : Request → (output output_after : StreamState) → ℕ → Type 0
 EndsRequest request output output_after status =
-    ((outcome : Result Report Fault) × IsOutcomeOf request outcome
+    ((outcome : Result Report HooktoolFault) × IsOutcomeOf request outcome
     × Ends outcome output output_after status)
     ⊎ EndsTest request output output_after status
 
@@ -125,7 +126,8 @@ pub record TellsWords (error : Error) (output output_after errors errors_after :
 abbrev pub EndsWords : List (List ℕ) → (output output_after errors errors_after : StreamState) → ℕ
     → Type 0
 EndsWords words output output_after errors errors_after status =
-    ((request : Request) × Asks words request × EndsRequest request output output_after status
+    ((request : Request) × Asks words request
+    × EndsRequest request output output_after status
     × (errors_after ≡ errors))
     ⊎ ((error : Error) × IsRefusal words error
     × TellsWords error output output_after errors errors_after status)

@@ -1,5 +1,5 @@
 -- Which fault a request may end with, of the files that it names.
-use Rattle.std.specs.Prelude.{◌≡◌, ℕ, ◌⊎◌, List}
+use Rattle.std.specs.Prelude.{◌≡◌, ℕ, ◌⊎◌, ◌++◌, List, [], codes}
 use Rattle.isa.specs.declared.decoding.DecodeError.{DecodeError}
 use Rattle.isa.specs.declared.hook.Hook.{Hook}
 use Rattle.isa.specs.Hooks.{hook_name}
@@ -9,6 +9,8 @@ use Rattle.object.specs.Objects.{ObjectParts}
 use Rattle.object.specs.Spelling.{Spells}
 use Rattle.object.specs.Refusals as objects
 use Rattle.annotations.specs.Verdict.{IsFileShortfall}
+use Rattle.annotations.specs.declared.count_error.CountError.{CountError}
+use Rattle.annotations.specs.declared.count_error.CountError.TheVariants as counts
 use Rattle.annotations.specs.declared.shortfall.Shortfall.{Shortfall}
 use Rattle.annotations.specs.declared.shortfall.Shortfall.TheVariants as shortfalls
 use Rattle.hooktool_line.specs.declared.requests.FuelAsked.{FuelAsked}
@@ -16,17 +18,17 @@ use Rattle.hooktool_commands.specs.Annotations.{fuel_for}
 use Rattle.hooktool_commands.specs.Statuses.{fault_of_object, fault_of_refusal}
 use Rattle.hooktool_commands.specs.declared.building.Purpose.{Purpose}
 use Rattle.hooktool_commands.specs.declared.building.Purpose.TheVariants as purposes
-use Rattle.hooktool_commands.specs.declared.fault.Fault.{Fault}
-use Rattle.hooktool_commands.specs.declared.fault.Fault.TheVariants as faults
+use Rattle.hooktool_commands.specs.declared.fault.HooktoolFault.{HooktoolFault}
+use Rattle.hooktool_commands.specs.declared.fault.HooktoolFault.TheVariants as faults
 
 -- the refusal of bytes that are no object file
-pub record IsObjectRefused (bytes : List ℕ) (fault : Fault) : Type 0 where
+pub record IsObjectRefused (bytes : List ℕ) (fault : HooktoolFault) : Type 0 where
   pub error : ReadError
   pub refuses : objects.Refuses bytes error
   pub told : fault ≡ fault_of_object error
 
 -- the refusal of an object file's code
-pub record IsCodeRefused (bytes : List ℕ) (fault : Fault) : Type 0 where
+pub record IsCodeRefused (bytes : List ℕ) (fault : HooktoolFault) : Type 0 where
   pub object : ObjectParts
   pub spells : Spells bytes object
   pub error : DecodeError
@@ -34,19 +36,32 @@ pub record IsCodeRefused (bytes : List ℕ) (fault : Fault) : Type 0 where
   pub told : fault ≡ fault_of_refusal error
 
 -- Memory was refused, or the bytes hold no program.
-abbrev pub IsObjectFault : List ℕ → Fault → Type 0
+abbrev pub IsObjectFault : List ℕ → HooktoolFault → Type 0
 IsObjectFault bytes fault = (fault ≡ faults.Memory) ⊎ IsObjectRefused bytes fault
     ⊎ IsCodeRefused bytes fault
 
 -- the line about an object for another hook
-abbrev pub NamesHook : Hook → Fault → Type 0
+abbrev pub NamesHook : Hook → HooktoolFault → Type 0
 NamesHook hook (faults.OtherHook name) = name.now ≡ hook_name hook
 NamesHook hook other = ⊥
 
--- turns can't be counted, for some reason
-abbrev pub TellsNoCount : Fault → Type 0
-TellsNoCount (faults.Uncounted reason) = Unit {0}
-TellsNoCount other = ⊥
+-- why turns can't be counted, as it is told
+abbrev pub reason_of : CountError → List ℕ
+reason_of counts.NoRegister = codes "no turns can be counted: the program uses each of r6 to r9"
+reason_of counts.TooMany = codes "no turns can be counted: --fuel is 1000000 or more"
+reason_of counts.TooGreat = codes "no turns can be counted: --fuel-answer is 2147483648 or more"
+reason_of counts.TooLong =
+    codes "no turns can be counted: the code would have more than 4096 slots, or a jump would go "
+    ++ codes "too far"
+reason_of counts.Memory = []
+
+abbrev pub TellsReason : CountError → HooktoolFault → Type 0
+TellsReason error (faults.Uncounted reason) = reason.now ≡ reason_of error
+TellsReason error other = ⊥
+
+abbrev pub IsFaultOfCount : CountError → HooktoolFault → Type 0
+IsFaultOfCount counts.Memory fault = fault ≡ faults.Memory
+IsFaultOfCount error fault = TellsReason error fault
 
 -- the verifier refuses what was found
 abbrev pub IsByVerifier : Shortfall → Type 0
@@ -55,27 +70,27 @@ IsByVerifier other = ⊥
 
 -- What is told where no object was found for a file, for this reason. A refusal by the verifier is
 -- reported, unless memory is refused.
-abbrev pub IsFaultOfShortfall : Shortfall → Fault → Type 0
+abbrev pub IsFaultOfShortfall : Shortfall → HooktoolFault → Type 0
 IsFaultOfShortfall (shortfalls.Code error) fault = fault ≡ fault_of_refusal error
 IsFaultOfShortfall (shortfalls.Object error) fault = fault ≡ fault_of_object error
 IsFaultOfShortfall (shortfalls.OtherHook hook) fault = NamesHook hook fault
-IsFaultOfShortfall (shortfalls.Uncounted error) fault = (fault ≡ faults.Memory) ⊎ TellsNoCount fault
+IsFaultOfShortfall (shortfalls.Uncounted error) fault = IsFaultOfCount error fault
 IsFaultOfShortfall other fault = fault ≡ faults.Memory
 
 -- Memory was refused, or there is such a reason.
-pub record IsUnfound (hook : Hook) (fuel : FuelAsked) (file : List ℕ) (fault : Fault)
+pub record IsUnfound (hook : Hook) (fuel : FuelAsked) (file : List ℕ) (fault : HooktoolFault)
     : Type 0 where
   pub shortfall : Shortfall
   pub is_so : IsFileShortfall hook (fuel_for hook fuel) file shortfall
   pub told : IsFaultOfShortfall shortfall fault
 
-abbrev pub IsAnnotationFault : Hook → FuelAsked → List ℕ → Fault → Type 0
+abbrev pub IsAnnotationFault : Hook → FuelAsked → List ℕ → HooktoolFault → Type 0
 IsAnnotationFault hook fuel file fault = (fault ≡ faults.Memory) ⊎ IsUnfound hook fuel file fault
 
 -- the folder can't be written to, where objects are asked for
-abbrev pub IsUnwritable : Purpose → Fault → Type 0
+abbrev pub IsUnwritable : Purpose → HooktoolFault → Type 0
 IsUnwritable (purposes.Object folder) fault = fault ≡ faults.Write folder
 IsUnwritable purposes.Explanation fault = ⊥
 
-abbrev pub IsBuildFault : Purpose → Fault → Type 0
+abbrev pub IsBuildFault : Purpose → HooktoolFault → Type 0
 IsBuildFault purpose fault = (fault ≡ faults.Memory) ⊎ IsUnwritable purpose fault

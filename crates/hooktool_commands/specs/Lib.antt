@@ -1,10 +1,12 @@
 pub mod Annotations
+pub mod Answers
 pub mod Builds
 pub mod Cells
 pub mod Orders
 pub mod Endings
 pub mod Explanations
 pub mod Faults
+pub mod Linked
 pub mod Statuses
 pub mod Tests
 pub mod Trials

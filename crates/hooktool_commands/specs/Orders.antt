@@ -1,5 +1,6 @@
 -- What an order wants, and what is told of the code of one function.
-use Rattle.std.specs.Prelude.{◌≡◌, ◌⊎◌, ℕ, List, Option, Some, None, true, string_bytes}
+use Rattle.std.specs.Prelude.{◌≡◌, ◌⊎◌, ℕ, List, Option, Some, None, true, IsSome}
+use Rattle.std.specs.Prelude.{string_bytes}
 use Rattle.isa.specs.declared.hook.Hook.{Hook}
 use Rattle.isa.specs.Hooks.{hook_name}
 use Rattle.object.specs.Objects.{ObjectParts}
@@ -10,7 +11,7 @@ use Rattle.hooktool_commands.specs.declared.building.Purpose.{Purpose}
 use Rattle.hooktool_commands.specs.declared.building.Purpose.TheVariants as purposes
 use Rattle.hooktool_commands.specs.declared.report.Report.{Report}
 use Rattle.hooktool_commands.specs.Annotations.{fuel_for}
-use Rattle.hooktool_commands.specs.Builds.{TellsFunction, Wanted}
+use Rattle.hooktool_commands.specs.Builds.{TellsFunction, Wanted, is_file_name}
 
 abbrev pub folder_of : Purpose → Option (List ℕ)
 folder_of (purposes.Object folder) = Some folder.now
@@ -22,12 +23,14 @@ wanted_of order = record { folder = folder_of order.purpose; hook = order.hook; 
 -- An object was found of this code that the verifier accepts, and its bound is told.
 pub record IsFoundCode (wanted : Wanted) (hook : Hook) (function code : List ℕ) (report : Report)
     : Type 0 where
+  pub plain : is_file_name function ≡ true
   pub object : ObjectParts
   pub bytes : List ℕ
   pub accepted : Program
   pub found : Option ℕ
   pub annotation : IsAnnotation hook (with_found (fuel_for hook wanted.fuel) found) code object
       bytes accepted
+  pub untold : IsSome wanted.fuel.turns → found ≡ None
   pub told : TellsFunction wanted.folder function (hook_name hook) accepted found
       (string_bytes report.text)
 

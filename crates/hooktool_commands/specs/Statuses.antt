@@ -9,8 +9,8 @@ use Rattle.isa.specs.Refusals.{fault_number}
 use Rattle.object.specs.declared.error.ReadError.{ReadError}
 use Rattle.object.specs.declared.error.ReadError.TheVariants as reading
 use Rattle.object.specs.Refusals.{error_number}
-use Rattle.hooktool_commands.specs.declared.fault.Fault.{Fault}
-use Rattle.hooktool_commands.specs.declared.fault.Fault.TheVariants as faults
+use Rattle.hooktool_commands.specs.declared.fault.HooktoolFault.{HooktoolFault}
+use Rattle.hooktool_commands.specs.declared.fault.HooktoolFault.TheVariants as faults
 
 -- help and the version are what the user asked for
 abbrev pub status_of_usage : ErrorKind → ℕ
@@ -23,7 +23,7 @@ abbrev pub status_of_words : ErrorKind → ℕ
 status_of_words kinds.OutOfMemory = 4
 status_of_words other = status_of_usage other
 
-abbrev pub status_of : Fault → ℕ
+abbrev pub status_of : HooktoolFault → ℕ
 status_of (faults.Read path) = 3
 status_of (faults.Write path) = 3
 status_of (faults.Code number slot) = 1
@@ -33,14 +33,14 @@ status_of (faults.Uncounted reason) = 1
 status_of faults.Memory = 4
 
 -- What is told of bytes that are no code: the number and slot of the refusal, or want of memory.
-abbrev pub fault_of_kind : DecodeFault → ℕ → Fault
+abbrev pub fault_of_kind : DecodeFault → ℕ → HooktoolFault
 fault_of_kind decoding.Memory slot = faults.Memory
 fault_of_kind kind slot = faults.Code (fault_number kind) slot
 
-abbrev pub fault_of_refusal : DecodeError → Fault
+abbrev pub fault_of_refusal : DecodeError → HooktoolFault
 fault_of_refusal error = fault_of_kind error.kind error.slot
 
 -- What is told of bytes that are no object file: the number of the refusal, or want of memory.
-abbrev pub fault_of_object : ReadError → Fault
+abbrev pub fault_of_object : ReadError → HooktoolFault
 fault_of_object reading.Memory = faults.Memory
 fault_of_object error = faults.Object (error_number error)

@@ -6,15 +6,15 @@ ghost use Rattle.object_verdicts.specs.Verdicts.{Accepts};
 ghost use Rattle.hooktool_commands.specs.Annotations.{IsAnnotated, accepted_text, counted_words};
 ghost use Rattle.hooktool_commands.specs.Annotations.{elf_magic, fuel_for};
 ghost use Rattle.hooktool_commands.specs.Faults.{IsAnnotationFault, IsByVerifier};
-ghost use Rattle.hooktool_commands.specs.Faults.{IsFaultOfShortfall, TellsNoCount};
+ghost use Rattle.hooktool_commands.specs.Faults.{IsFaultOfCount, IsFaultOfShortfall};
 
 use crate::cells::cells_note;
 use crate::explaining::lacks_memory;
-use crate::fault::Fault;
+use crate::fault::HooktoolFault;
 use crate::files;
 use crate::report::Report;
 use annotations::{
-    CountError, Endless, Found, Fuel, Rejected, Shortfall, Trouble, annotate_file,
+    AnnotatedObject, CountError, EndlessLoop, Fuel, Rejected, Shortfall, Trouble, annotate_file,
     answer_without_turns,
 };
 use explanations::{Explanation, Text, explain};
@@ -72,7 +72,7 @@ fn push_fuel(out: &mut Text, slots: usize) {
 }
 
 /// What an author can do about a loop without a rank, in a program with so many slots.
-fn push_remedies(out: &mut Text, endless: &Endless, slots: usize) {
+fn push_remedies(out: &mut Text, endless: &EndlessLoop, slots: usize) {
     out.push(
         "  either let a register fall with each turn (DOWN and EACH of examples/c/leafrunt.h \
             do)\n",
@@ -89,16 +89,16 @@ fn push_remedies(out: &mut Text, endless: &Endless, slots: usize) {
 }
 
 /// Whether it is the count of turns that falls from too great a number.
-fn is_fuel(endless: &Endless, turns: Option<u32>) -> bool {
-    match (endless.trouble, turns) {
+fn is_fuel(endless: &EndlessLoop, turns: Option<u32>) -> bool {
+    match (endless.why.trouble, turns) {
         (Trouble::TooHigh { from, .. }, Some(turns)) => from == u64::from(turns) + 1,
         _ => false,
     }
 }
 
 /// Which loop has no rank and why, and what an author can do. The program has so many slots.
-fn push_endless(out: &mut Text, endless: &Endless, slots: usize, telling: Telling) {
-    let (sentence, register, from) = match endless.trouble {
+fn push_endless(out: &mut Text, endless: &EndlessLoop, slots: usize, telling: Telling) {
+    let (sentence, register, from) = match endless.why.trouble {
         Trouble::Rises { register } => (
             "the loop at slot {} has no rank: r{} rises with each turn, and none falls\n",
             register,
@@ -118,9 +118,13 @@ fn push_endless(out: &mut Text, endless: &Endless, slots: usize, telling: Tellin
     };
     out.fill(
         sentence,
-        &[endless.slot as u128, u128::from(register), u128::from(from)],
+        &[
+            endless.why.slot as u128,
+            u128::from(register),
+            u128::from(from),
+        ],
     );
-    if let Trouble::TooHigh { .. } = endless.trouble {
+    if let Trouble::TooHigh { .. } = endless.why.trouble {
         push_budget(out, slots)
     }
     match telling.slots {
@@ -135,7 +139,7 @@ fn push_endless(out: &mut Text, endless: &Endless, slots: usize, telling: Tellin
 fn told_of(
     alloc: Global,
     explanation: &Explanation,
-    endless: &Option<Endless>,
+    endless: &Option<EndlessLoop>,
     slots: usize,
     telling: Telling,
 ) -> Result<String, AllocError> {
@@ -161,7 +165,7 @@ fn told_of(
 fn rejection_text(
     alloc: Global,
     rejected: &Rejected,
-    endless: &Option<Endless>,
+    endless: &Option<EndlessLoop>,
     telling: Telling,
 ) -> Result<String, AllocError> {
     match explain(alloc, &rejected.bytes) {
@@ -177,24 +181,24 @@ fn rejection_text(
 fn rejection<'a>(
     alloc: Global,
     rejected: &Rejected,
-    endless: &Option<Endless>,
+    endless: &Option<EndlessLoop>,
     telling: Telling,
-) -> Result<Report, Fault<'a>>
+) -> Result<Report, HooktoolFault<'a>>
     ensures refused { IfOk result (λ report. report.is_refused ≡ true) }
-    ensures fault { IfErr result (λ fault. fault ≡ Fault.Memory) }
+    ensures fault { IfErr result (λ fault. fault ≡ HooktoolFault.Memory) }
 {
     match rejection_text(alloc, rejected, endless, telling) {
         Ok(text) => Ok(Report {
             text,
             is_refused: true,
         }),
-        Err(error) => Err(Fault::from(error)),
+        Err(error) => Err(HooktoolFault::from(error)),
     }
 }
 
 /// Why turns can't be counted.
-fn uncounted<'a>(error: CountError) -> Fault<'a>
-    ensures { (result ≡ Fault.Memory) ⊎ TellsNoCount result }
+fn uncounted<'a>(error: CountError) -> HooktoolFault<'a>
+    ensures { IsFaultOfCount error result }
 {
     let reason = match error {
         CountError::NoRegister => "no turns can be counted: the program uses each of r6 to r9",
@@ -203,9 +207,9 @@ fn uncounted<'a>(error: CountError) -> Fault<'a>
         CountError::TooLong =>
             "no turns can be counted: the code would have more than 4096 slots, or a jump would go \
                 too far",
-        CountError::Memory => return Fault::Memory,
+        CountError::Memory => return HooktoolFault::Memory,
     };
-    Fault::Uncounted { reason }
+    HooktoolFault::Uncounted { reason }
 }
 
 /// What is told where nothing was accepted.
@@ -213,17 +217,17 @@ pub(crate) fn shortfall<'a>(
     alloc: Global,
     shortfall: Shortfall,
     telling: Telling,
-) -> Result<Report, Fault<'a>>
+) -> Result<Report, HooktoolFault<'a>>
     ensures refused { IfOk result (λ report. (report.is_refused ≡ true) × IsByVerifier shortfall) }
     ensures fault { IfErr result (IsFaultOfShortfall shortfall) }
 {
     match shortfall {
         Shortfall::Refused(rejected, endless) => rejection(alloc, &rejected, &endless, telling),
-        Shortfall::Code(error) => Err(Fault::from(error)),
-        Shortfall::Object(error) => Err(Fault::from(error)),
-        Shortfall::OtherHook(hook) => Err(Fault::OtherHook { hook: hook.name() }),
+        Shortfall::Code(error) => Err(HooktoolFault::from(error)),
+        Shortfall::Object(error) => Err(HooktoolFault::from(error)),
+        Shortfall::OtherHook(hook) => Err(HooktoolFault::OtherHook { hook: hook.name() }),
         Shortfall::Uncounted(error) => Err(uncounted(error)),
-        Shortfall::Statements | Shortfall::Memory => Err(Fault::Memory),
+        Shortfall::Statements | Shortfall::Memory => Err(HooktoolFault::Memory),
     }
 }
 
@@ -239,7 +243,7 @@ fn counted_words(alloc: Global, turns: Option<u32>) -> Result<String, AllocError
 
 /// What is told of an object that is written: its bound, how many turns it counts, and a note on
 /// its cells.
-pub(crate) fn accepted_text(alloc: Global, found: &Found) -> Result<String, AllocError>
+pub(crate) fn accepted_text(alloc: Global, found: &AnnotatedObject) -> Result<String, AllocError>
     ensures { IfOk result (λ text. string_bytes text
         ≡ accepted_text found.now.annotated.accepted found.now.turns) }
 {
@@ -250,18 +254,18 @@ pub(crate) fn accepted_text(alloc: Global, found: &Found) -> Result<String, Allo
 }
 
 /// What is told of a program that is accepted.
-fn accepted<'a>(alloc: Global, found: &Found) -> Result<Report, Fault<'a>>
+fn accepted<'a>(alloc: Global, found: &AnnotatedObject) -> Result<Report, HooktoolFault<'a>>
     ensures told { IfOk result (λ report. string_bytes report.text
         ≡ accepted_text found.now.annotated.accepted found.now.turns) }
     ensures done { IfOk result (λ report. report.is_refused ≡ false) }
-    ensures fault { IfErr result (λ fault. fault ≡ Fault.Memory) }
+    ensures fault { IfErr result (λ fault. fault ≡ HooktoolFault.Memory) }
 {
     match accepted_text(alloc, found) {
         Ok(text) => Ok(Report {
             text,
             is_refused: false,
         }),
-        Err(error) => Err(Fault::from(error)),
+        Err(error) => Err(HooktoolFault::from(error)),
     }
 }
 
@@ -269,14 +273,14 @@ fn accepted<'a>(alloc: Global, found: &Found) -> Result<Report, Fault<'a>>
 fn written<'a, R: Files + AllocGlobal>(
     rt: &R,
     path: &'a str,
-    found: &Found,
-) -> Result<Report, Fault<'a>>
+    found: &AnnotatedObject,
+) -> Result<Report, HooktoolFault<'a>>
     requires { Accepts found.now.annotated.bytes.items found.now.annotated.accepted }
     ensures told { IfOk result (λ report. string_bytes report.text
         ≡ accepted_text found.now.annotated.accepted found.now.turns) }
     ensures done { IfOk result (λ report. report.is_refused ≡ false) }
-    ensures fault { IfErr result (λ fault. (fault ≡ Fault.Write path.entry)
-        ⊎ (fault ≡ Fault.Memory)) }
+    ensures fault { IfErr result (λ fault. (fault ≡ HooktoolFault.Write path.entry)
+        ⊎ (fault ≡ HooktoolFault.Memory)) }
 {
     match accepted(rt.alloc(), found) {
         Ok(report) => match files::write_accepted(rt, path, &found.annotated.bytes) {
@@ -313,9 +317,9 @@ fn given_slots(file: &[u8]) -> Option<usize> {
 }
 
 /// What is told of an ELF file in the place of code.
-fn elf_refusal<'a>(alloc: Global) -> Result<Report, Fault<'a>>
+fn elf_refusal<'a>(alloc: Global) -> Result<Report, HooktoolFault<'a>>
     ensures refused { IfOk result (λ report. report.is_refused ≡ true) }
-    ensures fault { IfErr result (λ fault. fault ≡ Fault.Memory) }
+    ensures fault { IfErr result (λ fault. fault ≡ HooktoolFault.Memory) }
 {
     Ok(Report {
         text: format!(in alloc;
@@ -333,9 +337,9 @@ fn annotate_code<'a, R: Files + AllocGlobal>(
     file: &[u8],
     object: &'a str,
     fuel: FuelAsked,
-) -> Result<Report, Fault<'a>>
+) -> Result<Report, HooktoolFault<'a>>
     ensures made { IfOk result (IsAnnotated hook fuel file.now) }
-    ensures fault { IfErr result (λ fault. (fault ≡ Fault.Write object.entry)
+    ensures fault { IfErr result (λ fault. (fault ≡ HooktoolFault.Write object.entry)
         ⊎ IsAnnotationFault hook fuel file.now fault) }
 {
     match annotate_file(rt.alloc(), hook, file, fuel_for(hook, fuel)) {
@@ -358,9 +362,9 @@ fn annotate_bytes<'a, R: Files + AllocGlobal>(
     file: &[u8],
     object: &'a str,
     fuel: FuelAsked,
-) -> Result<Report, Fault<'a>>
+) -> Result<Report, HooktoolFault<'a>>
     ensures made { IfOk result (IsAnnotated hook fuel file.now) }
-    ensures fault { IfErr result (λ fault. (fault ≡ Fault.Write object.entry)
+    ensures fault { IfErr result (λ fault. (fault ≡ HooktoolFault.Write object.entry)
         ⊎ IsAnnotationFault hook fuel file.now fault) }
 {
     if is_elf(file) {
@@ -381,10 +385,10 @@ pub(crate) fn annotate<'a, R: Files + AllocGlobal>(
     code: &'a str,
     object: &'a str,
     fuel: FuelAsked,
-) -> Result<Report, Fault<'a>>
+) -> Result<Report, HooktoolFault<'a>>
     ensures made { IfOk result (λ report. (file : List ℕ) × IsAnnotated hook fuel file report) }
-    ensures fault { IfErr result (λ fault. (fault ≡ Fault.Read code.entry)
-        ⊎ (fault ≡ Fault.Write object.entry)
+    ensures fault { IfErr result (λ fault. (fault ≡ HooktoolFault.Read code.entry)
+        ⊎ (fault ≡ HooktoolFault.Write object.entry)
         ⊎ ((file : List ℕ) × IsAnnotationFault hook fuel file fault)) }
 {
     match files::read(rt, code) {

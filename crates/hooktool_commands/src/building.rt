@@ -1,27 +1,30 @@
 //! `build`: an object for each function that clang compiled for a hook. `explain`: what the verifier
 //! knows of each.
 
-ghost use Rattle.std.specs.Prelude.{◌≡◌, ◌⊎◌, ◌++◌, ◌||◌, ◌<◌, ℕ, List, true, Some, IfErr, IfOk};
-ghost use Rattle.std.specs.Prelude.{IfSome, OnOk, length, string_bytes};
+ghost use Rattle.std.specs.Prelude.{◌≡◌, ◌⊎◌, ◌++◌, ◌||◌, ◌<◌, ℕ, List, false, true, Some, IfErr};
+ghost use Rattle.std.specs.Prelude.{IfOk, IfSome, OnOk, length, string_bytes};
+ghost use Rattle.std.specs.List.{All};
 ghost use Rattle.isa.specs.Hooks.{hook_name};
 ghost use Rattle.object_verdicts.specs.Verdicts.{Accepts};
 ghost use Rattle.elf.specs.Files.{section_count, section_name};
-ghost use Rattle.elf.specs.Lists.{symbol_bytes, symbol_name};
+ghost use Rattle.elf.specs.Lists.{relocations_of, symbol_bytes, symbol_name};
 ghost use Rattle.hooktool_commands.specs.Builds.{AreBuiltFunctions, AreBuiltSections, IsBuilt};
 ghost use Rattle.hooktool_commands.specs.Builds.{IsBuiltAt, IsBuiltFunction, IsBuiltSection};
-ghost use Rattle.hooktool_commands.specs.Builds.{IsHookOf, built_text, is_program_section};
+ghost use Rattle.hooktool_commands.specs.Builds.{HasNoProgram, HasProgram, IsHookOf, built_text};
+ghost use Rattle.hooktool_commands.specs.Builds.{is_file_name, is_program_section};
 ghost use Rattle.hooktool_commands.specs.Explanations.{IsExplained};
 ghost use Rattle.hooktool_commands.specs.Faults.{IsBuildFault};
+ghost use Rattle.hooktool_commands.specs.Linked.{is_changed};
 ghost use Rattle.hooktool_commands.specs.Orders.{IsBuiltCode, wanted_of};
 
 use crate::annotating::{Telling, accepted_text, fuel_for, shortfall};
 use crate::explaining::explanation_of;
-use crate::fault::Fault;
+use crate::fault::HooktoolFault;
 use crate::files;
 use crate::names::{as_file_name, shown};
 use crate::relocated::{Section, relocation_report, unchanged};
 use crate::report::Report;
-use annotations::{Found, annotate_file};
+use annotations::{AnnotatedObject, annotate_file};
 use elf::{LinkedSymbol, ObjectFile};
 use explanations::Text;
 use hooktool_line::FuelAsked;
@@ -124,10 +127,10 @@ fn code_words(number: u8) -> &'static str {
 fn function_refusal<'a>(
     alloc: Global,
     names: Names<'_>,
-    why: Result<Report, Fault<'a>>,
-) -> Result<Report, Fault<'a>>
+    why: Result<Report, HooktoolFault<'a>>,
+) -> Result<Report, HooktoolFault<'a>>
     ensures refused { IfOk result (λ report. report.is_refused ≡ true) }
-    ensures fault { IfErr result (λ fault. fault ≡ Fault.Memory) }
+    ensures fault { IfErr result (λ fault. fault ≡ HooktoolFault.Memory) }
 {
     let mut text = about(alloc, names.section, names.function);
     match why {
@@ -135,11 +138,11 @@ fn function_refusal<'a>(
             text.push(": not accepted\n");
             text.push(told.text.as_str());
         }
-        Err(Fault::Memory) => return Err(Fault::Memory),
-        Err(Fault::Code { number, slot }) => {
+        Err(HooktoolFault::Memory) => return Err(HooktoolFault::Memory),
+        Err(HooktoolFault::Code { number, slot }) => {
             text.numbered(", slot ", slot, code_words(number));
         }
-        Err(Fault::Uncounted { reason }) => text.line(": ", reason),
+        Err(HooktoolFault::Uncounted { reason }) => text.line(": ", reason),
         Err(_) => text.push(": it is no code\n"),
     }
     Ok(refusal(text)?)
@@ -151,7 +154,7 @@ fn line_of(
     folder: &str,
     function: &str,
     hook: &str,
-    found: &Found,
+    found: &AnnotatedObject,
 ) -> Result<String, AllocError>
     ensures { IfOk result (λ line. string_bytes line ≡ built_text folder.now function.now hook.now
         found.now.annotated.accepted found.now.turns) }
@@ -167,14 +170,16 @@ fn write_function<'a, R: Files + AllocGlobal>(
     folder: &'a str,
     hook: Hook,
     function: &str,
-    found: &Found,
-) -> Result<Report, Fault<'a>>
-    requires { Accepts found.now.annotated.bytes.items found.now.annotated.accepted }
+    found: &AnnotatedObject,
+) -> Result<Report, HooktoolFault<'a>>
+    requires accepted { Accepts found.now.annotated.bytes.items found.now.annotated.accepted }
+    // The object is in the folder itself.
+    requires plain { is_file_name function.now ≡ true }
     ensures told { IfOk result (λ report. string_bytes report.text
         ≡ built_text folder.now function.now (hook_name hook)
         found.now.annotated.accepted found.now.turns) }
-    ensures fault { IfErr result (λ fault. (fault ≡ Fault.Write folder.entry)
-        ⊎ (fault ≡ Fault.Memory)) }
+    ensures fault { IfErr result (λ fault. (fault ≡ HooktoolFault.Write folder.entry)
+        ⊎ (fault ≡ HooktoolFault.Memory)) }
 {
     let path = format!(in rt.alloc(); "{folder}/{function}.o")?;
     let text = line_of(rt.alloc(), folder, function, hook.name(), found)?;
@@ -183,19 +188,23 @@ fn write_function<'a, R: Files + AllocGlobal>(
             text,
             is_refused: false,
         }),
-        Err(Fault::Memory) => Err(Fault::Memory),
-        Err(_) => Err(Fault::Write { path: folder }),
+        Err(HooktoolFault::Memory) => Err(HooktoolFault::Memory),
+        Err(_) => Err(HooktoolFault::Write { path: folder }),
     }
 }
 
 /// What the verifier knows at each slot of the object that was found for a function.
-fn explain_function<'a>(alloc: Global, names: Names<'_>, found: &Found) -> Result<Report, Fault<'a>>
+fn explain_function<'a>(
+    alloc: Global,
+    names: Names<'_>,
+    found: &AnnotatedObject,
+) -> Result<Report, HooktoolFault<'a>>
     ensures explained { IfOk result (IsExplained found.now.annotated.bytes.items) }
-    ensures fault { IfErr result (λ fault. fault ≡ Fault.Memory) }
+    ensures fault { IfErr result (λ fault. fault ≡ HooktoolFault.Memory) }
 {
     let Ok(explained) = explanation_of(alloc, &found.annotated.bytes) else {
         // The verifier accepted these bytes.
-        return Err(Fault::Memory);
+        return Err(HooktoolFault::Memory);
     };
     let mut head = about(alloc, names.section, names.function);
     head.push(match found.turns {
@@ -217,7 +226,7 @@ fn build_code<'a, R: Files + AllocGlobal>(
     hook: Hook,
     names: Names<'_>,
     code: &[u8],
-) -> Result<Report, Fault<'a>>
+) -> Result<Report, HooktoolFault<'a>>
     ensures built { IfOk result (IsBuiltCode (wanted_of order.now) hook names.entry.function.now
         code.now) }
     ensures fault { IfErr result (IsBuildFault order.now.purpose) }
@@ -250,14 +259,18 @@ fn build_function<'a, R: Files + AllocGlobal>(
     order: &Order<'a>,
     hook: Hook,
     file: &ObjectFile<'_>,
-    section: &[u8],
+    index: usize,
     function: &LinkedSymbol,
-) -> Result<Report, Fault<'a>>
+) -> Result<Report, HooktoolFault<'a>>
+    requires section { index < section_count file.now }
+    // Beside a refusal, too, no object is made of a function that a linker would change.
+    requires unchanged { is_changed (relocations_of file.now index) function.now ≡ false }
     ensures built { IfOk result (λ report. (report.is_refused ≡ true)
         ⊎ IsBuiltFunction file.now (wanted_of order.now) hook function.now
         (string_bytes report.text)) }
     ensures fault { IfErr result (IsBuildFault order.now.purpose) }
 {
+    let section = file.section_name(index);
     let Some(name) = file.symbol_name(function.table, function.index) else {
         return Ok(refusal(about(rt.alloc(), section, b""))?);
     };
@@ -313,9 +326,12 @@ fn build_functions<'a, R: Files + AllocGlobal>(
     order: &Order<'a>,
     hook: Hook,
     file: &ObjectFile<'_>,
-    section: &[u8],
+    index: usize,
     functions: &[LinkedSymbol],
-) -> Result<Report, Fault<'a>>
+) -> Result<Report, HooktoolFault<'a>>
+    requires section { index < section_count file.now }
+    requires unchanged { All (λ function. is_changed (relocations_of file.now index) function
+        ≡ false) functions.now }
     ensures built { IfOk result (λ report. (report.is_refused ≡ true)
         ⊎ AreBuiltFunctions file.now (wanted_of order.now) hook functions.now (length functions.now)
         (string_bytes report.text)) }
@@ -326,7 +342,7 @@ fn build_functions<'a, R: Files + AllocGlobal>(
         is_refused: false,
     };
     for function in functions {
-        let built = build_function(rt, order, hook, file, section, function)?;
+        let built = build_function(rt, order, hook, file, index, function)?;
         join(&mut report, &built)?;
     }
     Ok(report)
@@ -338,7 +354,7 @@ fn build_section<'a, R: Files + AllocGlobal>(
     order: &Order<'a>,
     file: &ObjectFile<'_>,
     index: usize,
-) -> Result<Report, Fault<'a>>
+) -> Result<Report, HooktoolFault<'a>>
     requires { index < section_count file.now }
     ensures built { IfOk result (λ report. (report.is_refused ≡ true)
         ⊎ IsBuiltSection file.now (wanted_of order.now) index (string_bytes report.text)) }
@@ -358,11 +374,11 @@ fn build_section<'a, R: Files + AllocGlobal>(
         let section = Section { name, contents };
         let mut told = relocation_report(rt.alloc(), file, section, &functions, &relocations)?;
         let others = unchanged(rt.alloc(), &functions, &relocations)?;
-        let built = build_functions(rt, order, hook, file, name, &others)?;
+        let built = build_functions(rt, order, hook, file, index, &others)?;
         join(&mut told, &built)?;
         return Ok(told);
     }
-    let report = build_functions(rt, order, hook, file, name, &functions)?;
+    let report = build_functions(rt, order, hook, file, index, &functions)?;
     Ok(report)
 }
 
@@ -380,7 +396,7 @@ fn build_at<'a, R: Files + AllocGlobal>(
     order: &Order<'a>,
     file: &ObjectFile<'_>,
     index: usize,
-) -> Result<Report, Fault<'a>>
+) -> Result<Report, HooktoolFault<'a>>
     requires { index < section_count file.now }
     ensures built { IfOk result (λ report. (report.is_refused ≡ true)
         ⊎ IsBuiltAt file.now (wanted_of order.now) index (string_bytes report.text)) }
@@ -401,7 +417,7 @@ fn build_sections<'a, R: Files + AllocGlobal>(
     rt: &R,
     order: &Order<'a>,
     file: &ObjectFile<'_>,
-) -> Result<Report, Fault<'a>>
+) -> Result<Report, HooktoolFault<'a>>
     ensures built { IfOk result (λ report. (report.is_refused ≡ true)
         ⊎ AreBuiltSections file.now (wanted_of order.now) (section_count file.now)
         (string_bytes report.text)) }
@@ -419,12 +435,12 @@ fn build_sections<'a, R: Files + AllocGlobal>(
 }
 
 /// What is told of a file that isn't what clang writes.
-fn no_elf<'a>(alloc: Global, path: &str, fault: elf::Fault) -> Result<Report, Fault<'a>>
+fn no_elf<'a>(alloc: Global, path: &str, fault: elf::ElfFault) -> Result<Report, HooktoolFault<'a>>
     ensures refused { IfOk result (λ report. report.is_refused ≡ true) }
-    ensures fault { IfErr result (λ fault. fault ≡ Fault.Memory) }
+    ensures fault { IfErr result (λ fault. fault ≡ HooktoolFault.Memory) }
 {
     let hint = match fault {
-        elf::Fault::NotElf =>
+        elf::ElfFault::NotElf =>
             "  compile C first: clang -O2 -target bpf -mcpu=v3 -c PROGRAM.c -o FILE (Debian's \
                 package clang), or tools/hooktool-build PROGRAM.c\n",
         _ => "",
@@ -435,10 +451,28 @@ fn no_elf<'a>(alloc: Global, path: &str, fault: elf::Fault) -> Result<Report, Fa
     })
 }
 
+/// Tells whether a section has instructions.
+fn has_program(file: &ObjectFile<'_>) -> bool
+    ensures found { result ≡ true → HasProgram file.now }
+    ensures none { result ≡ false → HasNoProgram file.now }
+{
+    for index in 0..file.section_count() {
+        if is_program_section(file, index) {
+            return true;
+        }
+    }
+    false
+}
+
 /// What is told of a file without a program.
-fn no_program<'a>(alloc: Global, path: &str) -> Result<Report, Fault<'a>>
+fn no_program<'a>(
+    alloc: Global,
+    path: &str,
+    _file: &ObjectFile<'_>,
+) -> Result<Report, HooktoolFault<'a>>
+    requires { HasNoProgram _file.now }
     ensures refused { IfOk result (λ report. report.is_refused ≡ true) }
-    ensures fault { IfErr result (λ fault. fault ≡ Fault.Memory) }
+    ensures fault { IfErr result (λ fault. fault ≡ HooktoolFault.Memory) }
 {
     Ok(Report {
         text: format!(in alloc; "{path}: it has no function\n")?,
@@ -452,16 +486,16 @@ pub(crate) fn build_bytes<'a, R: Files + AllocGlobal>(
     order: &Order<'a>,
     path: &str,
     bytes: &[u8],
-) -> Result<Report, Fault<'a>>
+) -> Result<Report, HooktoolFault<'a>>
     ensures built { IfOk result (IsBuilt bytes.now (wanted_of order.now)) }
     ensures fault { IfErr result (IsBuildFault order.now.purpose) }
 {
     match elf::read(bytes) {
         Ok(file) => {
-            let report = build_sections(rt, order, &file)?;
-            if report.text.is_empty() {
-                return Ok(no_program(rt.alloc(), path)?);
+            if !has_program(&file) {
+                return Ok(no_program(rt.alloc(), path, &file)?);
             }
+            let report = build_sections(rt, order, &file)?;
             Ok(report)
         }
         Err(fault) => Ok(no_elf(rt.alloc(), path, fault)?),
@@ -476,10 +510,10 @@ pub(crate) fn build<'a, R: Files + AllocGlobal>(
     rt: &R,
     path: &'a str,
     order: Order<'a>,
-) -> Result<Report, Fault<'a>>
+) -> Result<Report, HooktoolFault<'a>>
     ensures built { IfOk result (λ report. (bytes : List ℕ)
         × IsBuilt bytes (wanted_of order.entry) report) }
-    ensures fault { IfErr result (λ fault. (fault ≡ Fault.Read path.entry)
+    ensures fault { IfErr result (λ fault. (fault ≡ HooktoolFault.Read path.entry)
         ⊎ IsBuildFault order.entry.purpose fault) }
 {
     match files::read(rt, path) {

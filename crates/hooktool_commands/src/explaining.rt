@@ -8,7 +8,7 @@ ghost use Rattle.hooktool_commands.specs.Orders.{wanted_of};
 
 use crate::annotating::is_elf;
 use crate::building::{Order, Purpose, build_bytes};
-use crate::fault::Fault;
+use crate::fault::HooktoolFault;
 use crate::files;
 use crate::report::Report;
 use explanations::{Explanation, explain as explained};
@@ -20,15 +20,15 @@ use std::rt::Files;
 use verifier::{Accepted, Rule};
 
 /// Why these bytes hold no program. Where they hold one, memory was refused.
-pub(crate) fn fault_in<'a>(alloc: Global, bytes: &[u8]) -> Fault<'a>
+pub(crate) fn fault_in<'a>(alloc: Global, bytes: &[u8]) -> HooktoolFault<'a>
     ensures { IsObjectFault bytes.now result }
 {
     match object::read(alloc, bytes) {
         Ok(object) => match decode(alloc, object.code()) {
-            Ok(_) => Fault::Memory,
-            Err(error) => Fault::from(error),
+            Ok(_) => HooktoolFault::Memory,
+            Err(error) => HooktoolFault::from(error),
         },
-        Err(error) => Fault::from(error),
+        Err(error) => HooktoolFault::from(error),
     }
 }
 
@@ -43,13 +43,13 @@ pub(crate) fn lacks_memory(verdict: &Result<Accepted, VerifyError>) -> bool {
 }
 
 /// What is told of an explanation whose verdict was reached: its three texts, one behind the other.
-fn report_of<'a>(alloc: Global, explanation: &Explanation) -> Result<Report, Fault<'a>>
+fn report_of<'a>(alloc: Global, explanation: &Explanation) -> Result<Report, HooktoolFault<'a>>
     ensures text { IfOk result (λ report. string_bytes report.text
         ≡ string_bytes explanation.now.before ++ (string_bytes explanation.now.last
         ++ string_bytes explanation.now.told)) }
     ensures refused { IfOk result (λ report. report.is_refused
         ≡ is_err explanation.now.verdict) }
-    ensures fault { IfErr result (λ fault. fault ≡ Fault.Memory) }
+    ensures fault { IfErr result (λ fault. fault ≡ HooktoolFault.Memory) }
 {
     let before = explanation.before.as_str();
     let last = explanation.last.as_str();
@@ -59,28 +59,28 @@ fn report_of<'a>(alloc: Global, explanation: &Explanation) -> Result<Report, Fau
             text,
             is_refused: explanation.verdict.is_err(),
         }),
-        Err(error) => Err(Fault::from(error)),
+        Err(error) => Err(HooktoolFault::from(error)),
     }
 }
 
 /// What is told of an explanation. A fault where no verdict was reached for want of memory.
-fn told_of<'a>(alloc: Global, explanation: &Explanation) -> Result<Report, Fault<'a>>
+fn told_of<'a>(alloc: Global, explanation: &Explanation) -> Result<Report, HooktoolFault<'a>>
     ensures text { IfOk result (λ report. string_bytes report.text
         ≡ string_bytes explanation.now.before ++ (string_bytes explanation.now.last
         ++ string_bytes explanation.now.told)) }
     ensures refused { IfOk result (λ report. report.is_refused
         ≡ is_err explanation.now.verdict) }
-    ensures fault { IfErr result (λ fault. fault ≡ Fault.Memory) }
+    ensures fault { IfErr result (λ fault. fault ≡ HooktoolFault.Memory) }
 {
     if lacks_memory(&explanation.verdict) {
-        Err(Fault::Memory)
+        Err(HooktoolFault::Memory)
     } else {
         report_of(alloc, explanation)
     }
 }
 
 /// What is told of the object file that these bytes are.
-pub(crate) fn explanation_of<'a>(alloc: Global, bytes: &[u8]) -> Result<Report, Fault<'a>>
+pub(crate) fn explanation_of<'a>(alloc: Global, bytes: &[u8]) -> Result<Report, HooktoolFault<'a>>
     ensures explained { IfOk result (IsExplained bytes.now) }
     ensures fault { IfErr result (IsObjectFault bytes.now) }
 {
@@ -111,7 +111,7 @@ fn explain_bytes<'a, R: Files + AllocGlobal>(
     rt: &R,
     path: &str,
     bytes: &[u8],
-) -> Result<Report, Fault<'a>>
+) -> Result<Report, HooktoolFault<'a>>
     ensures explained { IfOk result (IsExplainedFile bytes.now) }
     ensures fault { IfErr result (IsObjectFault bytes.now) }
 {
@@ -130,9 +130,9 @@ fn explain_bytes<'a, R: Files + AllocGlobal>(
 pub(crate) fn explain<'a, R: Files + AllocGlobal>(
     rt: &R,
     path: &'a str,
-) -> Result<Report, Fault<'a>>
+) -> Result<Report, HooktoolFault<'a>>
     ensures explained { IfOk result (λ report. (bytes : List ℕ) × IsExplainedFile bytes report) }
-    ensures fault { IfErr result (λ fault. (fault ≡ Fault.Read path.entry)
+    ensures fault { IfErr result (λ fault. (fault ≡ HooktoolFault.Read path.entry)
         ⊎ ((bytes : List ℕ) × IsObjectFault bytes fault)) }
 {
     match files::read(rt, path) {

@@ -2,7 +2,7 @@
 
 ghost use Rattle.std.specs.Prelude.{◌≡◌, ◌≤◌};
 ghost use Rattle.hooktool_commands.specs.Statuses.{fault_of_object, fault_of_refusal, status_of};
-ghost use Rattle.hooktool_commands.specs.declared.fault.Fault.TheVariants.{Memory};
+ghost use Rattle.hooktool_commands.specs.declared.fault.HooktoolFault.TheVariants.{Memory};
 
 use isa::DecodeError;
 use object::ReadError;
@@ -23,7 +23,7 @@ pub const MEMORY: u8 = 4;
 
 /// Why a command didn't do what it was asked. The text is the line that is printed.
 #[derive(Clone, Copy, Error)]
-pub enum Fault<'a> {
+pub enum HooktoolFault<'a> {
     /// A file can't be opened or read.
     #[error("cannot read {path}")]
     Read { path: &'a str },
@@ -48,27 +48,27 @@ pub enum Fault<'a> {
     Memory,
 }
 
-impl fmt::Debug for Fault<'_> {
+impl fmt::Debug for HooktoolFault<'_> {
     fn fmt<W: fmt::Write>(&self, f: &mut fmt::Formatter<W>) -> fmt::Result {
         fmt::Display::fmt(self, f)
     }
 }
 
-impl<'a> From<AllocError> for Fault<'a> {
+impl<'a> From<AllocError> for HooktoolFault<'a> {
     ghost from_gives = { λ _ fault. fault ≡ Memory };
 
-    fn from(_error: AllocError) -> Fault<'a> {
-        Fault::Memory
+    fn from(_error: AllocError) -> HooktoolFault<'a> {
+        HooktoolFault::Memory
     }
 }
 
-impl<'a> From<DecodeError> for Fault<'a> {
+impl<'a> From<DecodeError> for HooktoolFault<'a> {
     ghost from_gives = { λ error fault. fault ≡ fault_of_refusal error };
 
-    fn from(error: DecodeError) -> Fault<'a> {
+    fn from(error: DecodeError) -> HooktoolFault<'a> {
         match error.kind {
-            isa::DecodeFault::Memory => Fault::Memory,
-            kind => Fault::Code {
+            isa::DecodeFault::Memory => HooktoolFault::Memory,
+            kind => HooktoolFault::Code {
                 number: kind.number(),
                 slot: error.slot as u64,
             },
@@ -76,32 +76,32 @@ impl<'a> From<DecodeError> for Fault<'a> {
     }
 }
 
-impl<'a> From<ReadError> for Fault<'a> {
+impl<'a> From<ReadError> for HooktoolFault<'a> {
     ghost from_gives = { λ error fault. fault ≡ fault_of_object error };
 
-    fn from(error: ReadError) -> Fault<'a> {
+    fn from(error: ReadError) -> HooktoolFault<'a> {
         match error {
-            ReadError::Memory => Fault::Memory,
-            error => Fault::Object {
+            ReadError::Memory => HooktoolFault::Memory,
+            error => HooktoolFault::Object {
                 number: error.number(),
             },
         }
     }
 }
 
-impl<'a> Fault<'a> {
+impl<'a> HooktoolFault<'a> {
     /// The status that the program ends with.
     pub fn status(&self) -> u8
         ensures value { result ≡ status_of self.now }
         ensures within { result ≤ 4 }
     {
         match self {
-            Fault::Read { .. } | Fault::Write { .. } => OUTSIDE,
-            Fault::Code { .. }
-            | Fault::Object { .. }
-            | Fault::OtherHook { .. }
-            | Fault::Uncounted { .. } => REFUSED,
-            Fault::Memory => MEMORY,
+            HooktoolFault::Read { .. } | HooktoolFault::Write { .. } => OUTSIDE,
+            HooktoolFault::Code { .. }
+            | HooktoolFault::Object { .. }
+            | HooktoolFault::OtherHook { .. }
+            | HooktoolFault::Uncounted { .. } => REFUSED,
+            HooktoolFault::Memory => MEMORY,
         }
     }
 }

@@ -16,5 +16,5 @@ mod testing;
 mod traps;
 mod trying;
 
-pub use fault::Fault;
+pub use fault::HooktoolFault;
 pub use report::Report;

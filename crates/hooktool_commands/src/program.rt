@@ -8,7 +8,7 @@ ghost use Rattle.hooktool_commands.specs.Endings.{IsFaultOf, IsMadeOf, IsTold, P
 use crate::annotating::annotate;
 use crate::building::{Order, Purpose, build};
 use crate::explaining::explain;
-use crate::fault::{DONE, Fault, OUTSIDE, REFUSED, USAGE};
+use crate::fault::{DONE, HooktoolFault, OUTSIDE, REFUSED, USAGE};
 use crate::report::Report;
 use crate::testing::{Tested, test};
 use crate::trying::try_question;
@@ -33,7 +33,7 @@ fn print<O: Stream>(report: &Report, output: &mut O) -> u8
 }
 
 // Prints why nothing was made, and answers the status.
-fn tell<O: Stream>(fault: Fault<'_>, output: &mut O) -> u8
+fn tell<O: Stream>(fault: HooktoolFault<'_>, output: &mut O) -> u8
     ensures { IsTold fault.entry (O.state output.new) result }
 {
     match output.print_line(fault) {
@@ -43,7 +43,7 @@ fn tell<O: Stream>(fault: Fault<'_>, output: &mut O) -> u8
 }
 
 // Prints what a command made or what its fault is, and answers the status.
-fn end<O: Stream>(outcome: Result<Report, Fault<'_>>, output: &mut O) -> u8
+fn end<O: Stream>(outcome: Result<Report, HooktoolFault<'_>>, output: &mut O) -> u8
     ensures { Ends outcome.entry (O.state output.old) (O.state output.new) result }
 {
     match outcome {
@@ -63,7 +63,7 @@ fn tell_unread<O: Stream>(text: &str, output: &mut O) -> u8
 }
 
 // Prints what a test came to, and answers the status.
-fn end_test<O: Stream>(outcome: Result<Tested, Fault<'_>>, output: &mut O) -> u8
+fn end_test<O: Stream>(outcome: Result<Tested, HooktoolFault<'_>>, output: &mut O) -> u8
     ensures { EndsPlayed outcome.entry (O.state output.old) (O.state output.new) result }
 {
     match outcome {
@@ -90,7 +90,7 @@ fn tell_words<O: Stream, E: Stream>(error: &Error, output: &mut O, errors: &mut 
         (E.state errors.old) (E.state errors.new) result }
 {
     match error.kind() {
-        ErrorKind::OutOfMemory => tell(Fault::Memory, output),
+        ErrorKind::OutOfMemory => tell(HooktoolFault::Memory, output),
         ErrorKind::DisplayHelp | ErrorKind::DisplayVersion => tell_usage(error, output, DONE),
         _ => tell_usage(error, errors, USAGE),
     }
@@ -120,9 +120,11 @@ fn built<'a, R: Files + AllocGlobal>(
     folder: &'a str,
     hook: Option<Hook>,
     fuel: FuelAsked,
-) -> Result<Report, Fault<'a>>
-    ensures made { IfOk result (IsMadeOf (Request.Build file.entry folder.entry hook fuel)) }
-    ensures fault { IfErr result (IsFaultOf (Request.Build file.entry folder.entry hook fuel)) }
+) -> Result<Report, HooktoolFault<'a>>
+    ensures made { IfOk result
+        (IsMadeOf (Request.Build file.entry folder.entry hook fuel)) }
+    ensures fault { IfErr result
+        (IsFaultOf (Request.Build file.entry folder.entry hook fuel)) }
 {
     let purpose = Purpose::Object { folder };
     let order = Order {

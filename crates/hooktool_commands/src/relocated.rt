@@ -1,6 +1,8 @@
 //! What is told of code that a linker would change: it uses data, or calls a function.
 
-ghost use Rattle.std.specs.Prelude.{◌≡◌, true, IfOk};
+ghost use Rattle.std.specs.Prelude.{◌≡◌, false, true, IfOk};
+ghost use Rattle.std.specs.List.{All};
+ghost use Rattle.hooktool_commands.specs.Linked.{has_place, is_changed};
 
 use crate::building::{about, refusal};
 use crate::names::shown;
@@ -23,7 +25,9 @@ pub(crate) struct Section<'f> {
 }
 
 /// Whether the function has the place of its section.
-fn has_place(function: &LinkedSymbol, offset: u64) -> bool {
+fn has_place(function: &LinkedSymbol, offset: u64) -> bool
+    ensures { result ≡ has_place function.now offset }
+{
     let symbol = function.symbol;
     symbol.value <= offset && offset - symbol.value < symbol.size
 }
@@ -39,7 +43,9 @@ fn function_at(functions: &[LinkedSymbol], offset: u64) -> Option<LinkedSymbol> 
 }
 
 /// Whether a linker would change the function.
-fn is_changed(function: &LinkedSymbol, relocations: &[LinkedRelocation]) -> bool {
+fn is_changed(function: &LinkedSymbol, relocations: &[LinkedRelocation]) -> bool
+    ensures { result ≡ is_changed relocations.now function.now }
+{
     relocations
         .iter()
         .any(|it| has_place(function, it.relocation.offset))
@@ -50,7 +56,10 @@ pub(crate) fn unchanged(
     alloc: Global,
     functions: &[LinkedSymbol],
     relocations: &[LinkedRelocation],
-) -> Result<Vec<LinkedSymbol>, AllocError> {
+) -> Result<Vec<LinkedSymbol>, AllocError>
+    ensures { IfOk result (λ others. All (λ function. is_changed relocations.now function ≡ false)
+        others.items) }
+{
     let mut others = Vec::new(alloc);
     for function in functions {
         if !is_changed(function, relocations) {

@@ -4,7 +4,7 @@ ghost use Rattle.std.specs.Prelude.{◌≡◌, ◌⊎◌, IfErr, IfOk, not};
 ghost use Rattle.std.specs.List.{list_any};
 ghost use Rattle.hooktool_commands.specs.Tests.{IsTested};
 
-use crate::fault::Fault;
+use crate::fault::HooktoolFault;
 use crate::files;
 use crate::report::Report;
 use hooktool_line::{Line, LineError, WrongLine, read_lines, words_of_lines};
@@ -36,13 +36,13 @@ fn wrong_text(
 }
 
 /// What is told of a line that is wrong.
-fn wrong<'a>(alloc: Global, path: &str, wrong: &WrongLine) -> Result<Tested, Fault<'a>>
+fn wrong<'a>(alloc: Global, path: &str, wrong: &WrongLine) -> Result<Tested, HooktoolFault<'a>>
     ensures played { IfOk result IsTested }
-    ensures fault { IfErr result (λ fault. fault ≡ Fault.Memory) }
+    ensures fault { IfErr result (λ fault. fault ≡ HooktoolFault.Memory) }
 {
     match wrong_text(alloc, path, wrong.number, &wrong.error) {
         Ok(text) => Ok(Tested::Unread(text)),
-        Err(_) => Err(Fault::Memory),
+        Err(_) => Err(HooktoolFault::Memory),
     }
 }
 
@@ -57,13 +57,13 @@ fn stopped_text(alloc: Global, path: &str, stopped: Stopped) -> Result<String, A
 }
 
 /// What is told of a line that can't be played.
-fn unplayed<'a>(alloc: Global, path: &str, stopped: Stopped) -> Result<Tested, Fault<'a>>
+fn unplayed<'a>(alloc: Global, path: &str, stopped: Stopped) -> Result<Tested, HooktoolFault<'a>>
     ensures played { IfOk result IsTested }
-    ensures fault { IfErr result (λ fault. fault ≡ Fault.Memory) }
+    ensures fault { IfErr result (λ fault. fault ≡ HooktoolFault.Memory) }
 {
     match stopped_text(alloc, path, stopped) {
         Ok(text) => Ok(Tested::Unread(text)),
-        Err(_) => Err(Fault::Memory),
+        Err(_) => Err(HooktoolFault::Memory),
     }
 }
 
@@ -75,17 +75,17 @@ fn is_any_wrong(points: &[Point<'_>]) -> bool
 }
 
 /// What is told of the points.
-fn report_of<'a>(alloc: Global, points: &[Point<'_>]) -> Result<Report, Fault<'a>>
+fn report_of<'a>(alloc: Global, points: &[Point<'_>]) -> Result<Report, HooktoolFault<'a>>
     ensures refused { IfOk result (λ report. report.is_refused
         ≡ list_any (λ point. not point.verdict.is_ok) points.now) }
-    ensures fault { IfErr result (λ fault. fault ≡ Fault.Memory) }
+    ensures fault { IfErr result (λ fault. fault ≡ HooktoolFault.Memory) }
 {
     match protocol(alloc, points) {
         Ok(text) => Ok(Report {
             text,
             is_refused: is_any_wrong(points),
         }),
-        Err(error) => Err(Fault::from(error)),
+        Err(error) => Err(HooktoolFault::from(error)),
     }
 }
 
@@ -94,9 +94,9 @@ fn played<'a, R: Files + AllocGlobal>(
     rt: &R,
     path: &'a str,
     lines: &[Line<'_>],
-) -> Result<Tested, Fault<'a>>
+) -> Result<Tested, HooktoolFault<'a>>
     ensures played { IfOk result IsTested }
-    ensures fault { IfErr result (λ fault. fault ≡ Fault.Memory) }
+    ensures fault { IfErr result (λ fault. fault ≡ HooktoolFault.Memory) }
 {
     match play(rt, lines) {
         Ok(points) => match report_of(rt.alloc(), &points) {
@@ -112,9 +112,9 @@ fn test_words<'a, R: Files + AllocGlobal>(
     rt: &R,
     path: &'a str,
     words: &[Vec<&str>],
-) -> Result<Tested, Fault<'a>>
+) -> Result<Tested, HooktoolFault<'a>>
     ensures played { IfOk result IsTested }
-    ensures fault { IfErr result (λ fault. fault ≡ Fault.Memory) }
+    ensures fault { IfErr result (λ fault. fault ≡ HooktoolFault.Memory) }
 {
     match read_lines(rt.alloc(), words) {
         Ok(lines) => played(rt, path, &lines),
@@ -127,9 +127,9 @@ fn test_text<'a, R: Files + AllocGlobal>(
     rt: &R,
     path: &'a str,
     text: &str,
-) -> Result<Tested, Fault<'a>>
+) -> Result<Tested, HooktoolFault<'a>>
     ensures played { IfOk result IsTested }
-    ensures fault { IfErr result (λ fault. fault ≡ Fault.Memory) }
+    ensures fault { IfErr result (λ fault. fault ≡ HooktoolFault.Memory) }
 {
     let words = words_of_lines(rt.alloc(), text)?;
     let tested = test_words(rt, path, &words)?;
@@ -140,15 +140,18 @@ fn test_text<'a, R: Files + AllocGlobal>(
 /// read or played.
 ///
 /// A fault where the file can't be read, isn't UTF-8, or memory is refused.
-pub(crate) fn test<'a, R: Files + AllocGlobal>(rt: &R, path: &'a str) -> Result<Tested, Fault<'a>>
+pub(crate) fn test<'a, R: Files + AllocGlobal>(
+    rt: &R,
+    path: &'a str,
+) -> Result<Tested, HooktoolFault<'a>>
     ensures played { IfOk result IsTested }
-    ensures fault { IfErr result (λ fault. (fault ≡ Fault.Read path.entry)
-        ⊎ (fault ≡ Fault.Memory)) }
+    ensures fault { IfErr result (λ fault. (fault ≡ HooktoolFault.Read path.entry)
+        ⊎ (fault ≡ HooktoolFault.Memory)) }
 {
     match files::read(rt, path) {
         Ok(bytes) => match str::from_utf8(&bytes) {
             Ok(text) => test_text(rt, path, text),
-            Err(_) => Err(Fault::Read { path }),
+            Err(_) => Err(HooktoolFault::Read { path }),
         },
         Err(fault) => Err(fault),
     }

@@ -9,7 +9,7 @@ ghost use Rattle.object_trials.specs.Plays.{PacketIs};
 
 use crate::answers::push_answer;
 use crate::explaining::fault_in;
-use crate::fault::Fault;
+use crate::fault::HooktoolFault;
 use crate::files;
 use crate::report::Report;
 use crate::traps::push_trap;
@@ -116,17 +116,21 @@ fn is_any_stuck(endings: &[Ending]) -> bool
 }
 
 /// What is told of the program's runs.
-fn report_of<'a>(alloc: Global, program: &Program, trial: &Trial) -> Result<Report, Fault<'a>>
+fn report_of<'a>(
+    alloc: Global,
+    program: &Program,
+    trial: &Trial,
+) -> Result<Report, HooktoolFault<'a>>
     ensures stuck { IfOk result (λ report. report.is_refused
         ≡ list_any (λ ending. is_err ending.outcome) trial.now.endings.items) }
-    ensures fault { IfErr result (λ fault. fault ≡ Fault.Memory) }
+    ensures fault { IfErr result (λ fault. fault ≡ HooktoolFault.Memory) }
 {
     match text_of(alloc, program, trial) {
         Ok(text) => Ok(Report {
             text,
             is_refused: is_any_stuck(&trial.endings),
         }),
-        Err(error) => Err(Fault::from(error)),
+        Err(error) => Err(HooktoolFault::from(error)),
     }
 }
 
@@ -138,7 +142,7 @@ fn told_of<'a>(
     packet: &[u8],
     question: &Question<'_>,
     program: &Program,
-) -> Result<Report, Fault<'a>>
+) -> Result<Report, HooktoolFault<'a>>
     ensures tried { IfOk result (IsTried bytes.now packet.now question.now) }
     ensures fault { IfErr result (IsObjectFault bytes.now) }
 {
@@ -154,7 +158,7 @@ fn trial_of<'a>(
     bytes: &[u8],
     packet: &[u8],
     question: &Question<'_>,
-) -> Result<Report, Fault<'a>>
+) -> Result<Report, HooktoolFault<'a>>
     ensures tried { IfOk result (IsTried bytes.now packet.now question.now) }
     ensures fault { IfErr result (IsObjectFault bytes.now) }
 {
@@ -169,7 +173,7 @@ fn try_bytes<'a, R: Files + AllocGlobal>(
     rt: &R,
     bytes: &[u8],
     question: &Question<'a>,
-) -> Result<Report, Fault<'a>>
+) -> Result<Report, HooktoolFault<'a>>
     ensures tried { IfOk result (λ report. (bytes packet : List ℕ)
         × PacketIs question.now.packet packet × IsTried bytes packet question.now report) }
     ensures fault { IfErr result (λ fault. IsPacketFault question.now.packet fault
@@ -192,10 +196,10 @@ pub(crate) fn try_question<'a, R: Files + AllocGlobal>(
     rt: &R,
     path: &'a str,
     question: &Question<'a>,
-) -> Result<Report, Fault<'a>>
+) -> Result<Report, HooktoolFault<'a>>
     ensures tried { IfOk result (λ report. (bytes packet : List ℕ)
         × PacketIs question.now.packet packet × IsTried bytes packet question.now report) }
-    ensures fault { IfErr result (λ fault. (fault ≡ Fault.Read path.entry)
+    ensures fault { IfErr result (λ fault. (fault ≡ HooktoolFault.Read path.entry)
         ⊎ IsPacketFault question.now.packet fault
         ⊎ ((bytes : List ℕ) × IsObjectFault bytes fault)) }
 {

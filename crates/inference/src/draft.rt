@@ -24,7 +24,7 @@ pub enum Purpose {
 
 /// The statements found so far, with an element for each site.
 #[derive(Drop)]
-pub struct Draft {
+pub struct StatementDraft {
     pub purpose: Purpose,
     /// Whether edges that no run takes are followed too, to sites that have no statement.
     pub is_lenient: bool,
@@ -75,10 +75,10 @@ fn widening_after(changes: u32) -> Widening {
     }
 }
 
-impl Draft {
+impl StatementDraft {
     /// A draft without statements, for `size` sites. Bounds that grow are widened to these limits.
-    pub fn new(memory: &Memory, size: usize, limits: Vec<u64>) -> Draft {
-        Draft {
+    pub fn new(memory: &Memory, size: usize, limits: Vec<u64>) -> StatementDraft {
+        StatementDraft {
             purpose: Purpose::Rise,
             is_lenient: false,
             has_changed: false,
@@ -243,14 +243,19 @@ impl Draft {
         }
     }
 
+    /// What has reached the site and isn't followed yet.
+    pub fn pending(&self, site: usize) -> Option<Statement> {
+        element_or(&self.found, site, None)
+    }
+
     /// Whether the site has been reached and isn't followed yet.
     pub fn is_pending(&self, site: usize) -> bool {
-        element_or(&self.found, site, None).is_some()
+        self.pending(site).is_some()
     }
 
     /// The statement of what has reached the site, which the caller follows from there.
     pub fn take_pending(&mut self, site: usize) -> Option<Statement> {
-        let pending = element_or(&self.found, site, None);
+        let pending = self.pending(site);
         put(&mut self.found, site, None);
         self.turns.leave(site);
         pending

@@ -1,6 +1,6 @@
 //! Passes over the code until the statements don't change any more.
 
-use crate::draft::{Draft, Purpose};
+use crate::draft::{Purpose, StatementDraft};
 use crate::edges::Edge;
 use crate::flow::{Passes, Program};
 use crate::liveness::{live_registers, reads_frame};
@@ -91,7 +91,7 @@ pub fn program_of<'a>(
 /// statements are fixed.
 fn inferred(program: Program<'_>, given: &[Statement], are_kept: bool) -> Inference {
     let limits = limits_of(program.memory, program.code, given);
-    let draft = Draft::new(program.memory, program.sites.len(), limits);
+    let draft = StatementDraft::new(program.memory, program.sites.len(), limits);
     let mut passes = Passes::new(program, draft);
     if are_kept {
         keep(&mut passes, given)

@@ -1,7 +1,7 @@
 //! A pass over the code, in the order of its slots, by the verifier's transfer functions.
 ghost use Rattle.std.specs.Prelude.{◌<◌};
 
-use crate::draft::{Arrival, Draft};
+use crate::draft::{Arrival, StatementDraft};
 use crate::edges::copy_of;
 use crate::joining::{Value, any_number, idle_statement};
 use crate::liveness::{self, Registers};
@@ -45,7 +45,7 @@ struct Here {
 #[derive(Drop)]
 pub struct Passes<'a> {
     pub program: Program<'a>,
-    pub draft: Draft,
+    pub draft: StatementDraft,
     here: Here,
 }
 
@@ -100,7 +100,7 @@ fn entry(program: &Program<'_>, is_live: bool) -> Here {
 
 impl<'a> Passes<'a> {
     /// No pass has been made yet.
-    pub fn new(program: Program<'a>, draft: Draft) -> Passes<'a> {
+    pub fn new(program: Program<'a>, draft: StatementDraft) -> Passes<'a> {
         let here = entry(&program, false);
         Passes {
             program,

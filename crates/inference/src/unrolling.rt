@@ -1,16 +1,27 @@
 //! The maximum number of iterations of loops, found by following them one iteration at a time.
 
-use crate::draft::{Draft, Purpose};
+use crate::draft::{Purpose, StatementDraft};
 use crate::fixpoint::program_of;
 use crate::flow::{Passes, Program};
 use crate::memory::{Memory, element_or};
 use isa::{Code, Hook, Slot};
 use kinds::put;
+use object::Statement;
 use segments::places::jump_of;
 use std::alloc::{AllocError, Global};
 
 /// The maximum number of instructions that are followed.
 const MOST_STEPS: usize = 400_000;
+
+/// The state at a site that was followed when nothing else was left to follow. All that follows
+/// depends on it alone, so once it comes back it comes back for ever.
+#[derive(Clone, Copy)]
+struct Mark {
+    site: usize,
+    state: Option<Statement>,
+    /// The step at which a later state takes its place.
+    until: usize,
+}
 
 /// Loops that are followed iteration by iteration, and for each site the last one of its loop: the
 /// last before a backward jump to it; the site itself if it begins no loop.
@@ -18,6 +29,7 @@ const MOST_STEPS: usize = 400_000;
 struct Unrolling<'a> {
     passes: Passes<'a>,
     lasts: Vec<usize>,
+    mark: Mark,
 }
 
 /// The last site at the slot or before it; the first one if there is none.
@@ -83,6 +95,33 @@ impl<'a> Unrolling<'a> {
         Some(next)
     }
 
+    /// Whether nothing but what has reached the site is left to follow.
+    fn is_alone(&self, site: usize) -> bool {
+        let sites = self.passes.program.sites.len();
+        self.first_pending(0, site).is_none()
+            && self.first_pending(site.saturating_add(1), sites).is_none()
+    }
+
+    /// Whether a state comes back, so that the loops don't end. The mark moves on at each step
+    /// whose number is a power of two, so that a circle of any length is found.
+    fn comes_back(&mut self, site: usize, step: usize) -> bool {
+        if !self.is_alone(site) {
+            return false;
+        }
+        let state = self.passes.draft.pending(site);
+        if (self.mark.site == site) & (self.mark.state == state) {
+            return true;
+        }
+        if step >= self.mark.until {
+            self.mark = Mark {
+                site,
+                state,
+                until: step.saturating_mul(2).max(1),
+            }
+        }
+        false
+    }
+
     /// Follows the segment that begins at the site. Returns the number of its instructions.
     fn follow(&mut self, site: usize) -> usize {
         match self.passes.draft.take_pending(site) {
@@ -99,10 +138,13 @@ impl<'a> Unrolling<'a> {
     /// count. Returns whether there is none.
     fn ends(&mut self, most: u32) -> bool {
         let mut steps = 0usize;
-        for _ in 0..MOST_STEPS {
+        for step in 0..MOST_STEPS {
             let Some(site) = self.next() else {
                 return true;
             };
+            if self.comes_back(site, step) {
+                break;
+            }
             let more = self.follow(site).max(1);
             steps = steps.saturating_add(more);
             if (steps > MOST_STEPS) | (self.passes.draft.turns.most > most) {
@@ -116,7 +158,7 @@ impl<'a> Unrolling<'a> {
 /// The loops of the program, at its entry. Backward jumps to these slots count.
 fn loops_of<'a>(memory: &'a Memory, code: &'a Code, hook: Hook, heads: &[usize]) -> Unrolling<'a> {
     let program = program_of(memory, code, hook, &[]);
-    let mut draft = Draft::new(memory, program.sites.len(), Vec::new(memory.alloc));
+    let mut draft = StatementDraft::new(memory, program.sites.len(), Vec::new(memory.alloc));
     for head in heads {
         if let Some(site) = program.sites.at(*head) {
             draft.turns.count(site)
@@ -127,6 +169,11 @@ fn loops_of<'a>(memory: &'a Memory, code: &'a Code, hook: Hook, heads: &[usize])
     Unrolling {
         passes: Passes::new(program, draft),
         lasts,
+        mark: Mark {
+            site: 0,
+            state: None,
+            until: 0,
+        },
     }
 }
 

@@ -7,27 +7,27 @@ use object::{Rank, RankTerm};
 
 /// Which of the two terms of a rank.
 #[derive(Clone, Copy)]
-pub enum Term {
+pub enum WhichTerm {
     First,
     Second,
 }
 
 /// Ranks: an element for each site, and the last one for the entry.
 #[derive(Drop)]
-pub struct Plan {
-    places: Vec<Place>,
+pub struct RankPlan {
+    places: Vec<RankCandidate>,
 }
 
 /// The terms and the constant of a rank, and the value from which the constant is raised.
 #[derive(Clone, Copy)]
-pub struct Place {
+pub struct RankCandidate {
     pub first: Option<RankTerm>,
     pub second: Option<RankTerm>,
     pub now: u64,
     least: u64,
 }
 
-const NO_RANK: Place = Place {
+const NO_RANK: RankCandidate = RankCandidate {
     first: None,
     second: None,
     now: 0,
@@ -37,7 +37,7 @@ const NO_RANK: Place = Place {
 /// Ranks; if a loop has none, which loop and why.
 #[derive(Drop)]
 pub struct Ranking {
-    pub plan: Plan,
+    pub plan: RankPlan,
     pub endless: Option<Endless>,
     pub unranked: Unranked,
 }
@@ -51,22 +51,22 @@ pub enum Unranked {
     Together(Vec<usize>),
 }
 
-impl Plan {
+impl RankPlan {
     /// Ranks that are all 0.
-    pub fn new(memory: &Memory, nodes: usize) -> Plan {
-        Plan {
+    pub fn new(memory: &Memory, nodes: usize) -> RankPlan {
+        RankPlan {
             places: memory.filled(NO_RANK, nodes),
         }
     }
 
     /// The terms and the constant so far.
-    pub fn at(&self, node: usize) -> Place {
+    pub fn at(&self, node: usize) -> RankCandidate {
         element_or(&self.places, node, NO_RANK)
     }
 
     /// The rank without its constant.
     pub fn slope_at(&self, node: usize) -> Rank {
-        let Place { first, second, .. } = self.at(node);
+        let RankCandidate { first, second, .. } = self.at(node);
         Rank {
             constant: 0,
             first,
@@ -86,7 +86,7 @@ impl Plan {
 
     /// Sets the rank. Its constant is the value from which it is raised.
     pub fn give(&mut self, node: usize, rank: Rank) {
-        let place = Place {
+        let place = RankCandidate {
             first: rank.first,
             second: rank.second,
             now: 0,
@@ -96,11 +96,11 @@ impl Plan {
     }
 
     /// Sets one of the terms.
-    pub fn set_term(&mut self, node: usize, which: Term, term: Option<RankTerm>) {
+    pub fn set_term(&mut self, node: usize, which: WhichTerm, term: Option<RankTerm>) {
         let mut place = self.at(node);
         match which {
-            Term::First => place.first = term,
-            Term::Second => place.second = term,
+            WhichTerm::First => place.first = term,
+            WhichTerm::Second => place.second = term,
         }
         put(&mut self.places, node, place)
     }

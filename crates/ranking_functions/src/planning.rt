@@ -2,7 +2,7 @@
 
 use crate::circles::Graph;
 use crate::loops::{Circle, Ways, numbers_below};
-use crate::plan::{Plan, Ranking, Unranked};
+use crate::plan::{RankPlan, Ranking, Unranked};
 use crate::trouble::unranked_loop;
 use crate::weights::{Ending, bounds_of, settle};
 use inference::Inference;
@@ -10,8 +10,8 @@ use inference::memory::Memory;
 use object::Statement;
 use std::alloc::{AllocError, Global};
 
-fn given_ranks(graph: &Graph<'_>, given: &[Statement]) -> Plan {
-    let mut plan = Plan::new(graph.memory, graph.nodes());
+fn given_ranks(graph: &Graph<'_>, given: &[Statement]) -> RankPlan {
+    let mut plan = RankPlan::new(graph.memory, graph.nodes());
     for statement in given {
         if let Some(site) = graph.sites.at(statement.slot() as usize) {
             plan.give(site, statement.rank());
@@ -22,7 +22,7 @@ fn given_ranks(graph: &Graph<'_>, given: &[Statement]) -> Plan {
 
 /// Whether the plan's terms are enough for the whole program; it then has the constants that they
 /// need.
-fn is_settled(graph: &Graph<'_>, plan: &mut Plan) -> bool {
+fn is_settled(graph: &Graph<'_>, plan: &mut RankPlan) -> bool {
     let ending = settle(
         graph.memory,
         plan,
@@ -35,7 +35,7 @@ fn is_settled(graph: &Graph<'_>, plan: &mut Plan) -> bool {
 }
 
 /// Adopts the given ranks, if they are enough. Returns whether they are.
-fn by_given(graph: &Graph<'_>, given: &[Statement], plan: &mut Plan) -> bool {
+fn by_given(graph: &Graph<'_>, given: &[Statement], plan: &mut RankPlan) -> bool {
     let mut ranks = given_ranks(graph, given);
     if is_settled(graph, &mut ranks) {
         *plan = ranks;
@@ -61,7 +61,7 @@ fn by_loops(graph: &Graph<'_>, hints: &[Statement], are_hints: bool, ranking: &m
 /// Ranks for the program, by the given terms or by its loops.
 fn planned(graph: &Graph<'_>, given: &[Statement], are_kept: bool) -> Ranking {
     let mut ranking = Ranking {
-        plan: Plan::new(graph.memory, graph.nodes()),
+        plan: RankPlan::new(graph.memory, graph.nodes()),
         endless: None,
         unranked: Unranked::Alone(Vec::new(graph.memory.alloc)),
     };

@@ -2,7 +2,7 @@
 
 use crate::circles::Graph;
 use crate::loops::Circle;
-use crate::plan::Plan;
+use crate::plan::RankPlan;
 
 /// Why a loop has no rank.
 #[derive(Clone, Copy)]
@@ -20,8 +20,6 @@ pub enum Trouble {
 pub struct Endless {
     pub slot: usize,
     pub trouble: Trouble,
-    /// The number of its iterations is bounded, but no register is left to count them.
-    pub lacks_register: bool,
 }
 
 /// Why the register doesn't bound the loop's iterations.
@@ -55,7 +53,7 @@ fn too_long(graph: &Graph<'_>, circle: &Circle, head: usize) -> Option<Trouble> 
         bounds: graph.bounds,
         most: u64::MAX,
     };
-    let mut plan = Plan::new(graph.memory, graph.nodes());
+    let mut plan = RankPlan::new(graph.memory, graph.nodes());
     match without_budget.best_register(&mut plan, circle, head) {
         Some(register) => Some(Trouble::TooHigh {
             register,
@@ -94,7 +92,6 @@ fn endless_at(graph: &Graph<'_>, head: usize) -> Option<Endless> {
         Some(Endless {
             slot: graph.sites.slot(head),
             trouble: trouble_of(graph, &circle, head),
-            lacks_register: false,
         })
     } else {
         None

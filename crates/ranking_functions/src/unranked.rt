@@ -2,7 +2,7 @@
 
 use crate::circles::Graph;
 use crate::loops::{Circle, is_marked};
-use crate::plan::{Plan, Unranked};
+use crate::plan::{RankPlan, Unranked};
 use kinds::put;
 
 impl<'a> Graph<'a> {
@@ -17,7 +17,7 @@ impl<'a> Graph<'a> {
     }
 
     /// Whether a loop begins at the site that has no rank on its own, though those within it have.
-    fn is_unranked(&self, plan: &mut Plan, unranked: &[bool], head: usize) -> bool {
+    fn is_unranked(&self, plan: &mut RankPlan, unranked: &[bool], head: usize) -> bool {
         let circle = self.circle(head);
         circle.has(head)
             && !self.has_marked(&circle, unranked)
@@ -25,7 +25,7 @@ impl<'a> Graph<'a> {
     }
 
     /// Marks the heads of such loops, from the last site on.
-    fn mark_unranked(&self, plan: &mut Plan, unranked: &mut Vec<bool>) {
+    fn mark_unranked(&self, plan: &mut RankPlan, unranked: &mut Vec<bool>) {
         let count = self.sites.len();
         for passed in 0..count {
             let head = count - 1 - passed;
@@ -66,7 +66,7 @@ impl<'a> Graph<'a> {
     }
 
     /// The heads of loops that have no rank on their own, though those within them have.
-    fn unranked(&self, plan: &mut Plan) -> Vec<bool> {
+    fn unranked(&self, plan: &mut RankPlan) -> Vec<bool> {
         let mut unranked = self.memory.filled(false, self.nodes());
         self.mark_unranked(plan, &mut unranked);
         unranked
@@ -74,7 +74,7 @@ impl<'a> Graph<'a> {
 
     /// The slots at which loops without a rank begin. If each loop has one on its own, those that
     /// have none together.
-    pub fn unranked_loops(&self, plan: &mut Plan, failed: Option<usize>) -> Unranked {
+    pub fn unranked_loops(&self, plan: &mut RankPlan, failed: Option<usize>) -> Unranked {
         let unranked = self.unranked(plan);
         let slots = self.slots_of(&unranked);
         if slots.is_empty() {

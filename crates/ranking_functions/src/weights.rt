@@ -2,7 +2,7 @@
 //! edge adds.
 
 use crate::loops::Circle;
-use crate::plan::Plan;
+use crate::plan::RankPlan;
 use absdom::Domain;
 use inference::memory::{Memory, element_or};
 use inference::{Edge, Value};
@@ -72,7 +72,7 @@ fn add_term(coefficients: &mut [u64; 10], term: Option<RankTerm>) {
     }
 }
 
-fn coefficients_at(plan: &Plan, node: usize) -> [u64; 10] {
+fn coefficients_at(plan: &RankPlan, node: usize) -> [u64; 10] {
     let mut coefficients = [0; 10];
     let place = plan.at(node);
     add_term(&mut coefficients, place.first);
@@ -125,7 +125,7 @@ struct Need {
 }
 
 /// What the edge needs. `line` bounds the rank at its end without the constant there.
-fn need_by(plan: &Plan, bounds: &[Bounds], edge: &Edge, line: &Line) -> Option<Need> {
+fn need_by(plan: &RankPlan, bounds: &[Bounds], edge: &Edge, line: &Line) -> Option<Need> {
     let from = element_or(bounds, edge.from, NO_BOUNDS);
     let gap = gap_of(line.coefficients, coefficients_at(plan, edge.from), &from);
     if !gap.is_bounded {
@@ -145,7 +145,7 @@ fn need_by(plan: &Plan, bounds: &[Bounds], edge: &Edge, line: &Line) -> Option<N
 }
 
 /// What the edge needs; `None` if no constant is enough.
-fn need_of(plan: &Plan, bounds: &[Bounds], edge: &Edge) -> Option<Need> {
+fn need_of(plan: &RankPlan, bounds: &[Bounds], edge: &Edge) -> Option<Need> {
     match bound_of(plan.slope_at(edge.to), &edge.state) {
         Some(line) => need_by(plan, bounds, edge, &line),
         None => None,
@@ -155,7 +155,7 @@ fn need_of(plan: &Plan, bounds: &[Bounds], edge: &Edge) -> Option<Need> {
 /// What these edges need; `None` if no constants are enough.
 fn needs_of(
     memory: &Memory,
-    plan: &Plan,
+    plan: &RankPlan,
     bounds: &[Bounds],
     edges: &[Edge],
     kept: &[usize],
@@ -190,7 +190,7 @@ enum Round {
 }
 
 /// Raises the constant at an edge's start to what the edge needs.
-fn raise_by(plan: &mut Plan, need: &Need, most: u64) -> Round {
+fn raise_by(plan: &mut RankPlan, need: &Need, most: u64) -> Round {
     let end = u128::from(plan.at(need.to).now);
     let needed = end.saturating_add(need.more).saturating_sub(need.less);
     if u128::from(most) < needed {
@@ -204,7 +204,7 @@ fn raise_by(plan: &mut Plan, need: &Need, most: u64) -> Round {
 }
 
 /// Raises the constants at the starts of edges once.
-fn raise_once(plan: &mut Plan, needs: &[Need], most: u64) -> Round {
+fn raise_once(plan: &mut RankPlan, needs: &[Need], most: u64) -> Round {
     let mut round = Round::Still;
     // An edge raises the constant at its start, so the last edges come first.
     for passed in 0..needs.len() {
@@ -218,7 +218,7 @@ fn raise_once(plan: &mut Plan, needs: &[Need], most: u64) -> Round {
 }
 
 /// Raises the constants until each edge has what it needs, in at most `rounds` rounds.
-fn raise(plan: &mut Plan, needs: &[Need], rounds: usize, most: u64) -> Ending {
+fn raise(plan: &mut RankPlan, needs: &[Need], rounds: usize, most: u64) -> Ending {
     for _ in 0..rounds {
         match raise_once(plan, needs, most) {
             Round::Still => return Ending::Settled,
@@ -232,7 +232,7 @@ fn raise(plan: &mut Plan, needs: &[Need], rounds: usize, most: u64) -> Ending {
 /// Raises the constants from their starting values until each edge of the loop has what it needs.
 pub fn settle(
     memory: &Memory,
-    plan: &mut Plan,
+    plan: &mut RankPlan,
     bounds: &[Bounds],
     edges: &[Edge],
     circle: &Circle,

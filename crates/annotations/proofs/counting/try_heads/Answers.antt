@@ -1,6 +1,8 @@
-use Rattle.std.proofs.Common.{List, ℕ, inl, inr, refl, subst, sym}
+use Rattle.std.proofs.Common.{◌≡◌, List, ap, arith, inl, inr, length, refl, subst, sym, ℕ}
+use Rattle.std.specs.Prelude.{vec_len}
+use Rattle.std.proofs.lemmas.Bool.{eqb-false}
 use Rattle.annotations.specs.Annotated.{CountsLoops}
-use Rattle.annotations.proofs.Faults.{no_verdict_with_turns}
+use Rattle.annotations.proofs.Faults.{count_fault}
 use Rattle.annotations.proofs.Outcomes.{with_turns}
 use Rattle.annotations.proofs.counting.try_heads.Goals as goal
 
@@ -14,4 +16,14 @@ returns-in-Ok c = with_turns _ _ _ _ _
     c.try_text.ensures
 
 pub returns-in-Err : goal.returns-in-Err
-returns-in-Err c = no_verdict_with_turns _ _ _ _ c.in-Err.ensures.fault
+returns-in-Err c = count_fault _ _ _ _ _ c.in-Err.ensures.fault
+
+pub counted_text-requires-clause-inside : goal.counted_text-requires-clause-inside
+counted_text-requires-clause-inside c = elim c.requires.inside [
+  | inl none ↦
+      let slots = c.args.heads.now.slots in
+      let items : length slots.items ≡ 0 = ap (λ (xs : List ℕ). length xs) none in
+      let empty : vec_len slots ≡ 0 = omega (arith, items, slots.ok.0) in
+      absurd (eqb-false (vec_len slots) 0 (sym c.if-is_empty.ensures) empty)
+  | inr inside ↦ inside
+]

@@ -1,4 +1,4 @@
-use Rattle.std.proofs.Common.{subst}
+use Rattle.std.proofs.Common.{◌≡◌, IsSome, None, subst}
 use Rattle.annotations.specs.Annotated.{IsAnnotation, with_found}
 use Rattle.annotations.specs.Verdict.{IsFileShortfall}
 use Rattle.annotations.specs.declared.fuel.Fuel.{Fuel}
@@ -15,6 +15,8 @@ returns-in-Ok-clause-made g c = found c.args.hook c.args.fuel _ _ _ _ c.in-Ok.fo
     (with_found fuel c.in-Ok.found.turns) c.args.file.now c.in-Ok.found.annotated.object
     c.in-Ok.found.annotated.bytes.items c.in-Ok.found.annotated.accepted) c.fuel_for.ensures
     c.in-Ok.ensures.accepted) c.written.ensures.told c.written.ensures.done
+    (subst (λ (fuel : Fuel). IsSome fuel.turns → c.in-Ok.found.turns ≡ None) c.fuel_for.ensures
+    c.in-Ok.ensures.found)
 
 pub returns-in-Ok-clause-fault : goal.returns-in-Ok-clause-fault
 returns-in-Ok-clause-fault g c = unwritten c.args.hook c.args.fuel c.args.file.now _
