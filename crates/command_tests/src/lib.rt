@@ -5,6 +5,4 @@
 #[cfg(test)]
 mod program;
 #[cfg(test)]
-mod requests;
-#[cfg(test)]
 mod running;

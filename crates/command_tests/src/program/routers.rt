@@ -1,16 +1,15 @@
 //! The command `route`: the configuration, the console's streams and the status go to the router
 //! and back.
 
-use super::path_for;
 use commands::Routing;
 use commands::program::program;
 use std::alloc::Global;
+use std::fs;
 use std::io::{BufRead, Write};
 use std::process::Abort;
 use std::rt::Files;
 use std::test::Fail;
 use std::thread::Threads;
-use std::{fs, process};
 
 // In the place of a router: prints the configuration and the console's first line.
 #[derive(Drop)]
@@ -49,22 +48,20 @@ fn status_of<R: Files + AllocGlobal + Threads + Sync>(
     (got, printed && errors.is_empty())
 }
 
-// A router that ends so has both. An allocation may be refused once.
-fn expect_status<R: Files + AllocGlobal + Threads + Sync + Abort>(rt: &R, path: &str, status: u8) {
-    let mut ended = status_of(rt, path, status);
+// Whether a router that ends so has both. An allocation may be refused once.
+fn has_both<R: Files + AllocGlobal + Threads + Sync>(rt: &R, path: &str, status: u8) -> bool {
+    let ended = status_of(rt, path, status);
     if ended != (status, true) && (ended.0 == 3 || ended.0 == 4) {
-        ended = status_of(rt, path, status);
+        return status_of(rt, path, status) == (status, true);
     }
-    assert!(rt; ended == (status, true), "{}", ended.0);
+    ended == (status, true)
 }
 
 #[test]
 fn a_router_has_its_configuration_and_the_console(rt: HostRuntime) -> Result<(), Fail> {
-    let path = path_for(&rt, process::id(rt.process()), "one.conf")?;
-    fs::write(&rt, path.as_str(), "router 1.1.1.1\n")?;
+    fs::write(&rt, "one.conf", "router 1.1.1.1\n")?;
     for status in [0, 1, 3, 4] {
-        expect_status(&rt, path.as_str(), status);
+        assert!(rt; has_both(&rt, "one.conf", status), "{status}");
     }
-    fs::remove_file(&rt, path.as_str())?;
     Ok(())
 }

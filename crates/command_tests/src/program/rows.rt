@@ -1,15 +1,12 @@
 //! Worked command lines: code, texts, objects and verdicts. trials/routerd.rows has these and more,
 //! played by the built program.
 
-use super::{ADDS, expect, holds, remove, write_file};
-use std::process;
-use std::process::Abort;
-use std::rt::{Env, Files};
+use super::{ADDS, ends_so};
+use std::fs;
 use std::test::Fail;
-use std::thread::Threads;
 
-// What the file `@it` is made, if it isn't left as it was; the words after `routerd`, their status
-// and what is printed.
+// What the file `it` is made, if it isn't left as it was; the words, their status and what is
+// printed.
 type Row = (
     Option<&'static [u8]>,
     &'static [&'static str],
@@ -33,11 +30,11 @@ const LISTED: &str =
         state 2 rank 0 r1 * 1\nwith r0 number 0 18446744073709551615 0 0\n\
         with r1 number 1 10 0 0\n";
 
-const CODE: &[Row] = &[
+const ROWS: &[Row] = &[
     // r1 = 5; r2 = 3; call 1; exit
     (
         Some(&ADDS),
-        &["raw", "count", "@it", "2"],
+        &["routerd", "raw", "count", "it", "2"],
         0,
         "seat 1 answer 0 used 4\nseat 2 answer 0 used 4\ncounter 5 6\n",
     ),
@@ -47,7 +44,7 @@ const CODE: &[Row] = &[
             0xb7, 1, 0, 0, 5, 0, 0, 0, 0xb7, 2, 0, 0, 3, 0, 0, 0, 0x85, 0, 0, 0, 5, 0, 0, 0, 0x95,
             0, 0, 0, 0, 0, 0, 0,
         ]),
-        &["raw", "count", "@it", "1"],
+        &["routerd", "raw", "count", "it", "1"],
         1,
         "seat 1 trap 7\n",
     ),
@@ -57,7 +54,7 @@ const CODE: &[Row] = &[
             0xb7, 1, 0, 0, 0, 1, 0, 0, 0xb7, 2, 0, 0, 3, 0, 0, 0, 0x85, 0, 0, 0, 1, 0, 0, 0, 0x95,
             0, 0, 0, 0, 0, 0, 0,
         ]),
-        &["raw", "count", "@it", "1"],
+        &["routerd", "raw", "count", "it", "1"],
         1,
         "seat 1 trap 8\n",
     ),
@@ -68,88 +65,90 @@ const CODE: &[Row] = &[
             0xb7, 1, 0, 0, 5, 0, 0, 0, 0xb7, 2, 0, 0, 3, 0, 0, 0, 0x85, 0, 0, 0, 1, 0, 0, 0, 0xbf,
             16, 0, 0, 0, 0, 0, 0, 0x95, 0, 0, 0, 0, 0, 0, 0,
         ]),
-        &["raw", "tag", "@it", "1"],
+        &["routerd", "raw", "tag", "it", "1"],
         1,
         "seat 1 trap 3\ncounter 5 3\n",
     ),
     // exit
     (
         Some(&[0x95, 0, 0, 0, 0, 0, 0, 0]),
-        &["raw", "count", "@it", "1"],
+        &["routerd", "raw", "count", "it", "1"],
         1,
         "seat 1 trap 3\n",
     ),
     // r0 = 7
     (
         Some(&[0xb7, 0, 0, 0, 7, 0, 0, 0]),
-        &["raw", "count", "@it", "1"],
+        &["routerd", "raw", "count", "it", "1"],
         1,
         "seat 1 trap 1\n",
     ),
     // goto -1
     (
         Some(&[0x05, 0, 0xff, 0xff, 0, 0, 0, 0]),
-        &["raw", "price", "@it", "1"],
+        &["routerd", "raw", "price", "it", "1"],
         1,
         "seat 1 trap 11\n",
     ),
     // no code, and an opcode that isn't listed
     (
         Some(&[]),
-        &["raw", "count", "@it", "1"],
+        &["routerd", "raw", "count", "it", "1"],
         1,
         "code refusal 1 slot 0\n",
     ),
     (
         Some(&[0x95, 0, 0, 0, 0, 0, 0, 0, 0xff, 0, 0, 0, 0, 0, 0, 0]),
-        &["raw", "tag", "@it", "1"],
+        &["routerd", "raw", "tag", "it", "1"],
         1,
         "code refusal 2 slot 1\n",
     ),
     (
         None,
-        &["raw", "count", "@missing", "2"],
+        &["routerd", "raw", "count", "missing", "2"],
         3,
-        "cannot read @missing\n",
+        "cannot read missing\n",
     ),
-];
-
-const TEXTS: &[Row] = &[
-    (Some(SUM), &["asm", "@it", "@out"], 0, "ok 6\n"),
-    (None, &["list", "@out"], 0, LISTED),
-    (None, &["verify", "@out"], 0, "accepted bound 66\n"),
-    (None, &["run", "@out", "-", "-"], 0, "answer 55 used 33\n"),
+    (Some(SUM), &["routerd", "asm", "it", "out"], 0, "ok 6\n"),
+    (None, &["routerd", "list", "out"], 0, LISTED),
+    (
+        None,
+        &["routerd", "verify", "out"],
+        0,
+        "accepted bound 66\n",
+    ),
+    (
+        None,
+        &["routerd", "run", "out", "-", "-"],
+        0,
+        "answer 55 used 33\n",
+    ),
     (
         Some(b"hook price\nrank 0\nr0 = 2147483648\nexit\n"),
-        &["asm", "@it", "@out"],
+        &["routerd", "asm", "it", "out"],
         1,
         "source refusal 3 line 3\n",
     ),
-    (None, &["verify", "@it"], 1, "object refusal 2\n"),
-    (Some(SEVEN), &["asm", "@it", "@out"], 0, "ok 2\n"),
-    (None, &["run", "@out", "-", "-"], 0, "answer 7 used 2\n"),
+    (None, &["routerd", "verify", "it"], 1, "object refusal 2\n"),
+    (Some(SEVEN), &["routerd", "asm", "it", "out"], 0, "ok 2\n"),
+    (
+        None,
+        &["routerd", "run", "out", "-", "-"],
+        0,
+        "answer 7 used 2\n",
+    ),
 ];
-
-fn expect_rows<R: Files + AllocGlobal + Threads + Sync + Env + Abort>(
-    rt: &R,
-    id: u32,
-    rows: &[Row],
-) -> Result<(), Fail> {
-    for (bytes, words, status, lines) in rows.iter().copied() {
-        if let Some(bytes) = bytes {
-            write_file(rt, id, "it", bytes)?;
-        }
-        expect(rt, id, words, status, lines)?;
-    }
-    Ok(())
-}
 
 #[test]
 fn worked_command_lines(rt: HostRuntime) -> Result<(), Fail> {
-    let id = process::id(rt.process());
-    expect_rows(&rt, id, CODE)?;
-    expect_rows(&rt, id, TEXTS)?;
-    holds(&rt, id, "out", &SEVEN_OBJECT)?;
-    remove(&rt, id, "it")?;
-    remove(&rt, id, "out")
+    for row in ROWS {
+        let (bytes, words, status, lines) = *row;
+        if let Some(bytes) = bytes {
+            fs::write(&rt, "it", bytes)?;
+        }
+        assert!(rt; ends_so(&rt, words, status, lines.as_bytes()), "{lines}");
+    }
+    let out = fs::read(&rt, "out")?;
+    assert!(rt; out.as_slice() == SEVEN_OBJECT.as_slice());
+    Ok(())
 }

@@ -40,44 +40,70 @@ const WITHHOLDING: &[u8] =
     b"BPFH\x01\x03\x00\x00\x00\x00\x00\x00\x02\x00\x00\x00\xb7\x00\x00\x00\xff\xff\xff\x00\x95\x00\
         \x00\x00\x00\x00\x00\x00";
 
-/// The lines of a session, and what they are answered.
+/// Two interfaces at one port.
+const TWICE: &str = "router 1.1.1.1\n\
+        interface 1 10.0.1.1/24 cost 10 hello 10 dead 40 rxmt 5 delay 1 port 27103 peer 27104\n\
+        interface 2 10.0.2.1/24 cost 10 hello 10 dead 40 rxmt 5 delay 1 port 27103 peer 27104\n";
+
+/// A configuration, the lines of a session, what they are answered, and the status.
 #[derive(Clone, Copy)]
 struct Session {
+    configuration: &'static str,
     lines: &'static [u8],
     answers: &'static [u8],
+    status: u8,
 }
 
 const SESSIONS: &[Session] = &[
     Session {
+        configuration: ONE,
         lines: b"table\nneighbors\nadd 203.0.113.0/24 20 2 0\nwithdraw 203.0.113.0/24\nhello\n\xff\
             \nquit\n",
         answers: b"10.0.1.0/24 intra 10 via 0\nend\nend\noriginated\nwithdrawn\nunknown\nunknown\n",
+        status: 0,
     },
     Session {
+        configuration: ONE,
         lines: b"attach vetoing\ntable\ndetach veto\ntable\nquit\n",
         answers: b"attached veto bound 2\nend\ndetached veto\n10.0.1.0/24 intra 10 via 0\nend\n",
+        status: 0,
     },
     Session {
+        configuration: ONE,
         lines: b"attach nowhere\nattach prose\nattach unknown\nattach empty\ntable",
         answers: b"cannot read nowhere\nobject refusal 1\ncode refusal 2 slot 0\nrefused slot 0 rul\
             e 5\n10.0.1.0/24 intra 10 via 0\nend\n",
+        status: 0,
     },
     // Its price is asked once; what it counted is shown, and once more at the end.
     Session {
+        configuration: ONE,
         lines: b"counters\nattach counting\nadd 203.0.113.0/24 10 2 0\ncounters\nquit\n",
         answers: b"end\nattached price bound 5\noriginated\ncounter 5 3\nend\ncounter 5 3\n",
+        status: 0,
     },
     // A price of LSInfinity keeps a destination back, and a longer prefix of an address that is
     // announced clashes with it.
     Session {
+        configuration: ONE,
         lines: b"attach withholding\nadd 203.0.113.0/24 20 2 0\ndetach price\n\
             add 203.0.113.0/24 20 2 0\nadd 203.0.113.0/25 20 2 0\nquit\n",
         answers: b"attached price bound 2\nwithheld\ndetached price\noriginated\nrefused 3\n",
+        status: 0,
     },
     // A directory and a device are no regular files.
     Session {
+        configuration: ONE,
         lines: b"attach .\nattach /dev/null\nattach /dev/zero\nquit\n",
         answers: b"cannot read .\ncannot read /dev/null\ncannot read /dev/zero\n",
+        status: 0,
+    },
+    // The port is taken.
+    Session {
+        configuration: TWICE,
+        lines: b"quit\n",
+        answers: b"cannot bind 27103\n",
+        status: 3,
     },
 ];
 
@@ -133,18 +159,16 @@ fn is_answered<R: Net + Threads + Wait + Clock + Log + Files + AllocGlobal + Syn
     false
 }
 
-// A router with this configuration is answered so, and ends with this status. An allocation may be
-// refused once: then another router is asked.
-fn answers<R: Net + Threads + Wait + Clock + Log + Files + AllocGlobal + Sync + Drop + Abort>(
+// The same. An allocation may be refused once: then another router is asked.
+fn are_answers<R: Net + Threads + Wait + Clock + Log + Files + AllocGlobal + Sync + Drop + Abort>(
     rt: &R,
     configuration: &str,
     lines: &[u8],
     wanted: &[u8],
     status: u8,
-) {
-    let is_so = is_answered(rt, configuration, lines, wanted, status)
-        || is_answered(rt, configuration, lines, wanted, status);
-    assert!(rt; is_so, "{lines:?}");
+) -> bool {
+    is_answered(rt, configuration, lines, wanted, status)
+        || is_answered(rt, configuration, lines, wanted, status)
 }
 
 /// The files that the lines name.
@@ -169,7 +193,16 @@ fn write_files<R: Files + AllocGlobal>(rt: &R) -> io::Result<()> {
 fn each_line_is_answered(rt: HostRuntime) -> Result<(), Fail> {
     write_files(&rt)?;
     for session in SESSIONS {
-        answers(&rt, ONE, session.lines, session.answers, 0);
+        let Session {
+            configuration,
+            lines,
+            answers,
+            status,
+        } = *session;
+        assert!(rt;
+            are_answers(&rt, configuration, lines, answers, status),
+            "{lines:?}"
+        );
     }
     Ok(())
 }
@@ -196,7 +229,7 @@ fn a_long_line_is_answered_once(rt: HostRuntime) -> Result<(), Fail> {
     for length in &LENGTHS {
         let lines = long_line(rt.alloc(), *length)?;
         let wanted = b"unknown\n10.0.1.0/24 intra 10 via 0\nend\n";
-        answers(&rt, LONG, &lines, wanted, 0);
+        assert!(rt; are_answers(&rt, LONG, &lines, wanted, 0), "{length}");
     }
     Ok(())
 }
@@ -239,14 +272,4 @@ fn ends_after_a_line<R: Net + Threads + Wait + Clock + Log + Files + AllocGlobal
 fn an_input_that_fails_ends_it_with_status_3(rt: HostRuntime) -> Result<(), Fail> {
     assert!(rt; ends_after_a_line(&rt)? || ends_after_a_line(&rt)?);
     Ok(())
-}
-
-/// Two interfaces at one port.
-const TWICE: &str = "router 1.1.1.1\n\
-        interface 1 10.0.1.1/24 cost 10 hello 10 dead 40 rxmt 5 delay 1 port 27103 peer 27104\n\
-        interface 2 10.0.2.1/24 cost 10 hello 10 dead 40 rxmt 5 delay 1 port 27103 peer 27104\n";
-
-#[test]
-fn a_port_that_is_taken_ends_it(rt: HostRuntime) {
-    answers(&rt, TWICE, b"quit\n", b"cannot bind 27103\n", 3);
 }
