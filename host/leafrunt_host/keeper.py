@@ -322,12 +322,13 @@ class Keeper:
                 sessions.is_known(number)
 
     def _keep_kernel(self, kernel: KernelTable) -> None:
-        began, is_changed = time.monotonic(), True
+        began, is_changed, is_lacking = time.monotonic(), True, False
         try:
             is_changed = self._kept(kernel)
+            is_lacking = self._known.kept.absent > 0
         finally:
             now = time.monotonic()
-            self._pace.looked(now, now - began, is_changed, bool(self._known.kept.absent))
+            self._pace.looked(now, now - began, is_changed, is_lacking)
 
     def _kept(self, kernel: KernelTable) -> bool:
         """Brings the table to the kernel; whether it was another than the last one."""

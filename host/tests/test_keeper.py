@@ -12,7 +12,7 @@ from unittest import mock
 
 from leafrunt_host import keeper
 from leafrunt_host.exchange import Side
-from leafrunt_host.forwarding import Hop, KernelTable
+from leafrunt_host.forwarding import CannotKeep, Hop, KernelTable
 from leafrunt_host.keeper import (
     AFTER,
     AGAIN,
@@ -206,6 +206,18 @@ class Keeps(unittest.TestCase):
         self.assertLessEqual(self.keeper._pace.due, first + SECONDS_ABSENT)
         self.look(first + SECONDS_ABSENT + 0.01)
         self.assertEqual(self.kernel.forwards(), {})
+
+    def test_a_kernel_that_fails_meanwhile(self) -> None:
+        """It isn't asked more often than where no route is away."""
+        now = time.monotonic()
+        self.look(now)
+        self.router.table = self.router.table[:1]
+        self.keeper._pace.woken(now + 1)
+        self.look(first := self.keeper._pace.due)
+        with mock.patch.object(KernelTable, "keep", side_effect=CannotKeep("it fails")):
+            with self.assertRaises(CannotKeep):
+                self.look(first + SECONDS_ABSENT)
+        self.assertGreater(self.keeper._pace.due, first + 2 * SECONDS_ABSENT)
 
     def test_a_route_that_is_gone_with_its_links(self) -> None:
         now = time.monotonic()
