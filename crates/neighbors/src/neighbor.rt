@@ -82,8 +82,8 @@ fn is_exchange_or_loading(state: State) -> bool
     }
 }
 
-fn passes(moment: Second, copy: &DatabaseCopy<'_>, request: Option<ListEntry>) -> bool
-    ensures { result ≡ passes moment (lsa_now moment copy.now) request }
+fn passes(moment: Second, copy: &DatabaseCopy<'_>, request: &Option<ListEntry>) -> bool
+    ensures { result ≡ passes moment (lsa_now moment copy.now) request.now }
 {
     match request {
         None => true,
@@ -94,8 +94,8 @@ fn passes(moment: Second, copy: &DatabaseCopy<'_>, request: Option<ListEntry>) -
     }
 }
 
-fn meets(moment: Second, copy: &DatabaseCopy<'_>, request: Option<ListEntry>) -> bool
-    ensures { result ≡ meets moment (lsa_now moment copy.now) request }
+fn meets(moment: Second, copy: &DatabaseCopy<'_>, request: &Option<ListEntry>) -> bool
+    ensures { result ≡ meets moment (lsa_now moment copy.now) request.now }
 {
     match request {
         None => false,
@@ -301,10 +301,9 @@ impl Neighbor {
             (request_of self.old.present (lsa_now moment copy.now))) }
         ensures settled { self.new.settled ≡ self.old.settled }
     {
-        let first = self.requested(moment, copy);
-        let passes = passes(moment, copy, first);
-        let second = self.requested(moment, copy);
-        if meets(moment, copy, second) {
+        let listed = self.requested(moment, copy);
+        let passes = passes(moment, copy, &listed);
+        if meets(moment, copy, &listed) {
             let header = copy.header(moment);
             self.withdraw(&header)?;
         }
