@@ -3,7 +3,7 @@ use Rattle.std.proofs.Common.{◌≡◌, ℕ, zero, suc, ◌<◌, ◌≤◌, ◌
 use Rattle.std.proofs.Common.{T, nat_lt, nat_eq, List, [], ◌∷◌, map, Some, None, ltb-true}
 use Rattle.std.proofs.Common.{ltb-false, eqb-true, arith, refl, sym, ap, subst, ◌∙◌}
 use mathlib.Core.Bool.{false≢true}
-use Rattle.std.specs.Prelude.{Option, is_some, ◌&&◌, ◌↔◌, slice_get, take}
+use Rattle.std.specs.Prelude.{Option, is_some, ◌&&◌, ◌↔◌, slice_get}
 use Rattle.std.specs.Cmp.{Equal-is, nat_cmp_total, tied_itself}
 use Rattle.std.specs.FinMap as finite
 use Rattle.std.specs.FinMap.Entries.{below_all}
@@ -232,22 +232,20 @@ module _ {X : Type 0} where
         first_of (first_named router) n.0 (finite.entries db) (finite.entries_sorted db)
         (sym (ap is_some (finite.get-entries db n.0)) ∙ n.1) (is_least router n.0 n.2)
 
-    pub none_named : (keys : List Key) → keys ≡ take 1 from_it → None ≡ slice_get keys 0 → Named → ⊥
-    none_named keys are none n =
+    pub none_named : None ≡ slice_get from_it 0 → Named → ⊥
+    none_named none n =
         let f = firsts n in
-        let one : slice_get keys 0 ≡ Some f.found =
-        ap (λ ks. slice_get ks 0) (are ∙ ap (take 1) f.is) in
+        let one : slice_get from_it 0 ≡ Some f.found = ap (λ ks. slice_get ks 0) f.is in
         absurd (cc)
 
-    front : (found : Key) (ks : List Key) → Some found ≡ slice_get (take 1 ks) 0
+    front : (found : Key) (ks : List Key) → Some found ≡ slice_get ks 0
         → (rest : List Key) × (ks ≡ found ∷ rest)
     front found [] is = absurd (cc)
     front found (k ∷ ks) is = let same : k ≡ found = cc in (ks, ap (λ x. x ∷ ks) same)
 
-    pub first_names : (keys : List Key) (found : Key) → keys ≡ take 1 from_it
-        → Some found ≡ slice_get keys 0 → NamesIt router found ↔ Named
-    first_names keys found are some =
-        let it = front found from_it (some ∙ ap (λ ks. slice_get ks 0) are) in (
+    pub first_names : (found : Key) → Some found ≡ slice_get from_it 0 → NamesIt router found ↔ Named
+    first_names found some =
+        let it = front found from_it some in (
           (λ names. (
             found,
             ap is_some (finite.get-entries db found)

@@ -33,29 +33,22 @@ impl<'a> KeyRule for OfNoAccount<'a> {
 
     ghost leaves_out = { λ a key. OffersNothing a.moment a.db.now.present a.walk.now key };
 
-    fn leaves_out(&self, alloc: Global, key: &Key) -> Result<bool, AllocError> {
-        offers_nothing(alloc, self.db, self.walk, self.moment, key)
+    fn leaves_out(&self, _alloc: Global, key: &Key) -> Result<bool, AllocError> {
+        Ok(offers_nothing(self.db, self.walk, self.moment, key))
     }
 }
 
 // Whether an LSA with this key is an external one that offers nothing, whatever it says.
-fn offers_nothing(
-    alloc: Global,
-    db: &Lsdb,
-    walk: &Routes,
-    moment: Second,
-    key: &Key,
-) -> Result<bool, AllocError>
-    ensures { IfOk result (λ is. IsTrue is
-        ↔ OffersNothing moment db.now.present walk.now key.now) }
+fn offers_nothing(db: &Lsdb, walk: &Routes, moment: Second, key: &Key) -> bool
+    ensures { IsTrue result ↔ OffersNothing moment db.now.present walk.now key.now }
 {
     if key.ls_type < 5 {
-        return Ok(false);
+        return false;
     }
     if is_own(walk, key) {
-        return Ok(true);
+        return true;
     }
-    is_unreached(alloc, db, walk, moment, key.advertising_router)
+    is_unreached(db, walk, moment, key.advertising_router)
 }
 
 fn is_own(walk: &Routes, key: &Key) -> bool
@@ -65,21 +58,14 @@ fn is_own(walk: &Routes, key: &Key) -> bool
 }
 
 // Whether the router isn't reached as an AS boundary router.
-fn is_unreached(
-    alloc: Global,
-    db: &Lsdb,
-    walk: &Routes,
-    moment: Second,
-    router: RouterId,
-) -> Result<bool, AllocError>
-    ensures { IfOk result (λ is. IsTrue is
-        ↔ IsUnreached moment db.now.present walk.now router) }
+fn is_unreached(db: &Lsdb, walk: &Routes, moment: Second, router: RouterId) -> bool
+    ensures { IsTrue result ↔ IsUnreached moment db.now.present walk.now router }
 {
     if is_boundary(db, walk, moment, router) {
-        return Ok(false);
+        return false;
     }
-    let named = is_named(alloc, db, router)?;
-    Ok(!named)
+    let named = is_named(db, router);
+    !named
 }
 
 // The router-LSA with this key, if the database has one below MaxAge.
@@ -99,14 +85,13 @@ fn is_boundary(db: &Lsdb, walk: &Routes, moment: Second, router: RouterId) -> bo
     ensures { IsTrue result ↔ ((way : WayTo) × IsFlagged (said_at moment db.now.present)
         (way_in walk.now.reached) router 2 way) }
 {
+    let reached = walk.way_to(&Node::ARouter(router)).is_some();
+    if !reached {
+        return false;
+    }
     match router_lsa(db, moment, &router_key(router)) {
         None => false,
-        Some(lsa) => {
-            if !has_e(lsa) {
-                return false;
-            }
-            walk.way_to(&Node::ARouter(router)).is_some()
-        }
+        Some(lsa) => has_e(lsa),
     }
 }
 
@@ -127,14 +112,12 @@ fn has_e(lsa: &RouterLsa) -> bool
 }
 
 // Whether a summary-LSA of an AS boundary router names this one.
-fn is_named(alloc: Global, db: &Lsdb, router: RouterId) -> Result<bool, AllocError>
-    ensures { IfOk result (λ is. IsTrue is ↔ IsNamed db.now.present router) }
+fn is_named(db: &Lsdb, router: RouterId) -> bool
+    ensures { IsTrue result ↔ IsNamed db.now.present router }
 {
-    let first = first_named(router);
-    let keys = db.first_from(alloc, &first, 1)?;
-    match keys.first() {
-        None => Ok(false),
-        Some(key) => Ok(names_it(router, key)),
+    match db.next_from(&first_named(router)) {
+        None => false,
+        Some(key) => names_it(router, &key),
     }
 }
 

@@ -12,8 +12,8 @@ returns-then-is_boundary c = (
 
 pub returns : goal.returns
 returns c =
-    let unnamed = not_so c.in_ok-named.named (IsNamed c.args.db.now.present c.args.router)
-    c.in_ok-named.ensures in (
+    let unnamed = not_so c.is_named-named.result (IsNamed c.args.db.now.present c.args.router)
+    c.is_named-named.ensures in (
       (λ t. record {
         inside = λ way flagged. false≢true
             (sym c.if-is_boundary.false ∙ c.is_boundary.ensures.1 (way, flagged));

@@ -1,5 +1,4 @@
 use Rattle.std.proofs.Common.{inl, inr, arith, refl}
-use Rattle.std.proofs.lemmas.Result.{IfOk-weaker}
 use Rattle.kept_routes.proofs.externals.offers_nothing.Goals as goal
 
 pub returns-then-is_own : goal.returns-then-is_own
@@ -12,12 +11,11 @@ returns-then-is_own c = (
 )
 
 pub returns : goal.returns
-returns c =
-    IfOk-weaker c.is_unreached.result _ _ (λ un is. (
-      (λ t. record { external = omega (arith, c.if-key-lt5.false); of_no_account = inr (is.0 t) }),
-      (λ it.
-          elim it.of_no_account [
-            | inl own ↦ absurd (let on = c.is_own.ensures.1 own in cc)
-            | inr un ↦ is.1 un
-          ]),
-    )) c.is_unreached.ensures
+returns c = (
+  (λ t. record { external = omega (arith, c.if-key-lt5.false); of_no_account = inr (c.is_unreached.ensures.0 t) }),
+  (λ it.
+      elim it.of_no_account [
+        | inl own ↦ absurd (let on = c.is_own.ensures.1 own in cc)
+        | inr un ↦ c.is_unreached.ensures.1 un
+      ]),
+)
