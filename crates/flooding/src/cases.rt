@@ -1,9 +1,12 @@
 //! The case of an LSA in a received Link State Update (RFC 2328, section 13).
-ghost use Rattle.std.specs.Prelude.{◌≡◌, ◌&&◌, not};
+ghost use Rattle.std.specs.Prelude.{◌≡◌, ◌&&◌, not, None, Option};
+ghost use Rattle.words.specs.Numbers.{Moment};
 ghost use Rattle.adjacency.specs.lsdb.Copies.{in_this_second, installed_just_now, newer_than_copy};
 ghost use Rattle.adjacency.specs.lsdb.Copies.{same_as_copy, sent_just_now};
 ghost use Rattle.adjacency.specs.lsdb.Order.{is_max_age};
-ghost use Rattle.received.specs.Cases.{Case as Row, case_tests, first_case, is_wrapping};
+ghost use Rattle.adjacency.specs.Neighbors.{Neighbor};
+ghost use Rattle.received.specs.Cases.{Case as Row, case_of_readable, case_tests, first_case};
+ghost use Rattle.received.specs.Cases.{is_wrapping};
 ghost use Rattle.flooding.specs.Cases.{case_of, tests_of};
 
 use crate::link::Link;
@@ -114,6 +117,39 @@ fn is_wrapping(moment: Second, copy: &Option<DatabaseCopy<'_>>) -> bool
             let header = copy.header(moment);
             let last = header.sequence.number() == SequenceNumber::MAX.number();
             copy.is_aged_out(moment) && last
+        }
+    }
+}
+
+// The case of an LSA without a database copy, whatever the neighbor's lists have.
+fn case_without_copy(lsa: &Lsa, synchronizing: bool) -> Case
+    ensures { (moment : Moment) (sender : Option Neighbor) → case_of result
+        ≡ case_of_readable moment None sender synchronizing lsa.now }
+{
+    let header = lsa.header();
+    if nothing_to_flush(header.age, true, synchronizing) {
+        return Case::NothingToFlush;
+    }
+    Case::Newer
+}
+
+/// The case of an LSA that was received on this link, by the copy of its key and by whether any
+/// neighbor is in Exchange or Loading. Without a copy the neighbor's lists aren't searched.
+pub fn case_on(
+    moment: Second,
+    copy: &Option<DatabaseCopy<'_>>,
+    link: &Link,
+    synchronizing: bool,
+    lsa: &Lsa,
+) -> Case
+    ensures { case_of result
+        ≡ case_of_readable moment copy.now link.now.present.neighbor synchronizing lsa.now }
+{
+    match copy {
+        None => case_without_copy(lsa, synchronizing),
+        Some(_copy) => {
+            let tests = Tests::of_received(moment, copy, link, synchronizing, lsa);
+            tests.case()
         }
     }
 }

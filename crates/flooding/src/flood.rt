@@ -1,5 +1,6 @@
 //! Flooding over links and database, which the caller passes separately.
-ghost use Rattle.std.specs.Prelude.{◌≡◌, ◌||◌, IfOk, OnOk, length, map};
+ghost use Rattle.std.specs.Prelude.{◌≡◌, ◌≤◌, ◌||◌, IfOk, OnOk, length, map};
+ghost use Rattle.words.specs.Constants.{max_age};
 ghost use Rattle.adjacency.specs.lsdb.Copies.{has_just_aged_out, lsa_now};
 ghost use Rattle.adjacency.specs.Floods.{is_any};
 ghost use Rattle.received.specs.Flooding.{flood_to, is_sender};
@@ -12,6 +13,7 @@ ghost use Rattle.flooding.specs.Links.{originate_outcome, present, settled_link}
 use crate::link::Link;
 use adjacency::{DatabaseCopy, Draft, Lsdb};
 use lsa::Lsa;
+use lsdb::Times;
 use std::alloc::{AllocError, Global};
 use words::{Key, Second};
 
@@ -96,6 +98,38 @@ pub fn flood(
     Ok(())
 }
 
+// Floods the LSA over all links as the copy that is going to be installed, so that it needn't be
+// searched for afterwards. Returns whether any Link State Update was sent.
+fn flood_received(
+    alloc: Global,
+    moment: Second,
+    sender: Option<usize>,
+    lsa: &Lsa,
+    links: &mut [Link],
+    drafts: &mut [Draft],
+) -> Result<bool, AllocError>
+    requires age { lsa.now.header.age ≤ max_age }
+    requires drafts { length drafts.old ≡ length links.old }
+    ensures links { IfOk result (λ _. map present links.new
+        ≡ stepped_links (flood_to moment sender lsa.now) (map present links.old)) }
+    ensures drafts { IfOk result (λ _. drafts.new
+        ≡ drafts_with (stepping_sends (flood_to moment sender lsa.now) (map present links.old))
+        (map present links.old) drafts.old) }
+    ensures sent { IfOk result (λ sent. sent
+        ≡ is_any (stepping_sends (flood_to moment sender lsa.now) (map present links.old))) }
+    ensures settled { map settled_link links.new ≡ map settled_link links.old }
+{
+    let header = lsa.header();
+    let times = Times {
+        age: header.age,
+        stored: moment,
+        installed: Some(moment),
+        sent: None,
+    };
+    let copy = DatabaseCopy { lsa, times };
+    flood_links(alloc, moment, sender, &copy, links, drafts)
+}
+
 // Installs the LSA that was received by flooding, and floods it.
 pub fn install(
     alloc: Global,
@@ -119,9 +153,13 @@ pub fn install(
 {
     lsa.check_age();
     let header = lsa.header();
-    let key = header.key();
+    let sent = flood_received(alloc, moment, sender, &lsa, links, drafts)?;
     database.install_flooded(moment, lsa)?;
-    flood(alloc, moment, sender, &key, links, database, drafts)
+    if sent {
+        let sent_key = header.key();
+        return database.mark_sent(moment, &sent_key);
+    }
+    Ok(())
 }
 
 // Installs an LSA that this router originated, and floods it to every neighbor.

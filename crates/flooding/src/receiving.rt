@@ -7,7 +7,7 @@ ghost use Rattle.flooding.specs.Cases.{case_of};
 ghost use Rattle.flooding.specs.Drafted.{drafts_with};
 ghost use Rattle.flooding.specs.Links.{area_of, present, settled_link, start};
 
-use crate::cases::{Case, Tests};
+use crate::cases::{Case, case_on};
 use crate::flood::install;
 use crate::link::Link;
 use crate::rows::{
@@ -30,8 +30,7 @@ pub fn case_at(moment: Second, number: usize, lsa: &Lsa, links: &[Link], databas
     let copy = database.get(&key);
     let synchronizing = any_exchange_or_loading(links);
     let i = number - 1;
-    let tests = Tests::of_received(moment, &copy, &links[i], synchronizing, lsa);
-    tests.case()
+    case_on(moment, &copy, &links[i], synchronizing, lsa)
 }
 
 // Installs the LSA and floods it, with a delayed acknowledgment.

@@ -7,6 +7,7 @@ pub mod Aged
 pub mod Again
 pub mod OfAge
 mod Within
+pub mod Onwards
 -- names from the crates below that crates above use
 pub use Rattle.flooding.proofs.adjacency as adjacency
 pub use Rattle.flooding.proofs as flooding

@@ -1,6 +1,6 @@
 //! Sending delayed acknowledgments (RFC 2328, section 13.5).
-ghost use Rattle.std.specs.Prelude.{◌≡◌, ℕ, OnOk, [], map};
-ghost use Rattle.std.specs.List.{cons_option, filter_map, fold};
+ghost use Rattle.std.specs.Prelude.{◌≡◌, ℕ, OnOk, map};
+ghost use Rattle.std.specs.List.{fold};
 ghost use Rattle.std.specs.FinMap as finite;
 ghost use Rattle.adjacency.specs.Contents.{Acknowledges};
 ghost use Rattle.adjacency.specs.Drafts.{drafting};
@@ -12,28 +12,13 @@ use lsa::Header;
 use std::alloc::{AllocError, Global};
 use words::Key;
 
-// Drafts an acknowledgment of the header of this key, if there is one.
-fn draft_header(key: &Key, headers: &KeyedMap<Header>, draft: &mut Draft) -> Result<(), AllocError>
+// Drafts acknowledgments of these headers, in the order of their keys.
+fn draft_headers(headers: &KeyedMap<Header>, draft: &mut Draft) -> Result<(), AllocError>
     ensures { OnOk result ((delay : ℕ) → draft.new ≡ drafting delay
-        (map Acknowledges (cons_option (finite.get headers.now.present key.now) [])) draft.old) }
+        (map Acknowledges (finite.values headers.now.present)) draft.old) }
 {
-    let Some(header) = headers.get(key) else {
-        return Ok(());
-    };
-    draft.acknowledge(*header)
-}
-
-// Drafts acknowledgments of the headers of these keys.
-fn draft_headers(
-    keys: &[Key],
-    headers: &KeyedMap<Header>,
-    draft: &mut Draft,
-) -> Result<(), AllocError>
-    ensures { OnOk result ((delay : ℕ) → draft.new ≡ drafting delay
-        (map Acknowledges (filter_map (finite.get headers.now.present) keys.now)) draft.old) }
-{
-    for i in 0..keys.len() {
-        draft_header(&keys[i], headers, draft)?;
+    for (_, header) in headers.entries() {
+        draft.acknowledge(*header)?;
     }
     Ok(())
 }
@@ -64,7 +49,7 @@ impl Link {
     {
         let count = self.acknowledgments.len();
         let keys = self.acknowledgments.first(alloc, count)?;
-        draft_headers(&keys, &self.acknowledgments, draft)?;
+        draft_headers(&self.acknowledgments, draft)?;
         remove_headers(&keys, &mut self.acknowledgments)
     }
 }

@@ -2,7 +2,7 @@ use Rattle.std.proofs.Common.{◌-◌, get_or, map, ap, ◌∙◌, arith}
 use Rattle.std.specs.FinMap as finite
 use Rattle.lsa.specs.Headers.{key_of}
 use Rattle.adjacency.specs.lsdb.Headers.{lsa_key}
-use Rattle.received.specs.Cases.{Case, case_of_readable, first_case}
+use Rattle.received.specs.Cases.{case_of_readable}
 use Rattle.adjacency.specs.Kept.{Kept}
 use Rattle.received.specs.Links.{Link, any_exchange_or_loading}
 use Rattle.flooding.specs.Links.{present}
@@ -18,8 +18,7 @@ returns c =
     let neighbor = (get_or ls (c.args.number - 1) c.index-links-i.result).present.neighbor in
     let copy = c.get-copy.ensures ∙ ap (finite.get d)
     (c.key-key.ensures ∙ ap key_of c.header-header.ensures) in
-    c.case.ensures
-    ∙ ap (λ ts. first_case ts Case.Older) c.of_received-tests.ensures
+    c.case_on.ensures
     ∙ ap (λ (l : Kept Link). case_of_readable m c.get-copy.result l.present.neighbor
     c.any_exchange_or_loading-synchronizing.result lsa) c.index-links-i.is
     ∙ ap (λ o. case_of_readable m o neighbor c.any_exchange_or_loading-synchronizing.result lsa)

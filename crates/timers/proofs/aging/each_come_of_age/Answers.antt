@@ -3,7 +3,8 @@ use Rattle.flooding.specs.received.Links.{Area}
 use Rattle.flooding.specs.received.Outcomes.{Outcome}
 use Rattle.flooding.specs.Drafted.{drafts_with}
 use Rattle.flooding.specs.Links.{come_of_age}
-use Rattle.flooding.proofs.Acknowledged.{from, from_end, from_next}
+use Rattle.flooding.proofs.Acknowledged.{from}
+use Rattle.timers.proofs.Onwards.{from_end, from_next}
 use Rattle.flooding.proofs.Sends.{drafted_none}
 use Rattle.timers.specs.Aging.{each_come_of_age}
 use Rattle.timers.proofs.OfAge.{counted_after, drafted_after}

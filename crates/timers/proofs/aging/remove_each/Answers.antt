@@ -1,5 +1,6 @@
 use Rattle.std.proofs.Common.{◌+◌, sym, ap, ◌∙◌, arith}
-use Rattle.flooding.proofs.Acknowledged.{from, from_end, from_next}
+use Rattle.flooding.proofs.Acknowledged.{from}
+use Rattle.timers.proofs.Onwards.{from_end, from_next}
 use Rattle.timers.specs.Aging.{without_acknowledged, without_each}
 use Rattle.timers.proofs.Stepped.{areas}
 use Rattle.timers.proofs.aging.remove_each.Goals as goal

@@ -4,7 +4,7 @@ use Rattle.adjacency.specs.Contents.{Acknowledges}
 use Rattle.adjacency.specs.Drafts.{drafting}
 use Rattle.received.specs.Links.{Link}
 use Rattle.keyed_map.proofs.Helds.{on_ok}
-use Rattle.flooding.proofs.Acknowledged.{all_left, all_named}
+use Rattle.flooding.proofs.Acknowledged.{all_left}
 use Rattle.flooding.proofs.link.Link.acknowledge.Goals as goal
 
 pub returns-clause-ok : goal.returns-clause-ok
@@ -16,8 +16,8 @@ returns-clause-ok c =
       acknowledgments = m;
       last_hello_sent = c.self.inside.last_hello_sent.present;
     } in
-    let none = all_left m c.deref-2.result.now c.len-count.result c.len-count.ensures
-    (c.deref-2.ensures.value ∙ c.in_ok-keys.ensures) in
+    let none = all_left m c.deref.result.now c.len-count.result c.len-count.ensures
+    (c.deref.ensures.value ∙ c.in_ok-keys.ensures) in
     on_ok c.remove_headers.result (λ is. ap (λ a. record base {
       acknowledgments = a;
     }) (is ∙ none) ∙ ap (λ l. record l.present { acknowledgments = finite.empty }) c.self.view_is)
@@ -25,11 +25,8 @@ returns-clause-ok c =
 
 pub returns-clause-draft : goal.returns-clause-draft
 returns-clause-draft c =
-    let m = c.self.inside.acknowledgments.present in
-    let all = all_named m c.deref.result.now c.len-count.result c.len-count.ensures
-    (c.deref.ensures.value ∙ c.in_ok-keys.ensures) in
     on_ok c.remove_headers.result
-    (λ is delay. c.in_ok-draft_headers.ensures delay
+    (λ _ delay. c.in_ok-draft_headers.ensures delay
     ∙ ap (λ hs. drafting delay (map Acknowledges hs) c.args.draft.now)
-    (all ∙ ap (λ l. finite.values l.present.acknowledgments) c.self.view_is))
+    (ap (λ l. finite.values l.present.acknowledgments) c.self.view_is))
     c.remove_headers.ensures.ok

@@ -1,29 +1,29 @@
-use Rattle.std.proofs.Common.{[], ◌+◌, map, sym, ap, ◌∙◌, arith}
-use Rattle.std.specs.List.{cons_option, filter_map}
-use Rattle.std.specs.FinMap as finite
+use Rattle.std.proofs.Common.{List, sym, ap, ◌∙◌}
+use Rattle.words.specs.declared.key.Key.{Key}
+use Rattle.adjacency.specs.lsdb.Headers.{Header}
 use Rattle.adjacency.specs.Contents.{Acknowledges}
 use Rattle.adjacency.specs.Drafts.{drafting}
 use Rattle.adjacency.proofs.Floods.{drafting-none}
-use Rattle.flooding.proofs.Acknowledged.{from_end, named_from, named_next}
+use Rattle.flooding.proofs.Acknowledged.{drafting-more, named}
 use Rattle.flooding.proofs.link.acknowledgments.draft_headers.Goals as goal
 
-pub loop-i-preserved : goal.loop-i-preserved
-loop-i-preserved c = λ delay.
-    let m = c.args.headers.now.present in
-    let i = c.loop-i.i in
-    let keys = c.args.keys.now in
-    ap (drafting delay (named_from m (i + 1) keys))
-    (c.in_ok-draft_header.ensures delay
-    ∙ ap (λ k. drafting delay (map Acknowledges (cons_option (finite.get m k) []))
-    c.loop-i.draft) c.index-keys-i.is)
-    ∙ named_next m delay i keys c.index-keys-i.result c.loop-i.draft
-    (omega (arith, c.loop-i-test.true)) ∙ c.loop-i.invariant delay
+pub loop-header-init : goal.loop-header-init
+loop-header-init c = λ delay.
+    ap (λ (es : List (Key × Header)). drafting delay (named es) c.args.draft.now)
+    (c.into_iter-header-iterator.ensures.into_iter_gives ∙ c.entries-header-items.ensures)
+
+pub loop-header-preserved : goal.loop-header-preserved
+loop-header-preserved c = λ delay.
+    ap (drafting delay (named c.next.new.self)) (c.in_ok-acknowledge.ensures delay)
+    ∙ sym (drafting-more delay (Acknowledges c.in-Some.header.now) (named c.next.new.self)
+    c.loop-header.draft)
+    ∙ ap (λ (es : List (Key × Header)). drafting delay (named es) c.loop-header.draft)
+    (sym c.in-Some.ensures.steps)
+    ∙ c.loop-header.invariant delay
 
 pub returns : goal.returns
 returns c = λ delay.
-    drafting-none delay c.loop-i.draft
-    ∙ ap (λ ks. drafting delay (map Acknowledges
-    (filter_map (finite.get c.args.headers.now.present) ks)) c.loop-i.draft)
-    (sym (from_end c.loop-i.i c.args.keys.now
-    (omega (arith, c.loop-i-test.false, c.loop-i.auto.i-end))))
-    ∙ c.loop-i.invariant delay
+    drafting-none delay c.loop-header.draft
+    ∙ ap (λ (es : List (Key × Header)). drafting delay (named es) c.loop-header.draft)
+    (sym c.in-None.ensures.steps.0)
+    ∙ c.loop-header.invariant delay

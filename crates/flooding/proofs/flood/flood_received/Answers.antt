@@ -1,0 +1,42 @@
+use Rattle.std.proofs.Common.{◌≡◌, map, ap, subst, ◌∙◌}
+use Rattle.std.specs.Prelude.{None, Some, IfOk}
+use Rattle.adjacency.specs.Floods.{is_any}
+use Rattle.adjacency.specs.lsdb.Copies.{copy_of, lsa_now}
+use Rattle.adjacency.specs.lsdb.Headers.{Header, Lsa}
+use Rattle.received.specs.Flooding.{flood_to}
+use Rattle.received.specs.Outcomes.{stepped_links, stepping_sends}
+use Rattle.flooding.specs.Drafted.{drafted_from}
+use Rattle.flooding.specs.Links.{present}
+use Rattle.flooding.proofs.Installed.{at_once}
+use Rattle.flooding.proofs.flood.flood_received.Goals as goal
+
+pub returns : goal.returns
+returns c =
+    let m = c.args.moment in
+    let lsa = c.args.lsa.now in
+    let sender = c.args.sender in
+    let P = map present c.args.links.now in
+    let same : lsa_now m (copy_of lsa (record {
+      age = c.header-header.result.age;
+      stored = m;
+      installed = Some m;
+      sent = None;
+    })) ≡ lsa =
+    ap (λ (h : Header). lsa_now m (copy_of lsa (record {
+      age = h.age;
+      stored = m;
+      installed = Some m;
+      sent = None;
+    }))) c.header-header.ensures
+    ∙ at_once m lsa (Some m) c.requires.age in
+    record {
+      links = subst (λ (l : Lsa). IfOk c.flood_links.result
+          (λ _. map present c.flood_links.new.links
+          ≡ stepped_links (flood_to m sender l) P)) same c.flood_links.ensures.links;
+      drafts = subst (λ (l : Lsa). IfOk c.flood_links.result (λ _. c.flood_links.new.drafts
+          ≡ drafted_from 1 (stepping_sends (flood_to m sender l) P) P c.args.drafts.now)) same
+          c.flood_links.ensures.drafts;
+      sent = subst (λ (l : Lsa). IfOk c.flood_links.result (λ sent. sent
+          ≡ is_any (stepping_sends (flood_to m sender l) P))) same c.flood_links.ensures.sent;
+      settled = c.flood_links.ensures.settled;
+    }
