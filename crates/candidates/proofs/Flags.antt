@@ -178,7 +178,7 @@ module _ (ways : Ways) where
   are_close bodies routers near told r among = let p = (told.each r).0 among in
       near (ARouter p.0.0.advertising_router) r.way p.2.reached
 
-  has_one : (flags flag : ℕ) → IsBorderFlag flag → bit_and flags flag ≡ flag
+  pub has_one : (flags flag : ℕ) → IsBorderFlag flag → bit_and flags flag ≡ flag
       → (bit_and flags 1 ≡ 1) ⊎ (bit_and flags 2 ≡ 2)
   has_one flags flag (inl e) is = inl (subst (λ f. bit_and flags f ≡ f) e is)
   has_one flags flag (inr e) is = inr (subst (λ f. bit_and flags f ≡ f) e is)

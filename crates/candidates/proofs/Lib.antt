@@ -15,3 +15,4 @@ pub mod Whole
 pub mod Alone
 pub mod Each
 pub mod All
+pub mod RootAlone

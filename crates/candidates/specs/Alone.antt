@@ -1,6 +1,9 @@
--- When the root alone is reached: no link of its router-LSA leads to a node (RFC 2328, A.4.2).
-use Rattle.std.specs.Prelude.{◌≡◌, ℕ, Bool, true, false}
+-- When the root alone is reached: no link of its router-LSA leads to a node (RFC 2328, A.4.2). Then
+-- its own LSA alone offers something.
+use Rattle.std.specs.Prelude.{◌≡◌, ℕ, Bool, true, false, List, [], ◌∷◌, Option, None, Some}
 use Rattle.std.specs.List.{list_all}
+use Rattle.words.specs.declared.key.Key.{Key}
+use Rattle.lsa.specs.declared.body.Body.{Body}
 use Rattle.lsa.specs.declared.body.Link.{Link}
 use Rattle.lsa.specs.declared.body.LinkKind.{LinkKind}
 use Rattle.lsa.specs.declared.body.LinkKind.TheVariants.{PointToPoint, Stub, Transit, Virtual}
@@ -18,3 +21,11 @@ leads_nowhere Virtual = true
 abbrev pub HasNoWayOut : Said → (router : ℕ) → Type 0
 HasNoWayOut said router = (lsa : RouterLsa) → IsRouterLsa said router lsa
     → list_all (λ (link : Link). leads_nowhere link.kind) lsa.links ≡ true
+
+-- what the LSA with this key tells, if there is one
+abbrev pub OfOne : {R : Type 0} → (Key × Body → R → Type 0) → Key → Option Body → R → Type 0
+OfOne {R} Q key body r = (says : Body) × (body ≡ Some says) × Q (key, says) r
+
+abbrev pub list_of : {R : Type 0} → Option R → List R
+list_of {R} None = []
+list_of {R} (Some r) = r ∷ []

@@ -15,6 +15,7 @@ use crate::inner::{InnerRoutes, inner_of};
 use crate::laws::every_offer_has_a_candidate;
 use crate::order::routes_of_offers;
 use crate::passes::{externals_of, push_externals};
+use crate::root_alone::inner_alone;
 use crate::walks::walk;
 use crate::ways::Ways;
 use lsdb::Lsdb;
@@ -114,10 +115,31 @@ pub fn calculate<W: Ways>(
         (W.ways ways.now) made.inner) }
     ensures searchable { IfOk result (λ made. AreSearchable made.inner) }
 {
-    let bodies = db.bodies_at(alloc, Some(4), moment)?;
-    let inner = inner_of(alloc, root, ways, &bodies)?;
+    let inner = inner_at(alloc, db, root, moment, ways)?;
     let routes = with_externals(alloc, root, &inner, externals)?;
     Ok(Calculated { inner, routes })
+}
+
+// The results from the LSAs of types 1 to 4 at a moment. Where the root alone is reached, as while
+// the database is loaded, no LSA but its own is visited.
+fn inner_at<W: Ways>(
+    alloc: Global,
+    db: &Lsdb,
+    root: &Root,
+    moment: Second,
+    ways: &W,
+) -> Result<InnerRoutes, AllocError>
+    requires near { AreNear (W.ways ways.now) }
+    requires ways { AreWays (said_at moment db.now.present) root.now (W.ways ways.now) }
+    ensures searchable { IfOk result (λ inner. AreSearchable inner) }
+    ensures inner { IfOk result (λ inner. AreInner (said_at moment db.now.present) root.now
+        (W.ways ways.now) inner) }
+{
+    if ways.reach_root_alone(root) {
+        return inner_alone(alloc, db, root, moment, ways);
+    }
+    let bodies = db.bodies_at(alloc, Some(4), moment)?;
+    inner_of(alloc, root, ways, &bodies)
 }
 
 // The routes of the inner offers and of the offers of these AS-external-LSAs; only the networks if

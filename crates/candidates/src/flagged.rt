@@ -36,8 +36,8 @@ pub const BORDER: u8 = 1;
 
 pub const BOUNDARY: u8 = 2;
 
-// The router whose LSA has this key, if it has a flag and is reachable.
-fn flagged_at<W: Ways>(ways: &W, key: &Key, body: &Body) -> Option<Flagged>
+/// The router whose LSA has this key, if it has a flag and is reachable.
+pub fn flagged_at<W: Ways>(ways: &W, key: &Key, body: &Body) -> Option<Flagged>
     ensures { IsJust (TellsFlags (W.ways ways.now) (key.now, body.now)) result }
 {
     if key.ls_type != 1 || key.link_state_id.number() != key.advertising_router.number() {

@@ -17,6 +17,7 @@ mod order;
 mod passes;
 mod places;
 mod reached;
+mod root_alone;
 mod search;
 mod walks;
 mod way_out;

@@ -1,5 +1,7 @@
 //! The nodes of a database, each with its way.
-ghost use Rattle.std.specs.Prelude.{◌≡◌, ℕ, ◌<◌, length, IfOk, IfSome, IfNone, Some, slice_get};
+ghost use Rattle.std.specs.Prelude.{◌≡◌, ℕ, ◌<◌, length, IfOk, IfSome, IfNone, IsTrue, Some};
+ghost use Rattle.std.specs.Prelude.{slice_get};
+ghost use Rattle.routes.specs.declared.node.Node.TheVariants.{ARouter};
 ghost use Rattle.area_graph.specs.Nodes.{Ascend};
 ghost use Rattle.candidates.specs.Reached.{alone, way_in};
 
@@ -8,6 +10,7 @@ use area_graph::{Slots, is_before};
 use routes::{Node, Root, Way};
 use std::alloc::{AllocError, Global};
 use std::marker::Model;
+use words::RouterId;
 
 /// The nodes of a database, and the ways to those that walks from the root lead to, as `walk` found
 /// them. It doesn't refer to the database, so it is valid while the LSAs of types 1 and 2 say the
@@ -47,6 +50,36 @@ impl Ways for Reached {
     fn way_to(&self, node: &Node) -> Option<Way> {
         let at = find(&self.nodes, &self.slots, node)?;
         self.ways[at]
+    }
+
+    fn reach_root_alone(&self, root: &Root) -> bool {
+        are_alone(&self.nodes, &self.ways, root)
+    }
+}
+
+// Whether these are the root and its way, and nothing else.
+fn are_alone(nodes: &[Node], ways: &[Option<Way>], root: &Root) -> bool
+    ensures nodes { IsTrue result → nodes.now ≡ (alone root.now).nodes }
+    ensures ways { IsTrue result → ways.now ≡ (alone root.now).ways }
+{
+    if nodes.len() != 1 || ways.len() != 1 {
+        return false;
+    }
+    is_router(&nodes[0], root.router) && is_by_no_link(&ways[0])
+}
+
+fn is_router(node: &Node, router: RouterId) -> bool
+    ensures { IsTrue result → node.now ≡ ARouter router }
+{
+    *node == Node::ARouter(router)
+}
+
+fn is_by_no_link(way: &Option<Way>) -> bool
+    ensures { IsTrue result → way.now ≡ Some (record { distance = 0; hops = 0 }) }
+{
+    match way {
+        None => false,
+        Some(way) => way.distance == 0 && way.hops == 0,
     }
 }
 

@@ -1,0 +1,100 @@
+use Rattle.std.proofs.Common.{◌≡◌, List, [], ap, sym, subst, ◌∙◌}
+use Rattle.std.specs.List.{Contains}
+use Rattle.std.specs.Prelude.{◌↔◌, Option, option_copied}
+use Rattle.words.specs.declared.key.Key.{Key}
+use Rattle.words.specs.declared.route.Route.{Route}
+use Rattle.lsa.specs.declared.body.Body.{Body}
+use Rattle.routes.proofs.Lists.{of_empty}
+use Rattle.routes.specs.Links.{router_key}
+use Rattle.routes.specs.Routes.{AreRoutesAmong}
+use Rattle.routes.specs.Said.{Said, said_at}
+use Rattle.routes.specs.Summaries.{OffersInside}
+use Rattle.routes.specs.declared.offer.Offer.{Offer}
+use Rattle.candidates.specs.Alone.{OfOne}
+use Rattle.candidates.specs.Borders.{AreCloseBy, AreFlagged, AscendByRouter, HasLengths, TellsFlags}
+use Rattle.candidates.specs.Gathering.{Adds, AreCheap, IsJust}
+use Rattle.candidates.specs.Sources.{IsInner}
+use Rattle.candidates.specs.declared.flagged.Flagged.{Flagged}
+use Rattle.candidates.proofs.RootAlone.{none_told, one_ascends, one_close, one_flagged, own_inside}
+use Rattle.candidates.proofs.RootAlone.{own_networks}
+use Rattle.candidates.proofs.root_alone.inner_alone.Goals as goal
+
+pub push_by-requires-clause-ascend : goal.push_by-requires-clause-ascend
+push_by-requires-clause-ascend g c =
+    subst AscendByRouter (sym (c.deref.ensures.value ∙ c.in_ok-flagged.ensures))
+    (one_ascends c.flagged_by.result)
+
+pub push_by-requires-clause-close : goal.push_by-requires-clause-close
+push_by-requires-clause-close g c =
+    subst AreCloseBy (sym (c.deref.ensures.value ∙ c.in_ok-flagged.ensures))
+    (one_close c.args.root.now (g.W.Ways.ways c.args.ways.now) c.requires.alone
+    c.own_key-key.result _ c.flagged_by.result c.requires.near c.flagged_by.ensures)
+
+none_cheap : (offers : List Offer) → offers ≡ [] → AreCheap offers
+none_cheap offers none o among = absurd (of_empty o (subst (λ xs. Contains xs o) none among))
+
+pub returns-clause-searchable : goal.returns-clause-searchable
+returns-clause-searchable g c = record {
+  flagged = (
+    subst AscendByRouter (sym c.in_ok-flagged.ensures) (one_ascends c.flagged_by.result),
+    subst AreCloseBy (sym c.in_ok-flagged.ensures)
+        (one_close c.args.root.now (g.W.Ways.ways c.args.ways.now) c.requires.alone
+        c.own_key-key.result _ c.flagged_by.result c.requires.near c.flagged_by.ensures),
+  );
+  told = (
+    c.in_ok-told.ensures.routes.ascending,
+    c.in_ok-told.ensures.few (none_cheap _ c.new-none.ensures.items),
+  );
+  networks = (
+    c.in_ok-networks.ensures.routes.ascending,
+    c.in_ok-networks.ensures.few
+        (c.in_ok-push_by.ensures.cheap (none_cheap _ c.new-offers.ensures.items)),
+  );
+  lengths = subst (λ (rs : List Route). HasLengths rs c.lengths_of-lengths.result)
+      c.deref-2.ensures.value c.lengths_of-lengths.ensures;
+}
+
+pub returns-clause-inner : goal.returns-clause-inner
+returns-clause-inner g c =
+    let root = c.args.root.now in
+    let ways = g.W.Ways.ways c.args.ways.now in
+    let said : Said = said_at c.args.moment c.args.db.now.present in
+    let own_key : Key = router_key root.router in
+    let told : Option Body = option_copied c.body_at-body.result in
+    let own : told ≡ said own_key = c.body_at-body.ensures ∙ ap said c.own_key-key.ensures in
+    let just : IsJust (OfOne (TellsFlags ways) own_key told) c.flagged_by.result =
+    subst (λ (k : Key). IsJust (OfOne (TellsFlags ways) k told) c.flagged_by.result)
+    c.own_key-key.ensures c.flagged_by.ensures in
+    let routers = c.in_ok-flagged.flagged.items in
+    let flagged : AreFlagged said ways routers =
+    subst (AreFlagged said ways) (sym c.in_ok-flagged.ensures)
+    (one_flagged root ways c.requires.alone said told own c.flagged_by.result just) in
+    let offers = c.push_by.new.offers.items in
+    let by_list : Adds c.new-offers.result.items offers (OfOne (IsInner root ways routers)
+    c.own_key-key.result told) =
+    subst (λ (rs : List Flagged). Adds c.new-offers.result.items offers
+    (OfOne (IsInner root ways rs) c.own_key-key.result told)) c.deref.ensures.value
+    c.in_ok-push_by.ensures.adds in
+    let by_key : Adds c.new-offers.result.items offers (OfOne (IsInner root ways routers)
+    own_key told) =
+    subst (λ (k : Key). Adds c.new-offers.result.items offers
+    (OfOne (IsInner root ways routers) k told)) c.own_key-key.ensures by_list in
+    let adds : Adds [] offers (OfOne (IsInner root ways routers) own_key told) =
+    subst (λ (xs : List Offer). Adds xs offers (OfOne (IsInner root ways routers) own_key told))
+    c.new-offers.ensures.items by_key in
+    let inside : (o : Offer) → Contains offers o ↔ OffersInside said root o =
+    own_inside root ways c.requires.alone said told own c.requires.ways routers flagged offers
+    adds in
+    record {
+      flagged = flagged;
+      told = none_told root ways c.requires.alone said told own c.requires.ways routers flagged
+          c.in_ok-told.told.items
+          (subst (λ (xs : List Offer). AreRoutesAmong (λ o. Contains xs o) c.in_ok-told.told.items)
+          c.new-none.ensures.items c.in_ok-told.ensures.routes);
+      networks = own_networks root ways c.requires.alone said told own c.requires.ways routers
+          flagged offers c.in_ok-networks.networks.items adds c.in_ok-networks.ensures.routes;
+      offers = λ o. (
+        (λ t. (inside o).0 ((c.routes_of_offers-2.ensures.same o).0 t)),
+        (λ k. (c.routes_of_offers-2.ensures.same o).1 ((inside o).1 k)),
+      );
+    }
