@@ -12,8 +12,8 @@ use Rattle.isa.specs.declared.instruction.Instruction.{Instruction}
 use Rattle.isa.specs.declared.code.Slot.{Slot}
 use Rattle.isa.specs.declared.code.Slot.TheVariants.{Start, SecondHalf}
 use Rattle.isa.specs.Code.{IsCode, is_wide, slots_of}
-use Rattle.asm_lines.specs.declared.line.Line.{Line}
-use Rattle.asm_lines.specs.declared.line.Line.TheVariants as lines
+use Rattle.asm_lines.specs.declared.line.AssemblyLine.{AssemblyLine}
+use Rattle.asm_lines.specs.declared.line.AssemblyLine.TheVariants as lines
 use Rattle.asm.specs.declared.error.AsmFault.{AsmFault}
 use Rattle.asm.specs.declared.error.AsmFault.TheVariants as faults
 use Rattle.asm.specs.declared.labels.Place.{Place}
@@ -30,8 +30,8 @@ never : {P : Type 0} (fault : AsmFault) (i : Instruction) → Err fault ≡ Ok i
 never fault i e = absurd (false≢true (ap is_ok e))
 
 -- A line of an instruction is taken as one.
-as_instruction : (l : Line) (f : Front) (i : Instruction) (at : ℕ) (place : Option Place)
-    (rest : List (Option Line)) → instruction_of l 0 None ≡ Ok i
+as_instruction : (l : AssemblyLine) (f : Front) (i : Instruction) (at : ℕ) (place : Option Place)
+    (rest : List (Option AssemblyLine)) → instruction_of l 0 None ≡ Ok i
     → line_step (sketch_of f None) l at place rest
     ≡ instruction_step (sketch_of f None) l (slot_at place)
 as_instruction lines.Empty f i at place rest e = never faults.Syntax i e
@@ -55,8 +55,8 @@ as_instruction (lines.State slot constant terms) f i at place rest e = never fau
 as_instruction (lines.With register content) f i at place rest e = never faults.Syntax i e
 as_instruction (lines.Bytes start end) f i at place rest e = never faults.Syntax i e
 
-instruction_steps : (l : Line) (hook : Hook) (rank : ℕ) (code : List Slot) (i : Instruction)
-    (at : ℕ) (place : Option Place) (rest : List (Option Line))
+instruction_steps : (l : AssemblyLine) (hook : Hook) (rank : ℕ) (code : List Slot) (i : Instruction)
+    (at : ℕ) (place : Option Place) (rest : List (Option AssemblyLine))
     → ((slot : ℕ) (named : Option ℕ) → instruction_of l slot named ≡ Ok i)
     → length code + length (slots_of i) ≤ 4096
     → line_step (code_sketch hook rank code) l at place rest
@@ -119,9 +119,10 @@ second_is true = inr refl
 second_is false = inl refl
 
 -- an instruction that begins here
-start_more : (old new : List ℕ) (hook : Hook) (rank : ℕ) (slots : List Slot) (at : ℕ) (l : Line)
-    (i : Instruction) (is : List Instruction) → at < length slots → length slots ≤ 4096
-    → get_or slots at (Start i) ≡ Start i → drop at slots ≡ flat_map slots_of is
+start_more : (old new : List ℕ) (hook : Hook) (rank : ℕ) (slots : List Slot) (at : ℕ)
+    (l : AssemblyLine) (i : Instruction) (is : List Instruction) → at < length slots
+    → length slots ≤ 4096 → get_or slots at (Start i) ≡ Start i
+    → drop at slots ≡ flat_map slots_of is
     → Listed old (code_sketch hook rank (take at slots)) Any → AddsLine old new l
     → ((slot : ℕ) (named : Option ℕ) → instruction_of l slot named ≡ Ok i)
     → CodeSoFar new hook rank slots (at + 1)
@@ -184,8 +185,8 @@ second_step text hook rank slots at h g c =
     }) c.one
 
 -- the instruction that begins here
-pub start_step : (old new : List ℕ) (hook : Hook) (rank : ℕ) (slots : List Slot) (at : ℕ) (l : Line)
-    (i : Instruction) → at < length slots → length slots ≤ 4096
+pub start_step : (old new : List ℕ) (hook : Hook) (rank : ℕ) (slots : List Slot) (at : ℕ)
+    (l : AssemblyLine) (i : Instruction) → at < length slots → length slots ≤ 4096
     → get_or slots at (Start i) ≡ Start i → AddsLine old new l
     → ((slot : ℕ) (named : Option ℕ) → instruction_of l slot named ≡ Ok i)
     → CodeSoFar old hook rank slots at → CodeSoFar new hook rank slots (at + 1)

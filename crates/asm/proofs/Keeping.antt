@@ -26,15 +26,15 @@ use Rattle.object.specs.Objects.{AreStatements}
 use Rattle.object.specs.Sets.{with_range}
 use Rattle.asm_words.specs.declared.numeral.Numeral.{Numeral}
 use Rattle.asm_words.specs.declared.numeral.Numeral.TheVariants as numerals
-use Rattle.asm_lines.specs.declared.line.Line.{Line}
-use Rattle.asm_lines.specs.declared.line.Line.TheVariants as lines
-use Rattle.asm_lines.specs.declared.line.Target.{Target}
+use Rattle.asm_lines.specs.declared.line.AssemblyLine.{AssemblyLine}
+use Rattle.asm_lines.specs.declared.line.AssemblyLine.TheVariants as lines
+use Rattle.asm_lines.specs.declared.line.LabelOrNumber.{LabelOrNumber}
 use Rattle.asm_lines.specs.declared.line.Term.{Term as LineTerm}
 use Rattle.asm_lines.specs.declared.line.Terms.{Terms}
 use Rattle.asm_lines.specs.declared.line.Terms.TheVariants as terms
 use Rattle.asm_lines.specs.declared.line.Range.{Range}
-use Rattle.asm_lines.specs.declared.line.Content.{Content}
-use Rattle.asm_lines.specs.declared.line.Content.TheVariants as contents
+use Rattle.asm_lines.specs.declared.line.RegisterContent.{RegisterContent}
+use Rattle.asm_lines.specs.declared.line.RegisterContent.TheVariants as contents
 use Rattle.asm.specs.declared.error.AsmFault.{AsmFault}
 use Rattle.asm.specs.declared.error.AsmFault.TheVariants as faults
 use Rattle.asm.specs.declared.labels.Place.{Place}
@@ -120,7 +120,7 @@ offset_within most n offset e =
     let c = chosen (nat_le n most) n offset e in
     subst (λ (x : ℕ). x ≤ most) c.1 (leb-true n most c.0)
 
-is_kind : (content : Content) (kind : Kind) → kind_of content ≡ Some kind → IsKind kind
+is_kind : (content : RegisterContent) (kind : Kind) → kind_of content ≡ Some kind → IsKind kind
 is_kind (contents.Number range) kind e =
     let n = found_from (numbers_of range) _ kind e in
     subst (λ (k : Kind). IsKind k) (some_same (kinds.Number n.0) kind n.2)
@@ -153,10 +153,10 @@ term_cases false first true true t o e = inr (refl, refl, refl, sym (some_same (
 term_cases false first true false t o e = cc
 term_cases false first false small t o e = cc
 
-abbrev IsTermBehind : List Kind → List (Option Line) → Option Term → Type 0
+abbrev IsTermBehind : List Kind → List (Option AssemblyLine) → Option Term → Type 0
 IsTermBehind ks rest o = IsTermOrNone o × IsTermSoon ks rest o
 
-term_soon : (ks : List Kind) (rest : List (Option Line)) (register coefficient : ℕ)
+term_soon : (ks : List Kind) (rest : List (Option AssemblyLine)) (register coefficient : ℕ)
     (o : Option Term) → coefficient < 2 ^ 32 → term_in rest register coefficient ≡ Some o
     → IsTermBehind ks rest o
 term_soon ks rest register coefficient o fits e =
@@ -177,17 +177,17 @@ term_soon ks rest register coefficient o fits e =
     above_none zero e = absurd (false≢true (sym e))
     above_none (suc n) e = omega arith
 
-term_of_soon : (ks : List Kind) (rest : List (Option Line)) (t : LineTerm) (o : Option Term)
+term_of_soon : (ks : List Kind) (rest : List (Option AssemblyLine)) (t : LineTerm) (o : Option Term)
     → term_of rest t ≡ Some o → IsTermBehind ks rest o
 term_of_soon ks rest t o e =
     let c = found_from (natural_in (2 ^ 32) t.coefficient) _ o e in
     term_soon ks rest t.register c.0 o (natural_below (2 ^ 32) t.coefficient c.0 c.1) c.2
 
-abbrev IsRankBehind : List Kind → List (Option Line) → Rank → Type 0
+abbrev IsRankBehind : List Kind → List (Option AssemblyLine) → Rank → Type 0
 IsRankBehind ks rest r = IsRank r × IsTermSoon ks rest r.first × IsTermSoon ks rest r.second
 
-rank_made : (ks : List Kind) (rest : List (Option Line)) (c : ℕ) (a b : Option Term) (r : Rank)
-    → c < 2 ^ 32 → IsTermBehind ks rest a → IsTermBehind ks rest b
+rank_made : (ks : List Kind) (rest : List (Option AssemblyLine)) (c : ℕ) (a b : Option Term)
+    (r : Rank) → c < 2 ^ 32 → IsTermBehind ks rest a → IsTermBehind ks rest b
     → Some (record { constant = c; first = a; second = b }) ≡ Some r → IsRankBehind ks rest r
 rank_made ks rest c a b r fits first second e =
     subst (IsRankBehind ks rest) (some_same (record {
@@ -196,8 +196,8 @@ rank_made ks rest c a b r fits first second e =
       second = b;
     }) r e) (record { constant = fits; first = first.0; second = second.0 }, first.1, second.1)
 
-rank_soon : (ks : List Kind) (rest : List (Option Line)) (constant : Numeral) (found : Terms)
-    (r : Rank) → rank_of constant found rest ≡ Some r → IsRankBehind ks rest r
+rank_soon : (ks : List Kind) (rest : List (Option AssemblyLine)) (constant : Numeral)
+    (found : Terms) (r : Rank) → rank_of constant found rest ≡ Some r → IsRankBehind ks rest r
 rank_soon ks rest constant terms.None r e =
     let c = found_from (natural_in (2 ^ 32) constant) _ r e in
     rank_made ks rest c.0 None None r (natural_below (2 ^ 32) constant c.0 c.1) (tt, tt) (tt, tt)
@@ -217,17 +217,17 @@ rank_soon ks rest constant (terms.Two t u) r e =
 -- ---- statements
 
 -- None of the lines says that a register is a number.
-abbrev StateNone : List (Option Line) → Type 0
+abbrev StateNone : List (Option AssemblyLine) → Type 0
 StateNone xs = (register : ℕ) → is_stated_number xs register ≡ false
 
-term_closed : (ks : List Kind) (xs : List (Option Line)) (o : Option Term) → StateNone xs
+term_closed : (ks : List Kind) (xs : List (Option AssemblyLine)) (o : Option Term) → StateNone xs
     → IsTermSoon ks xs o → IsTermOver ks o
 term_closed ks xs None none h = tt
 term_closed ks xs (Some t) none h =
     ⊎_elim (λ x. x) (λ e. absurd (false≢true (sym (none t.register) ∙ e))) h
 
-closed : (xs : List (Option Line)) (s : StatementParts) → StateNone xs → s.slot < 4096 → IsOpen xs s
-    → IsStatement s
+closed : (xs : List (Option AssemblyLine)) (s : StatementParts) → StateNone xs → s.slot < 4096
+    → IsOpen xs s → IsStatement s
 closed xs s none below is = record {
   slot = omega arith;
   rank = record {
@@ -252,7 +252,7 @@ one_more (s ∷ ss) least slots l are low high is = (
 )
 
 -- with the last statement among them, if its slot is below this one
-pub all_closed : (xs : List (Option Line)) (slots next : ℕ) (before : List StatementParts)
+pub all_closed : (xs : List (Option AssemblyLine)) (slots next : ℕ) (before : List StatementParts)
     (last : Option StatementParts) → StateNone xs → slots ≤ 4096 → AreInOrder slots xs before last
     → ((l : StatementParts) → last ≡ Some l → l.slot < next)
     → AreStatements 0 next (all_of before last)
@@ -282,7 +282,7 @@ above_last before (Some m) slot l e is =
 all_empty : (k : ℕ) (d : Kind) → k < 10 → IsKind (get_or (replicate 10 kinds.Empty) k d)
 all_empty k d h = subst IsKind (sym (get_or-replicate 10 k kinds.Empty d h)) tt
 
-bare_open : (rest : List (Option Line)) (slot : ℕ) (r : Rank)
+bare_open : (rest : List (Option AssemblyLine)) (slot : ℕ) (r : Rank)
     → IsRankBehind (replicate 10 kinds.Empty) rest r → IsOpen rest (bare slot r)
 bare_open rest slot r is = record {
   rank = is.0;
@@ -301,8 +301,8 @@ opened_from : (s t : Sketch) (slot : ℕ) (r : Rank) (fault : Option AsmFault)
 opened_from s t slot r (Some fault) e = cc
 opened_from s t slot r None e = (refl, ok_same _ t e)
 
-state_keeps : (s t : Sketch) (target : Target) (constant : Numeral) (found : Terms)
-    (place : Option ℕ) (rest : List (Option Line))
+state_keeps : (s t : Sketch) (target : LabelOrNumber) (constant : Numeral) (found : Terms)
+    (place : Option ℕ) (rest : List (Option AssemblyLine))
     → IsLawful (Some (lines.State target constant found) ∷ rest) s
     → state_step s target constant found place rest ≡ Ok t → IsLawful rest t
 state_keeps s t target constant found place rest is e =
@@ -328,7 +328,7 @@ state_keeps s t target constant found place rest is e =
 
 -- ---- the other lines of a statement
 
-soon_map : (ks ls : List Kind) (xs ys : List (Option Line)) (o : Option Term)
+soon_map : (ks ls : List Kind) (xs ys : List (Option AssemblyLine)) (o : Option Term)
     → ((r : ℕ) → IsNumberAt ks r → IsNumberAt ls r)
     → ((r : ℕ) → is_stated_number xs r ≡ true
     → IsNumberAt ls r ⊎ (is_stated_number ys r ≡ true)) → IsTermSoon ks xs o
@@ -338,7 +338,7 @@ soon_map ks ls xs ys (Some t) keep now h =
     ⊎_elim (λ n. inl (keep t.register n)) (λ e. now t.register e) h
 
 -- a line that says nothing of registers
-order_passed : (slots : ℕ) (xs ys : List (Option Line)) (before : List StatementParts)
+order_passed : (slots : ℕ) (xs ys : List (Option AssemblyLine)) (before : List StatementParts)
     (last : Option StatementParts) → ((r : ℕ) → is_stated_number xs r ≡ is_stated_number ys r)
     → AreInOrder slots xs before last → AreInOrder slots ys before last
 order_passed slots xs ys before None same h = h
@@ -357,7 +357,7 @@ order_passed slots xs ys before (Some l) same h = (
   },
 )
 
-passed : (s : Sketch) (xs ys : List (Option Line))
+passed : (s : Sketch) (xs ys : List (Option AssemblyLine))
     → ((r : ℕ) → is_stated_number xs r ≡ is_stated_number ys r) → IsLawful xs s → IsLawful ys s
 passed s xs ys same is = record {
   front = is.front;
@@ -383,7 +383,7 @@ next_last s t step e =
     (p.0, q.0, last_from s.last p.0 p.1, q.1, ok_same (record s { last = Some q.0 }) t q.2)
 
 -- the statements in order, after the last one became this one
-order_next : (slots : ℕ) (xs ys : List (Option Line)) (before : List StatementParts)
+order_next : (slots : ℕ) (xs ys : List (Option AssemblyLine)) (before : List StatementParts)
     (last : Option StatementParts) (p q : StatementParts) → last ≡ Some p → p.slot ≡ q.slot
     → (IsOpen xs p → IsOpen ys q) → AreInOrder slots xs before last
     → AreInOrder slots ys before (Some q)
@@ -394,7 +394,7 @@ order_next slots xs ys before last p q e same now h =
       now o.2,
     )
 
-next_keeps : (s t : Sketch) (xs ys : List (Option Line))
+next_keeps : (s t : Sketch) (xs ys : List (Option AssemblyLine))
     (step : StatementParts → Result StatementParts AsmFault) → NextLast s t step
     → ((p q : StatementParts) → step p ≡ Ok q → (p.slot ≡ q.slot) × (IsOpen xs p → IsOpen ys q))
     → IsLawful xs s → IsLawful ys t
@@ -408,8 +408,9 @@ next_keeps s t xs ys step n keeps is =
     })
 
 -- the line states its own register as a number, and no other
-says_number : (register : ℕ) (content : Content) (kind : Kind) (rest : List (Option Line)) (r : ℕ)
-    → kind_of content ≡ Some kind → is_stated_number (Some (lines.With register content) ∷ rest) r
+says_number : (register : ℕ) (content : RegisterContent) (kind : Kind)
+    (rest : List (Option AssemblyLine)) (r : ℕ) → kind_of content ≡ Some kind
+    → is_stated_number (Some (lines.With register content) ∷ rest) r
     ≡ true → ((register ≡ r) × ((numbers : Numbers) × (kind ≡ kinds.Number numbers)))
     ⊎ (is_stated_number rest r ≡ true)
 says_number register (contents.Number range) kind rest r e h =
@@ -473,8 +474,8 @@ kind_kept p q register kind e =
     ok_chosen true x a fault e = (refl, ok_same x a e)
     ok_chosen false x a fault e = cc
 
-with_open : (p q : StatementParts) (register : ℕ) (content : Content) (rest : List (Option Line))
-    → with_step p register content ≡ Ok q
+with_open : (p q : StatementParts) (register : ℕ) (content : RegisterContent)
+    (rest : List (Option AssemblyLine)) → with_step p register content ≡ Ok q
     → (p.slot ≡ q.slot) × (IsOpen (Some (lines.With register content) ∷ rest) p → IsOpen rest q)
 with_open p q register content rest e =
     let k = taken_from (or_range_fault (kind_of content)) (kind_step p register) q e in
@@ -525,7 +526,7 @@ length_with_range start end stack low high e =
     ) in
     length-append (take start stack ++ replicate (end - start) true) (drop end stack) ∙ parts
 
-bytes_open : (p q : StatementParts) (m n : Numeral) (rest : List (Option Line))
+bytes_open : (p q : StatementParts) (m n : Numeral) (rest : List (Option AssemblyLine))
     → bytes_step p m n ≡ Ok q → (p.slot ≡ q.slot)
     × (IsOpen (Some (lines.Bytes m n) ∷ rest) p → IsOpen rest q)
 bytes_open p q m n rest e =
@@ -559,7 +560,7 @@ front_hook h None code hook e is = is
 front_hook None (Some rank) code hook e is = absurd is
 front_hook (Some old) (Some rank) code hook e is = absurd (false≢true (sym e))
 
-hook_keeps : (s t : Sketch) (hook : Hook) (rest : List (Option Line))
+hook_keeps : (s t : Sketch) (hook : Hook) (rest : List (Option AssemblyLine))
     → IsLawful (Some (lines.Hook hook) ∷ rest) s → hook_step s hook ≡ Ok t → IsLawful rest t
 hook_keeps s t hook rest is e =
     let c = taken_else (is_some s.hook) faults.Syntax (Ok (record s { hook = Some hook })) t e in
@@ -577,7 +578,7 @@ front_rank : (h : Option Hook) (code : List Slot) (rank : ℕ) → is_none h ≡
 front_rank None code rank e fits = absurd (false≢true (sym e))
 front_rank (Some hook) code rank e fits = fits
 
-rank_keeps : (s t : Sketch) (n : Numeral) (rest : List (Option Line))
+rank_keeps : (s t : Sketch) (n : Numeral) (rest : List (Option AssemblyLine))
     → IsLawful (Some (lines.Rank n) ∷ rest) s → rank_step s n ≡ Ok t → IsLawful rest t
 rank_keeps s t n rest is e =
     let c = taken_else (is_none s.hook || is_some s.rank) faults.Syntax
@@ -599,15 +600,15 @@ front_code h None old new e is = absurd (false≢true (sym e))
 front_code None (Some rank) old new e is = absurd is
 front_code (Some hook) (Some rank) old new e is = is
 
-order_none : (slots more : ℕ) (xs ys : List (Option Line)) (before : List StatementParts)
+order_none : (slots more : ℕ) (xs ys : List (Option AssemblyLine)) (before : List StatementParts)
     (last : Option StatementParts) → is_some last ≡ false → AreInOrder slots xs before last
     → AreInOrder more ys before last
 order_none slots more xs ys before None e h = h
 order_none slots more xs ys before (Some l) e h = absurd (false≢true (sym e))
 
-instruction_keeps : (s t : Sketch) (line : Line) (place : Option ℕ) (xs rest : List (Option Line))
-    → is_none s.rank ≡ false → IsLawful xs s → instruction_step s line place ≡ Ok t
-    → IsLawful rest t
+instruction_keeps : (s t : Sketch) (line : AssemblyLine) (place : Option ℕ)
+    (xs rest : List (Option AssemblyLine)) → is_none s.rank ≡ false → IsLawful xs s
+    → instruction_step s line place ≡ Ok t → IsLawful rest t
 instruction_keeps s t line place xs rest behind is e =
     let c = taken_else (is_some s.last) faults.Syntax (code_step s.code line place >>= with_code s)
     t e in
@@ -634,8 +635,8 @@ label_same s t at (Some place) e =
 
 -- ---- all lines
 
-body_keeps : (s t : Sketch) (line : Line) (at : ℕ) (place : Option Place)
-    (rest : List (Option Line)) → is_none s.rank ≡ false → IsLawful (Some line ∷ rest) s
+body_keeps : (s t : Sketch) (line : AssemblyLine) (at : ℕ) (place : Option Place)
+    (rest : List (Option AssemblyLine)) → is_none s.rank ≡ false → IsLawful (Some line ∷ rest) s
     → body_step s line at place rest ≡ Ok t → IsLawful rest t
 body_keeps s t lines.Label at place rest b is e =
     subst (IsLawful rest) (label_same s t at place e)
@@ -695,16 +696,16 @@ body_keeps s t (lines.LoadMap target map offset) at place rest b is e =
     instruction_keeps s t (lines.LoadMap target map offset) (slot_at place)
     (Some (lines.LoadMap target map offset) ∷ rest) rest b is e
 
-behind_front : (s t : Sketch) (line : Line) (at : ℕ) (place : Option Place)
-    (rest : List (Option Line)) → IsLawful (Some line ∷ rest) s
+behind_front : (s t : Sketch) (line : AssemblyLine) (at : ℕ) (place : Option Place)
+    (rest : List (Option AssemblyLine)) → IsLawful (Some line ∷ rest) s
     → (if is_none s.rank then Err faults.Syntax else body_step s line at place rest) ≡ Ok t
     → IsLawful rest t
 behind_front s t line at place rest is e =
     let c = taken_else (is_none s.rank) faults.Syntax (body_step s line at place rest) t e in
     body_keeps s t line at place rest c.0 is c.1
 
-line_keeps : (s t : Sketch) (line : Line) (at : ℕ) (place : Option Place)
-    (rest : List (Option Line)) → IsLawful (Some line ∷ rest) s
+line_keeps : (s t : Sketch) (line : AssemblyLine) (at : ℕ) (place : Option Place)
+    (rest : List (Option AssemblyLine)) → IsLawful (Some line ∷ rest) s
     → line_step s line at place rest ≡ Ok t → IsLawful rest t
 line_keeps s t lines.Empty at place rest is e =
     subst (IsLawful rest) (ok_same s t e) (passed s (Some lines.Empty ∷ rest) rest (λ r. refl) is)
@@ -743,27 +744,29 @@ line_keeps s t (lines.LoadNumber target number) at place rest is e =
 line_keeps s t (lines.LoadMap target map offset) at place rest is e =
     behind_front s t (lines.LoadMap target map offset) at place rest is e
 
-pub nothing_lawful : (xs : List (Option Line)) → IsLawful xs nothing
+pub nothing_lawful : (xs : List (Option AssemblyLine)) → IsLawful xs nothing
 nothing_lawful xs = record { front = refl; most = omega arith; statements = refl }
 
-same_lines : (xs ys : List (Option Line)) (s : Sketch) → xs ≡ ys → IsLawful xs s → IsLawful ys s
-same_lines xs ys s e is = subst (λ (zs : List (Option Line)). IsLawful zs s) e is
+same_lines : (xs ys : List (Option AssemblyLine)) (s : Sketch) → xs ≡ ys → IsLawful xs s
+    → IsLawful ys s
+same_lines xs ys s e is = subst (λ (zs : List (Option AssemblyLine)). IsLawful zs s) e is
 
 -- the line at this place preserves it
-pub keeps_at : (lines xs : List (Option Line)) (at : ℕ) (s t : Sketch) (l : Option Line)
-    (line : Line) (place : Option Place) → at < length lines → l ≡ get_or lines at l → l ≡ Some line
-    → xs ≡ lines → IsLawful (drop at lines) s
+pub keeps_at : (lines xs : List (Option AssemblyLine)) (at : ℕ) (s t : Sketch)
+    (l : Option AssemblyLine) (line : AssemblyLine) (place : Option Place) → at < length lines
+    → l ≡ get_or lines at l → l ≡ Some line → xs ≡ lines → IsLawful (drop at lines) s
     → line_step s line at place (take (length xs - (at + 1)) (drop (at + 1) xs)) ≡ Ok t
     → IsLawful (drop (at + 1) lines) t
 keeps_at lines xs at s t l line place h el e same is step =
     let rest : take (length xs - (at + 1)) (drop (at + 1) xs) ≡ drop (at + 1) lines =
-    take_rest xs (at + 1) ∙ ap (λ (ys : List (Option Line)). drop (at + 1) ys) same in
+    take_rest xs (at + 1) ∙ ap (λ (ys : List (Option AssemblyLine)). drop (at + 1) ys) same in
     let cut : drop at lines ≡ Some line ∷ drop (at + 1) lines =
-    drop_more lines at l h ∙ ap (λ (x : Option Line). x ∷ drop (at + 1) lines) (sym el ∙ e) in
+    drop_more lines at l h ∙ ap (λ (x : Option AssemblyLine). x ∷ drop (at + 1) lines) (sym el ∙ e)
+    in
     line_keeps s t line at place (drop (at + 1) lines)
     (same_lines (drop at lines) (Some line ∷ drop (at + 1) lines) s cut is)
-    (subst (λ (ys : List (Option Line)). line_step s line at place ys ≡ Ok t) rest step)
+    (subst (λ (ys : List (Option AssemblyLine)). line_step s line at place ys ≡ Ok t) rest step)
 
-pub keeps_end : (lines : List (Option Line)) (at : ℕ) (s : Sketch) → length lines ≤ at
+pub keeps_end : (lines : List (Option AssemblyLine)) (at : ℕ) (s : Sketch) → length lines ≤ at
     → IsLawful (drop at lines) s → IsLawful [] s
 keeps_end lines at s h is = same_lines (drop at lines) [] s (drop_of_length-le lines h) is

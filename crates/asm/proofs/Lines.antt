@@ -18,45 +18,45 @@ use Rattle.object.specs.Objects.{ObjectParts}
 use Rattle.object.specs.Sets.{has_byte}
 use Rattle.asm_words.specs.declared.numeral.Numeral.{Numeral}
 use Rattle.asm_words.specs.declared.numeral.Numeral.TheVariants.{Natural}
-use Rattle.asm_lines.specs.declared.line.Line.{Line}
-use Rattle.asm_lines.specs.declared.line.Line.TheVariants as lines
-use Rattle.asm_lines.specs.declared.line.Target.TheVariants as targets
+use Rattle.asm_lines.specs.declared.line.AssemblyLine.{AssemblyLine}
+use Rattle.asm_lines.specs.declared.line.AssemblyLine.TheVariants as lines
+use Rattle.asm_lines.specs.declared.line.LabelOrNumber.TheVariants as targets
 use Rattle.asm_lines.specs.declared.line.Terms.{Terms}
-use Rattle.asm_lines.specs.declared.line.Content.{Content}
+use Rattle.asm_lines.specs.declared.line.RegisterContent.{RegisterContent}
 use Rattle.asm_lines.specs.Written.{line_text}
 use Rattle.asm.specs.Listing.{AddsText, text_of, slot_lines, instruction_line, with_line}
 use Rattle.asm.specs.Listing.{with_lines, the_content, the_terms, join_byte, longest_ranges}
 use Rattle.asm.specs.Listing.{bytes_line, state_line, statement_lines, listing_lines}
 use Rattle.asm.proofs.Ranges.{AllIn}
 
-pub text-append : (a b : List Line) → text_of (a ++ b) ≡ text_of a ++ text_of b
+pub text-append : (a b : List AssemblyLine) → text_of (a ++ b) ≡ text_of a ++ text_of b
 text-append [] b = refl
 text-append (l ∷ a) b =
     ap (λ (t : List ℕ). line_text l [] ++ t) (text-append a b)
     ∙ sym (append_assoc (line_text l []) (text_of a) (text_of b))
 
 -- one more line is written
-pub line_written : (old new whole : List ℕ) (l : Line) (rest : List Line)
+pub line_written : (old new whole : List ℕ) (l : AssemblyLine) (rest : List AssemblyLine)
     → new ≡ old ++ line_text l [] → old ++ text_of (l ∷ rest) ≡ whole → new ++ text_of rest ≡ whole
 line_written old new whole l rest e h =
     ap (λ (t : List ℕ). t ++ text_of rest) e ∙ append_assoc old (line_text l []) (text_of rest) ∙ h
 
 -- or several
-pub lines_written : (old new whole : List ℕ) (ls rest : List Line) → AddsText old new ls
+pub lines_written : (old new whole : List ℕ) (ls rest : List AssemblyLine) → AddsText old new ls
     → old ++ text_of (ls ++ rest) ≡ whole → new ++ text_of rest ≡ whole
 lines_written old new whole ls rest e h =
     ap (λ (t : List ℕ). t ++ text_of rest) e ∙ append_assoc old (text_of ls) (text_of rest)
     ∙ ap (λ (t : List ℕ). old ++ t) (sym (text-append ls rest)) ∙ h
 
 -- and nothing is still to come
-pub all_written : (text whole : List ℕ) (rest : List Line) → rest ≡ []
+pub all_written : (text whole : List ℕ) (rest : List AssemblyLine) → rest ≡ []
     → text ++ text_of rest ≡ whole → text ≡ whole
 all_written text whole rest e h = sym (append-nil text)
-    ∙ ap (λ (ls : List Line). text ++ text_of ls) (sym e) ∙ h
+    ∙ ap (λ (ls : List AssemblyLine). text ++ text_of ls) (sym e) ∙ h
 
 -- ---- instructions
 
-pub start_written : (old new whole : List ℕ) (slots : List Slot) (at : ℕ) (l : Line)
+pub start_written : (old new whole : List ℕ) (slots : List Slot) (at : ℕ) (l : AssemblyLine)
     (i : Instruction) → at < length slots → get_or slots at (Start i) ≡ Start i
     → l ≡ instruction_line i → new ≡ old ++ line_text l []
     → old ++ text_of (flat_map slot_lines (drop at slots)) ≡ whole
@@ -65,7 +65,7 @@ start_written old new whole slots at l i h g el e inv =
     let here : drop at slots ≡ Start i ∷ drop (at + 1) slots =
     drop_more slots at (Start i) h ∙ ap (λ (x : Slot). x ∷ drop (at + 1) slots) g in
     line_written old new whole l (flat_map slot_lines (drop (at + 1) slots)) e
-    (ap (λ (x : Line). old ++ text_of (x ∷ flat_map slot_lines (drop (at + 1) slots))) el
+    (ap (λ (x : AssemblyLine). old ++ text_of (x ∷ flat_map slot_lines (drop (at + 1) slots))) el
     ∙ ap (λ (xs : List Slot). old ++ text_of (flat_map slot_lines xs)) (sym here) ∙ inv)
 
 pub second_written : (old whole : List ℕ) (slots : List Slot) (at : ℕ) → at < length slots
@@ -85,8 +85,8 @@ code_written text whole slots at h inv =
 
 -- ---- registers
 
-pub kind_written : (old new whole : List ℕ) (ks : List Kind) (at : ℕ) (k : Kind) (content : Content)
-    → at < length ks → get_or ks at k ≡ k → the_content k ≡ Some content
+pub kind_written : (old new whole : List ℕ) (ks : List Kind) (at : ℕ) (k : Kind)
+    (content : RegisterContent) → at < length ks → get_or ks at k ≡ k → the_content k ≡ Some content
     → new ≡ old ++ line_text (lines.With at content) []
     → old ++ text_of (with_lines at (drop at ks)) ≡ whole
     → new ++ text_of (with_lines (at + 1) (drop (at + 1) ks)) ≡ whole
@@ -94,7 +94,7 @@ kind_written old new whole ks at k content h g ec e inv =
     let here : drop at ks ≡ k ∷ drop (at + 1) ks =
     drop_more ks at k h ∙ ap (λ (x : Kind). x ∷ drop (at + 1) ks) g in
     line_written old new whole (lines.With at content) (with_lines (at + 1) (drop (at + 1) ks)) e
-    (ap (λ (o : Option Content). old ++ text_of
+    (ap (λ (o : Option RegisterContent). old ++ text_of
     (with_line at o ++ with_lines (at + 1) (drop (at + 1) ks))) (sym ec)
     ∙ ap (λ (xs : List Kind). old ++ text_of (with_lines at xs)) (sym here) ∙ inv)
 
@@ -105,7 +105,7 @@ pub empty_written : (old whole : List ℕ) (ks : List Kind) (at : ℕ) (k : Kind
 empty_written old whole ks at k h g ec inv =
     let here : drop at ks ≡ k ∷ drop (at + 1) ks =
     drop_more ks at k h ∙ ap (λ (x : Kind). x ∷ drop (at + 1) ks) g in
-    ap (λ (o : Option Content). old ++ text_of
+    ap (λ (o : Option RegisterContent). old ++ text_of
     (with_line at o ++ with_lines (at + 1) (drop (at + 1) ks))) (sym ec)
     ∙ ap (λ (xs : List Kind). old ++ text_of (with_lines at xs)) (sym here) ∙ inv
 
@@ -221,8 +221,8 @@ stack_written text whole stack at h inv =
 
 -- ---- statements
 
-parts_written : (a b c d : List ℕ) (l : Line) (ks ss : List Line) → b ≡ a ++ line_text l []
-    → AddsText b c ks → AddsText c d ss → AddsText a d (l ∷ (ks ++ ss))
+parts_written : (a b c d : List ℕ) (l : AssemblyLine) (ks ss : List AssemblyLine)
+    → b ≡ a ++ line_text l [] → AddsText b c ks → AddsText c d ss → AddsText a d (l ∷ (ks ++ ss))
 parts_written a b c d l ks ss eb ec ed =
     ed ∙ ap (λ (t : List ℕ). t ++ text_of ss) ec ∙ append_assoc b (text_of ks) (text_of ss)
     ∙ ap (λ (t : List ℕ). b ++ t) (sym (text-append ks ss))
@@ -247,7 +247,7 @@ statement_written a b c d s n m t rank ks stack er ek es en em et eb ec ed =
     (the_terms r.first r.second)) er in
     parts_written a b c d (state_line s) (with_lines 0 s.kinds)
     (map bytes_line (longest_ranges 0 s.stack))
-    (eb ∙ ap (λ (l : Line). a ++ line_text l []) line)
+    (eb ∙ ap (λ (l : AssemblyLine). a ++ line_text l []) line)
     (ec ∙ ap (λ (xs : List Kind). b ++ text_of (with_lines 0 xs)) ek)
     (ed ∙ ap (λ (xs : List Bool). c ++ text_of (map bytes_line (longest_ranges 0 xs))) es)
 

@@ -7,7 +7,7 @@ use Rattle.std.specs.Str.{bytes_eq}
 use Rattle.std.proofs.lemmas.Bool.{false≢true}
 use Rattle.std.proofs.lemmas.List.{get_or_default, take_rest}
 use denote.Ref.{Bor}
-use Rattle.asm_lines.specs.declared.line.Line.{Line}
+use Rattle.asm_lines.specs.declared.line.AssemblyLine.{AssemblyLine}
 use Rattle.asm_words.specs.Words.{Word}
 use Rattle.asm_lines.specs.Views.{views}
 use Rattle.asm.specs.declared.error.AsmFault.TheVariants as faults
@@ -20,9 +20,10 @@ use Rattle.asm.specs.Assembling.{taken_all, Says, Declines, Refuses, gives_label
 use Rattle.asm.specs.Assembling.{place_from, Sketch, take_lines, line_step, blame_line}
 
 -- the line `n` of those that are left
-pub place_here : (n at slot : ℕ) (lines : List (Option Line)) (names : List (Bor Word))
-    (word : Word) (d : Option Line) (e : Bor Word) → n < length lines → length lines ≡ length names
-    → place_from at slot (drop n lines) (views (drop n names)) word
+pub place_here : (n at slot : ℕ) (lines : List (Option AssemblyLine)) (names : List (Bor Word))
+    (word : Word) (d : Option AssemblyLine) (e : Bor Word) → n < length lines
+    → length lines ≡ length names → place_from at slot (drop n lines) (views (drop n names))
+    word
     ≡ (if gives_label (get_or lines n d) && bytes_eq (get_or names n e).now word then Some (record {
       line = at;
       slot = slot;
@@ -36,7 +37,7 @@ place_here (suc n) at slot (l ∷ ls) (m ∷ ms) word d e h same =
     place_here n at slot ls ms word d e (omega arith) (omega arith)
 
 -- nothing is left
-pub taken_end : (places : Word → Option Place) (n at : ℕ) (lines : List (Option Line))
+pub taken_end : (places : Word → Option Place) (n at : ℕ) (lines : List (Option AssemblyLine))
     (names : List Word) (s : Sketch) → n ≡ length lines
     → take_lines places at (drop n lines) names s ≡ Ok s
 taken_end places n at [] names s h = rw h refl
@@ -44,8 +45,8 @@ taken_end places zero at (l ∷ ls) names s h = absurd (omega arith)
 taken_end places (suc n) at (l ∷ ls) names s h = taken_end places n at ls names s (omega arith)
 
 -- the line `n` of those that are left spells nothing
-pub taken_bad : (places : Word → Option Place) (n at : ℕ) (lines : List (Option Line))
-    (names : List (Bor Word)) (s : Sketch) (d : Option Line) → n < length lines
+pub taken_bad : (places : Word → Option Place) (n at : ℕ) (lines : List (Option AssemblyLine))
+    (names : List (Bor Word)) (s : Sketch) (d : Option AssemblyLine) → n < length lines
     → length lines ≡ length names → get_or lines n d ≡ None
     → take_lines places at (drop n lines) (views (drop n names)) s
     ≡ Err (at + 1, faults.Syntax)
@@ -56,9 +57,10 @@ taken_bad places (suc n) at (l ∷ ls) (m ∷ ms) s d h same e =
     taken_bad places n at ls ms s d (omega arith) (omega arith) e
 
 -- or it spells a line
-pub taken_here : (places : Word → Option Place) (n at : ℕ) (lines : List (Option Line))
-    (names : List (Bor Word)) (s : Sketch) (line : Line) (d : Option Line) (b : Bor Word)
-    → n < length lines → length lines ≡ length names → get_or lines n d ≡ Some line
+pub taken_here : (places : Word → Option Place) (n at : ℕ) (lines : List (Option AssemblyLine))
+    (names : List (Bor Word)) (s : Sketch) (line : AssemblyLine) (d : Option AssemblyLine)
+    (b : Bor Word) → n < length lines → length lines ≡ length names
+    → get_or lines n d ≡ Some line
     → take_lines places at (drop n lines) (views (drop n names)) s
     ≡ blame_line at (line_step s line at (places (get_or names n b).now) (drop (suc n) lines))
     (take_lines places (at + 1) (drop (suc n) lines) (views (drop (suc n) names)))
@@ -80,8 +82,8 @@ chosen_here true at slot later = refl
 chosen_here false at slot later = refl
 
 -- one line of the table: what it defines, before what the lines after it define
-pub looks_on : (at slot more : ℕ) (lines : List (Option Line)) (names : List (Bor Word))
-    (word : Word) (m : Option Line) → at < length lines → length lines ≡ length names
+pub looks_on : (at slot more : ℕ) (lines : List (Option AssemblyLine)) (names : List (Bor Word))
+    (word : Word) (m : Option AssemblyLine) → at < length lines → length lines ≡ length names
     → m ≡ get_or lines at m → more ≡ slots_in m
     → place_from at slot (drop at lines) (views (drop at names)) word
     ≡ here_if (gives_label m && bytes_eq (get_or names at (record {
@@ -106,7 +108,8 @@ looks_on at slot more lines names word m h same em e =
       slot = slot;
     }) else place_from (at + 1) (slot + k) (drop (at + 1) lines) (views (drop (at + 1) names)) word)
     slots
-    ∙ ap (λ (x : Option Line). if gives_label x && bytes_eq (get_or names at n).now word then
+    ∙ ap (λ (x : Option AssemblyLine). if gives_label x && bytes_eq (get_or names at n).now word
+    then
     Some (record {
       line = at;
       slot = slot;
@@ -139,11 +142,12 @@ none_here true b at slot later e = absurd (false≢true (sym e))
 none_here false b at slot later e = refl
 
 -- a line that defines a label puts it into the table
-pub label_noted : (whole old new : Option Place) (at slot more : ℕ) (lines : List (Option Line))
-    (names : List (Bor Word)) (word : Word) (l m : Option Line) → at < length lines
-    → length lines ≡ length names → l ≡ get_or lines at l → m ≡ get_or lines at m
-    → more ≡ slots_in m → gives_label l ≡ true
-    → whole ≡ old or_else place_from at slot (drop at lines) (views (drop at names))
+pub label_noted : (whole old new : Option Place) (at slot more : ℕ)
+    (lines : List (Option AssemblyLine)) (names : List (Bor Word)) (word : Word)
+    (l m : Option AssemblyLine) → at < length lines → length lines ≡ length names
+    → l ≡ get_or lines at l → m ≡ get_or lines at m → more ≡ slots_in m
+    → gives_label l ≡ true → whole
+    ≡ old or_else place_from at slot (drop at lines) (views (drop at names))
     word
     → new ≡ old or_else (if bytes_eq (get_or names at (record {
       ref_ptr = (0, 0);
@@ -164,11 +168,12 @@ label_noted whole old new at slot more lines names word l m h same el em e given
     (ap gives_label (sym (el ∙ get_or_default lines at l m h ∙ sym em)) ∙ given)) put
 
 -- and another doesn't change it
-pub no_label_noted : (whole old new : Option Place) (at slot more : ℕ) (lines : List (Option Line))
-    (names : List (Bor Word)) (word : Word) (l m : Option Line) → at < length lines
-    → length lines ≡ length names → l ≡ get_or lines at l → m ≡ get_or lines at m
-    → more ≡ slots_in m → gives_label l ≡ false
-    → whole ≡ old or_else place_from at slot (drop at lines) (views (drop at names))
+pub no_label_noted : (whole old new : Option Place) (at slot more : ℕ)
+    (lines : List (Option AssemblyLine)) (names : List (Bor Word)) (word : Word)
+    (l m : Option AssemblyLine) → at < length lines → length lines ≡ length names
+    → l ≡ get_or lines at l → m ≡ get_or lines at m → more ≡ slots_in m
+    → gives_label l ≡ false → whole
+    ≡ old or_else place_from at slot (drop at lines) (views (drop at names))
     word → new ≡ old → whole ≡ new or_else place_from (at + 1) (slot + more)
     (drop (at + 1) lines) (views (drop (at + 1) names)) word
 no_label_noted whole old new at slot more lines names word l m h same el em e given so_far put =
@@ -183,10 +188,10 @@ no_label_noted whole old new at slot more lines names word l m h same el em e gi
 
 -- ---- all lines
 
-rest_all : (xs : List (Option Line)) (k : ℕ) → take (length xs - k) (drop k xs) ≡ drop k xs
+rest_all : (xs : List (Option AssemblyLine)) (k : ℕ) → take (length xs - k) (drop k xs) ≡ drop k xs
 rest_all xs k = take_rest xs k
 
-same_place : (lines la : List (Option Line)) (names na : List (Bor Word)) (n m : Bor Word)
+same_place : (lines la : List (Option AssemblyLine)) (names na : List (Bor Word)) (n m : Bor Word)
     → la ≡ lines → na ≡ names → n ≡ m
     → place_from 0 0 la (views na) n.now ≡ place_from 0 0 lines (views names) m.now
 same_place lines la names na n m el en e =
@@ -194,20 +199,20 @@ same_place lines la names na n m el en e =
     ∙ ap (λ (x : List (Bor Word)). place_from 0 0 lines (views x) n.now) en
     ∙ ap (λ (x : Bor Word). place_from 0 0 lines (views names) x.now) e
 
-same_step : (s : Sketch) (line : Line) (at : ℕ) (p q : Option Place) (r r2 : List (Option Line))
-    (x : Result Sketch AsmFault) → p ≡ q → r ≡ r2 → line_step s line at p r ≡ x
-    → line_step s line at q r2 ≡ x
+same_step : (s : Sketch) (line : AssemblyLine) (at : ℕ) (p q : Option Place)
+    (r r2 : List (Option AssemblyLine)) (x : Result Sketch AsmFault) → p ≡ q → r ≡ r2
+    → line_step s line at p r ≡ x → line_step s line at q r2 ≡ x
 same_step s line at p q r r2 x e f h =
     subst (λ (a : Option Place). line_step s line at a r2 ≡ x) e
-    (subst (λ (b : List (Option Line)). line_step s line at p b ≡ x) f h)
+    (subst (λ (b : List (Option AssemblyLine)). line_step s line at p b ≡ x) f h)
 
 -- what the line at this place makes
-pub stepped : (lines : List (Option Line)) (names : List (Bor Word)) (at : ℕ) (s : Sketch)
-    (l : Option Line) (line : Line) (n : Bor Word) (la lb : List (Option Line))
-    (na : List (Bor Word)) (p : Option Place) (x : Result Sketch AsmFault) → at < length lines
-    → length lines ≡ length names → l ≡ get_or lines at l → l ≡ Some line
-    → n ≡ get_or names at n → la ≡ lines → na ≡ names → lb ≡ lines
-    → p ≡ place_from 0 0 la (views na) n.now
+pub stepped : (lines : List (Option AssemblyLine)) (names : List (Bor Word)) (at : ℕ) (s : Sketch)
+    (l : Option AssemblyLine) (line : AssemblyLine) (n : Bor Word)
+    (la lb : List (Option AssemblyLine)) (na : List (Bor Word)) (p : Option Place)
+    (x : Result Sketch AsmFault) → at < length lines → length lines ≡ length names
+    → l ≡ get_or lines at l → l ≡ Some line → n ≡ get_or names at n → la ≡ lines
+    → na ≡ names → lb ≡ lines → p ≡ place_from 0 0 la (views na) n.now
     → taken_all lines (views names)
     ≡ take_lines (place_from 0 0 lines (views names)) at (drop at lines)
     (views (drop at names)) s
@@ -224,7 +229,7 @@ stepped lines names at s l line n la lb na p x h same el e en ela ena elb ep inv
     let here = same_step s line at p (places (get_or names at n).now)
     (take (length lb - (at + 1)) (drop (at + 1) lb)) (drop (suc at) lines) x
     (ep ∙ same_place lines la names na n (get_or names at n) ela ena en)
-    (rest_all lb (at + 1) ∙ ap (λ (ys : List (Option Line)). drop (at + 1) ys) elb
+    (rest_all lb (at + 1) ∙ ap (λ (ys : List (Option AssemblyLine)). drop (at + 1) ys) elb
     ∙ ap (λ k. drop k lines) next) given in
     inv ∙ taken_here places at at lines names s line l n h same (sym el ∙ e)
     ∙ ap (λ (r : Result Sketch AsmFault). blame_line at r
@@ -261,8 +266,8 @@ refuses_as text r line fault is refuses = subst (λ (x : AsmError). Told text x)
     (⊎_elim (λ m. inl m) (λ e. inr (subst (λ (x : AsmError). Refuses text x.line x.kind) (sym e)
     refuses)) (error_told line fault))
 
-refuses_at : (text : List ℕ) (lines : List (Option Line)) (names : List (Bor Word)) (r : AsmError)
-    (line : ℕ) (fault : AsmFault) → Says text lines names → r ≡ error_at line fault
+refuses_at : (text : List ℕ) (lines : List (Option AssemblyLine)) (names : List (Bor Word))
+    (r : AsmError) (line : ℕ) (fault : AsmFault) → Says text lines names → r ≡ error_at line fault
     → taken_all lines (views names) ≡ Err (line, fault) → Told text r
 refuses_at text lines names r line fault says is e = refuses_as text r line fault is (record {
   found = lines;
@@ -272,8 +277,8 @@ refuses_at text lines names r line fault says is e = refuses_as text r line faul
 })
 
 -- a line that spells nothing
-pub refused_bad : (text : List ℕ) (lines : List (Option Line)) (names : List (Bor Word))
-    (r : AsmError) (at : ℕ) (s : Sketch) (l : Option Line) → Says text lines names
+pub refused_bad : (text : List ℕ) (lines : List (Option AssemblyLine)) (names : List (Bor Word))
+    (r : AsmError) (at : ℕ) (s : Sketch) (l : Option AssemblyLine) → Says text lines names
     → at < length lines → l ≡ get_or lines at l → l ≡ None
     → taken_all lines (views names)
     ≡ take_lines (place_from 0 0 lines (views names)) at (drop at lines)
@@ -284,7 +289,7 @@ refused_bad text lines names r at s l says h el e inv is =
     (sym el ∙ e))
 
 -- a line that is refused
-pub refused_line : (text : List ℕ) (lines : List (Option Line)) (names : List (Bor Word))
+pub refused_line : (text : List ℕ) (lines : List (Option AssemblyLine)) (names : List (Bor Word))
     (r : AsmError) (at : ℕ) (fault : AsmFault) (step : Result Sketch AsmFault)
     → Says text lines names → r ≡ error_at (at + 1) fault
     → ((fault ≡ faults.Memory) × IsOk step) ⊎ (step ≡ Err fault)
@@ -296,7 +301,7 @@ refused_line text lines names r at fault step says is (inr e) f =
     refuses_at text lines names r (at + 1) fault says is (f e)
 
 -- no instruction
-pub refused_whole : (text : List ℕ) (lines : List (Option Line)) (names : List (Bor Word))
+pub refused_whole : (text : List ℕ) (lines : List (Option AssemblyLine)) (names : List (Bor Word))
     (r : AsmError) (fault : AsmFault) (s : Sketch) → Says text lines names → r ≡ error_at 1 fault
     → Declines s fault → taken_all lines (views names) ≡ Ok s → Told text r
 refused_whole text lines names r fault s says is (inl m) e = out_of_memory text r 1 fault is m.0

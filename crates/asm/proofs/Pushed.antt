@@ -7,8 +7,8 @@ use Rattle.std.proofs.lemmas.List.{map-append, length_push}
 use Rattle.isa.specs.declared.hook.Hook.{Hook}
 use Rattle.asm_words.specs.declared.numeral.Numeral.{Numeral}
 use Rattle.asm_words.specs.declared.numeral.Numeral.TheVariants as numerals
-use Rattle.asm_lines.specs.declared.line.Line.{Line}
-use Rattle.asm_lines.specs.declared.line.Line.TheVariants as lines
+use Rattle.asm_lines.specs.declared.line.AssemblyLine.{AssemblyLine}
+use Rattle.asm_lines.specs.declared.line.AssemblyLine.TheVariants as lines
 use Rattle.asm_words.specs.Words.{Word}
 use Rattle.asm_lines.specs.Written.{AreLines}
 use Rattle.asm.specs.declared.error.AsmFault.{AsmFault}
@@ -18,22 +18,22 @@ use Rattle.asm.specs.Instructions.{◌>>=◌, or_range_fault}
 use Rattle.asm.specs.Assembling.{Sketch, nothing, take_lines, blame_line, line_step, with_rank}
 use Rattle.asm.specs.Listed.{Listed, AddsLine, Any, code_sketch, without_label, no_name, some_line}
 
-push_split : {B : Type 0} (f : Line → B) (ls : List Line) (l : Line) (rest : List B)
-    → map f (ls ++ l ∷ []) ++ rest ≡ map f ls ++ f l ∷ rest
+push_split : {B : Type 0} (f : AssemblyLine → B) (ls : List AssemblyLine) (l : AssemblyLine)
+    (rest : List B) → map f (ls ++ l ∷ []) ++ rest ≡ map f ls ++ f l ∷ rest
 push_split f ls l rest = ap (λ xs. xs ++ rest) (map-append f ls (l ∷ []))
     ∙ append_assoc (map f ls) (f l ∷ []) rest
 
-pub listed_push : (old new : List ℕ) (l : Line) (s t : Sketch) (C D : List (Option Line) → Type 0)
-    → AddsLine old new l → Listed old s C
-    → ((rest : List (Option Line)) → D rest → C (Some l ∷ rest))
-    → ((at : ℕ) (place : Option Place) (rest : List (Option Line)) → D rest
+pub listed_push : (old new : List ℕ) (l : AssemblyLine) (s t : Sketch)
+    (C D : List (Option AssemblyLine) → Type 0) → AddsLine old new l → Listed old s C
+    → ((rest : List (Option AssemblyLine)) → D rest → C (Some l ∷ rest))
+    → ((at : ℕ) (place : Option Place) (rest : List (Option AssemblyLine)) → D rest
     → line_step s l at place rest ≡ Ok t) → Listed new t D
 listed_push old new l s t C D adds h next step = record {
   lines = h.lines ++ l ∷ [];
-  are = subst (λ (items : List (Line × Word)). AreLines new items)
+  are = subst (λ (items : List (AssemblyLine × Word)). AreLines new items)
       (sym (map-append without_label h.lines (l ∷ []))) (adds (map without_label h.lines) h.are);
   leads = λ places rest names d.
-      ap (λ (x : List (Option Line)). take_lines places 0 x
+      ap (λ (x : List (Option AssemblyLine)). take_lines places 0 x
       (map no_name (h.lines ++ l ∷ []) ++ names) nothing) (push_split some_line h.lines l rest)
       ∙ ap (λ (x : List Word). take_lines places 0 (map some_line h.lines ++ Some l ∷ rest) x
       nothing) (push_split no_name h.lines l names)
@@ -45,8 +45,8 @@ listed_push old new l s t C D adds h next step = record {
 }
 
 -- the same lines with a weaker requirement, and the same sketch by another name
-pub listed_same : (text : List ℕ) (s t : Sketch) (C D : List (Option Line) → Type 0) → s ≡ t
-    → ((rest : List (Option Line)) → D rest → C rest) → Listed text s C → Listed text t D
+pub listed_same : (text : List ℕ) (s t : Sketch) (C D : List (Option AssemblyLine) → Type 0) → s ≡ t
+    → ((rest : List (Option AssemblyLine)) → D rest → C rest) → Listed text s C → Listed text t D
 listed_same text s t C D e less h = record {
   lines = h.lines;
   are = h.are;

@@ -13,10 +13,10 @@ use Rattle.object.specs.declared.rank.Rank.{Rank}
 use Rattle.object.specs.Numbers.{Term}
 use Rattle.object.specs.Statements.{StatementParts, IsTermOver}
 use Rattle.object.specs.Sets.{no_bytes}
-use Rattle.asm_lines.specs.declared.line.Line.{Line}
-use Rattle.asm_lines.specs.declared.line.Line.TheVariants as lines
-use Rattle.asm_lines.specs.declared.line.Content.{Content}
-use Rattle.asm_lines.specs.declared.line.Content.TheVariants as contents
+use Rattle.asm_lines.specs.declared.line.AssemblyLine.{AssemblyLine}
+use Rattle.asm_lines.specs.declared.line.AssemblyLine.TheVariants as lines
+use Rattle.asm_lines.specs.declared.line.RegisterContent.{RegisterContent}
+use Rattle.asm_lines.specs.declared.line.RegisterContent.TheVariants as contents
 use Rattle.asm.specs.declared.error.AsmFault.{AsmFault}
 use Rattle.asm.specs.declared.error.AsmFault.TheVariants as faults
 use Rattle.asm.specs.declared.labels.Place.{Place}
@@ -41,7 +41,7 @@ stating f slot rank ks = sketch_of f (Some (record {
 
 -- ---- what follows says which registers are numbers
 
-still_says : (content : Content) (register other : ℕ) (rest : List (Option Line))
+still_says : (content : RegisterContent) (register other : ℕ) (rest : List (Option AssemblyLine))
     → is_stated_number rest register ≡ true
     → is_stated_number (Some (lines.With other content) ∷ rest) register ≡ true
 still_says (contents.Number range) register other rest e =
@@ -51,7 +51,7 @@ still_says (contents.Context offset) register other rest e = e
 still_says (contents.Stack offset) register other rest e = e
 still_says (contents.Map map offset) register other rest e = e
 
-says_number : (content : Content) (register : ℕ) (rest : List (Option Line))
+says_number : (content : RegisterContent) (register : ℕ) (rest : List (Option AssemblyLine))
     → gives_number (Some content) ≡ true
     → is_stated_number (Some (lines.With register content) ∷ rest) register ≡ true
 says_number (contents.Number range) register rest e =
@@ -87,15 +87,15 @@ got (x ∷ ks) (suc at) k d e = got ks at k d e
 
 -- a register that isn't a number needs no line
 pub stated_past : (ks : List Kind) (at : ℕ) (d : Kind) → is_number (get_or ks at d) ≡ false
-    → (rest : List (Option Line)) → AreStated ks (at + 1) rest → AreStated ks at rest
+    → (rest : List (Option AssemblyLine)) → AreStated ks (at + 1) rest → AreStated ks at rest
 stated_past ks at d none rest later = λ register from is. ⊎_elim
     (λ e. absurd (false≢true (sym none
     ∙ ap is_number (ap (λ n. get_or ks n d) e ∙ got ks register (kinds.Number is.0) d is.1))))
     (λ ne. later register (above at register from ne) is) (cases_eq at register)
 
 -- a line of the register comes first
-pub stated_by : (ks : List Kind) (at : ℕ) (d : Kind) (content : Content)
-    → is_number (get_or ks at d) ≡ gives_number (Some content) → (rest : List (Option Line))
+pub stated_by : (ks : List Kind) (at : ℕ) (d : Kind) (content : RegisterContent)
+    → is_number (get_or ks at d) ≡ gives_number (Some content) → (rest : List (Option AssemblyLine))
     → AreStated ks (at + 1) rest → AreStated ks at (Some (lines.With at content) ∷ rest)
 stated_by ks at d content same rest later = λ register from is. ⊎_elim
     (λ e. subst (λ (n : ℕ). is_stated_number (Some (lines.With at content) ∷ rest) n ≡ true) e
@@ -104,13 +104,13 @@ stated_by ks at d content same rest later = λ register from is. ⊎_elim
     (λ ne. still_says content register at rest (later register (above at register from ne) is))
     (cases_eq at register)
 
-pub stated_all : (ks : List Kind) (rest : List (Option Line)) → length ks ≡ 10
+pub stated_all : (ks : List Kind) (rest : List (Option AssemblyLine)) → length ks ≡ 10
     → AreStated ks 10 rest
 stated_all ks rest e = λ register from is. absurd
     (omega (arith, e, from, slice_get_within ks register (kinds.Number is.0) is.1))
 
 -- the rank's registers
-pub stated_term : (ks : List Kind) (term : Option Term) (rest : List (Option Line))
+pub stated_term : (ks : List Kind) (term : Option Term) (rest : List (Option AssemblyLine))
     → IsTermOver ks term → AreStated ks 0 rest → is_stated rest term ≡ true
 stated_term ks None rest over are = refl
 stated_term ks (Some term) rest over are = are term.register (omega arith) over
@@ -143,8 +143,8 @@ empty_step text f slot rank ks at long h g listed =
     (stated_past ks at kinds.Empty (ap is_number g)) listed
 
 with_steps : (f : Front) (slot : ℕ) (rank : Rank) (ks : List Kind) (at : ℕ) (k : Kind)
-    (content : Content) (n : ℕ) (place : Option Place) (rest : List (Option Line)) → length ks ≡ 10
-    → at < 10 → get_or ks at k ≡ k → kind_of content ≡ Some k
+    (content : RegisterContent) (n : ℕ) (place : Option Place) (rest : List (Option AssemblyLine))
+    → length ks ≡ 10 → at < 10 → get_or ks at k ≡ k → kind_of content ≡ Some k
     → line_step (stating f slot rank (kinds_up_to ks at)) (lines.With at content) n place
     rest ≡ Ok (stating f slot rank (kinds_up_to ks (at + 1)))
 with_steps f slot rank ks at k content n place rest long h g again =
@@ -173,7 +173,7 @@ with_steps f slot rank ks at k content n place rest long h g again =
     })) set)
 
 pub kind_line : (old new : List ℕ) (f : Front) (slot : ℕ) (rank : Rank) (ks : List Kind) (at : ℕ)
-    (k : Kind) (content : Content) → length ks ≡ 10 → at < 10 → get_or ks at k ≡ k
+    (k : Kind) (content : RegisterContent) → length ks ≡ 10 → at < 10 → get_or ks at k ≡ k
     → kind_of content ≡ Some k → is_number k ≡ gives_number (Some content)
     → AddsLine old new (lines.With at content)
     → Listed old (stating f slot rank (kinds_up_to ks at)) (AreStated ks at)

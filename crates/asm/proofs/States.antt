@@ -14,9 +14,9 @@ use Rattle.object.specs.Objects.{AreStatements}
 use Rattle.object.specs.Sets.{no_bytes}
 use Rattle.asm_words.specs.declared.numeral.Numeral.{Numeral}
 use Rattle.asm_words.specs.declared.numeral.Numeral.TheVariants as numerals
-use Rattle.asm_lines.specs.declared.line.Line.{Line}
-use Rattle.asm_lines.specs.declared.line.Line.TheVariants as lines
-use Rattle.asm_lines.specs.declared.line.Target.TheVariants as targets
+use Rattle.asm_lines.specs.declared.line.AssemblyLine.{AssemblyLine}
+use Rattle.asm_lines.specs.declared.line.AssemblyLine.TheVariants as lines
+use Rattle.asm_lines.specs.declared.line.LabelOrNumber.TheVariants as targets
 use Rattle.asm_lines.specs.declared.line.Terms.{Terms}
 use Rattle.asm.specs.declared.error.AsmFault.{AsmFault}
 use Rattle.asm.specs.declared.error.AsmFault.TheVariants as faults
@@ -32,7 +32,7 @@ use Rattle.asm.proofs.Pushed.{listed_push, in_field}
 use Rattle.asm.proofs.Registers.{stated_term}
 
 state_steps : (f : Front) (last : Option StatementParts) (s : StatementParts) (n m : Numeral)
-    (t : Terms) (place : Option Place) (at : ℕ) (rest : List (Option Line))
+    (t : Terms) (place : Option Place) (at : ℕ) (rest : List (Option AssemblyLine))
     → n ≡ numerals.Natural s.slot → m ≡ numerals.Natural s.rank.constant → s.slot < 2 ^ 32
     → s.slot < length f.code → order_fault f.before last s.slot ≡ None
     → rank_of (numerals.Natural s.rank.constant) t rest ≡ Some s.rank
@@ -55,7 +55,7 @@ state_steps f last s n m t place at rest en em fits within order again =
 state_line : (old new : List ℕ) (f : Front) (last : Option StatementParts) (s : StatementParts)
     (n m : Numeral) (t : Terms) → n ≡ numerals.Natural s.slot → m ≡ numerals.Natural s.rank.constant
     → IsStatement s → s.slot < length f.code → order_fault f.before last s.slot ≡ None
-    → ((rest : List (Option Line)) → is_stated rest s.rank.first ≡ true
+    → ((rest : List (Option AssemblyLine)) → is_stated rest s.rank.first ≡ true
     → is_stated rest s.rank.second ≡ true
     → rank_of (numerals.Natural s.rank.constant) t rest ≡ Some s.rank)
     → AddsLine old new (lines.State (targets.Number n) m t)
@@ -75,7 +75,7 @@ pub statement_listed : (a b c d : List ℕ) (f : Front) (last : Option Statement
     (stack : List Bool) → rank ≡ s.rank → ks ≡ s.kinds → stack ≡ s.stack
     → n ≡ numerals.Natural s.slot → m ≡ numerals.Natural rank.constant → IsStatement s
     → s.slot < length f.code → order_fault f.before last s.slot ≡ None
-    → ((rest : List (Option Line)) → is_stated rest rank.first ≡ true
+    → ((rest : List (Option AssemblyLine)) → is_stated rest rank.first ≡ true
     → is_stated rest rank.second ≡ true
     → rank_of (numerals.Natural rank.constant) t rest ≡ Some rank)
     → AddsLine a b (lines.State (targets.Number n) m t)

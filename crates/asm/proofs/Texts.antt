@@ -12,8 +12,8 @@ use Rattle.isa.specs.Code.{slots_of}
 use Rattle.isa.specs.Spelling.{Spells, bytes_of, bytes_of_fields, fields_of, second_half}
 use Rattle.object.specs.Statements.{StatementParts}
 use Rattle.object.specs.Objects.{ObjectParts, IsObject, AreStatements}
-use Rattle.asm_lines.specs.declared.line.Line.{Line}
-use Rattle.asm_lines.specs.declared.line.Line.TheVariants as lines
+use Rattle.asm_lines.specs.declared.line.AssemblyLine.{AssemblyLine}
+use Rattle.asm_lines.specs.declared.line.AssemblyLine.TheVariants as lines
 use Rattle.asm_words.specs.Words.{Word}
 use Rattle.asm_lines.specs.Text.{words_in, Reads, Readings}
 use Rattle.asm_lines.specs.Views.{views, items}
@@ -72,33 +72,34 @@ code_statements o code spells is =
 nowhere : Bor Word
 nowhere = record { ref_ptr = (0, 0); now = [] }
 
-abbrev found_of : List Line → List (Option Line)
+abbrev found_of : List AssemblyLine → List (Option AssemblyLine)
 found_of ls = map some_line ls ++ Some lines.Empty ∷ []
 
-abbrev unnamed_at : Line → Bor Word
+abbrev unnamed_at : AssemblyLine → Bor Word
 unnamed_at line = record { ref_ptr = (0, 0); now = [] }
 
-abbrev names_of : List Line → List (Bor Word)
+abbrev names_of : List AssemblyLine → List (Bor Word)
 names_of ls = map unnamed_at ls ++ (record { ref_ptr = (0, 0); now = [] }) ∷ []
 
-same_long : (ls : List Line) → length (found_of ls) ≡ length (names_of ls)
+same_long : (ls : List AssemblyLine) → length (found_of ls) ≡ length (names_of ls)
 same_long [] = refl
 same_long (l ∷ ls) = ap (λ (n : ℕ). suc n) (same_long ls)
 
-items_are : (ls : List Line) → items (found_of ls) (names_of ls)
+items_are : (ls : List AssemblyLine) → items (found_of ls) (names_of ls)
     ≡ map some_reading (map without_label ls) ++ Some (lines.Empty, []) ∷ []
 items_are [] = refl
-items_are (l ∷ ls) = ap (λ (xs : List (Option (Line × Word))). Some (l, []) ∷ xs) (items_are ls)
+items_are (l ∷ ls) = ap (λ (xs : List (Option (AssemblyLine × Word))). Some (l, []) ∷ xs)
+    (items_are ls)
 
-views_are : (ls : List Line) → views (names_of ls) ≡ map no_name ls ++ [] ∷ []
+views_are : (ls : List AssemblyLine) → views (names_of ls) ≡ map no_name ls ++ [] ∷ []
 views_are [] = refl
 views_are (l ∷ ls) = ap (λ (xs : List Word). [] ∷ xs) (views_are ls)
 
 last_read : Reads (words_in []) (Some (lines.Empty, []))
 last_read = record { fits = tt; ranges = tt; unnamed = λ e. refl }
 
-readings_more : (front : List (List ℕ)) (found : List (Option (Line × Word))) → Readings front found
-    → Readings (front ++ [] ∷ []) (found ++ Some (lines.Empty, []) ∷ [])
+readings_more : (front : List (List ℕ)) (found : List (Option (AssemblyLine × Word)))
+    → Readings front found → Readings (front ++ [] ∷ []) (found ++ Some (lines.Empty, []) ∷ [])
 readings_more [] [] r = (last_read, tt)
 readings_more [] (x ∷ found) r = absurd r
 readings_more (line ∷ front) [] r = absurd r
@@ -123,7 +124,8 @@ listed_spells text o code spells is all =
       says = record {
         same = same_long h.lines;
         read = subst (λ (ls : List (List ℕ)). Readings ls (items found names)) (sym h.are.lines)
-            (subst (λ (xs : List (Option (Line × Word))). Readings (h.are.front ++ [] ∷ []) xs)
+            (subst (λ (xs : List (Option (AssemblyLine × Word))). Readings (h.are.front ++ [] ∷ [])
+            xs)
             (sym (items_are h.lines)) (readings_more h.are.front
             (map some_reading (map without_label h.lines)) h.are.read));
       };

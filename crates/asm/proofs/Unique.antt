@@ -9,7 +9,7 @@ use Rattle.isa.specs.declared.code.Slot.{Slot}
 use Rattle.isa.specs.Spelling as spelling
 use Rattle.object.specs.Statements.{StatementParts}
 use Rattle.object.specs.Objects.{ObjectParts}
-use Rattle.asm_lines.specs.declared.line.Line.{Line}
+use Rattle.asm_lines.specs.declared.line.AssemblyLine.{AssemblyLine}
 use Rattle.asm_lines.specs.Forms.{Spells}
 use Rattle.asm_words.specs.Words.{Word}
 use Rattle.asm_lines.specs.Text.{lines_in, words_in, Reads, Readings}
@@ -20,7 +20,8 @@ use Rattle.asm.specs.Assembling.{Sketch, Verdict, take_lines, taken_all, blame_l
 use Rattle.asm.specs.Assembling.{IsMade, TextSpells, Refuses, Says}
 
 abbrev pub OneReading : Type 0
-OneReading = (words : List Word) (line other : Line) (name another : Word) → Spells words line name
+OneReading = (words : List Word) (line other : AssemblyLine) (name another : Word)
+    → Spells words line name
     → Spells words other another → (line ≡ other) × (name ≡ another)
 
 abbrev pub OneCode : Type 0
@@ -28,7 +29,7 @@ OneCode = (a b : List ℕ) (code : List Slot) → spelling.Spells a code → spe
     → a ≡ b
 
 abbrev Item : Type 0
-Item = Option (Line × Word)
+Item = Option (AssemblyLine × Word)
 
 reads_one : OneReading → (words : List Word) (x y : Item) → Reads words x → Reads words y → x ≡ y
 reads_one one words None None p q = refl
@@ -36,7 +37,7 @@ reads_one one words None (Some y) p q = absurd (p y.0 y.1 q)
 reads_one one words (Some x) None p q = absurd (q x.0 x.1 p)
 reads_one one words (Some x) (Some y) p q =
     let e = one words x.0 y.0 x.1 y.1 p q in
-    ap (λ (l : Line). Some (l, x.1)) e.0 ∙ ap (λ (w : Word). Some (y.0, w)) e.1
+    ap (λ (l : AssemblyLine). Some (l, x.1)) e.0 ∙ ap (λ (w : Word). Some (y.0, w)) e.1
 
 readings_one : OneReading → (ls : List (List ℕ)) (xs ys : List Item) → Readings ls xs
     → Readings ls ys → xs ≡ ys
@@ -51,7 +52,7 @@ readings_one one (l ∷ ls) (x ∷ xs) (y ∷ ys) p q =
 
 -- ---- a text without a bad line has no line that says nothing
 
-abbrev line_in : Item → Option Line
+abbrev line_in : Item → Option AssemblyLine
 line_in None = None
 line_in (Some x) = Some x.0
 
@@ -59,7 +60,7 @@ abbrev name_in : Item → Word
 name_in None = []
 name_in (Some x) = x.1
 
-abbrev lines_of : List Item → List (Option Line)
+abbrev lines_of : List Item → List (Option AssemblyLine)
 lines_of [] = []
 lines_of (x ∷ xs) = line_in x ∷ lines_of xs
 
@@ -72,18 +73,20 @@ all_some [] = true
 all_some (None ∷ xs) = false
 all_some (Some x ∷ xs) = all_some xs
 
-lines_again : (found : List (Option Line)) (names : List (Bor Word)) → length found ≡ length names
-    → found ≡ lines_of (items found names)
+lines_again : (found : List (Option AssemblyLine)) (names : List (Bor Word))
+    → length found ≡ length names → found ≡ lines_of (items found names)
 lines_again [] [] e = refl
 lines_again [] (n ∷ names) e = absurd (omega (arith, e))
 lines_again (l ∷ found) [] e = absurd (omega (arith, e))
 lines_again (None ∷ found) (n ∷ names) e =
-    ap (λ (xs : List (Option Line)). None ∷ xs) (lines_again found names (omega (arith, e)))
+    ap (λ (xs : List (Option AssemblyLine)). None ∷ xs) (lines_again found names (omega (arith, e)))
 lines_again (Some l ∷ found) (n ∷ names) e =
-    ap (λ (xs : List (Option Line)). Some l ∷ xs) (lines_again found names (omega (arith, e)))
+    ap (λ (xs : List (Option AssemblyLine)). Some l ∷ xs)
+    (lines_again found names (omega (arith, e)))
 
-names_again : (found : List (Option Line)) (names : List (Bor Word)) → length found ≡ length names
-    → all_some (items found names) ≡ true → views names ≡ names_in (items found names)
+names_again : (found : List (Option AssemblyLine)) (names : List (Bor Word))
+    → length found ≡ length names → all_some (items found names) ≡ true
+    → views names ≡ names_in (items found names)
 names_again [] [] e s = refl
 names_again [] (n ∷ names) e s = absurd (omega (arith, e))
 names_again (l ∷ found) [] e s = absurd (omega (arith, e))
@@ -101,7 +104,7 @@ step_some : (at : ℕ) (r : Result Sketch AsmFault) (next : Sketch → Verdict) 
 step_some at (Ok t) next xs all h = all t h
 step_some at (Err fault) next xs all h = absurd (false≢true h)
 
-taken_some : (places : Word → Option Place) (at : ℕ) (found : List (Option Line))
+taken_some : (places : Word → Option Place) (at : ℕ) (found : List (Option AssemblyLine))
     (names : List (Bor Word)) (s : Sketch) → length found ≡ length names
     → is_ok (take_lines places at found (views names) s) ≡ true
     → all_some (items found names) ≡ true
@@ -114,17 +117,18 @@ taken_some places at (Some l ∷ found) (n ∷ names) s e h =
     (take_lines places (at + 1) found (views names)) (items found names)
     (λ t k. taken_some places (at + 1) found names t (omega (arith, e)) k) h
 
-verdict_of : (text : List ℕ) (found : List (Option Line)) (names : List (Bor Word))
+verdict_of : (text : List ℕ) (found : List (Option AssemblyLine)) (names : List (Bor Word))
     → Says text found names → all_some (items found names) ≡ true
     → taken_all found (views names)
     ≡ taken_all (lines_of (items found names)) (names_in (items found names))
 verdict_of text found names says s =
-    ap (λ (xs : List (Option Line)). taken_all xs (views names)) (lines_again found names says.same)
+    ap (λ (xs : List (Option AssemblyLine)). taken_all xs (views names))
+    (lines_again found names says.same)
     ∙ ap (λ (ws : List Word). taken_all (lines_of (items found names)) ws)
     (names_again found names says.same s)
 
 -- two readings of a text, of which the first has no bad line
-same_verdict : OneReading → (text : List ℕ) (found other : List (Option Line))
+same_verdict : OneReading → (text : List ℕ) (found other : List (Option AssemblyLine))
     (names others : List (Bor Word)) (made : Sketch) → Says text found names
     → Says text other others → taken_all found (views names) ≡ Ok made
     → taken_all other (views others) ≡ Ok made

@@ -9,7 +9,7 @@ use Rattle.isa.specs.Spelling as spelling
 use Rattle.isa.proofs.Fronts.{spells_long}
 use Rattle.object.specs.Statements.{StatementParts}
 use Rattle.object.specs.Objects.{ObjectParts, IsObject, AreStatements, slots_of}
-use Rattle.asm_lines.specs.declared.line.Line.{Line}
+use Rattle.asm_lines.specs.declared.line.AssemblyLine.{AssemblyLine}
 use Rattle.asm.specs.declared.error.AsmFault.TheVariants as faults
 use Rattle.asm.specs.declared.statements.OpenStatement.{OpenStatement}
 use Rattle.asm.specs.Views.{parts_of}
@@ -67,7 +67,7 @@ is_object s o is hook rank code statements =
           (subst (AreStatements 0 (length s.code)) (sym statements) (all_stand s is));
     }
 
-pub ascending : (s : Sketch) (rest : List (Option Line)) → IsLawful rest s
+pub ascending : (s : Sketch) (rest : List (Option AssemblyLine)) → IsLawful rest s
     → AreAscending s.before s.last
 ascending s rest is = by s.before s.last is.statements
   where

@@ -14,11 +14,11 @@ use Rattle.object.specs.Statements.{StatementParts}
 use Rattle.object.specs.Objects.{ObjectParts, IsObject, AreStatements}
 use Rattle.object.specs.Sets.{no_bytes, with_range}
 use Rattle.asm_words.specs.declared.numeral.Numeral.{Numeral}
-use Rattle.asm_lines.specs.declared.line.Line.{Line}
-use Rattle.asm_lines.specs.declared.line.Line.TheVariants as lines
-use Rattle.asm_lines.specs.declared.line.Target.{Target}
+use Rattle.asm_lines.specs.declared.line.AssemblyLine.{AssemblyLine}
+use Rattle.asm_lines.specs.declared.line.AssemblyLine.TheVariants as lines
+use Rattle.asm_lines.specs.declared.line.LabelOrNumber.{LabelOrNumber}
 use Rattle.asm_lines.specs.declared.line.Terms.{Terms}
-use Rattle.asm_lines.specs.declared.line.Content.{Content}
+use Rattle.asm_lines.specs.declared.line.RegisterContent.{RegisterContent}
 use Rattle.asm_words.specs.Words.{Word}
 use Rattle.asm_lines.specs.Text.{lines_in, Readings}
 use Rattle.asm_lines.specs.Views.{views, items}
@@ -32,16 +32,16 @@ use Rattle.asm.specs.Rules.{rank_of, slot_of, kind_of, bytes_of}
 
 -- ---- labels
 
-abbrev pub gives_label : Option Line → Bool
+abbrev pub gives_label : Option AssemblyLine → Bool
 gives_label (Some lines.Label) = true
 gives_label other = false
 
-abbrev pub slots_in : Option Line → ℕ
+abbrev pub slots_in : Option AssemblyLine → ℕ
 slots_in (Some line) = slots_taken line
 slots_in None = 0
 
 -- where the label with this name is first defined, from line `at` on, which `slot` slots precede
-abbrev pub place_from : ℕ → ℕ → List (Option Line) → List Word → Word → Option Place
+abbrev pub place_from : ℕ → ℕ → List (Option AssemblyLine) → List Word → Word → Option Place
 place_from at slot [] names word = None
 place_from at slot (line ∷ rest) [] word = None
 place_from at slot (line ∷ rest) (name ∷ names) word = if gives_label line && bytes_eq name word
@@ -79,7 +79,7 @@ abbrev pub with_code : Sketch → List Slot → Result Sketch AsmFault
 with_code s code = Ok (record s { code = code })
 
 -- Instructions come before all statements.
-abbrev pub instruction_step : Sketch → Line → Option ℕ → Result Sketch AsmFault
+abbrev pub instruction_step : Sketch → AssemblyLine → Option ℕ → Result Sketch AsmFault
 instruction_step s line place = if is_some s.last then Err faults.Syntax
     else (code_step s.code line place >>= with_code s)
 
@@ -119,8 +119,8 @@ state_at s rank slot = if nat_le (length s.code) slot then Err faults.Range
     else (or_range_fault rank >>= λ r. open_statement s slot r (order_fault s.before s.last slot))
 
 -- These lines follow the `state` line.
-abbrev pub state_step : Sketch → Target → Numeral → Terms → Option ℕ → List (Option Line)
-    → Result Sketch AsmFault
+abbrev pub state_step : Sketch → LabelOrNumber → Numeral → Terms → Option ℕ
+    → List (Option AssemblyLine) → Result Sketch AsmFault
 state_step s slot constant found place rest = slot_of slot place
     >>= state_at s (rank_of constant found rest)
 
@@ -134,7 +134,7 @@ kind_step p register kind = if nat_lt 9 register then Err faults.Range
     else (if is_empty (slice_index_or p.kinds register kinds.Empty)
     then Ok (record p { kinds = slice_set p.kinds register kind }) else Err faults.Twice)
 
-abbrev pub with_step : StatementParts → ℕ → Content → Result StatementParts AsmFault
+abbrev pub with_step : StatementParts → ℕ → RegisterContent → Result StatementParts AsmFault
 with_step p register content = or_range_fault (kind_of content) >>= kind_step p register
 
 abbrev pub with_bytes : StatementParts → ℕ × ℕ → Result StatementParts AsmFault
@@ -171,14 +171,14 @@ label_step s at None = Ok s
 label_step s at (Some place) = if nat_lt place.line at then Err faults.Twice else Ok s
 
 -- a `with` line, and a `bytes` line
-abbrev pub with_line_step : Sketch → ℕ → Content → Result Sketch AsmFault
+abbrev pub with_line_step : Sketch → ℕ → RegisterContent → Result Sketch AsmFault
 with_line_step s register content = last_of s >>= λ p. with_step p register content >>= with_last s
 
 abbrev pub bytes_line_step : Sketch → Numeral → Numeral → Result Sketch AsmFault
 bytes_line_step s start end = last_of s >>= λ p. bytes_step p start end >>= with_last s
 
 -- after the first two
-abbrev pub body_step : Sketch → Line → ℕ → Option Place → List (Option Line)
+abbrev pub body_step : Sketch → AssemblyLine → ℕ → Option Place → List (Option AssemblyLine)
     → Result Sketch AsmFault
 body_step s lines.Label at place rest = label_step s at place
 body_step s (lines.State slot constant found) at place rest =
@@ -188,7 +188,7 @@ body_step s (lines.Bytes start end) at place rest = bytes_line_step s start end
 body_step s other at place rest = instruction_step s other (slot_at place)
 
 -- The line `at`, which these lines follow: `hook` is the first one, `rank` the second.
-abbrev pub line_step : Sketch → Line → ℕ → Option Place → List (Option Line)
+abbrev pub line_step : Sketch → AssemblyLine → ℕ → Option Place → List (Option AssemblyLine)
     → Result Sketch AsmFault
 line_step s lines.Empty at place rest = Ok s
 line_step s (lines.Hook hook) at place rest = hook_step s hook
@@ -207,7 +207,7 @@ blame_line at (Ok s) next = next s
 blame_line at (Err fault) next = Err (at + 1, fault)
 
 -- the lines from `at` on, where `places` says what the labels name
-abbrev pub take_lines : (Word → Option Place) → ℕ → List (Option Line) → List Word → Sketch
+abbrev pub take_lines : (Word → Option Place) → ℕ → List (Option AssemblyLine) → List Word → Sketch
     → Verdict
 take_lines places at [] names s = Ok s
 take_lines places at (line ∷ rest) [] s = Ok s
@@ -216,7 +216,7 @@ take_lines places at (Some line ∷ rest) (name ∷ names) s =
     blame_line at (line_step s line at (places name) rest) (take_lines places (at + 1) rest names)
 
 -- the whole text, with these lines and the names beside them
-abbrev pub taken_all : List (Option Line) → List Word → Verdict
+abbrev pub taken_all : List (Option AssemblyLine) → List Word → Verdict
 taken_all found names = take_lines (place_from 0 0 found names) 0 found names nothing
 
 -- The object holds what the lines say.
@@ -239,14 +239,14 @@ AreUnlawful statements = (least slots : ℕ) → AreStatements least slots state
 -- ---- texts
 
 -- The text has these lines, with these names beside them.
-pub record Says (text : List ℕ) (found : List (Option Line))
+pub record Says (text : List ℕ) (found : List (Option AssemblyLine))
     (names : List (Bor Word)) : Type 0 where
   pub same : length found ≡ length names
   pub read : Readings (lines_in text) (items found names)
 
 -- The text spells the object: no line is bad, and the object holds what they say.
 pub record TextSpells (text : List ℕ) (o : ObjectParts) : Type 0 where
-  pub found : List (Option Line)
+  pub found : List (Option AssemblyLine)
   pub names : List (Bor Word)
   pub says : Says text found names
   pub made : Sketch
@@ -261,7 +261,7 @@ Blames verdict line fault = (verdict ≡ Err (line, fault))
     × ((made : Sketch) × (verdict ≡ Ok made) × (made.code ≡ [])))
 
 pub record Refuses (text : List ℕ) (line : ℕ) (fault : AsmFault) : Type 0 where
-  pub found : List (Option Line)
+  pub found : List (Option AssemblyLine)
   pub names : List (Bor Word)
   pub says : Says text found names
   pub blames : Blames (taken_all found (views names)) line fault

@@ -9,12 +9,12 @@ use Rattle.isa.specs.declared.instruction.Source.{Source}
 use Rattle.isa.specs.declared.instruction.Source.TheVariants as sources
 use Rattle.asm_words.specs.declared.numeral.Numeral.{Numeral}
 use Rattle.asm_words.specs.declared.numeral.Numeral.TheVariants as numerals
-use Rattle.asm_lines.specs.declared.line.Line.{Line}
-use Rattle.asm_lines.specs.declared.line.Line.TheVariants as lines
+use Rattle.asm_lines.specs.declared.line.AssemblyLine.{AssemblyLine}
+use Rattle.asm_lines.specs.declared.line.AssemblyLine.TheVariants as lines
 use Rattle.asm_lines.specs.declared.line.Operand.{Operand}
 use Rattle.asm_lines.specs.declared.line.Operand.TheVariants as operands
-use Rattle.asm_lines.specs.declared.line.Target.{Target}
-use Rattle.asm_lines.specs.declared.line.Target.TheVariants as targets
+use Rattle.asm_lines.specs.declared.line.LabelOrNumber.{LabelOrNumber}
+use Rattle.asm_lines.specs.declared.line.LabelOrNumber.TheVariants as targets
 use Rattle.asm.specs.declared.error.AsmFault.{AsmFault}
 use Rattle.asm.specs.declared.error.AsmFault.TheVariants as faults
 use Rattle.asm.specs.Numbers.{signed_in, natural_in}
@@ -49,13 +49,13 @@ label_distance slot (Some place) = Ok (distance_to slot place)
 label_distance slot None = Err faults.Label
 
 -- of a jump at this slot, whose label names the place
-abbrev pub distance_of : Target → ℕ → Option ℕ → Result Numeral AsmFault
+abbrev pub distance_of : LabelOrNumber → ℕ → Option ℕ → Result Numeral AsmFault
 distance_of (targets.Number n) slot place = Ok n
 distance_of targets.Label slot place = label_distance slot place
 
 -- A missing label is reported before a number that is out of range. A line without an instruction
 -- is `Syntax`.
-abbrev pub instruction_of : Line → ℕ → Option ℕ → Result Instruction AsmFault
+abbrev pub instruction_of : AssemblyLine → ℕ → Option ℕ → Result Instruction AsmFault
 instruction_of (lines.Arithmetic width operation target source) slot place =
     or_range_fault (source_of source) >>= λ s. Ok (instructions.Arithmetic width operation target s)
 instruction_of (lines.Negate width target) slot place = Ok (instructions.Negate width target)
@@ -88,7 +88,7 @@ instruction_of (lines.LoadMap target map offset) slot place =
 instruction_of other slot place = Err faults.Syntax
 
 -- the slots that a line's instruction takes
-abbrev pub slots_taken : Line → ℕ
+abbrev pub slots_taken : AssemblyLine → ℕ
 slots_taken (lines.LoadNumber target number) = 2
 slots_taken (lines.LoadMap target map offset) = 2
 slots_taken (lines.Arithmetic width operation target source) = 1
@@ -110,5 +110,5 @@ with_instruction code i = if nat_lt 4096 (length code + length (slots_of i)) the
     else Ok (code ++ slots_of i)
 
 -- the code with the instruction of a line appended
-abbrev pub code_step : List Slot → Line → Option ℕ → Result (List Slot) AsmFault
+abbrev pub code_step : List Slot → AssemblyLine → Option ℕ → Result (List Slot) AsmFault
 code_step code line place = instruction_of line (length code) place >>= with_instruction code

@@ -9,7 +9,7 @@ use Rattle.object.specs.Numbers.{Term}
 use Rattle.object.specs.Statements.{StatementParts, IsKind, IsRank, IsNumberAt}
 use Rattle.object.specs.Objects.{AreStatements}
 use Rattle.object.specs.Sets.{IsStackBytes}
-use Rattle.asm_lines.specs.declared.line.Line.{Line}
+use Rattle.asm_lines.specs.declared.line.AssemblyLine.{AssemblyLine}
 use Rattle.asm.specs.Rules.{is_stated_number}
 use Rattle.asm.specs.Assembling.{Sketch}
 
@@ -20,13 +20,13 @@ IsFront None (Some rank) code = ⊥
 IsFront (Some hook) (Some rank) code = rank < 2 ^ 32
 
 -- A term's register is stated as a number, here or by a line that follows.
-abbrev pub IsTermSoon : List Kind → List (Option Line) → Option Term → Type 0
+abbrev pub IsTermSoon : List Kind → List (Option AssemblyLine) → Option Term → Type 0
 IsTermSoon registers rest None = Unit {0}
 IsTermSoon registers rest (Some term) = IsNumberAt registers term.register
     ⊎ (is_stated_number rest term.register ≡ true)
 
 -- a statement that these lines follow
-pub record IsOpen (rest : List (Option Line)) (s : StatementParts) : Type 0 where
+pub record IsOpen (rest : List (Option AssemblyLine)) (s : StatementParts) : Type 0 where
   pub rank : IsRank s.rank
   pub first : IsTermSoon s.kinds rest s.rank.first
   pub second : IsTermSoon s.kinds rest s.rank.second
@@ -35,13 +35,13 @@ pub record IsOpen (rest : List (Option Line)) (s : StatementParts) : Type 0 wher
   pub stack : IsStackBytes s.stack
 
 -- Slots ascend and are below the code's end, and the statements before the last one are complete.
-abbrev pub AreInOrder : ℕ → List (Option Line) → List StatementParts → Option StatementParts
+abbrev pub AreInOrder : ℕ → List (Option AssemblyLine) → List StatementParts → Option StatementParts
     → Type 0
 AreInOrder slots rest before None = before ≡ []
 AreInOrder slots rest before (Some last) = AreStatements 0 last.slot before × (last.slot < slots)
     × IsOpen rest last
 
-pub record IsLawful (rest : List (Option Line)) (s : Sketch) : Type 0 where
+pub record IsLawful (rest : List (Option AssemblyLine)) (s : Sketch) : Type 0 where
   pub front : IsFront s.hook s.rank s.code
   pub most : length s.code ≤ 4096
   pub statements : AreInOrder (length s.code) rest s.before s.last

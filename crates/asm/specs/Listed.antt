@@ -10,9 +10,9 @@ use Rattle.object.specs.Numbers.{Term}
 use Rattle.object.specs.Statements.{StatementParts, IsNumberAt}
 use Rattle.object.specs.Objects.{AreStatements}
 use Rattle.object.specs.Sets.{no_bytes}
-use Rattle.asm_lines.specs.declared.line.Line.{Line}
-use Rattle.asm_lines.specs.declared.line.Content.{Content}
-use Rattle.asm_lines.specs.declared.line.Content.TheVariants as contents
+use Rattle.asm_lines.specs.declared.line.AssemblyLine.{AssemblyLine}
+use Rattle.asm_lines.specs.declared.line.RegisterContent.{RegisterContent}
+use Rattle.asm_lines.specs.declared.line.RegisterContent.TheVariants as contents
 use Rattle.asm_words.specs.Words.{Word}
 use Rattle.asm_lines.specs.Written.{AreLines}
 use Rattle.asm.specs.declared.labels.Place.{Place}
@@ -21,30 +21,31 @@ use Rattle.asm.specs.Rules.{is_stated_number}
 
 -- ---- texts of lines without labels
 
-abbrev pub without_label : Line → Line × Word
+abbrev pub without_label : AssemblyLine → AssemblyLine × Word
 without_label line = (line, [])
 
-abbrev pub no_name : Line → Word
+abbrev pub no_name : AssemblyLine → Word
 no_name line = []
 
-abbrev pub some_line : Line → Option Line
+abbrev pub some_line : AssemblyLine → Option AssemblyLine
 some_line line = Some line
 
 -- `new` is `old` with this line appended.
-abbrev pub AddsLine : List ℕ → List ℕ → Line → Type 0
-AddsLine old new line = (items : List (Line × Word)) → AreLines old items
+abbrev pub AddsLine : List ℕ → List ℕ → AssemblyLine → Type 0
+AddsLine old new line = (items : List (AssemblyLine × Word)) → AreLines old items
     → AreLines new (items ++ (line, []) ∷ [])
 
 -- The text's lines say this much, if `Next` holds of the lines that follow.
-pub record Listed (text : List ℕ) (s : Sketch) (Next : List (Option Line) → Type 0) : Type 0 where
-  pub lines : List Line
-  pub are : AreLines text (map without_label lines)
-  pub leads : (places : Word → Option Place) (rest : List (Option Line)) (names : List Word)
-      → Next rest
-      → take_lines places 0 (map some_line lines ++ rest) (map no_name lines ++ names) nothing
-      ≡ take_lines places (length lines) rest names s
+pub record Listed (text : List ℕ) (s : Sketch) (Next : List (Option AssemblyLine) → Type 0) : Type 0
+  where
+    pub lines : List AssemblyLine
+    pub are : AreLines text (map without_label lines)
+    pub leads : (places : Word → Option Place) (rest : List (Option AssemblyLine))
+        (names : List Word) → Next rest
+        → take_lines places 0 (map some_line lines ++ rest) (map no_name lines ++ names) nothing
+        ≡ take_lines places (length lines) rest names s
 
-abbrev pub Any : List (Option Line) → Type 0
+abbrev pub Any : List (Option AssemblyLine) → Type 0
 Any rest = Unit {0}
 
 -- ---- sketches after the first two lines
@@ -76,12 +77,12 @@ pub record ListedAll (text : List ℕ) (hook : Hook) (rank : ℕ) (code : List S
 -- ---- statements
 
 -- From this register on, the lines that follow state each number as one.
-abbrev pub AreStated : List Kind → ℕ → List (Option Line) → Type 0
+abbrev pub AreStated : List Kind → ℕ → List (Option AssemblyLine) → Type 0
 AreStated registers from rest = (register : ℕ) → from ≤ register → IsNumberAt registers register
     → is_stated_number rest register ≡ true
 
 -- The lines that follow state a term's register as a number.
-abbrev pub is_stated : List (Option Line) → Option Term → Bool
+abbrev pub is_stated : List (Option AssemblyLine) → Option Term → Bool
 is_stated rest None = true
 is_stated rest (Some term) = is_stated_number rest term.register
 
@@ -89,7 +90,7 @@ abbrev pub is_number : Kind → Bool
 is_number (kinds.Number numbers) = true
 is_number other = false
 
-abbrev pub gives_number : Option Content → Bool
+abbrev pub gives_number : Option RegisterContent → Bool
 gives_number (Some (contents.Number range)) = true
 gives_number other = false
 

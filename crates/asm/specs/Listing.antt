@@ -18,17 +18,17 @@ use Rattle.object.specs.Numbers as object_numbers
 use Rattle.object.specs.Statements.{StatementParts}
 use Rattle.object.specs.Objects.{ObjectParts}
 use Rattle.asm_words.specs.declared.numeral.Numeral.TheVariants.{Natural}
-use Rattle.asm_lines.specs.declared.line.Line.{Line}
-use Rattle.asm_lines.specs.declared.line.Line.TheVariants as lines
+use Rattle.asm_lines.specs.declared.line.AssemblyLine.{AssemblyLine}
+use Rattle.asm_lines.specs.declared.line.AssemblyLine.TheVariants as lines
 use Rattle.asm_lines.specs.declared.line.Operand.{Operand}
 use Rattle.asm_lines.specs.declared.line.Operand.TheVariants as operands
-use Rattle.asm_lines.specs.declared.line.Target.TheVariants as targets
+use Rattle.asm_lines.specs.declared.line.LabelOrNumber.TheVariants as targets
 use Rattle.asm_lines.specs.declared.line.Term.{Term}
 use Rattle.asm_lines.specs.declared.line.Terms.{Terms}
 use Rattle.asm_lines.specs.declared.line.Terms.TheVariants as terms
 use Rattle.asm_lines.specs.declared.line.Range.{Range}
-use Rattle.asm_lines.specs.declared.line.Content.{Content}
-use Rattle.asm_lines.specs.declared.line.Content.TheVariants as contents
+use Rattle.asm_lines.specs.declared.line.RegisterContent.{RegisterContent}
+use Rattle.asm_lines.specs.declared.line.RegisterContent.TheVariants as contents
 use Rattle.asm_words.specs.Numbers.{numeral_of}
 use Rattle.asm_lines.specs.Written.{line_text}
 
@@ -38,7 +38,7 @@ abbrev pub the_operand : Source → Operand
 the_operand (sources.Register register) = operands.Register register
 the_operand (sources.Immediate n) = operands.Number (numeral_of n)
 
-abbrev pub instruction_line : Instruction → Line
+abbrev pub instruction_line : Instruction → AssemblyLine
 instruction_line (instructions.Arithmetic width operation target source) =
     lines.Arithmetic width operation target (the_operand source)
 instruction_line (instructions.Negate width target) = lines.Negate width target
@@ -61,7 +61,7 @@ instruction_line (instructions.LoadMap target map offset) =
     lines.LoadMap target (numeral_of map) (numeral_of offset)
 
 -- The second half of a wide instruction has no line of its own.
-abbrev pub slot_lines : Slot → List Line
+abbrev pub slot_lines : Slot → List AssemblyLine
 slot_lines (slots.Start instruction) = instruction_line instruction ∷ []
 slot_lines slots.SecondHalf = []
 
@@ -88,7 +88,7 @@ the_range n =
       value = Natural n.value;
     }
 
-abbrev pub the_content : Kind → Option Content
+abbrev pub the_content : Kind → Option RegisterContent
 the_content kinds.Empty = None
 the_content (kinds.Number numbers) = Some (contents.Number (the_range numbers))
 the_content (kinds.Context offset) = Some (contents.Context (Natural offset))
@@ -97,12 +97,12 @@ the_content (kinds.MapValue map offset) =
     Some (contents.Map (Natural (map_number map)) (the_range offset))
 
 -- An empty register has no line.
-abbrev pub with_line : ℕ → Option Content → List Line
+abbrev pub with_line : ℕ → Option RegisterContent → List AssemblyLine
 with_line register (Some content) = lines.With register content ∷ []
 with_line register None = []
 
 -- the registers from this one on, ascending
-abbrev pub with_lines : ℕ → List Kind → List Line
+abbrev pub with_lines : ℕ → List Kind → List AssemblyLine
 with_lines register [] = []
 with_lines register (kind ∷ kinds) = with_line register (the_content kind)
     ++ with_lines (register + 1) kinds
@@ -122,32 +122,32 @@ longest_ranges byte [] = []
 longest_ranges byte (true ∷ bytes) = join_byte byte (longest_ranges (byte + 1) bytes)
 longest_ranges byte (false ∷ bytes) = longest_ranges (byte + 1) bytes
 
-abbrev pub bytes_line : ℕ × ℕ → Line
+abbrev pub bytes_line : ℕ × ℕ → AssemblyLine
 bytes_line range = lines.Bytes (Natural range.0) (Natural range.1)
 
 -- ---- a statement, and all lines
 
-abbrev pub state_line : StatementParts → Line
+abbrev pub state_line : StatementParts → AssemblyLine
 state_line s =
     lines.State (targets.Number (Natural s.slot)) (Natural s.rank.constant)
     (the_terms s.rank.first s.rank.second)
 
-abbrev pub statement_lines : StatementParts → List Line
+abbrev pub statement_lines : StatementParts → List AssemblyLine
 statement_lines s = state_line s
     ∷ (with_lines 0 s.kinds ++ map bytes_line (longest_ranges 0 s.stack))
 
 -- the listing of an object whose bytes of code spell these slots
-abbrev pub listing_lines : ObjectParts → List Slot → List Line
+abbrev pub listing_lines : ObjectParts → List Slot → List AssemblyLine
 listing_lines o code =
     lines.Hook o.hook ∷ lines.Rank (Natural o.entry_rank)
     ∷ (flat_map slot_lines code ++ flat_map statement_lines o.statements)
 
 -- Each line is words separated by single spaces, and a line feed.
-abbrev pub text_of : List Line → List ℕ
+abbrev pub text_of : List AssemblyLine → List ℕ
 text_of listed = flat_map (λ line. line_text line []) listed
 
 -- `new` is `old` with these lines appended.
-abbrev pub AddsText : List ℕ → List ℕ → List Line → Type 0
+abbrev pub AddsText : List ℕ → List ℕ → List AssemblyLine → Type 0
 AddsText old new listed = new ≡ old ++ text_of listed
 
 -- The text is the object's listing.

@@ -8,16 +8,16 @@ use Rattle.object.specs.declared.kind.Kind.TheVariants as kinds
 use Rattle.object.specs.declared.rank.Rank.{Rank}
 use Rattle.object.specs.Numbers as object_numbers
 use Rattle.asm_words.specs.declared.numeral.Numeral.{Numeral}
-use Rattle.asm_lines.specs.declared.line.Line.{Line}
-use Rattle.asm_lines.specs.declared.line.Line.TheVariants as lines
-use Rattle.asm_lines.specs.declared.line.Target.{Target}
-use Rattle.asm_lines.specs.declared.line.Target.TheVariants as targets
+use Rattle.asm_lines.specs.declared.line.AssemblyLine.{AssemblyLine}
+use Rattle.asm_lines.specs.declared.line.AssemblyLine.TheVariants as lines
+use Rattle.asm_lines.specs.declared.line.LabelOrNumber.{LabelOrNumber}
+use Rattle.asm_lines.specs.declared.line.LabelOrNumber.TheVariants as targets
 use Rattle.asm_lines.specs.declared.line.Term.{Term}
 use Rattle.asm_lines.specs.declared.line.Terms.{Terms}
 use Rattle.asm_lines.specs.declared.line.Terms.TheVariants as terms
 use Rattle.asm_lines.specs.declared.line.Range.{Range}
-use Rattle.asm_lines.specs.declared.line.Content.{Content}
-use Rattle.asm_lines.specs.declared.line.Content.TheVariants as contents
+use Rattle.asm_lines.specs.declared.line.RegisterContent.{RegisterContent}
+use Rattle.asm_lines.specs.declared.line.RegisterContent.TheVariants as contents
 use Rattle.asm.specs.declared.error.AsmFault.{AsmFault}
 use Rattle.asm.specs.declared.error.AsmFault.TheVariants as faults
 use Rattle.asm.specs.Numbers.{natural_in}
@@ -29,7 +29,7 @@ None and_then f = None
 
 -- A line of the statement says that the register is a number. The statement ends at the next
 -- `state` line.
-abbrev pub is_stated_number : List (Option Line) → ℕ → Bool
+abbrev pub is_stated_number : List (Option AssemblyLine) → ℕ → Bool
 is_stated_number [] register = false
 is_stated_number (Some (lines.State slot constant found) ∷ rest) register = false
 is_stated_number (Some (lines.With other (contents.Number range)) ∷ rest) register =
@@ -37,7 +37,7 @@ is_stated_number (Some (lines.With other (contents.Number range)) ∷ rest) regi
 is_stated_number (line ∷ rest) register = is_stated_number rest register
 
 -- `r0 * 0` is no term; a coefficient above 0 needs a register that is stated as a number.
-abbrev pub term_in : List (Option Line) → ℕ → ℕ → Option (Option object_numbers.Term)
+abbrev pub term_in : List (Option AssemblyLine) → ℕ → ℕ → Option (Option object_numbers.Term)
 term_in rest register coefficient = if coefficient == 0
     then (if register == 0 then Some None else None)
     else (if is_stated_number rest register
@@ -45,11 +45,11 @@ term_in rest register coefficient = if coefficient == 0
     then Some (Some (record { register = register; coefficient = coefficient })) else None)
     else None)
 
-abbrev pub term_of : List (Option Line) → Term → Option (Option object_numbers.Term)
+abbrev pub term_of : List (Option AssemblyLine) → Term → Option (Option object_numbers.Term)
 term_of rest t = natural_in (2 ^ 32) t.coefficient and_then λ coefficient.
     term_in rest t.register coefficient
 
-abbrev pub rank_of : Numeral → Terms → List (Option Line) → Option Rank
+abbrev pub rank_of : Numeral → Terms → List (Option AssemblyLine) → Option Rank
 rank_of constant terms.None rest = natural_in (2 ^ 32) constant and_then λ c.
     Some (record { constant = c; first = None; second = None })
 rank_of constant (terms.One t) rest = natural_in (2 ^ 32) constant and_then λ c.
@@ -67,7 +67,7 @@ abbrev pub number_slot : Option ℕ → Result ℕ AsmFault
 number_slot (Some slot) = Ok slot
 number_slot None = Err faults.Range
 
-abbrev pub slot_of : Target → Option ℕ → Result ℕ AsmFault
+abbrev pub slot_of : LabelOrNumber → Option ℕ → Result ℕ AsmFault
 slot_of (targets.Number n) place = number_slot (natural_in (2 ^ 64) n)
 slot_of targets.Label place = label_slot place
 
@@ -90,7 +90,7 @@ map_of n = natural_in (2 ^ 32) n and_then map_at
 abbrev pub at_most : ℕ → ℕ → Option ℕ
 at_most most n = if nat_le n most then Some n else None
 
-abbrev pub kind_of : Content → Option Kind
+abbrev pub kind_of : RegisterContent → Option Kind
 kind_of (contents.Number range) = numbers_of range and_then λ numbers. Some (kinds.Number numbers)
 kind_of (contents.Context offset) = natural_in (2 ^ 32) offset and_then λ n.
     at_most 64 n and_then λ bytes. Some (kinds.Context bytes)

@@ -17,7 +17,7 @@ use crate::instructions::push_instruction;
 use crate::labels::{Place, place_of, places_of};
 use crate::numbers::natural_32;
 use crate::statements::{OpenStatement, push_open, rank_of, slot_of, statements_of};
-use asm_lines::{Content, Line, Target, Terms, read_lines};
+use asm_lines::{AssemblyLine, LabelOrNumber, RegisterContent, Terms, read_lines};
 use asm_words::Numeral;
 use isa::laws::code_has_one_spelling;
 use isa::{CodeBuilder, Hook, Register, encode};
@@ -114,7 +114,7 @@ impl Draft {
     }
 
     /// Takes the line of an instruction, which has to come before all statements.
-    fn instruction(&mut self, line: Line, place: Option<usize>) -> Result<(), AsmFault>
+    fn instruction(&mut self, line: AssemblyLine, place: Option<usize>) -> Result<(), AsmFault>
         ensures { Takes result (sketch self.new) (instruction_step (sketch self.old) line place) }
     {
         if self.open.is_some() {
@@ -136,11 +136,11 @@ impl Draft {
     /// Takes a `state` line that is followed by the lines `rest`.
     fn state(
         &mut self,
-        slot: Target,
+        slot: LabelOrNumber,
         constant: Numeral,
         terms: Terms,
         place: Option<usize>,
-        rest: &[Option<Line>],
+        rest: &[Option<AssemblyLine>],
     ) -> Result<(), AsmFault>
         requires { AreAscending (sketch self.old).before (sketch self.old).last }
         ensures { Takes result (sketch self.new) (state_step (sketch self.old) slot constant terms
@@ -163,7 +163,7 @@ impl Draft {
     }
 
     /// Takes a `with` line.
-    fn with(&mut self, register: Register, content: Content) -> Result<(), AsmFault>
+    fn with(&mut self, register: Register, content: RegisterContent) -> Result<(), AsmFault>
         ensures { Takes result (sketch self.new) (with_line_step (sketch self.old) register
             content) }
     {
@@ -191,19 +191,19 @@ impl Draft {
     /// the label that the line defines or uses.
     fn line(
         &mut self,
-        line: Line,
+        line: AssemblyLine,
         at: usize,
         place: Option<Place>,
-        rest: &[Option<Line>],
+        rest: &[Option<AssemblyLine>],
     ) -> Result<(), AsmFault>
         requires { AreAscending (sketch self.old).before (sketch self.old).last }
         ensures { Takes result (sketch self.new) (line_step (sketch self.old) line at place
             rest.now) }
     {
         match line {
-            Line::Empty => Ok(()),
-            Line::Hook(hook) => self.hook(hook),
-            Line::Rank(rank) => self.rank(rank),
+            AssemblyLine::Empty => Ok(()),
+            AssemblyLine::Hook(hook) => self.hook(hook),
+            AssemblyLine::Rank(rank) => self.rank(rank),
             other => {
                 if self.rank.is_none() {
                     return Err(AsmFault::Syntax);
@@ -216,17 +216,17 @@ impl Draft {
     /// Takes a line after the first two.
     fn body(
         &mut self,
-        line: Line,
+        line: AssemblyLine,
         at: usize,
         place: Option<Place>,
-        rest: &[Option<Line>],
+        rest: &[Option<AssemblyLine>],
     ) -> Result<(), AsmFault>
         requires { AreAscending (sketch self.old).before (sketch self.old).last }
         ensures { Takes result (sketch self.new) (body_step (sketch self.old) line at place
             rest.now) }
     {
         match line {
-            Line::Label => match place {
+            AssemblyLine::Label => match place {
                 Some(place) => {
                     if place.line < at {
                         return Err(AsmFault::Twice);
@@ -235,13 +235,13 @@ impl Draft {
                 }
                 None => Ok(()),
             },
-            Line::State {
+            AssemblyLine::State {
                 slot,
                 constant,
                 terms,
             } => self.state(slot, constant, terms, slot_at(place), rest),
-            Line::With { register, content } => self.with(register, content),
-            Line::Bytes { start, end } => self.bytes(start, end),
+            AssemblyLine::With { register, content } => self.with(register, content),
+            AssemblyLine::Bytes { start, end } => self.bytes(start, end),
             other => self.instruction(other, slot_at(place)),
         }
     }

@@ -11,7 +11,7 @@ ghost use Rattle.asm.specs.Listing.{the_operand, instruction_line};
 
 use crate::error::AsmFault;
 use crate::numbers::{natural_64, signed_16, signed_32};
-use asm_lines::{Line, Operand, Target};
+use asm_lines::{AssemblyLine, LabelOrNumber, Operand};
 use asm_words::Numeral;
 use isa::{BuildError, CodeBuilder, Instruction, Source};
 
@@ -53,12 +53,16 @@ fn distance_to(slot: usize, place: usize) -> Numeral
 }
 
 /// How far a jump at this slot goes; `Label` if no line defines its label.
-fn distance_of(target: Target, slot: usize, place: Option<usize>) -> Result<Numeral, AsmFault>
+fn distance_of(
+    target: LabelOrNumber,
+    slot: usize,
+    place: Option<usize>,
+) -> Result<Numeral, AsmFault>
     ensures { result ≡ distance_of target slot place }
 {
     match target {
-        Target::Number(number) => Ok(number),
-        Target::Label => match place {
+        LabelOrNumber::Number(number) => Ok(number),
+        LabelOrNumber::Label => match place {
             Some(place) => Ok(distance_to(slot, place)),
             None => Err(AsmFault::Label),
         },
@@ -68,24 +72,24 @@ fn distance_of(target: Target, slot: usize, place: Option<usize>) -> Result<Nume
 /// The instruction of a line at this slot; `Syntax` if the line has none. `place` is the slot that
 /// the line's label names.
 pub(crate) fn instruction_of(
-    line: Line,
+    line: AssemblyLine,
     slot: usize,
     place: Option<usize>,
 ) -> Result<Instruction, AsmFault>
     ensures { result ≡ instruction_of line slot place }
 {
     match line {
-        Line::Jump(target) => {
+        AssemblyLine::Jump(target) => {
             let distance = distance_of(target, slot, place)?;
             let distance = in_range(signed_16(distance))?;
             Ok(Instruction::Jump { distance })
         }
-        Line::LongJump(target) => {
+        AssemblyLine::LongJump(target) => {
             let distance = distance_of(target, slot, place)?;
             let distance = in_range(signed_32(distance))?;
             Ok(Instruction::LongJump { distance })
         }
-        Line::Branch {
+        AssemblyLine::Branch {
             width,
             test,
             left,
@@ -103,18 +107,18 @@ pub(crate) fn instruction_of(
                 distance,
             })
         }
-        Line::Call(helper) => {
+        AssemblyLine::Call(helper) => {
             let helper = in_range(signed_32(helper))?;
             Ok(Instruction::Call { helper })
         }
-        Line::Exit => Ok(Instruction::Exit),
+        AssemblyLine::Exit => Ok(Instruction::Exit),
         other => data_instruction_of(other, slot, place),
     }
 }
 
 /// The instruction of a line that assigns to a register, loads or stores.
 fn data_instruction_of(
-    line: Line,
+    line: AssemblyLine,
     slot: usize,
     place: Option<usize>,
 ) -> Result<Instruction, AsmFault>
@@ -122,7 +126,7 @@ fn data_instruction_of(
     ensures { result ≡ instruction_of line slot place }
 {
     match line {
-        Line::Arithmetic {
+        AssemblyLine::Arithmetic {
             width,
             operation,
             target,
@@ -136,8 +140,8 @@ fn data_instruction_of(
                 source,
             })
         }
-        Line::Negate { width, target } => Ok(Instruction::Negate { width, target }),
-        Line::SignExtend {
+        AssemblyLine::Negate { width, target } => Ok(Instruction::Negate { width, target }),
+        AssemblyLine::SignExtend {
             extension,
             target,
             source,
@@ -146,7 +150,7 @@ fn data_instruction_of(
             target,
             source,
         }),
-        Line::Reorder {
+        AssemblyLine::Reorder {
             order,
             width,
             target,
@@ -161,7 +165,7 @@ fn data_instruction_of(
 
 /// The instruction of a line that loads or stores.
 fn memory_instruction_of(
-    line: Line,
+    line: AssemblyLine,
     slot: usize,
     place: Option<usize>,
 ) -> Result<Instruction, AsmFault>
@@ -170,7 +174,7 @@ fn memory_instruction_of(
     ensures { result ≡ instruction_of line slot place }
 {
     match line {
-        Line::Load {
+        AssemblyLine::Load {
             size,
             target,
             base,
@@ -184,7 +188,7 @@ fn memory_instruction_of(
                 offset,
             })
         }
-        Line::Store {
+        AssemblyLine::Store {
             size,
             base,
             offset,
@@ -205,7 +209,7 @@ fn memory_instruction_of(
 
 /// The instruction of a line that loads a number or an address in a map, which takes two slots.
 fn wide_instruction_of(
-    line: Line,
+    line: AssemblyLine,
     slot: usize,
     place: Option<usize>,
 ) -> Result<Instruction, AsmFault>
@@ -215,11 +219,11 @@ fn wide_instruction_of(
     ensures { result ≡ instruction_of line slot place }
 {
     match line {
-        Line::LoadNumber { target, number } => {
+        AssemblyLine::LoadNumber { target, number } => {
             let number = in_range(natural_64(number))?;
             Ok(Instruction::LoadNumber { target, number })
         }
-        Line::LoadMap {
+        AssemblyLine::LoadMap {
             target,
             map,
             offset,
@@ -240,7 +244,7 @@ fn wide_instruction_of(
 /// also if there would be more than 4096 slots.
 pub(crate) fn push_instruction(
     code: &mut CodeBuilder,
-    line: Line,
+    line: AssemblyLine,
     place: Option<usize>,
 ) -> Result<(), AsmFault>
     ensures taken { Takes result code.new (code_step code.old line place) }
@@ -268,7 +272,7 @@ fn operand_of(source: Source) -> Operand
 }
 
 /// The line of an instruction, with distances in place of labels.
-pub(crate) fn line_of(instruction: Instruction) -> Line
+pub(crate) fn line_of(instruction: Instruction) -> AssemblyLine
     ensures line { result ≡ instruction_line instruction }
     ensures plain { names_label result ≡ false }
     ensures again { (slot : ℕ) (place : Option ℕ) → instruction_of result slot place
@@ -277,10 +281,10 @@ pub(crate) fn line_of(instruction: Instruction) -> Line
     instruction.check_ranges();
     match instruction {
         Instruction::Jump { distance } => {
-            Line::Jump(Target::Number(Numeral::from_signed(i32::from(distance))))
+            AssemblyLine::Jump(LabelOrNumber::Number(Numeral::from_signed(i32::from(distance))))
         }
         Instruction::LongJump { distance } => {
-            Line::LongJump(Target::Number(Numeral::from_signed(distance)))
+            AssemblyLine::LongJump(LabelOrNumber::Number(Numeral::from_signed(distance)))
         }
         Instruction::Branch {
             width,
@@ -288,21 +292,21 @@ pub(crate) fn line_of(instruction: Instruction) -> Line
             left,
             right,
             distance,
-        } => Line::Branch {
+        } => AssemblyLine::Branch {
             width,
             test,
             left,
             right: operand_of(right),
-            target: Target::Number(Numeral::from_signed(i32::from(distance))),
+            target: LabelOrNumber::Number(Numeral::from_signed(i32::from(distance))),
         },
-        Instruction::Call { helper } => Line::Call(Numeral::from_signed(helper)),
-        Instruction::Exit => Line::Exit,
+        Instruction::Call { helper } => AssemblyLine::Call(Numeral::from_signed(helper)),
+        Instruction::Exit => AssemblyLine::Exit,
         other => data_line_of(other),
     }
 }
 
 /// The line of an instruction that assigns to a register, loads or stores.
-fn data_line_of(instruction: Instruction) -> Line
+fn data_line_of(instruction: Instruction) -> AssemblyLine
     requires { is_jump (instruction_line instruction) ≡ false }
     ensures line { result ≡ instruction_line instruction }
     ensures plain { names_label result ≡ false }
@@ -315,18 +319,18 @@ fn data_line_of(instruction: Instruction) -> Line
             operation,
             target,
             source,
-        } => Line::Arithmetic {
+        } => AssemblyLine::Arithmetic {
             width,
             operation,
             target,
             source: operand_of(source),
         },
-        Instruction::Negate { width, target } => Line::Negate { width, target },
+        Instruction::Negate { width, target } => AssemblyLine::Negate { width, target },
         Instruction::SignExtend {
             extension,
             target,
             source,
-        } => Line::SignExtend {
+        } => AssemblyLine::SignExtend {
             extension,
             target,
             source,
@@ -335,7 +339,7 @@ fn data_line_of(instruction: Instruction) -> Line
             order,
             width,
             target,
-        } => Line::Reorder {
+        } => AssemblyLine::Reorder {
             order,
             width,
             target,
@@ -345,7 +349,7 @@ fn data_line_of(instruction: Instruction) -> Line
 }
 
 /// The line of an instruction that loads or stores.
-fn memory_line_of(instruction: Instruction) -> Line
+fn memory_line_of(instruction: Instruction) -> AssemblyLine
     requires jump { is_jump (instruction_line instruction) ≡ false }
     requires register { is_register (instruction_line instruction) ≡ false }
     ensures line { result ≡ instruction_line instruction }
@@ -360,7 +364,7 @@ fn memory_line_of(instruction: Instruction) -> Line
             target,
             base,
             offset,
-        } => Line::Load {
+        } => AssemblyLine::Load {
             size,
             target,
             base,
@@ -371,7 +375,7 @@ fn memory_line_of(instruction: Instruction) -> Line
             base,
             offset,
             source,
-        } => Line::Store {
+        } => AssemblyLine::Store {
             size,
             base,
             offset: Numeral::from_signed(i32::from(offset)),
@@ -382,7 +386,7 @@ fn memory_line_of(instruction: Instruction) -> Line
 }
 
 /// The line of an instruction that loads a number or an address in a map, which takes two slots.
-fn wide_line_of(instruction: Instruction) -> Line
+fn wide_line_of(instruction: Instruction) -> AssemblyLine
     requires jump { is_jump (instruction_line instruction) ≡ false }
     requires register { is_register (instruction_line instruction) ≡ false }
     requires access { is_access (instruction_line instruction) ≡ false }
@@ -393,7 +397,7 @@ fn wide_line_of(instruction: Instruction) -> Line
 {
     instruction.check_ranges();
     match instruction {
-        Instruction::LoadNumber { target, number } => Line::LoadNumber {
+        Instruction::LoadNumber { target, number } => AssemblyLine::LoadNumber {
             target,
             number: Numeral::Natural(number),
         },
@@ -401,7 +405,7 @@ fn wide_line_of(instruction: Instruction) -> Line
             target,
             map,
             offset,
-        } => Line::LoadMap {
+        } => AssemblyLine::LoadMap {
             target,
             map: Numeral::from_signed(map),
             offset: Numeral::from_signed(offset),

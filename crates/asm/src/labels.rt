@@ -6,7 +6,7 @@ ghost use Rattle.asm_lines.specs.Views.{views};
 ghost use Rattle.asm.specs.Assembling.{gives_label, slots_in, place_from};
 ghost use Rattle.asm.specs.Labels.{place_in, ◌or_else◌};
 
-use asm_lines::Line;
+use asm_lines::AssemblyLine;
 use indexmap::IndexMap;
 use std::alloc::{AllocError, Global};
 
@@ -18,33 +18,33 @@ pub(crate) struct Place {
 }
 
 /// The number of slots that the line's instruction takes; 0 if it has none.
-fn slots_in(line: &Option<Line>) -> usize
+fn slots_in(line: &Option<AssemblyLine>) -> usize
     ensures value { result ≡ slots_in line.now }
     ensures most { result ≤ 2 }
 {
     match *line {
-        Some(Line::LoadNumber { .. } | Line::LoadMap { .. }) => 2,
+        Some(AssemblyLine::LoadNumber { .. } | AssemblyLine::LoadMap { .. }) => 2,
         Some(
-            Line::Arithmetic { .. }
-            | Line::Negate { .. }
-            | Line::SignExtend { .. }
-            | Line::Reorder { .. }
-            | Line::Jump(_)
-            | Line::LongJump(_)
-            | Line::Branch { .. }
-            | Line::Call(_)
-            | Line::Exit
-            | Line::Load { .. }
-            | Line::Store { .. },
+            AssemblyLine::Arithmetic { .. }
+            | AssemblyLine::Negate { .. }
+            | AssemblyLine::SignExtend { .. }
+            | AssemblyLine::Reorder { .. }
+            | AssemblyLine::Jump(_)
+            | AssemblyLine::LongJump(_)
+            | AssemblyLine::Branch { .. }
+            | AssemblyLine::Call(_)
+            | AssemblyLine::Exit
+            | AssemblyLine::Load { .. }
+            | AssemblyLine::Store { .. },
         ) => 1,
         _ => 0,
     }
 }
 
-fn gives_label(line: &Option<Line>) -> bool
+fn gives_label(line: &Option<AssemblyLine>) -> bool
     ensures { result ≡ gives_label line.now }
 {
-    matches!(*line, Some(Line::Label))
+    matches!(*line, Some(AssemblyLine::Label))
 }
 
 /// Records where a label is defined, unless an earlier line defines it.
@@ -66,7 +66,7 @@ fn note_place<'a>(
 /// line i.
 pub(crate) fn places_of<'a>(
     alloc: Global,
-    lines: &[Option<Line>],
+    lines: &[Option<AssemblyLine>],
     names: &[&'a str],
 ) -> Result<IndexMap<&'a str, Place>, AllocError>
     requires { length lines.now ≡ length names.now }

@@ -8,7 +8,7 @@ ghost use Rattle.asm.specs.Rules.{kind_of, bytes_of};
 
 use crate::error::AsmFault;
 use crate::numbers::{natural_32, natural_64};
-use asm_lines::{Content, Line, Range, Target, Term, Terms};
+use asm_lines::{AssemblyLine, LabelOrNumber, Range, RegisterContent, Term, Terms};
 use asm_words::Numeral;
 use isa::{Map, Register};
 use object::{
@@ -18,16 +18,16 @@ use std::alloc::{AllocError, Global};
 
 /// Whether a line of the statement, among the lines that follow, says that the register is a
 /// number. The statement ends at the next `state` line.
-fn is_stated_number(rest: &[Option<Line>], register: Register) -> bool
+fn is_stated_number(rest: &[Option<AssemblyLine>], register: Register) -> bool
     ensures { result ≡ is_stated_number rest.now register }
 {
     for line in rest {
         match *line {
-            Some(Line::State { .. }) => return false,
+            Some(AssemblyLine::State { .. }) => return false,
             Some(
-                Line::With {
+                AssemblyLine::With {
                     register: found,
-                    content: Content::Number(_),
+                    content: RegisterContent::Number(_),
                 },
             ) => {
                 if found.number() == register.number() {
@@ -41,7 +41,7 @@ fn is_stated_number(rest: &[Option<Line>], register: Register) -> bool
 }
 
 /// A term of the rank: `Some(None)` for `r0 * 0`, and `None` if no object can hold it.
-fn term_of(term: Term, rest: &[Option<Line>]) -> Option<Option<RankTerm>>
+fn term_of(term: Term, rest: &[Option<AssemblyLine>]) -> Option<Option<RankTerm>>
     ensures { result ≡ term_of rest.now term }
 {
     let coefficient = natural_32(term.coefficient)?;
@@ -61,7 +61,11 @@ fn term_of(term: Term, rest: &[Option<Line>]) -> Option<Option<RankTerm>>
 
 /// The rank of a `state` line that is followed by the lines `rest`; `None` if no object can hold
 /// it.
-pub(crate) fn rank_of(constant: Numeral, terms: Terms, rest: &[Option<Line>]) -> Option<Rank>
+pub(crate) fn rank_of(
+    constant: Numeral,
+    terms: Terms,
+    rest: &[Option<AssemblyLine>],
+) -> Option<Rank>
     ensures { result ≡ rank_of constant terms rest.now }
 {
     let constant = natural_32(constant)?;
@@ -92,15 +96,15 @@ pub(crate) fn rank_of(constant: Numeral, terms: Terms, rest: &[Option<Line>]) ->
 }
 
 /// The slot of a `state` line; `place` is the slot that its label names.
-pub(crate) fn slot_of(slot: Target, place: Option<usize>) -> Result<u64, AsmFault>
+pub(crate) fn slot_of(slot: LabelOrNumber, place: Option<usize>) -> Result<u64, AsmFault>
     ensures { result ≡ slot_of slot place }
 {
     match slot {
-        Target::Number(number) => match natural_64(number) {
+        LabelOrNumber::Number(number) => match natural_64(number) {
             Some(slot) => Ok(slot),
             None => Err(AsmFault::Range),
         },
-        Target::Label => match place {
+        LabelOrNumber::Label => match place {
             Some(slot) => Ok(slot as u64),
             None => Err(AsmFault::Label),
         },
@@ -129,25 +133,25 @@ fn map_of(map: Numeral) -> Option<Map>
 }
 
 /// What a `with` line says of its register; `None` if no object can hold it.
-pub(crate) fn kind_of(content: Content) -> Option<Kind>
+pub(crate) fn kind_of(content: RegisterContent) -> Option<Kind>
     ensures { result ≡ kind_of content }
 {
     match content {
-        Content::Number(range) => {
+        RegisterContent::Number(range) => {
             let numbers = numbers_of(range)?;
             Some(Kind::Number(numbers))
         }
-        Content::Context(offset) => {
+        RegisterContent::Context(offset) => {
             let offset = natural_32(offset)?;
             let offset = ContextOffset::new(offset)?;
             Some(Kind::Context(offset))
         }
-        Content::Stack(offset) => {
+        RegisterContent::Stack(offset) => {
             let offset = natural_32(offset)?;
             let offset = StackOffset::new(offset)?;
             Some(Kind::Stack(offset))
         }
-        Content::Map { map, offset } => {
+        RegisterContent::Map { map, offset } => {
             let map = map_of(map)?;
             let numbers = numbers_of(offset)?;
             Some(Kind::MapValue(map, numbers))
@@ -206,7 +210,7 @@ impl OpenStatement {
     pub(crate) fn with(
         self,
         register: Register,
-        content: Content,
+        content: RegisterContent,
     ) -> Result<OpenStatement, AsmFault>
         ensures { Answers parts_of result (with_step (parts_of self) register content) }
     {

@@ -7,7 +7,7 @@ ghost use Rattle.isa.specs.declared.code.Slot.{Slot};
 ghost use Rattle.isa.specs.Spelling.{Spells};
 ghost use Rattle.object.specs.declared.kind.Kind.{Kind};
 ghost use Rattle.object.specs.Sets.{has_byte};
-ghost use Rattle.asm_lines.specs.declared.line.Line.{Line};
+ghost use Rattle.asm_lines.specs.declared.line.AssemblyLine.{AssemblyLine};
 ghost use Rattle.asm_words.specs.declared.numeral.Numeral.{Numeral};
 ghost use Rattle.asm_lines.specs.Forms.{names_label};
 ghost use Rattle.asm_lines.specs.Written.{line_text};
@@ -24,14 +24,14 @@ ghost use Rattle.asm.specs.declared.error.ListError.{ListError};
 
 use crate::error::ListError;
 use crate::instructions::line_of;
-use asm_lines::{Content, Line, Range, Target, Term, Terms, write_line};
+use asm_lines::{AssemblyLine, LabelOrNumber, Range, RegisterContent, Term, Terms, write_line};
 use asm_words::Numeral;
 use isa::{Code, DecodeFault, Hook, Register, Slot, decode};
 use object::{Kind, Object, Rank, RankTerm, StackBytes, StatedNumber, Statement};
 use std::alloc::{AllocError, Global};
 
 /// Writes a line that neither defines nor uses a label.
-fn put(text: &mut String, line: Line) -> Result<(), AllocError>
+fn put(text: &mut String, line: AssemblyLine) -> Result<(), AllocError>
     requires { names_label line ≡ false }
     ensures says { OnOk result (AddsLine (string_bytes text.old) (string_bytes text.new) line) }
     ensures text { OnOk result (string_bytes text.new ≡ string_bytes text.old
@@ -49,8 +49,8 @@ fn number(n: u32) -> Numeral
 /// A term of a rank; `r0 * 0` if there is none.
 fn term_of(term: Option<RankTerm>) -> Term
     ensures line { result ≡ the_term term }
-    ensures again { (rest : List (Option Line)) → is_stated rest term ≡ true → term_of rest result
-        ≡ Some term }
+    ensures again { (rest : List (Option AssemblyLine)) → is_stated rest term ≡ true
+        → term_of rest result ≡ Some term }
 {
     let (register, coefficient) = match term {
         Some(term) => (term.register(), term.coefficient()),
@@ -68,7 +68,7 @@ fn term_of(term: Option<RankTerm>) -> Term
 /// The terms of a rank; `r0 * 0` stands for a missing first one if there is a second.
 fn terms_of(rank: Rank) -> Terms
     ensures line { result ≡ the_terms rank.first rank.second }
-    ensures again { (rest : List (Option Line)) → is_stated rest rank.first ≡ true
+    ensures again { (rest : List (Option AssemblyLine)) → is_stated rest rank.first ≡ true
         → is_stated rest rank.second ≡ true
         → rank_of (Numeral.Natural rank.constant) result rest ≡ Some rank }
 {
@@ -94,7 +94,7 @@ fn range_of(numbers: StatedNumber) -> Range
 }
 
 /// What a `with` line says of a register of this kind; `None` for an empty one.
-fn content_of(kind: Kind) -> Option<Content>
+fn content_of(kind: Kind) -> Option<RegisterContent>
     ensures line { result ≡ the_content kind }
     ensures again { MatchOption result (kind ≡ Kind.Empty) (λ content. kind_of content
         ≡ Some kind) }
@@ -102,10 +102,10 @@ fn content_of(kind: Kind) -> Option<Content>
 {
     match kind {
         Kind::Empty => None,
-        Kind::Number(numbers) => Some(Content::Number(range_of(numbers))),
-        Kind::Context(offset) => Some(Content::Context(number(offset.bytes()))),
-        Kind::Stack(offset) => Some(Content::Stack(number(offset.bytes()))),
-        Kind::MapValue(map, numbers) => Some(Content::Map {
+        Kind::Number(numbers) => Some(RegisterContent::Number(range_of(numbers))),
+        Kind::Context(offset) => Some(RegisterContent::Context(number(offset.bytes()))),
+        Kind::Stack(offset) => Some(RegisterContent::Stack(number(offset.bytes()))),
+        Kind::MapValue(map, numbers) => Some(RegisterContent::Map {
             map: number(u32::from(map.number())),
             offset: range_of(numbers),
         }),
@@ -117,11 +117,11 @@ fn write_head(alloc: Global, hook: Hook, entry_rank: u32) -> Result<String, Allo
     ensures says { IfOk result (λ text.
         Listed (string_bytes text) (code_sketch hook entry_rank []) Any) }
     ensures text { IfOk result (λ text. string_bytes text
-        ≡ text_of (Line.Hook hook ∷ Line.Rank (Numeral.Natural entry_rank) ∷ [])) }
+        ≡ text_of (AssemblyLine.Hook hook ∷ AssemblyLine.Rank (Numeral.Natural entry_rank) ∷ [])) }
 {
     let mut text = String::new(alloc);
-    put(&mut text, Line::Hook(hook))?;
-    put(&mut text, Line::Rank(number(entry_rank)))?;
+    put(&mut text, AssemblyLine::Hook(hook))?;
+    put(&mut text, AssemblyLine::Rank(number(entry_rank)))?;
     Ok(text)
 }
 
@@ -153,7 +153,7 @@ fn write_kinds(text: &mut String, kinds: &[Kind]) -> Result<(), AllocError>
             unreachable!()
         };
         if let Some(content) = content_of(kinds[usize::from(index)]) {
-            put(text, Line::With { register, content })?;
+            put(text, AssemblyLine::With { register, content })?;
         }
     }
     Ok(())
@@ -187,7 +187,7 @@ fn write_stack(text: &mut String, stack: &StackBytes) -> Result<(), AllocError>
     while start < 512 {
         if stack.contains(start) {
             let end = end_of_range(stack, start);
-            let line = Line::Bytes {
+            let line = AssemblyLine::Bytes {
                 start: Numeral::Natural(start as u64),
                 end: Numeral::Natural(end as u64),
             };
@@ -207,8 +207,8 @@ fn write_statement(text: &mut String, statement: &Statement) -> Result<(), Alloc
         (statement_lines statement.now)) }
 {
     let rank = statement.rank();
-    let line = Line::State {
-        slot: Target::Number(number(statement.slot())),
+    let line = AssemblyLine::State {
+        slot: LabelOrNumber::Number(number(statement.slot())),
         constant: number(rank.constant),
         terms: terms_of(rank),
     };

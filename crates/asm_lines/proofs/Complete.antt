@@ -18,17 +18,17 @@ use Rattle.isa.specs.declared.instruction.SwapWidth.TheVariants as swaps
 use Rattle.isa.specs.declared.instruction.LoadSize.{LoadSize}
 use Rattle.isa.specs.declared.instruction.StoreSize.{StoreSize}
 use Rattle.asm_words.specs.declared.numeral.Numeral.{Numeral}
-use Rattle.asm_lines.specs.declared.line.Line.{Line}
-use Rattle.asm_lines.specs.declared.line.Line.TheVariants as lines
+use Rattle.asm_lines.specs.declared.line.AssemblyLine.{AssemblyLine}
+use Rattle.asm_lines.specs.declared.line.AssemblyLine.TheVariants as lines
 use Rattle.asm_lines.specs.declared.line.Operand.{Operand}
 use Rattle.asm_lines.specs.declared.line.Operand.TheVariants as operands
-use Rattle.asm_lines.specs.declared.line.Target.{Target}
-use Rattle.asm_lines.specs.declared.line.Target.TheVariants as targets
+use Rattle.asm_lines.specs.declared.line.LabelOrNumber.{LabelOrNumber}
+use Rattle.asm_lines.specs.declared.line.LabelOrNumber.TheVariants as targets
 use Rattle.asm_lines.specs.declared.line.Term.{Term}
 use Rattle.asm_lines.specs.declared.line.Terms.{Terms}
 use Rattle.asm_lines.specs.declared.line.Terms.TheVariants as terms
 use Rattle.asm_lines.specs.declared.line.Range.{Range}
-use Rattle.asm_lines.specs.declared.line.Content.TheVariants as contents
+use Rattle.asm_lines.specs.declared.line.RegisterContent.TheVariants as contents
 use Rattle.asm_words.specs.Numbers.{number_of, distance_of}
 use Rattle.asm_words.specs.Words.{hook_word, operation_word, test_word, load_word, store_word}
 use Rattle.asm_words.specs.Words.{reorder_word, register_word, register_table, register_of, test_of}
@@ -100,12 +100,12 @@ name_no_distance (c ∷ cs) e =
       ne_eqb c 45 (λ (q : c ≡ 45). absurd (omega arith)),
     ) refl
 
-pub target_known : (t : Target) (name f : Word) → Matches (the_target t name) f
+pub target_known : (t : LabelOrNumber) (name f : Word) → Matches (the_target t name) f
     → (is_label t ≡ false → name ≡ []) → target_at f ≡ Some (t, name)
 target_known (targets.Number n) name f m h = rw (m, h refl) refl
 target_known targets.Label name f m h = rw (m.0, name_no_distance name m.1, m.1) refl
 
-pub slot_known : (t : Target) (name f : Word) → Matches (the_slot t name) f
+pub slot_known : (t : LabelOrNumber) (name f : Word) → Matches (the_slot t name) f
     → (is_label t ≡ false → name ≡ []) → slot_at f ≡ Some (t, name)
 slot_known (targets.Number n) name f m h = rw (m, h refl) refl
 slot_known targets.Label name f m h = rw (m.0, name_no_number name m.1, m.1) refl
@@ -117,11 +117,11 @@ colon_known (c ∷ d ∷ cs) = rw (colon_known (d ∷ cs)) refl
 
 -- ---- from the words of a form to the line
 
-reads : (words ws : List Word) (line : Line) (name : Word) → words ≡ ws
+reads : (words ws : List Word) (line : AssemblyLine) (name : Word) → words ≡ ws
     → line_of ws ≡ Some (line, name) → line_of words ≡ Some (line, name)
 reads words ws line name e f = ap line_of e ∙ f
 
-reads_plain : (words ws : List Word) (line : Line) (name : Word) → words ≡ ws
+reads_plain : (words ws : List Word) (line : AssemblyLine) (name : Word) → words ≡ ws
     → line_of ws ≡ Some (plain line) → name ≡ [] → line_of words ≡ Some (line, name)
 reads_plain words ws line name e f g = ap line_of e ∙ f ∙ ap (λ (n : Word). Some (line, n)) (sym g)
 
@@ -160,11 +160,11 @@ call_line : (a b : Word) (n : Numeral) → a ≡ codes "call" → number_of b �
     → two a b ≡ Some (plain (lines.Call n))
 call_line a b n p q = rw (p, q) refl
 
-jump_line : (a b : Word) (t : Target) (name : Word) → a ≡ codes "goto"
+jump_line : (a b : Word) (t : LabelOrNumber) (name : Word) → a ≡ codes "goto"
     → target_at b ≡ Some (t, name) → two a b ≡ Some (lines.Jump t, name)
 jump_line a b t name p q = rw (p, q) refl
 
-long_jump_line : (a b : Word) (t : Target) (name : Word) → a ≡ codes "gotol"
+long_jump_line : (a b : Word) (t : LabelOrNumber) (name : Word) → a ≡ codes "gotol"
     → target_at b ≡ Some (t, name) → two a b ≡ Some (lines.LongJump t, name)
 long_jump_line a b t name p q = rw (p, q) refl
 
@@ -211,14 +211,14 @@ extend_line a b c d (extensions.Half Bits32) r s p q e f = rw (q, p, e, f) refl
 extend_line a b c d extensions.Word r s p q e f = rw (q, p, e, f) refl
 
 -- the word of a slot isn't `=`
-slot_no_assignment : (t : Target) (name b : Word) → Matches (the_slot t name) b
+slot_no_assignment : (t : LabelOrNumber) (name b : Word) → Matches (the_slot t name) b
     → bytes_eq b (codes "=") ≡ false
 slot_no_assignment (targets.Number n) name b m =
     not_equal is_number b (codes "=") (ap is_some m) refl
 slot_no_assignment targets.Label name b m =
     not_equal is_name b (codes "=") (ap is_name m.0 ∙ m.1) refl
 
-state_line : (a b c d : Word) (t : Target) (name : Word) (n : Numeral) (found : Terms)
+state_line : (a b c d : Word) (t : LabelOrNumber) (name : Word) (n : Numeral) (found : Terms)
     → a ≡ codes "state" → slot_at b ≡ Some (t, name) → c ≡ codes "rank" → number_of d ≡ Some n
     → state_of a b c d found ≡ Some (lines.State t n found, name)
 state_line a b c d t name n found p q e f = rw (p, q, e, f) refl
@@ -228,7 +228,7 @@ register_no_assignment : (b : Word) (w : Width) (r : ℕ) → register_of b ≡ 
     → bytes_eq b (codes "=") ≡ false
 register_no_assignment b w r e = not_equal is_register b (codes "=") (ap is_some e) refl
 
-four_state : (a b c d : Word) (x : Option (Line × Word)) → bytes_eq b (codes "=") ≡ false
+four_state : (a b c d : Word) (x : Option (AssemblyLine × Word)) → bytes_eq b (codes "=") ≡ false
     → a ≡ codes "state" → state_of a b c d terms.None ≡ x → four a b c d ≡ x
 four_state a b c d x p q e = rw p (let f : state_of (codes "state") b c d terms.None ≡ x =
     rw q at e in rw q f)
@@ -270,9 +270,10 @@ store_line : (a b c d e : Word) (z : StoreSize) (r : ℕ) (n : Numeral) (source 
 store_line a b c d e z r n source p q f g h =
     rw (register_no_assignment b Bits64 r q, g, p, store_again z, q, f, h) refl
 
-branch_line : (a b c d e f : Word) (w : Width) (t : Test) (r : ℕ) (o : Operand) (target : Target)
-    (name : Word) → a ≡ codes "if" → register_of b ≡ Some (w, r) → c ≡ test_word t
-    → operand_at w d ≡ Some o → e ≡ codes "goto" → target_at f ≡ Some (target, name)
+branch_line : (a b c d e f : Word) (w : Width) (t : Test) (r : ℕ) (o : Operand)
+    (target : LabelOrNumber) (name : Word) → a ≡ codes "if" → register_of b ≡ Some (w, r)
+    → c ≡ test_word t → operand_at w d ≡ Some o → e ≡ codes "goto"
+    → target_at f ≡ Some (target, name)
     → six a b c d e f ≡ Some (lines.Branch w t r o target, name)
 branch_line a b c d e f w t r o target name p q g h i j = rw (p, i, q, g, test_again t, h, j) refl
 
@@ -289,12 +290,13 @@ range_known : (a b c d : Word) (r : Range) → number_of a ≡ Some r.low → nu
     → number_of c ≡ Some r.mask → number_of d ≡ Some r.value → range_of a b c d ≡ Some r
 range_known a b c d r p q e f = rw (p, q, e, f) refl
 
-seven_state : (a b c d e f g : Word) (t : Term) (x : Option (Line × Word)) → a ≡ codes "state"
-    → term_of e f g ≡ Some t → state_of a b c d (terms.One t) ≡ x → seven a b c d e f g ≡ x
+seven_state : (a b c d e f g : Word) (t : Term) (x : Option (AssemblyLine × Word))
+    → a ≡ codes "state" → term_of e f g ≡ Some t → state_of a b c d (terms.One t) ≡ x
+    → seven a b c d e f g ≡ x
 seven_state a b c d e f g t x p q h =
     rw (p, q) (let k : state_of (codes "state") b c d (terms.One t) ≡ x = rw p at h in k)
 
-ten_state : (a b c d e f g h i j : Word) (t u : Term) (x : Option (Line × Word))
+ten_state : (a b c d e f g h i j : Word) (t u : Term) (x : Option (AssemblyLine × Word))
     → term_of e f g ≡ Some t → term_of h i j ≡ Some u → state_of a b c d (terms.Two t u) ≡ x
     → ten a b c d e f g h i j ≡ x
 ten_state a b c d e f g h i j t u x p q k = rw (p, q) k
@@ -306,7 +308,7 @@ map_with_line : (a b c d e f g h : Word) (r : ℕ) (m : Numeral) (range : Range)
 map_with_line a b c d e f g h r m range p q i j k = rw (p, i, q, j, k) refl
 
 -- Reading finds what the words of a line spell.
-pub complete : (words : List Word) (line : Line) (name : Word) → Spells words line name
+pub complete : (words : List Word) (line : AssemblyLine) (name : Word) → Spells words line name
     → line_of words ≡ Some (line, name)
 unfolding line_of
 complete words lines.Empty name s =

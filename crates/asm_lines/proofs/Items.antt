@@ -3,22 +3,22 @@ use Rattle.std.proofs.Common.{◌≡◌, ℕ, List, [], ◌∷◌, ◌++◌, len
 use Rattle.std.proofs.Common.{sym, subst}
 use Rattle.std.specs.Prelude.{map, filter, Bool, true, false}
 use denote.Ref.{Bor}
-use Rattle.asm_lines.specs.declared.line.Line.{Line}
+use Rattle.asm_lines.specs.declared.line.AssemblyLine.{AssemblyLine}
 use Rattle.asm_words.specs.Words.{Word}
 use Rattle.asm_lines.specs.Views.{views, item, items}
 use Rattle.asm_lines.specs.Text.{words_in, Reads, Readings, AddsReading}
 use Rattle.asm_lines.specs.Reading.{line_of}
 use Rattle.asm_lines.proofs.Complete.{complete}
 
-pub items_more : (lines : List (Option Line)) (names : List (Bor Word)) (line : Option Line)
-    (name : Bor Word) → length lines ≡ length names
+pub items_more : (lines : List (Option AssemblyLine)) (names : List (Bor Word))
+    (line : Option AssemblyLine) (name : Bor Word) → length lines ≡ length names
     → items (lines ++ line ∷ []) (names ++ name ∷ []) ≡ items lines names ++ item line name.now
     ∷ []
 items_more [] [] line name e = refl
 items_more [] (n ∷ ns) line name e = absurd (omega arith)
 items_more (l ∷ ls) [] line name e = absurd (omega arith)
 items_more (l ∷ ls) (n ∷ ns) line name e =
-    ap (λ (rest : List (Option (Line × Word))). item l n.now ∷ rest)
+    ap (λ (rest : List (Option (AssemblyLine × Word))). item l n.now ∷ rest)
     (items_more ls ns line name (omega arith))
 
 pub map_more : {A B : Type 0} (f : A → B) (xs : List A) (x : A)
@@ -44,25 +44,25 @@ filter_same p (y ∷ ys) x e = elim (p y) as
       | false ↦ λ q. rw q (filter_same p ys x e)
     ] refl
 
-pub readings_more : (ls : List (List ℕ)) (rs : List (Option (Line × Word))) (l : List ℕ)
-    (r : Option (Line × Word)) → Readings ls rs → Reads (words_in l) r
+pub readings_more : (ls : List (List ℕ)) (rs : List (Option (AssemblyLine × Word))) (l : List ℕ)
+    (r : Option (AssemblyLine × Word)) → Readings ls rs → Reads (words_in l) r
     → Readings (ls ++ l ∷ []) (rs ++ r ∷ [])
 readings_more [] [] l r h k = (k, tt)
 readings_more [] (s ∷ rs) l r h k = absurd h
 readings_more (m ∷ ls) [] l r h k = absurd h
 readings_more (m ∷ ls) (s ∷ rs) l r h k = (h.0, readings_more ls rs l r h.1 k)
 
-pub adds_readings : (ls : List (List ℕ)) (old new : List (Option (Line × Word))) (l : List ℕ)
-    → Readings ls old → AddsReading (words_in l) old new → Readings (ls ++ l ∷ []) new
+pub adds_readings : (ls : List (List ℕ)) (old new : List (Option (AssemblyLine × Word)))
+    (l : List ℕ) → Readings ls old → AddsReading (words_in l) old new → Readings (ls ++ l ∷ []) new
 adds_readings ls old new l h a = subst
-    (λ (rs : List (Option (Line × Word))). Readings (ls ++ l ∷ []) rs) (sym a.2)
+    (λ (rs : List (Option (AssemblyLine × Word))). Readings (ls ++ l ∷ []) rs) (sym a.2)
     (readings_more ls old l a.0 h a.1)
 
 pub no_reading : (words : List Word) → None ≡ line_of words → Reads words None
 no_reading words e line name s = absurd (cc (complete words line name s))
 
-pub adds : (lines more_lines : List (Option Line)) (names more_names : List (Bor Word))
-    (words : List Word) (l : Option Line) (n : Bor Word) → length lines ≡ length names
+pub adds : (lines more_lines : List (Option AssemblyLine)) (names more_names : List (Bor Word))
+    (words : List Word) (l : Option AssemblyLine) (n : Bor Word) → length lines ≡ length names
     → more_lines ≡ lines ++ l ∷ [] → more_names ≡ names ++ n ∷ [] → Reads words (item l n.now)
     → AddsReading words (items lines names) (items more_lines more_names)
 adds lines more_lines names more_names words l n same e f reads =

@@ -9,7 +9,7 @@ use Rattle.std.proofs.lemmas.List.Sums.{AllPass-from_list_all}
 use Rattle.std.proofs.lemmas.Bool.{ne_eqb}
 use Rattle.std.proofs.lemmas.List.Folds.{list_all-append}
 use Rattle.std.proofs.lemmas.List.{append-nil, length-append}
-use Rattle.asm_lines.specs.declared.line.Line.{Line}
+use Rattle.asm_lines.specs.declared.line.AssemblyLine.{AssemblyLine}
 use Rattle.asm_lines.specs.Forms.{Part, Fits, form_of, Spells, IsLine}
 use Rattle.asm_words.specs.Words.{Word, is_inner, is_word}
 use Rattle.asm_lines.specs.Text.{words_in, has_bytes, lines_in, Readings}
@@ -151,7 +151,7 @@ line_split : (ps : List Part) → AreWritten ps
 line_split ps f = slice_split_at is_feed (between_spaces ps) 10 []
     (no_feeds (between_spaces ps) (spaced_kept ps f)) refl
 
-pub line_again : (line : Line) (name : Word) → AreWritten (form_of line name) → IsLine line
+pub line_again : (line : AssemblyLine) (name : Word) → AreWritten (form_of line name) → IsLine line
     → IsNamed line name → Spells (words_in (between_spaces (form_of line name))) line name
 line_again line name f ranges named = record {
   fits = subst (λ (ws : List Word). Fits ws (form_of line name))
@@ -161,16 +161,16 @@ line_again line name f ranges named = record {
 }
 
 -- The text with the line appended has its lines and then this one.
-pub text_again : (old new : List ℕ) (line : Line) (name : Word) (items : List (Line × Word))
-    → AreWritten (form_of line name) → IsLine line → IsNamed line name
-    → new ≡ old ++ line_text line name → AreLines old items
+pub text_again : (old new : List ℕ) (line : AssemblyLine) (name : Word)
+    (items : List (AssemblyLine × Word)) → AreWritten (form_of line name) → IsLine line
+    → IsNamed line name → new ≡ old ++ line_text line name → AreLines old items
     → AreLines new (items ++ (line, name) ∷ [])
 text_again old new line name items f ranges named e are = record {
   front = are.front ++ between_spaces (form_of line name) ∷ [];
   lines = rw append_assoc (ap lines_in e
       ∙ split_more is_feed old (line_text line name) are.front are.lines
       ∙ ap (λ (rest : List (List ℕ)). are.front ++ rest) (line_split (form_of line name) f));
-  read = subst (λ (rs : List (Option (Line × Word))). Readings
+  read = subst (λ (rs : List (Option (AssemblyLine × Word))). Readings
       (are.front ++ between_spaces (form_of line name) ∷ []) rs)
       (sym (map_more some_reading items (line, name)))
       (readings_more are.front (map some_reading items) (between_spaces (form_of line name))

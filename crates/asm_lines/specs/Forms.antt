@@ -4,18 +4,18 @@ use Rattle.std.specs.Prelude.{◌≡◌, ℕ, Bool, true, false, ◌≤◌, List
 use Rattle.isa.specs.declared.instruction.Width.{Width}
 use Rattle.isa.specs.declared.instruction.Width.TheVariants.{Bits64}
 use Rattle.asm_words.specs.declared.numeral.Numeral.{Numeral}
-use Rattle.asm_lines.specs.declared.line.Line.{Line}
-use Rattle.asm_lines.specs.declared.line.Line.TheVariants as lines
+use Rattle.asm_lines.specs.declared.line.AssemblyLine.{AssemblyLine}
+use Rattle.asm_lines.specs.declared.line.AssemblyLine.TheVariants as lines
 use Rattle.asm_lines.specs.declared.line.Operand.{Operand}
 use Rattle.asm_lines.specs.declared.line.Operand.TheVariants as operands
-use Rattle.asm_lines.specs.declared.line.Target.{Target}
-use Rattle.asm_lines.specs.declared.line.Target.TheVariants as targets
+use Rattle.asm_lines.specs.declared.line.LabelOrNumber.{LabelOrNumber}
+use Rattle.asm_lines.specs.declared.line.LabelOrNumber.TheVariants as targets
 use Rattle.asm_lines.specs.declared.line.Term.{Term}
 use Rattle.asm_lines.specs.declared.line.Terms.{Terms}
 use Rattle.asm_lines.specs.declared.line.Terms.TheVariants as terms
 use Rattle.asm_lines.specs.declared.line.Range.{Range}
-use Rattle.asm_lines.specs.declared.line.Content.{Content}
-use Rattle.asm_lines.specs.declared.line.Content.TheVariants as contents
+use Rattle.asm_lines.specs.declared.line.RegisterContent.{RegisterContent}
+use Rattle.asm_lines.specs.declared.line.RegisterContent.TheVariants as contents
 use Rattle.asm_words.specs.Numbers.{number_of, distance_of}
 use Rattle.asm_words.specs.Names.{is_name}
 use Rattle.asm_words.specs.Words.{Word, hook_word, operation_word, test_word, load_word, store_word}
@@ -59,12 +59,12 @@ the_operand width (operands.Register register) = the_register width register
 the_operand width (operands.Number n) = Number n
 
 -- a label or a distance
-abbrev pub the_target : Target → Word → Part
+abbrev pub the_target : LabelOrNumber → Word → Part
 the_target (targets.Number n) name = Distance n
 the_target targets.Label name = Name name
 
 -- a label or the number of a slot
-abbrev pub the_slot : Target → Word → Part
+abbrev pub the_slot : LabelOrNumber → Word → Part
 the_slot (targets.Number n) name = Number n
 the_slot targets.Label name = Name name
 
@@ -79,7 +79,7 @@ the_terms (terms.Two t u) = the_term t (the_term u [])
 abbrev pub the_range : Range → List Part
 the_range r = Number r.low ∷ Number r.high ∷ Number r.mask ∷ Number r.value ∷ []
 
-abbrev pub the_content : Content → List Part
+abbrev pub the_content : RegisterContent → List Part
 the_content (contents.Number range) = Exactly (codes "number") ∷ the_range range
 the_content (contents.Context offset) = Exactly (codes "context") ∷ Number offset ∷ []
 the_content (contents.Stack offset) = Exactly (codes "stack") ∷ Number offset ∷ []
@@ -87,7 +87,7 @@ the_content (contents.Map map offset) = Exactly (codes "map") ∷ Number map ∷
 
 -- ---- the table: a line with the name of the label that it defines or uses
 
-abbrev pub form_of : Line → Word → List Part
+abbrev pub form_of : AssemblyLine → Word → List Part
 form_of lines.Empty name = []
 form_of (lines.Hook hook) name = Exactly (codes "hook") ∷ Exactly (hook_word hook) ∷ []
 form_of (lines.Rank rank) name = Exactly (codes "rank") ∷ Number rank ∷ []
@@ -124,11 +124,11 @@ form_of (lines.With register content) name = Exactly (codes "with") ∷ the_regi
 form_of (lines.Bytes start end) name = Exactly (codes "bytes") ∷ Number start ∷ Number end ∷ []
 
 -- Whether the line defines or uses a label. If not, the name beside it is empty.
-abbrev pub is_label : Target → Bool
+abbrev pub is_label : LabelOrNumber → Bool
 is_label targets.Label = true
 is_label (targets.Number n) = false
 
-abbrev pub names_label : Line → Bool
+abbrev pub names_label : AssemblyLine → Bool
 names_label lines.Label = true
 names_label (lines.Jump target) = is_label target
 names_label (lines.LongJump target) = is_label target
@@ -137,7 +137,7 @@ names_label (lines.State slot constant terms) = is_label slot
 names_label other = false
 
 -- an assignment to a register, a load or a store
-abbrev pub is_data : Line → Bool
+abbrev pub is_data : AssemblyLine → Bool
 is_data (lines.Arithmetic width operation target source) = true
 is_data (lines.Negate width target) = true
 is_data (lines.SignExtend extension target source) = true
@@ -158,7 +158,7 @@ AreTerms terms.None = Unit {0}
 AreTerms (terms.One t) = (t.register ≤ 10)
 AreTerms (terms.Two t u) = (t.register ≤ 10) × (u.register ≤ 10)
 
-abbrev pub IsLine : Line → Type 0
+abbrev pub IsLine : AssemblyLine → Type 0
 IsLine (lines.Arithmetic width operation target source) = (target ≤ 10) × IsOperand source
 IsLine (lines.Negate width target) = (target ≤ 10)
 IsLine (lines.SignExtend extension target source) = (target ≤ 10) × (source ≤ 10)
@@ -173,7 +173,7 @@ IsLine (lines.With register content) = (register ≤ 10)
 IsLine other = Unit {0}
 
 -- The words spell the line, with the name of the label that it defines or uses.
-pub record Spells (words : List Word) (line : Line) (name : Word) : Type 0 where
+pub record Spells (words : List Word) (line : AssemblyLine) (name : Word) : Type 0 where
   pub fits : Fits words (form_of line name)
   pub ranges : IsLine line
   pub unnamed : names_label line ≡ false → name ≡ []

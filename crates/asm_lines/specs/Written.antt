@@ -4,7 +4,7 @@ use Rattle.std.specs.Prelude.{false, codes}
 use Rattle.std.specs.Fmt.{decimal}
 use Rattle.asm_words.specs.declared.numeral.Numeral.{Numeral}
 use Rattle.asm_words.specs.declared.numeral.Numeral.TheVariants as numerals
-use Rattle.asm_lines.specs.declared.line.Line.{Line}
+use Rattle.asm_lines.specs.declared.line.AssemblyLine.{AssemblyLine}
 use Rattle.asm_lines.specs.Forms.{Part, Exactly, Number, Distance, Name, Definition, Matches}
 use Rattle.asm_lines.specs.Forms.{form_of, names_label}
 use Rattle.asm_words.specs.Names.{is_name}
@@ -40,11 +40,11 @@ between_spaces [] = []
 between_spaces (part ∷ parts) = part_word part ++ each_after_a_space parts
 
 -- the bytes of a line, with a line feed (10) at their end
-abbrev pub line_text : Line → Word → List ℕ
+abbrev pub line_text : AssemblyLine → Word → List ℕ
 line_text line name = between_spaces (form_of line name) ++ 10 ∷ []
 
 -- If the line defines or uses a label, this is a label's name; else it is empty.
-abbrev pub IsNamed : Line → Word → Type 0
+abbrev pub IsNamed : AssemblyLine → Word → Type 0
 IsNamed line name = (names_label line ≡ true → is_name name ≡ true)
     × (names_label line ≡ false → name ≡ [])
 
@@ -69,11 +69,11 @@ pub record Starts (old new : List ℕ) (parts : List Part) : Type 0 where
 
 -- ---- whole texts
 
-abbrev pub some_reading : Line × Word → Option (Line × Word)
+abbrev pub some_reading : AssemblyLine × Word → Option (AssemblyLine × Word)
 some_reading item = Some item
 
 -- The text is these lines, each with a line feed at its end.
-pub record AreLines (text : List ℕ) (items : List (Line × Word)) : Type 0 where
+pub record AreLines (text : List ℕ) (items : List (AssemblyLine × Word)) : Type 0 where
   pub front : List (List ℕ)
   pub lines : lines_in text ≡ front ++ [] ∷ []
   pub read : Readings front (map some_reading items)

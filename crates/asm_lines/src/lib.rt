@@ -5,6 +5,6 @@ mod line;
 mod reading;
 mod writing;
 
-pub use line::{Content, Line, Operand, Range, Target, Term, Terms};
+pub use line::{AssemblyLine, LabelOrNumber, Operand, Range, RegisterContent, Term, Terms};
 pub use reading::{one_reading, read_lines};
 pub use writing::write_line;

@@ -13,7 +13,7 @@ pub enum Operand {
 
 /// Where a jump goes, or which slot a statement is for: a number, or the label that the line names.
 #[derive(Clone, Copy, PartialEq, Eq, Debug)]
-pub enum Target {
+pub enum LabelOrNumber {
     Number(Numeral),
     Label,
 }
@@ -44,7 +44,7 @@ pub struct Range {
 
 /// What a statement says of a register.
 #[derive(Clone, Copy, PartialEq, Eq, Debug)]
-pub enum Content {
+pub enum RegisterContent {
     Number(Range),
     Context(Numeral),
     Stack(Numeral),
@@ -54,7 +54,7 @@ pub enum Content {
 /// What a line says. Its numbers are as written, whether or not a field can hold them; the name of
 /// a label is kept beside it.
 #[derive(Clone, Copy, PartialEq, Eq, Debug)]
-pub enum Line {
+pub enum AssemblyLine {
     Empty,
     Hook(Hook),
     Rank(Numeral),
@@ -80,14 +80,14 @@ pub enum Line {
         width: SwapWidth,
         target: Register,
     },
-    Jump(Target),
-    LongJump(Target),
+    Jump(LabelOrNumber),
+    LongJump(LabelOrNumber),
     Branch {
         width: Width,
         test: Test,
         left: Register,
         right: Operand,
-        target: Target,
+        target: LabelOrNumber,
     },
     Call(Numeral),
     Exit,
@@ -113,13 +113,13 @@ pub enum Line {
         offset: Numeral,
     },
     State {
-        slot: Target,
+        slot: LabelOrNumber,
         constant: Numeral,
         terms: Terms,
     },
     With {
         register: Register,
-        content: Content,
+        content: RegisterContent,
     },
     Bytes {
         start: Numeral,
@@ -163,7 +163,7 @@ impl Terms {
     }
 }
 
-impl Line {
+impl AssemblyLine {
     ghost use Rattle.asm_lines.specs.Forms.{IsLine};
 
     /// Lemma: each register of the line is one of r0 to r10, as its type guarantees. Does nothing
@@ -172,36 +172,36 @@ impl Line {
         ensures { IsLine self.now }
     {
         match *self {
-            Line::Arithmetic { target, source, .. } => {
+            AssemblyLine::Arithmetic { target, source, .. } => {
                 let _ = target.number();
                 source.check_ranges();
             }
-            Line::Branch { left, right, .. } => {
+            AssemblyLine::Branch { left, right, .. } => {
                 let _ = left.number();
                 right.check_ranges();
             }
-            Line::Store { base, source, .. } => {
+            AssemblyLine::Store { base, source, .. } => {
                 let _ = base.number();
                 source.check_ranges();
             }
-            Line::SignExtend { target, source, .. } => {
+            AssemblyLine::SignExtend { target, source, .. } => {
                 let _ = target.number();
                 let _ = source.number();
             }
-            Line::Load { target, base, .. } => {
+            AssemblyLine::Load { target, base, .. } => {
                 let _ = target.number();
                 let _ = base.number();
             }
-            Line::Negate { target, .. }
-            | Line::Reorder { target, .. }
-            | Line::LoadNumber { target, .. }
-            | Line::LoadMap { target, .. } => {
+            AssemblyLine::Negate { target, .. }
+            | AssemblyLine::Reorder { target, .. }
+            | AssemblyLine::LoadNumber { target, .. }
+            | AssemblyLine::LoadMap { target, .. } => {
                 let _ = target.number();
             }
-            Line::With { register, .. } => {
+            AssemblyLine::With { register, .. } => {
                 let _ = register.number();
             }
-            Line::State { terms, .. } => terms.check_ranges(),
+            AssemblyLine::State { terms, .. } => terms.check_ranges(),
             _ => {}
         }
     }
@@ -211,7 +211,7 @@ impl Line {
 /// there is none.
 #[derive(Clone, Copy, Debug)]
 pub(crate) struct Item<'a> {
-    pub line: Line,
+    pub line: AssemblyLine,
     pub name: &'a str,
 }
 
@@ -221,7 +221,7 @@ impl Item<'_> {
     ghost use Rattle.asm_lines.specs.Reading.{plain};
 
     /// A line that neither defines nor uses a label.
-    pub(crate) fn plain(line: Line) -> Item<'static>
+    pub(crate) fn plain(line: AssemblyLine) -> Item<'static>
         ensures { item_view result ≡ plain line }
     {
         Item { line, name: "" }

@@ -9,16 +9,19 @@ ghost use Rattle.asm_lines.specs.Views.{item_view, target_view, views, items, Sp
 ghost use Rattle.asm_lines.specs.Views.{SpellsPlain};
 ghost use Rattle.asm_lines.specs.Reading.{register_at, operand_at, name_at, target_at, slot_at};
 ghost use Rattle.asm_lines.specs.Reading.{label_at, one, two};
-ghost use Rattle.asm_lines.specs.Reading.{negation_or_reordering, assigned_line, arithmetic_or_assignment};
+ghost use Rattle.asm_lines.specs.Reading.{negation_or_reordering, assigned_line};
+ghost use Rattle.asm_lines.specs.Reading.{arithmetic_or_assignment};
 ghost use Rattle.asm_lines.specs.Reading.{stack_range, three, widening_line};
 ghost use Rattle.asm_lines.specs.Reading.{state_of, offset_of, four};
 ghost use Rattle.asm_lines.specs.Reading.{load_line, store_line, five};
 ghost use Rattle.asm_lines.specs.Reading.{six, range_of, term_of, numbers_of};
 ghost use Rattle.asm_lines.specs.Reading.{seven, map_value_of, eight, terms_of, ten, line_of};
 ghost use Rattle.asm_lines.specs.Text.{words_in, lines_in, AddsReading, Readings};
-ghost use Rattle.asm_lines.specs.declared.line.Line.{Line};
+ghost use Rattle.asm_lines.specs.declared.line.AssemblyLine.{AssemblyLine};
 
-use crate::line::{Content, Item, Line, Operand, Range, Target, Term, Terms};
+use crate::line::{
+    AssemblyLine, Item, LabelOrNumber, Operand, Range, RegisterContent, Term, Terms,
+};
 use asm_words::{
     extension_of, hook_of, is_name, load_of, operation_of, read_distance, read_number, register_of,
     reorder_of, store_of, test_of,
@@ -53,37 +56,38 @@ fn operand_at(width: Width, word: &str) -> Option<Operand>
     }
 }
 
-fn name_at(word: &str) -> Option<(Target, &str)>
+fn name_at(word: &str) -> Option<(LabelOrNumber, &str)>
     ensures value { option_map target_view result ≡ name_at word.now }
-    ensures found { IfSome result (λ t. Matches (Name t.1.now) word.now × (t.0 ≡ Target.Label)) }
+    ensures found { IfSome result (λ t. Matches (Name t.1.now) word.now
+        × (t.0 ≡ LabelOrNumber.Label)) }
 {
     if is_name(word) {
-        Some((Target::Label, word))
+        Some((LabelOrNumber::Label, word))
     } else {
         None
     }
 }
 
 /// A distance, or the name of a label.
-fn target_at(word: &str) -> Option<(Target, &str)>
+fn target_at(word: &str) -> Option<(LabelOrNumber, &str)>
     ensures value { option_map target_view result ≡ target_at word.now }
     ensures found { IfSome result (λ t. Matches (the_target t.0 t.1.now) word.now
         × (is_label t.0 ≡ false → t.1.now ≡ [])) }
 {
     match read_distance(word) {
-        Some(number) => Some((Target::Number(number), "")),
+        Some(number) => Some((LabelOrNumber::Number(number), "")),
         None => name_at(word),
     }
 }
 
 /// The number of a slot, or the name of a label.
-fn slot_at(word: &str) -> Option<(Target, &str)>
+fn slot_at(word: &str) -> Option<(LabelOrNumber, &str)>
     ensures value { option_map target_view result ≡ slot_at word.now }
     ensures found { IfSome result (λ t. Matches (the_slot t.0 t.1.now) word.now
         × (is_label t.0 ≡ false → t.1.now ≡ [])) }
 {
     match read_number(word) {
-        Some(number) => Some((Target::Number(number), "")),
+        Some(number) => Some((LabelOrNumber::Number(number), "")),
         None => name_at(word),
     }
 }
@@ -98,7 +102,7 @@ fn label_at(word: &str) -> Option<Item<'_>>
         return None;
     }
     Some(Item {
-        line: Line::Label,
+        line: AssemblyLine::Label,
         name,
     })
 }
@@ -108,7 +112,7 @@ fn one(a: &str) -> Option<Item<'_>>
     ensures found { IfSome result (SpellsItem (a.now ∷ [])) }
 {
     if a == "exit" {
-        return Some(Item::plain(Line::Exit));
+        return Some(Item::plain(AssemblyLine::Exit));
     }
     label_at(a)
 }
@@ -120,27 +124,27 @@ fn two<'a>(a: &str, b: &'a str) -> Option<Item<'a>>
     match a {
         "hook" => {
             let hook = hook_of(b)?;
-            Some(Item::plain(Line::Hook(hook)))
+            Some(Item::plain(AssemblyLine::Hook(hook)))
         }
         "rank" => {
             let rank = read_number(b)?;
-            Some(Item::plain(Line::Rank(rank)))
+            Some(Item::plain(AssemblyLine::Rank(rank)))
         }
         "call" => {
             let helper = read_number(b)?;
-            Some(Item::plain(Line::Call(helper)))
+            Some(Item::plain(AssemblyLine::Call(helper)))
         }
         "goto" => {
             let (target, name) = target_at(b)?;
             Some(Item {
-                line: Line::Jump(target),
+                line: AssemblyLine::Jump(target),
                 name,
             })
         }
         "gotol" => {
             let (target, name) = target_at(b)?;
             Some(Item {
-                line: Line::LongJump(target),
+                line: AssemblyLine::LongJump(target),
                 name,
             })
         }
@@ -149,19 +153,19 @@ fn two<'a>(a: &str, b: &'a str) -> Option<Item<'a>>
 }
 
 /// The other right sides of `=`: a negation, or a reordering of bytes.
-fn computed(width: Width, target: Register, c: &str) -> Option<Line>
+fn computed(width: Width, target: Register, c: &str) -> Option<AssemblyLine>
     requires { target ≤ 10 }
     ensures value { result ≡ negation_or_reordering width target c.now }
     ensures found { IfSome result (SpellsPlain (register_word (width, target) ∷ codes "=" ∷ c.now
         ∷ [])) }
 {
     if c == "neg" {
-        return Some(Line::Negate { width, target });
+        return Some(AssemblyLine::Negate { width, target });
     }
     match width {
         Width::Bits64 => {
             let (order, width) = reorder_of(c)?;
-            Some(Line::Reorder {
+            Some(AssemblyLine::Reorder {
                 order,
                 width,
                 target,
@@ -171,7 +175,7 @@ fn computed(width: Width, target: Register, c: &str) -> Option<Line>
     }
 }
 
-fn assignment(width: Width, target: Register, b: &str, c: &str) -> Option<Line>
+fn assignment(width: Width, target: Register, b: &str, c: &str) -> Option<AssemblyLine>
     requires { target ≤ 10 }
     ensures value { result ≡ arithmetic_or_assignment (width, target) b.now c.now }
     ensures found { IfSome result (SpellsPlain (register_word (width, target) ∷ b.now ∷ c.now
@@ -179,7 +183,7 @@ fn assignment(width: Width, target: Register, b: &str, c: &str) -> Option<Line>
 {
     let operation = operation_of(b)?;
     if let Some(source) = operand_at(width, c) {
-        return Some(Line::Arithmetic {
+        return Some(AssemblyLine::Arithmetic {
             width,
             operation,
             target,
@@ -192,7 +196,7 @@ fn assignment(width: Width, target: Register, b: &str, c: &str) -> Option<Line>
     }
 }
 
-fn stack_range(a: &str, b: &str, c: &str) -> Option<Line>
+fn stack_range(a: &str, b: &str, c: &str) -> Option<AssemblyLine>
     ensures value { result ≡ stack_range a.now b.now c.now }
     ensures found { IfSome result (SpellsPlain (a.now ∷ b.now ∷ c.now ∷ [])) }
 {
@@ -201,7 +205,7 @@ fn stack_range(a: &str, b: &str, c: &str) -> Option<Line>
     }
     let start = read_number(b)?;
     let end = read_number(c)?;
-    Some(Line::Bytes { start, end })
+    Some(AssemblyLine::Bytes { start, end })
 }
 
 fn three<'a>(a: &str, b: &str, c: &'a str) -> Option<Item<'a>>
@@ -218,7 +222,7 @@ fn three<'a>(a: &str, b: &str, c: &'a str) -> Option<Item<'a>>
 }
 
 /// An assignment whose right side is two words: a wide number, or a register that is sign-extended.
-fn widened(width: Width, target: Register, c: &str, d: &str) -> Option<Line>
+fn widened(width: Width, target: Register, c: &str, d: &str) -> Option<AssemblyLine>
     requires { target ≤ 10 }
     ensures value { result ≡ widening_line (width, target) c.now d.now }
     ensures found { IfSome result (SpellsPlain (register_word (width, target) ∷ codes "=" ∷ c.now
@@ -228,14 +232,14 @@ fn widened(width: Width, target: Register, c: &str, d: &str) -> Option<Line>
         return match width {
             Width::Bits64 => {
                 let number = read_number(d)?;
-                Some(Line::LoadNumber { target, number })
+                Some(AssemblyLine::LoadNumber { target, number })
             }
             Width::Bits32 => None,
         };
     }
     let extension = extension_of(width, c)?;
     let source = register_at(width, d)?;
-    Some(Line::SignExtend {
+    Some(AssemblyLine::SignExtend {
         extension,
         target,
         source,
@@ -257,7 +261,7 @@ fn state_of<'a>(a: &str, b: &'a str, c: &str, d: &str, terms: Terms) -> Option<I
     let (slot, name) = slot_at(b)?;
     let constant = read_number(d)?;
     Some(Item {
-        line: Line::State {
+        line: AssemblyLine::State {
             slot,
             constant,
             terms,
@@ -267,7 +271,7 @@ fn state_of<'a>(a: &str, b: &'a str, c: &str, d: &str, terms: Terms) -> Option<I
 }
 
 /// A statement that a register is a pointer with this one offset.
-fn offset_of(a: &str, b: &str, c: &str, d: &str) -> Option<Line>
+fn offset_of(a: &str, b: &str, c: &str, d: &str) -> Option<AssemblyLine>
     ensures value { result ≡ offset_of a.now b.now c.now d.now }
     ensures found { IfSome result (SpellsPlain (a.now ∷ b.now ∷ c.now ∷ d.now ∷ [])) }
 {
@@ -277,13 +281,13 @@ fn offset_of(a: &str, b: &str, c: &str, d: &str) -> Option<Line>
     let register = register_at(Width::Bits64, b)?;
     let offset = read_number(d)?;
     match c {
-        "context" => Some(Line::With {
+        "context" => Some(AssemblyLine::With {
             register,
-            content: Content::Context(offset),
+            content: RegisterContent::Context(offset),
         }),
-        "stack" => Some(Line::With {
+        "stack" => Some(AssemblyLine::With {
             register,
-            content: Content::Stack(offset),
+            content: RegisterContent::Stack(offset),
         }),
         _ => None,
     }
@@ -305,7 +309,7 @@ fn four<'a>(a: &str, b: &'a str, c: &str, d: &str) -> Option<Item<'a>>
     Some(Item::plain(line))
 }
 
-fn loaded(target: Register, c: &str, d: &str, e: &str) -> Option<Line>
+fn loaded(target: Register, c: &str, d: &str, e: &str) -> Option<AssemblyLine>
     requires { target ≤ 10 }
     ensures value { result ≡ load_line target c.now d.now e.now }
     ensures found { IfSome result (SpellsPlain (register_word (Width.Bits64, target) ∷ codes "="
@@ -314,7 +318,7 @@ fn loaded(target: Register, c: &str, d: &str, e: &str) -> Option<Line>
     if c == "map" {
         let map = read_number(d)?;
         let offset = read_number(e)?;
-        return Some(Line::LoadMap {
+        return Some(AssemblyLine::LoadMap {
             target,
             map,
             offset,
@@ -323,7 +327,7 @@ fn loaded(target: Register, c: &str, d: &str, e: &str) -> Option<Line>
     let size = load_of(c)?;
     let base = register_at(Width::Bits64, d)?;
     let offset = read_number(e)?;
-    Some(Line::Load {
+    Some(AssemblyLine::Load {
         size,
         target,
         base,
@@ -331,7 +335,7 @@ fn loaded(target: Register, c: &str, d: &str, e: &str) -> Option<Line>
     })
 }
 
-fn stored(a: &str, b: &str, c: &str, e: &str) -> Option<Line>
+fn stored(a: &str, b: &str, c: &str, e: &str) -> Option<AssemblyLine>
     ensures value { result ≡ store_line a.now b.now c.now e.now }
     ensures found { IfSome result (SpellsPlain (a.now ∷ b.now ∷ c.now ∷ codes "=" ∷ e.now ∷ [])) }
 {
@@ -339,7 +343,7 @@ fn stored(a: &str, b: &str, c: &str, e: &str) -> Option<Line>
     let base = register_at(Width::Bits64, b)?;
     let offset = read_number(c)?;
     let source = operand_at(Width::Bits64, e)?;
-    Some(Line::Store {
+    Some(AssemblyLine::Store {
         size,
         base,
         offset,
@@ -375,7 +379,7 @@ fn branch_of<'a>(b: &str, c: &str, d: &str, f: &'a str) -> Option<Item<'a>>
     let right = operand_at(width, d)?;
     let (target, name) = target_at(f)?;
     Some(Item {
-        line: Line::Branch {
+        line: AssemblyLine::Branch {
             width,
             test,
             left,
@@ -434,7 +438,7 @@ fn term_of(a: &str, b: &str, c: &str) -> Option<Term>
 }
 
 /// A statement that a register holds one of some numbers.
-fn numbers_of(b: &str, c: &str, d: &str, e: &str, f: &str, g: &str) -> Option<Line>
+fn numbers_of(b: &str, c: &str, d: &str, e: &str, f: &str, g: &str) -> Option<AssemblyLine>
     ensures value { result ≡ numbers_of b.now c.now d.now e.now f.now g.now }
     ensures found { IfSome result (SpellsPlain (codes "with" ∷ b.now ∷ c.now ∷ d.now ∷ e.now ∷ f.now
         ∷ g.now ∷ [])) }
@@ -444,9 +448,9 @@ fn numbers_of(b: &str, c: &str, d: &str, e: &str, f: &str, g: &str) -> Option<Li
     }
     let register = register_at(Width::Bits64, b)?;
     let range = range_of(d, e, f, g)?;
-    Some(Line::With {
+    Some(AssemblyLine::With {
         register,
-        content: Content::Number(range),
+        content: RegisterContent::Number(range),
     })
 }
 
@@ -464,7 +468,15 @@ fn seven<'a>(a: &str, b: &'a str, c: &str, d: &str, e: &str, f: &str, g: &str) -
 }
 
 /// A statement that a register is a pointer into a map.
-fn map_value_of(b: &str, c: &str, d: &str, e: &str, f: &str, g: &str, h: &str) -> Option<Line>
+fn map_value_of(
+    b: &str,
+    c: &str,
+    d: &str,
+    e: &str,
+    f: &str,
+    g: &str,
+    h: &str,
+) -> Option<AssemblyLine>
     ensures value { result ≡ map_value_of b.now c.now d.now e.now f.now g.now h.now }
     ensures found { IfSome result (SpellsPlain (codes "with" ∷ b.now ∷ c.now ∷ d.now ∷ e.now ∷ f.now
         ∷ g.now ∷ h.now ∷ [])) }
@@ -475,9 +487,9 @@ fn map_value_of(b: &str, c: &str, d: &str, e: &str, f: &str, g: &str, h: &str) -
     let register = register_at(Width::Bits64, b)?;
     let map = read_number(d)?;
     let offset = range_of(e, f, g, h)?;
-    Some(Line::With {
+    Some(AssemblyLine::With {
         register,
-        content: Content::Map { map, offset },
+        content: RegisterContent::Map { map, offset },
     })
 }
 
@@ -549,7 +561,7 @@ fn line_of<'a>(words: &[&'a str]) -> Option<Item<'a>>
     ensures found { IfSome result (SpellsItem (views words.now)) }
 {
     match *words {
-        [] => Some(Item::plain(Line::Empty)),
+        [] => Some(Item::plain(AssemblyLine::Empty)),
         [a] => one(a),
         [a, b] => two(a, b),
         [a, b, c] => three(a, b, c),
@@ -582,7 +594,7 @@ fn words_of<'a>(alloc: Global, line: &'a str) -> Result<Vec<&'a str>, AllocError
 fn read_line<'a>(
     alloc: Global,
     line: &'a str,
-    lines: &mut Vec<Option<Line>>,
+    lines: &mut Vec<Option<AssemblyLine>>,
     names: &mut Vec<&'a str>,
 ) -> Result<(), AllocError>
     requires { length lines.old.items ≡ length names.old.items }
@@ -612,7 +624,7 @@ fn read_line<'a>(
 pub fn read_lines<'a>(
     alloc: Global,
     text: &'a str,
-    lines: &mut Vec<Option<Line>>,
+    lines: &mut Vec<Option<AssemblyLine>>,
     names: &mut Vec<&'a str>,
 ) -> Result<(), AllocError>
     requires lines { lines.old.items ≡ [] }
@@ -629,6 +641,7 @@ pub fn read_lines<'a>(
 
 /// The words of a line spell at most one line, with one name.
 pub fn one_reading()
-    ensures { (words : List Word) (line other : Line) (name another : Word) → Spells words line name
-        → Spells words other another → (line ≡ other) × (name ≡ another) }
+    ensures { (words : List Word) (line other : AssemblyLine) (name another : Word)
+        → Spells words line name → Spells words other another
+        → (line ≡ other) × (name ≡ another) }
 {}

@@ -7,10 +7,10 @@ ghost use Rattle.asm_lines.specs.Forms.{the_range, the_content, form_of, is_labe
 ghost use Rattle.asm_words.specs.Names.{is_name};
 ghost use Rattle.asm_words.specs.Words.{Word, extension_width, test_word, is_word};
 ghost use Rattle.asm_lines.specs.Written.{Adds, Starts, AreLines, IsNamed, line_text};
-ghost use Rattle.asm_lines.specs.declared.line.Line.{Line};
+ghost use Rattle.asm_lines.specs.declared.line.AssemblyLine.{AssemblyLine};
 ghost use Rattle.asm_words.specs.declared.numeral.Numeral.{Numeral};
 
-use crate::line::{Content, Line, Operand, Range, Target, Term, Terms};
+use crate::line::{AssemblyLine, LabelOrNumber, Operand, Range, RegisterContent, Term, Terms};
 use asm_words::{
     Numeral, extension_word, hook_word, load_word, operation_word, register_word, reorder_word,
     store_word, test_word,
@@ -118,26 +118,26 @@ fn next_operand(text: &mut String, width: Width, operand: Operand) -> Result<(),
 }
 
 /// A distance, or the name of a label.
-fn next_target(text: &mut String, target: Target, name: &str) -> Result<(), AllocError>
+fn next_target(text: &mut String, target: LabelOrNumber, name: &str) -> Result<(), AllocError>
     requires { is_label target ≡ true → is_name name.now ≡ true }
     ensures { OnOk result (Adds (string_bytes text.old) (string_bytes text.new)
         (the_target target name.now ∷ [])) }
 {
     match target {
-        Target::Number(number) => next_distance(text, number),
-        Target::Label => next_name(text, name),
+        LabelOrNumber::Number(number) => next_distance(text, number),
+        LabelOrNumber::Label => next_name(text, name),
     }
 }
 
 /// The number of a slot, or the name of a label.
-fn next_slot(text: &mut String, slot: Target, name: &str) -> Result<(), AllocError>
+fn next_slot(text: &mut String, slot: LabelOrNumber, name: &str) -> Result<(), AllocError>
     requires { is_label slot ≡ true → is_name name.now ≡ true }
     ensures { OnOk result (Adds (string_bytes text.old) (string_bytes text.new)
         (the_slot slot name.now ∷ [])) }
 {
     match slot {
-        Target::Number(number) => next_number(text, number),
-        Target::Label => next_name(text, name),
+        LabelOrNumber::Number(number) => next_number(text, number),
+        LabelOrNumber::Label => next_name(text, name),
     }
 }
 
@@ -181,24 +181,24 @@ fn next_map_value(text: &mut String, map: Numeral, offset: Range) -> Result<(), 
     next_range(text, offset)
 }
 
-fn next_content(text: &mut String, content: Content) -> Result<(), AllocError>
+fn next_content(text: &mut String, content: RegisterContent) -> Result<(), AllocError>
     ensures { OnOk result (Adds (string_bytes text.old) (string_bytes text.new)
         (the_content content)) }
 {
     match content {
-        Content::Number(range) => {
+        RegisterContent::Number(range) => {
             next(text, "number")?;
             next_range(text, range)
         }
-        Content::Context(offset) => {
+        RegisterContent::Context(offset) => {
             next(text, "context")?;
             next_number(text, offset)
         }
-        Content::Stack(offset) => {
+        RegisterContent::Stack(offset) => {
             next(text, "stack")?;
             next_number(text, offset)
         }
-        Content::Map { map, offset } => {
+        RegisterContent::Map { map, offset } => {
             next(text, "map")?;
             next_map_value(text, map, offset)
         }
@@ -236,7 +236,7 @@ fn keyword_number(text: &mut String, keyword: &str, number: Numeral) -> Result<(
 
 fn write_hook(text: &mut String, hook: Hook) -> Result<(), AllocError>
     ensures { OnOk result (Starts (string_bytes text.old) (string_bytes text.new)
-        (form_of (Line.Hook hook) [])) }
+        (form_of (AssemblyLine.Hook hook) [])) }
 {
     first(text, "hook")?;
     next(text, hook_word(hook))
@@ -260,7 +260,7 @@ fn write_arithmetic(
     source: Operand,
 ) -> Result<(), AllocError>
     ensures { OnOk result (Starts (string_bytes text.old) (string_bytes text.new)
-        (form_of (Line.Arithmetic width operation target source) [])) }
+        (form_of (AssemblyLine.Arithmetic width operation target source) [])) }
 {
     first(text, register_word(width, target))?;
     next(text, operation_word(operation))?;
@@ -269,7 +269,7 @@ fn write_arithmetic(
 
 fn write_negate(text: &mut String, width: Width, target: Register) -> Result<(), AllocError>
     ensures { OnOk result (Starts (string_bytes text.old) (string_bytes text.new)
-        (form_of (Line.Negate width target) [])) }
+        (form_of (AssemblyLine.Negate width target) [])) }
 {
     assigned(text, width, target)?;
     next(text, "neg")
@@ -282,7 +282,7 @@ fn write_extend(
     source: Register,
 ) -> Result<(), AllocError>
     ensures { OnOk result (Starts (string_bytes text.old) (string_bytes text.new)
-        (form_of (Line.SignExtend extension target source) [])) }
+        (form_of (AssemblyLine.SignExtend extension target source) [])) }
 {
     let width = extension_width(extension);
     assigned(text, width, target)?;
@@ -297,7 +297,7 @@ fn write_reorder(
     target: Register,
 ) -> Result<(), AllocError>
     ensures { OnOk result (Starts (string_bytes text.old) (string_bytes text.new)
-        (form_of (Line.Reorder order width target) [])) }
+        (form_of (AssemblyLine.Reorder order width target) [])) }
 {
     assigned(text, Width::Bits64, target)?;
     next(text, reorder_word(order, width))
@@ -307,7 +307,7 @@ fn write_reorder(
 fn write_jump(
     text: &mut String,
     keyword: &str,
-    target: Target,
+    target: LabelOrNumber,
     name: &str,
 ) -> Result<(), AllocError>
     requires keyword { is_word keyword.now ≡ true }
@@ -337,7 +337,7 @@ fn write_condition(
 }
 
 /// Where a conditional jump goes.
-fn write_goto(text: &mut String, target: Target, name: &str) -> Result<(), AllocError>
+fn write_goto(text: &mut String, target: LabelOrNumber, name: &str) -> Result<(), AllocError>
     requires { is_label target ≡ true → is_name name.now ≡ true }
     ensures { OnOk result (Adds (string_bytes text.old) (string_bytes text.new)
         (Exactly (codes "goto") ∷ the_target target name.now ∷ [])) }
@@ -354,7 +354,7 @@ fn write_load(
     offset: Numeral,
 ) -> Result<(), AllocError>
     ensures { OnOk result (Starts (string_bytes text.old) (string_bytes text.new)
-        (form_of (Line.Load size target base offset) [])) }
+        (form_of (AssemblyLine.Load size target base offset) [])) }
 {
     assigned(text, Width::Bits64, target)?;
     next(text, load_word(size))?;
@@ -370,7 +370,7 @@ fn write_store(
     source: Operand,
 ) -> Result<(), AllocError>
     ensures { OnOk result (Starts (string_bytes text.old) (string_bytes text.new)
-        (form_of (Line.Store size base offset source) [])) }
+        (form_of (AssemblyLine.Store size base offset source) [])) }
 {
     first(text, store_word(size))?;
     next_register(text, Width::Bits64, base)?;
@@ -381,7 +381,7 @@ fn write_store(
 
 fn write_load_number(text: &mut String, target: Register, number: Numeral) -> Result<(), AllocError>
     ensures { OnOk result (Starts (string_bytes text.old) (string_bytes text.new)
-        (form_of (Line.LoadNumber target number) [])) }
+        (form_of (AssemblyLine.LoadNumber target number) [])) }
 {
     assigned(text, Width::Bits64, target)?;
     next(text, "wide")?;
@@ -395,7 +395,7 @@ fn write_load_map(
     offset: Numeral,
 ) -> Result<(), AllocError>
     ensures { OnOk result (Starts (string_bytes text.old) (string_bytes text.new)
-        (form_of (Line.LoadMap target map offset) [])) }
+        (form_of (AssemblyLine.LoadMap target map offset) [])) }
 {
     assigned(text, Width::Bits64, target)?;
     next(text, "map")?;
@@ -405,14 +405,14 @@ fn write_load_map(
 
 fn write_state(
     text: &mut String,
-    slot: Target,
+    slot: LabelOrNumber,
     constant: Numeral,
     terms: Terms,
     name: &str,
 ) -> Result<(), AllocError>
     requires { is_label slot ≡ true → is_name name.now ≡ true }
     ensures { OnOk result (Starts (string_bytes text.old) (string_bytes text.new)
-        (form_of (Line.State slot constant terms) name.now)) }
+        (form_of (AssemblyLine.State slot constant terms) name.now)) }
 {
     first(text, "state")?;
     next_slot(text, slot, name)?;
@@ -421,9 +421,13 @@ fn write_state(
     next_terms(text, terms)
 }
 
-fn write_with(text: &mut String, register: Register, content: Content) -> Result<(), AllocError>
+fn write_with(
+    text: &mut String,
+    register: Register,
+    content: RegisterContent,
+) -> Result<(), AllocError>
     ensures { OnOk result (Starts (string_bytes text.old) (string_bytes text.new)
-        (form_of (Line.With register content) [])) }
+        (form_of (AssemblyLine.With register content) [])) }
 {
     first(text, "with")?;
     next_register(text, Width::Bits64, register)?;
@@ -432,49 +436,49 @@ fn write_with(text: &mut String, register: Register, content: Content) -> Result
 
 fn write_bytes(text: &mut String, start: Numeral, end: Numeral) -> Result<(), AllocError>
     ensures { OnOk result (Starts (string_bytes text.old) (string_bytes text.new)
-        (form_of (Line.Bytes start end) [])) }
+        (form_of (AssemblyLine.Bytes start end) [])) }
 {
     keyword_number(text, "bytes", start)?;
     next_number(text, end)
 }
 
 /// The words of an assignment to a register, of a load or of a store.
-fn write_data(text: &mut String, line: Line) -> Result<(), AllocError>
+fn write_data(text: &mut String, line: AssemblyLine) -> Result<(), AllocError>
     ensures { OnOk result (is_data line ≡ true
         → Starts (string_bytes text.old) (string_bytes text.new) (form_of line [])) }
 {
     match line {
-        Line::Arithmetic {
+        AssemblyLine::Arithmetic {
             width,
             operation,
             target,
             source,
         } => write_arithmetic(text, width, operation, target, source),
-        Line::Negate { width, target } => write_negate(text, width, target),
-        Line::SignExtend {
+        AssemblyLine::Negate { width, target } => write_negate(text, width, target),
+        AssemblyLine::SignExtend {
             extension,
             target,
             source,
         } => write_extend(text, extension, target, source),
-        Line::Reorder {
+        AssemblyLine::Reorder {
             order,
             width,
             target,
         } => write_reorder(text, order, width, target),
-        Line::Load {
+        AssemblyLine::Load {
             size,
             target,
             base,
             offset,
         } => write_load(text, size, target, base, offset),
-        Line::Store {
+        AssemblyLine::Store {
             size,
             base,
             offset,
             source,
         } => write_store(text, size, base, offset, source),
-        Line::LoadNumber { target, number } => write_load_number(text, target, number),
-        Line::LoadMap {
+        AssemblyLine::LoadNumber { target, number } => write_load_number(text, target, number),
+        AssemblyLine::LoadMap {
             target,
             map,
             offset,
@@ -484,19 +488,19 @@ fn write_data(text: &mut String, line: Line) -> Result<(), AllocError>
 }
 
 /// The words of a line, with this name if it defines or uses a label.
-fn write_words(text: &mut String, line: Line, name: &str) -> Result<(), AllocError>
+fn write_words(text: &mut String, line: AssemblyLine, name: &str) -> Result<(), AllocError>
     requires { IsNamed line name.now }
     ensures { OnOk result (Starts (string_bytes text.old) (string_bytes text.new)
         (form_of line name.now)) }
 {
     match line {
-        Line::Empty => Ok(()),
-        Line::Hook(hook) => write_hook(text, hook),
-        Line::Rank(rank) => keyword_number(text, "rank", rank),
-        Line::Label => write_label(text, name),
-        Line::Jump(target) => write_jump(text, "goto", target, name),
-        Line::LongJump(target) => write_jump(text, "gotol", target, name),
-        Line::Branch {
+        AssemblyLine::Empty => Ok(()),
+        AssemblyLine::Hook(hook) => write_hook(text, hook),
+        AssemblyLine::Rank(rank) => keyword_number(text, "rank", rank),
+        AssemblyLine::Label => write_label(text, name),
+        AssemblyLine::Jump(target) => write_jump(text, "goto", target, name),
+        AssemblyLine::LongJump(target) => write_jump(text, "gotol", target, name),
+        AssemblyLine::Branch {
             width,
             test,
             left,
@@ -506,15 +510,15 @@ fn write_words(text: &mut String, line: Line, name: &str) -> Result<(), AllocErr
             write_condition(text, width, test, left, right)?;
             write_goto(text, target, name)
         }
-        Line::Call(helper) => keyword_number(text, "call", helper),
-        Line::Exit => first(text, "exit"),
-        Line::State {
+        AssemblyLine::Call(helper) => keyword_number(text, "call", helper),
+        AssemblyLine::Exit => first(text, "exit"),
+        AssemblyLine::State {
             slot,
             constant,
             terms,
         } => write_state(text, slot, constant, terms, name),
-        Line::With { register, content } => write_with(text, register, content),
-        Line::Bytes { start, end } => write_bytes(text, start, end),
+        AssemblyLine::With { register, content } => write_with(text, register, content),
+        AssemblyLine::Bytes { start, end } => write_bytes(text, start, end),
         _ => write_data(text, line),
     }
 }
@@ -524,11 +528,11 @@ fn write_words(text: &mut String, line: Line, name: &str) -> Result<(), AllocErr
 ///
 /// `read_lines` finds in the new text what it found in the old one, if that has whole lines, and
 /// then this line. After an error the caller discards the text.
-pub fn write_line(text: &mut String, line: Line, name: &str) -> Result<(), AllocError>
+pub fn write_line(text: &mut String, line: AssemblyLine, name: &str) -> Result<(), AllocError>
     requires { IsNamed line name.now }
     ensures written { OnOk result (string_bytes text.new ≡ string_bytes text.old
         ++ line_text line name.now) }
-    ensures reads_back { OnOk result ((items : List (Line × Word))
+    ensures reads_back { OnOk result ((items : List (AssemblyLine × Word))
         → AreLines (string_bytes text.old) items → AreLines (string_bytes text.new) (items
         ++ (line, name.now) ∷ [])) }
 {

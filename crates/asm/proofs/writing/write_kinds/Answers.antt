@@ -1,7 +1,7 @@
 use Rattle.std.proofs.Common.{◌≡◌, ◌∙◌, ℕ, ◌+◌, ◌<◌, ◌++◌, [], List, length, drop, subst, sym, ap}
 use Rattle.std.proofs.Common.{get_or, string_bytes, arith}
 use Rattle.object.specs.declared.kind.Kind.{Kind}
-use Rattle.asm_lines.specs.declared.line.Line.TheVariants as lines
+use Rattle.asm_lines.specs.declared.line.AssemblyLine.TheVariants as lines
 use Rattle.asm_lines.specs.Written.{line_text}
 use Rattle.asm.specs.Listed.{Listed, AddsLine, AreStated, gives_number}
 use Rattle.asm.specs.Listing.{text_of, with_lines}

@@ -1,6 +1,6 @@
 use Rattle.std.proofs.Common.{◌∙◌, ap, sym}
 use Rattle.asm_words.specs.Words.{Word}
-use Rattle.asm_lines.specs.declared.line.Line.{Line}
+use Rattle.asm_lines.specs.declared.line.AssemblyLine.{AssemblyLine}
 use Rattle.asm_lines.proofs.Complete.{complete}
 use Rattle.asm_lines.proofs.Tokens.{some_same}
 use Rattle.asm_lines.proofs.reading.one_reading.Goals as goal
@@ -9,4 +9,4 @@ pub returns : goal.returns
 returns c words line other name another s t =
     let same = some_same (line, name) (other, another)
     (sym (complete words line name s) ∙ complete words other another t) in
-    (ap (λ (p : Line × Word). p.0) same, ap (λ (p : Line × Word). p.1) same)
+    (ap (λ (p : AssemblyLine × Word). p.0) same, ap (λ (p : AssemblyLine × Word). p.1) same)
