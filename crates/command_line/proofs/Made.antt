@@ -4,8 +4,8 @@ use Rattle.std.proofs.Common.{codes, inl, inr, slice_index}
 use Rattle.clap.specs.Walk.{Row, Text, first_of}
 use Rattle.command_line.specs.Requests.{HasSeats, HasWord, MadeBy, Makes, MakesNone, command_of}
 use Rattle.command_line.specs.Words.{IsContext, IsPacket, hook_name}
-use Rattle.command_line.specs.declared.requests.Request.{Request}
-use Rattle.command_line.specs.declared.requests.Request.TheVariants as requests
+use Rattle.command_line.specs.declared.requests.CommandRequest.{CommandRequest}
+use Rattle.command_line.specs.declared.requests.CommandRequest.TheVariants as requests
 use Rattle.isa.specs.declared.hook.Hook.{Hook}
 use Rattle.std.specs.Borrow.{Bor}
 use Rattle.std.specs.Prelude.{Bool, Result, Err, Ok, false, replicate, true}
@@ -158,7 +158,7 @@ no_other rows name raw run asm list verify route (requests.Route config) named h
     route (sym named)
 
 -- the request of the named command
-pub named_makes : (name : Text) (rows : List Row) (request : Request)
+pub named_makes : (name : Text) (rows : List Row) (request : CommandRequest)
     → MadeBy name rows (Some request) → Makes (Some (name, rows)) request
 named_makes name rows request made = (rows, ap (λ (t : Text). Some (t, rows)) (sym made.0), made.1)
 

@@ -13,8 +13,8 @@ use Rattle.command_line.proofs.Made.{list≢route, raw≢route, run≢route, ver
 use Rattle.command_line.specs.Laws.{MistakenWordsAskForNothing, SameRequest, WordsMakeOneRequest}
 use Rattle.command_line.specs.Requests.{HasSeats, HasWordsOf, command_of}
 use Rattle.command_line.specs.Words.{IsContext, IsPacket, hook_name}
-use Rattle.command_line.specs.declared.requests.Request.{Request}
-use Rattle.command_line.specs.declared.requests.Request.TheVariants as requests
+use Rattle.command_line.specs.declared.requests.CommandRequest.{CommandRequest}
+use Rattle.command_line.specs.declared.requests.CommandRequest.TheVariants as requests
 use Rattle.hex.specs.Hex.{decode_of, decode_sized}
 use Rattle.isa.specs.declared.hook.Hook.{Hook}
 use Rattle.isa.specs.declared.hook.Hook.TheVariants as hooks
@@ -81,8 +81,8 @@ one_hook a b e = sym (hook_back a) ∙ ap hook_from e ∙ hook_back b
     hook_back hooks.Price = refl
     hook_back hooks.Veto = refl
 
-same_words : (rows : List Row) (a b : Request) → command_of a ≡ command_of b → HasWordsOf rows a
-    → HasWordsOf rows b → SameRequest a b
+same_words : (rows : List Row) (a b : CommandRequest) → command_of a ≡ command_of b
+    → HasWordsOf rows a → HasWordsOf rows b → SameRequest a b
 same_words rows (requests.Raw hook file seats) (requests.Raw hook_2 file_2 seats_2) e x y = (
   one_hook hook hook_2 (one_word x.0 y.0),
   one_word x.1 y.1,

@@ -13,8 +13,8 @@ use Rattle.command_line.specs.CommandLine.{IsCommandLine, line_with}
 use Rattle.command_line.specs.Laws.{IsPlain, ListIsTaken, AsmIsTaken, RouteIsTaken, RunIsTaken}
 use Rattle.command_line.specs.Laws.{VerifyIsTaken}
 use Rattle.command_line.specs.Requests.{Asks, HasWord}
-use Rattle.command_line.specs.declared.requests.Request.{Request}
-use Rattle.command_line.specs.declared.requests.Request.TheVariants as requests
+use Rattle.command_line.specs.declared.requests.CommandRequest.{CommandRequest}
+use Rattle.command_line.specs.declared.requests.CommandRequest.TheVariants as requests
 
 pub record NoFlag (word : Text) : Type 0 where
   pub not_end : bytes_eq word (45 ∷ 45 ∷ []) ≡ false
@@ -37,7 +37,7 @@ rows_in None = []
 rows_in (Some named) = named.1
 
 -- A request that a line makes with its names anywhere is made by each line.
-at_line : (words : List Text) (request : Request)
+at_line : (words : List Text) (request : CommandRequest)
     → ((hooks : Bor (List (Bor Text))) → Asks (line_with hooks) words request) → (line : App)
     → IsCommandLine line → Asks line words request
 at_line words request asks line own =

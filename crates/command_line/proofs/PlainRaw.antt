@@ -16,7 +16,7 @@ use Rattle.command_line.specs.CommandLine.{required_word, route, run, verify}
 use Rattle.command_line.specs.Laws.{RawIsTaken}
 use Rattle.command_line.specs.Requests.{Asks, HasWord}
 use Rattle.command_line.specs.Words.{hook_name}
-use Rattle.command_line.specs.declared.requests.Request.TheVariants as requests
+use Rattle.command_line.specs.declared.requests.CommandRequest.TheVariants as requests
 use Rattle.isa.specs.declared.hook.Hook.{Hook}
 use Rattle.isa.specs.declared.hook.Hook.TheVariants as hooks
 

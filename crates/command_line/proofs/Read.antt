@@ -12,10 +12,10 @@ use Rattle.clap.specs.declared.error.kind.ErrorKind.TheVariants as kinds
 use Rattle.clap.specs.declared.parser.matches.ArgMatches.{ArgMatches}
 use Rattle.command_line.specs.CommandLine.{IsCommandLine, hook_names, line_with}
 use Rattle.command_line.specs.Requests.{Asks, IsRefusal, IsWrongWord, Makes}
-use Rattle.command_line.specs.declared.requests.Request.{Request}
+use Rattle.command_line.specs.declared.requests.CommandRequest.{CommandRequest}
 use Rattle.command_line.proofs.Made.{none_makes_none}
 
-abbrev pub Answers : App → List Text → Result Request Error → Type 0
+abbrev pub Answers : App → List Text → Result CommandRequest Error → Type 0
 Answers line words result = MatchResult result (Asks line words) (IsRefusal line words)
 
 -- a command line, with the names of the hooks anywhere
@@ -37,8 +37,9 @@ is_some_line = (
 )
 
 -- an error of a kind that is a refusal
-pub refused : (line : App) (words : List Text) (result : Result Request Error) (P : Error → Type 0)
-    → IsErrAnd result P → ((e : Error) → P e → IsRefusal line words e) → Answers line words result
+pub refused : (line : App) (words : List Text) (result : Result CommandRequest Error)
+    (P : Error → Type 0) → IsErrAnd result P → ((e : Error) → P e → IsRefusal line words e)
+    → Answers line words result
 refused line words (Ok x) P is f = absurd is
 refused line words (Err e) P is f = f e is
 
@@ -62,8 +63,8 @@ pub entered : (line : App) (words : List Text) (m : ArgMatches) → IsCommandLin
 entered line words m own has = (has (is_simple_line line own)).1
 
 -- the request of the words of the command that was entered
-pub made : (line : App) (words : List Text) (m : ArgMatches) (o : Option Request)
-    (request : Request) → IsCommandLine line → HasMatchesOf line words m → o ≡ Some request
+pub made : (line : App) (words : List Text) (m : ArgMatches) (o : Option CommandRequest)
+    (request : CommandRequest) → IsCommandLine line → HasMatchesOf line words m → o ≡ Some request
     → IfSome o (Makes (subcommand_rows_of m)) → Makes (subcommand_of line words) request
 made line words m o request own has is makes =
     subst (λ (named : Option (Text × List Row)). Makes named request) (entered line words m own has)

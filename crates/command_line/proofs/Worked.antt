@@ -15,7 +15,7 @@ use Rattle.command_line.specs.Requests.{Asks}
 use Rattle.command_line.specs.Worked.{AWordIsMissing, AWordTooMany, Fails, AFlagFails, HelpIsShown}
 use Rattle.command_line.specs.Worked.{NoSeatsFail, NoWordsGetHelp, RawAsks, RunAsks}
 use Rattle.command_line.specs.Worked.{TooManySeatsFail, UnknownCommandFails, UnknownHookFails}
-use Rattle.command_line.specs.declared.requests.Request.TheVariants as requests
+use Rattle.command_line.specs.declared.requests.CommandRequest.TheVariants as requests
 use Rattle.isa.specs.declared.hook.Hook.TheVariants as hooks
 
 -- the names of the hooks at one place

@@ -9,12 +9,12 @@ use Rattle.clap.specs.declared.error.Error.{Error}
 use Rattle.command_line.specs.CommandLine.{IsCommandLine}
 use Rattle.command_line.specs.Requests.{Asks, IsMistake, IsSeats}
 use Rattle.command_line.specs.Words.{IsContext, IsPacket, hook_name}
-use Rattle.command_line.specs.declared.requests.Request.{Request}
-use Rattle.command_line.specs.declared.requests.Request.TheVariants as requests
+use Rattle.command_line.specs.declared.requests.CommandRequest.{CommandRequest}
+use Rattle.command_line.specs.declared.requests.CommandRequest.TheVariants as requests
 use Rattle.isa.specs.declared.hook.Hook.{Hook}
 
 -- The same command, with the same texts, numbers and bytes, wherever they are in memory.
-abbrev pub SameRequest : Request → Request → Type 0
+abbrev pub SameRequest : CommandRequest → CommandRequest → Type 0
 SameRequest (requests.Raw hook file seats) (requests.Raw hook_2 file_2 seats_2) =
     (hook ≡ hook_2) × (file.now ≡ file_2.now) × (seats ≡ seats_2)
 SameRequest (requests.Run object context packet) (requests.Run object_2 context_2 packet_2) =
@@ -27,12 +27,13 @@ SameRequest (requests.Route config) (requests.Route config_2) = config.now ≡ c
 SameRequest _ _ = ⊥
 
 abbrev pub WordsMakeOneRequest : Type 0
-WordsMakeOneRequest = (line : App) (words : List Text) (request other : Request)
+WordsMakeOneRequest = (line : App) (words : List Text) (request other : CommandRequest)
     → IsCommandLine line
     → Asks line words request → Asks line words other → SameRequest request other
 
 abbrev pub MistakenWordsAskForNothing : Type 0
-MistakenWordsAskForNothing = (line : App) (words : List Text) (error : Error) (request : Request)
+MistakenWordsAskForNothing = (line : App) (words : List Text) (error : Error)
+    (request : CommandRequest)
     → IsMistake line words error → Asks line words request → ⊥
 
 -- A word that is no flag: it doesn't begin with a hyphen (45), or is a single one.

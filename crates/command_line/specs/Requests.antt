@@ -9,11 +9,11 @@ use Rattle.clap.specs.Walk.{Row, Text, first_of, one_of}
 use Rattle.clap.specs.declared.error.Error.{Error}
 use Rattle.clap.specs.declared.error.kind.ErrorKind.TheVariants as kinds
 use Rattle.command_line.specs.Words.{IsContext, IsPacket, hook_name}
-use Rattle.command_line.specs.declared.requests.Request.{Request}
-use Rattle.command_line.specs.declared.requests.Request.TheVariants as requests
+use Rattle.command_line.specs.declared.requests.CommandRequest.{CommandRequest}
+use Rattle.command_line.specs.declared.requests.CommandRequest.TheVariants as requests
 
 -- the command that makes the request
-abbrev pub command_of : Request → Text
+abbrev pub command_of : CommandRequest → Text
 command_of (requests.Raw hook file seats) = codes "raw"
 command_of (requests.Run object context packet) = codes "run"
 command_of (requests.Asm source object) = codes "asm"
@@ -34,7 +34,7 @@ abbrev pub HasSeats : List Row → ℕ → Type 0
 HasSeats rows seats = (word : Text) × (one_of (codes "SEATS") rows ≡ Some word) × IsSeats word seats
 
 -- The words of the request's command are those of the request.
-abbrev pub HasWordsOf : List Row → Request → Type 0
+abbrev pub HasWordsOf : List Row → CommandRequest → Type 0
 HasWordsOf rows (requests.Raw hook file seats) = HasWord rows (codes "HOOK") (hook_name hook)
     × HasWord rows (codes "FILE") file.now × HasSeats rows seats
 HasWordsOf rows (requests.Run object context packet) = HasWord rows (codes "OBJECT") object.now
@@ -47,9 +47,10 @@ HasWordsOf rows (requests.Verify object) = HasWord rows (codes "OBJECT") object.
 HasWordsOf rows (requests.Route config) = HasWord rows (codes "CONFIG") config.now
 
 -- the request that the command with this name makes of its words, if it makes one
-abbrev pub MadeBy : Text → List Row → Option Request → Type 0
+abbrev pub MadeBy : Text → List Row → Option CommandRequest → Type 0
 MadeBy name rows (Some request) = (command_of request ≡ name) × HasWordsOf rows request
-MadeBy name rows None = (request : Request) → command_of request ≡ name → HasWordsOf rows request
+MadeBy name rows None = (request : CommandRequest) → command_of request ≡ name
+    → HasWordsOf rows request
     → ⊥
 
 -- A word of this command is wrong, so that it makes no request; or an allocation was refused.
@@ -58,16 +59,16 @@ IsWrong name rows error = (kind_of error ≡ kinds.OutOfMemory)
     ⊎ ((kind_of error ≡ kinds.InvalidValue) × MadeBy name rows None)
 
 -- The named command, with its words, makes the request.
-abbrev pub Makes : Option (Text × List Row) → Request → Type 0
+abbrev pub Makes : Option (Text × List Row) → CommandRequest → Type 0
 Makes named request = (rows : List Row) × (named ≡ Some (command_of request, rows))
     × HasWordsOf rows request
 
 abbrev pub MakesNone : Option (Text × List Row) → Type 0
-MakesNone named = (request : Request) → Makes named request → ⊥
+MakesNone named = (request : CommandRequest) → Makes named request → ⊥
 
 -- The command line takes the words, and the command that they name makes the request of the words
 -- with its names.
-abbrev pub Asks : App → List Text → Request → Type 0
+abbrev pub Asks : App → List Text → CommandRequest → Type 0
 Asks line words request = (fault_of line words ≡ []) × Makes (subcommand_of line words) request
 
 -- What is wrong with words that the command line takes: they name no command, or a value is wrong.

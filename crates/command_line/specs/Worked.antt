@@ -9,15 +9,15 @@ use Rattle.clap.specs.Walk.{Text}
 use Rattle.clap.specs.declared.error.kind.ErrorKind.TheVariants as kinds
 use Rattle.command_line.specs.CommandLine.{IsCommandLine}
 use Rattle.command_line.specs.Requests.{Asks}
-use Rattle.command_line.specs.declared.requests.Request.{Request}
-use Rattle.command_line.specs.declared.requests.Request.TheVariants as requests
+use Rattle.command_line.specs.declared.requests.CommandRequest.{CommandRequest}
+use Rattle.command_line.specs.declared.requests.CommandRequest.TheVariants as requests
 use Rattle.isa.specs.declared.hook.Hook.TheVariants as hooks
 
 -- These words have a mistake of one of these kinds.
 abbrev pub Fails : List Text → Kinds → Type 0
 Fails words mistakes = (line : App) → IsCommandLine line → fault_of line words ≡ mistakes
 
-abbrev pub AsksFor : List Text → Request → Type 0
+abbrev pub AsksFor : List Text → CommandRequest → Type 0
 AsksFor words request = (line : App) → IsCommandLine line → Asks line words request
 
 abbrev pub NoWordsGetHelp : Type 0

@@ -7,4 +7,4 @@ mod reading;
 mod requests;
 
 pub use reading::{parse, unread};
-pub use requests::Request;
+pub use requests::CommandRequest;

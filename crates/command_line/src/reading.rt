@@ -8,7 +8,7 @@ ghost use Rattle.command_line.specs.CommandLine.{IsCommandLine};
 ghost use Rattle.command_line.specs.Requests.{Asks, IsRefusal};
 
 use crate::commands;
-use crate::requests::{self, Request};
+use crate::requests::{self, CommandRequest};
 use clap::Error;
 use clap::error::ErrorKind;
 use std::alloc::{AllocError, Global};
@@ -32,7 +32,7 @@ pub fn unread(alloc: Global, error: &io::Error) -> Error
 /// `Ok` is exactly the request of the words. `Err` has the text for the user: a mistake in the
 /// words, which then make no request, or the help that they request. Its kind is `OutOfMemory` if
 /// an allocation was refused.
-pub fn parse<'a>(alloc: Global, words: &'a [&'a str]) -> Result<Request<'a>, Error>
+pub fn parse<'a>(alloc: Global, words: &'a [&'a str]) -> Result<CommandRequest<'a>, Error>
     ensures { (line : App) × IsCommandLine line
         × MatchResult result (Asks line (map (λ w. w.now) words.entry.now))
         (IsRefusal line (map (λ w. w.now) words.entry.now)) }

@@ -21,7 +21,7 @@ use std::alloc::{AllocError, Global};
 
 /// The request that the words of a command line make.
 #[derive(Drop)]
-pub enum Request<'a> {
+pub enum CommandRequest<'a> {
     /// Run raw code once on each of `seats` threads.
     Raw {
         hook: Hook,
@@ -94,16 +94,19 @@ fn seats_of(matches: &ArgMatches<'_>) -> Option<usize>
     }
 }
 
-fn raw_request<'a>(matches: &ArgMatches<'a>) -> Option<Request<'a>>
+fn raw_request<'a>(matches: &ArgMatches<'a>) -> Option<CommandRequest<'a>>
     ensures { MadeBy (codes "raw") (rows_of (found_of matches.now)) result }
 {
     let hook = Hook::from_name(word_of(matches, "HOOK")?)?;
     let file = word_of(matches, "FILE")?;
     let seats = seats_of(matches)?;
-    Some(Request::Raw { hook, file, seats })
+    Some(CommandRequest::Raw { hook, file, seats })
 }
 
-fn run_request<'a>(alloc: Global, matches: &ArgMatches<'a>) -> Result<Option<Request<'a>>, Error>
+fn run_request<'a>(
+    alloc: Global,
+    matches: &ArgMatches<'a>,
+) -> Result<Option<CommandRequest<'a>>, Error>
     ensures ok { IfOk result (MadeBy (codes "run") (rows_of (found_of matches.now))) }
     ensures err { IfErr result (IsWrong (codes "run") (rows_of (found_of matches.now))) }
 {
@@ -117,7 +120,7 @@ fn run_request<'a>(alloc: Global, matches: &ArgMatches<'a>) -> Result<Option<Req
         return Err(wrong_value(alloc, "CONTEXT is neither - nor 128 hex digits"));
     };
     match packet_of(alloc, packet) {
-        Ok(packet) => Ok(Some(Request::Run {
+        Ok(packet) => Ok(Some(CommandRequest::Run {
             object,
             context,
             packet,
@@ -127,33 +130,33 @@ fn run_request<'a>(alloc: Global, matches: &ArgMatches<'a>) -> Result<Option<Req
     }
 }
 
-fn asm_request<'a>(matches: &ArgMatches<'a>) -> Option<Request<'a>>
+fn asm_request<'a>(matches: &ArgMatches<'a>) -> Option<CommandRequest<'a>>
     ensures { MadeBy (codes "asm") (rows_of (found_of matches.now)) result }
 {
     let source = word_of(matches, "SOURCE")?;
     let object = word_of(matches, "OBJECT")?;
-    Some(Request::Asm { source, object })
+    Some(CommandRequest::Asm { source, object })
 }
 
-fn list_request<'a>(matches: &ArgMatches<'a>) -> Option<Request<'a>>
+fn list_request<'a>(matches: &ArgMatches<'a>) -> Option<CommandRequest<'a>>
     ensures { MadeBy (codes "list") (rows_of (found_of matches.now)) result }
 {
     let object = word_of(matches, "OBJECT")?;
-    Some(Request::List { object })
+    Some(CommandRequest::List { object })
 }
 
-fn verify_request<'a>(matches: &ArgMatches<'a>) -> Option<Request<'a>>
+fn verify_request<'a>(matches: &ArgMatches<'a>) -> Option<CommandRequest<'a>>
     ensures { MadeBy (codes "verify") (rows_of (found_of matches.now)) result }
 {
     let object = word_of(matches, "OBJECT")?;
-    Some(Request::Verify { object })
+    Some(CommandRequest::Verify { object })
 }
 
-fn route_request<'a>(matches: &ArgMatches<'a>) -> Option<Request<'a>>
+fn route_request<'a>(matches: &ArgMatches<'a>) -> Option<CommandRequest<'a>>
     ensures { MadeBy (codes "route") (rows_of (found_of matches.now)) result }
 {
     let config = word_of(matches, "CONFIG")?;
-    Some(Request::Route { config })
+    Some(CommandRequest::Route { config })
 }
 
 // The request that a command makes of its words. `None` if it makes none, or there is no such
@@ -162,7 +165,7 @@ fn made_by<'a>(
     alloc: Global,
     name: &str,
     matches: &ArgMatches<'a>,
-) -> Result<Option<Request<'a>>, Error>
+) -> Result<Option<CommandRequest<'a>>, Error>
     ensures ok { IfOk result (MadeBy name.now (rows_of (found_of matches.now))) }
     ensures err { IfErr result (IsWrong name.now (rows_of (found_of matches.now))) }
 {
@@ -178,7 +181,11 @@ fn made_by<'a>(
 }
 
 // The request that a command makes of its words. An invalid-value error if it makes none.
-fn request_by<'a>(alloc: Global, name: &str, matches: &ArgMatches<'a>) -> Result<Request<'a>, Error>
+fn request_by<'a>(
+    alloc: Global,
+    name: &str,
+    matches: &ArgMatches<'a>,
+) -> Result<CommandRequest<'a>, Error>
     ensures ok { IfOk result (λ request. MadeBy name.now (rows_of (found_of matches.now))
         (Some request)) }
     ensures err { IfErr result (IsWrong name.now (rows_of (found_of matches.now))) }
@@ -194,7 +201,7 @@ fn request_by<'a>(alloc: Global, name: &str, matches: &ArgMatches<'a>) -> Result
 pub(crate) fn request_of<'a>(
     alloc: Global,
     matches: &ArgMatches<'a>,
-) -> Result<Option<Request<'a>>, Error>
+) -> Result<Option<CommandRequest<'a>>, Error>
     ensures some { IfOk result (λ o. IfSome o (Makes (subcommand_rows_of matches.now))) }
     ensures none { IfOk result (λ o. o ≡ None → subcommand_rows_of matches.now ≡ None) }
     ensures err { IfErr result (λ e. (kind_of e ≡ kinds.OutOfMemory)

@@ -8,8 +8,8 @@ use Rattle.clap.specs.declared.error.kind.ErrorKind.TheVariants as kinds
 use Rattle.command_line.specs.Requests.{IsRefusal}
 use Rattle.commands.specs.Endings.{IsFaultOfWords}
 use Rattle.commands.specs.Statuses.{fault_of_kind_of_words, fault_of_words}
-use Rattle.commands.specs.declared.fault.Fault.{Fault}
-use Rattle.commands.specs.declared.fault.Fault.TheVariants as faults
+use Rattle.commands.specs.declared.fault.CommandError.{CommandError}
+use Rattle.commands.specs.declared.fault.CommandError.TheVariants as faults
 
 -- clap's own text is told, or want of memory
 text_or_memory : (kind : ErrorKind) (error : Error)
@@ -33,7 +33,7 @@ text_or_memory kinds.Io error = inr refl
 text_or_memory kinds.Format error = inr refl
 text_or_memory kinds.OutOfMemory error = inl refl
 
-pub told : (line : App) (words : List (List ℕ)) (error : Error) (fault : Fault)
+pub told : (line : App) (words : List (List ℕ)) (error : Error) (fault : CommandError)
     → IsRefusal line words error → fault ≡ fault_of_words error → IsFaultOfWords line words fault
 told line words error fault refusal is = elim refusal [
   | inl memory ↦ inl (is ∙ ap (λ (k : ErrorKind). fault_of_kind_of_words k error) memory)

@@ -10,29 +10,29 @@ use Rattle.asm.specs.declared.error.AsmError.{AsmError}
 use Rattle.asm.specs.Assembling.{TextSpells}
 use Rattle.asm.specs.Assembling as texts
 use Rattle.asm.specs.Listing as listings
-use Rattle.commands.specs.declared.fault.Fault.{Fault}
-use Rattle.commands.specs.declared.fault.Fault.TheVariants as faults
-use Rattle.commands.specs.declared.report.Report.{Report}
+use Rattle.commands.specs.declared.fault.CommandError.{CommandError}
+use Rattle.commands.specs.declared.fault.CommandError.TheVariants as faults
+use Rattle.commands.specs.declared.report.CommandOutput.{CommandOutput}
 use Rattle.commands.specs.Statuses.{fault_of_object, fault_of_refusal, fault_of_text}
 
 -- The text spells an object, and so many slots are told.
-pub record IsAssembled (text : List ℕ) (report : Report) : Type 0 where
+pub record IsAssembled (text : List ℕ) (report : CommandOutput) : Type 0 where
   pub object : ObjectParts
   pub spells : TextSpells text object
   pub told : string_bytes report.text ≡ codes "ok " ++ decimal (slots_of object) ++ 10 ∷ []
   pub done : report.is_refused ≡ false
 
 -- the refusal of a text
-pub record IsTextRefused (text : List ℕ) (fault : Fault) : Type 0 where
+pub record IsTextRefused (text : List ℕ) (fault : CommandError) : Type 0 where
   pub error : AsmError
   pub refuses : texts.Refuses text error.line error.kind
   pub told : fault ≡ fault_of_text error
 
-abbrev pub IsTextFault : List ℕ → Fault → Type 0
+abbrev pub IsTextFault : List ℕ → CommandError → Type 0
 IsTextFault text fault = (fault ≡ faults.Memory) ⊎ IsTextRefused text fault
 
 -- The bytes are an object file, and what is printed is its listing, which assembles to it again.
-pub record IsListing (bytes : List ℕ) (report : Report) : Type 0 where
+pub record IsListing (bytes : List ℕ) (report : CommandOutput) : Type 0 where
   pub object : ObjectParts
   pub spells : Spells bytes object
   pub listed : TextSpells (string_bytes report.text) object
@@ -40,13 +40,13 @@ pub record IsListing (bytes : List ℕ) (report : Report) : Type 0 where
   pub done : report.is_refused ≡ false
 
 -- the refusal of bytes that are no object file
-pub record IsObjectRefused (bytes : List ℕ) (fault : Fault) : Type 0 where
+pub record IsObjectRefused (bytes : List ℕ) (fault : CommandError) : Type 0 where
   pub error : ReadError
   pub refuses : objects.Refuses bytes error
   pub told : fault ≡ fault_of_object error
 
 -- the refusal of an object file's code
-pub record IsCodeRefused (bytes : List ℕ) (fault : Fault) : Type 0 where
+pub record IsCodeRefused (bytes : List ℕ) (fault : CommandError) : Type 0 where
   pub object : ObjectParts
   pub spells : Spells bytes object
   pub error : DecodeError
@@ -54,6 +54,6 @@ pub record IsCodeRefused (bytes : List ℕ) (fault : Fault) : Type 0 where
   pub told : fault ≡ fault_of_refusal error
 
 -- Memory was refused, or the bytes hold no program.
-abbrev pub IsObjectFault : List ℕ → Fault → Type 0
+abbrev pub IsObjectFault : List ℕ → CommandError → Type 0
 IsObjectFault bytes fault = (fault ≡ faults.Memory) ⊎ IsObjectRefused bytes fault
     ⊎ IsCodeRefused bytes fault

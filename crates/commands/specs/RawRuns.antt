@@ -15,9 +15,9 @@ use Rattle.interp.specs.Run.{Run}
 use Rattle.interp.specs.declared.trap.Trap.{Trap}
 use Rattle.interp.specs.Outcome.{Outcome, trap_number}
 use Rattle.segments.specs.Refusals.{budget}
-use Rattle.commands.specs.declared.fault.Fault.{Fault}
+use Rattle.commands.specs.declared.fault.CommandError.{CommandError}
 use Rattle.commands.specs.declared.raw.Finished.{Finished}
-use Rattle.commands.specs.declared.report.Report.{Report}
+use Rattle.commands.specs.declared.report.CommandOutput.{CommandOutput}
 use Rattle.commands.specs.Statuses.{fault_of_refusal}
 
 -- how the seat of this number ended
@@ -64,7 +64,7 @@ EachRan setting seats finished = (i : ℕ) (s : SeatView) (d : Finished) → i <
 -- end is told in their order, and then the counters above 0, which are the sums of all that the
 -- seats added.
 pub record IsToldOfRuns (slots : List Slot) (hook : Hook) (seats : ℕ)
-    (report : Report) : Type 0 where
+    (report : CommandOutput) : Type 0 where
   pub shared : SharedWords
   pub dealt : shared.seats ≡ seats
   pub finished : List Finished
@@ -79,14 +79,14 @@ pub record IsToldOfRuns (slots : List Slot) (hook : Hook) (seats : ℕ)
   pub stuck : report.is_refused ≡ list_any (λ one. is_err one.outcome) finished
 
 -- The bytes spell code, and what is told is of its runs.
-pub record IsRawReport (hook : Hook) (seats : ℕ) (report : Report) : Type 0 where
+pub record IsRawReport (hook : Hook) (seats : ℕ) (report : CommandOutput) : Type 0 where
   pub bytes : List ℕ
   pub slots : List Slot
   pub decoded : code.Spells bytes slots
   pub runs : IsToldOfRuns slots hook seats report
 
 -- the refusal of bytes that are no code
-pub record IsBareRefused (bytes : List ℕ) (fault : Fault) : Type 0 where
+pub record IsBareRefused (bytes : List ℕ) (fault : CommandError) : Type 0 where
   pub error : DecodeError
   pub refuses : refusals.Refuses bytes error.slot error.kind
   pub told : fault ≡ fault_of_refusal error

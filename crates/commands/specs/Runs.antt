@@ -8,7 +8,7 @@ use Rattle.interp.specs.declared.trap.Trap.{Trap}
 use Rattle.interp.specs.Outcome.{trap_number}
 use Rattle.object_runs.specs.ObjectRuns.{RunsObject}
 use Rattle.object_runs.specs.declared.limit.Limit.TheVariants.{Own}
-use Rattle.commands.specs.declared.report.Report.{Report}
+use Rattle.commands.specs.declared.report.CommandOutput.{CommandOutput}
 
 -- the line that is printed
 abbrev pub outcome_line : Result Run Trap → List ℕ
@@ -29,7 +29,7 @@ pub record Ran (bytes : List ℕ) (input : Given) (outcome : Result Run Trap) : 
   pub runs : RunsObject bytes Own input seat outcome seat_after
 
 -- The same on this context and packet, and the end is told.
-pub record IsRun (bytes context packet : List ℕ) (report : Report) : Type 0 where
+pub record IsRun (bytes context packet : List ℕ) (report : CommandOutput) : Type 0 where
   pub outcome : Result Run Trap
   pub ran : Ran bytes (input_of context packet) outcome
   pub told : string_bytes report.text ≡ outcome_line outcome

@@ -17,8 +17,8 @@ use Rattle.asm.specs.declared.error.AsmError.{AsmError}
 use Rattle.asm.specs.declared.error.AsmFault.{AsmFault}
 use Rattle.asm.specs.declared.error.AsmFault.TheVariants as texts
 use Rattle.asm.specs.Faults as asm_faults
-use Rattle.commands.specs.declared.fault.Fault.{Fault}
-use Rattle.commands.specs.declared.fault.Fault.TheVariants as faults
+use Rattle.commands.specs.declared.fault.CommandError.{CommandError}
+use Rattle.commands.specs.declared.fault.CommandError.TheVariants as faults
 
 -- help and the version are what the user asked for
 abbrev pub status_of_usage : ErrorKind → ℕ
@@ -26,7 +26,7 @@ status_of_usage kinds.DisplayHelp = 0
 status_of_usage kinds.DisplayVersion = 0
 status_of_usage other = 2
 
-abbrev pub status_of : Fault → ℕ
+abbrev pub status_of : CommandError → ℕ
 status_of (faults.Read path) = 3
 status_of (faults.Write path) = 3
 status_of (faults.Source number line) = 1
@@ -37,36 +37,36 @@ status_of faults.Output = 3
 status_of faults.Memory = 4
 
 -- What is told of words that ask for nothing that can be done: clap's own text, or want of memory.
-abbrev pub fault_of_kind_of_words : ErrorKind → Error → Fault
+abbrev pub fault_of_kind_of_words : ErrorKind → Error → CommandError
 fault_of_kind_of_words kinds.OutOfMemory error = faults.Memory
 fault_of_kind_of_words other error = faults.Usage error
 
-abbrev pub fault_of_words : Error → Fault
+abbrev pub fault_of_words : Error → CommandError
 fault_of_words error = fault_of_kind_of_words (kind_of error) error
 
 -- What is told of bytes that are no code: the number and slot of the refusal, or want of memory.
-abbrev pub fault_of_kind : DecodeFault → ℕ → Fault
+abbrev pub fault_of_kind : DecodeFault → ℕ → CommandError
 fault_of_kind decoding.Memory slot = faults.Memory
 fault_of_kind kind slot = faults.Code (fault_number kind) slot
 
-abbrev pub fault_of_refusal : DecodeError → Fault
+abbrev pub fault_of_refusal : DecodeError → CommandError
 fault_of_refusal error = fault_of_kind error.kind error.slot
 
 -- What is told of bytes that are no object file: the number of the refusal, or want of memory.
-abbrev pub fault_of_object : ReadError → Fault
+abbrev pub fault_of_object : ReadError → CommandError
 fault_of_object reading.Memory = faults.Memory
 fault_of_object error = faults.Object (error_number error)
 
 -- What is told of bytes that have no program to run.
-abbrev pub fault_of_run : RunError → Fault
+abbrev pub fault_of_run : RunError → CommandError
 fault_of_run (running.Object error) = fault_of_object error
 fault_of_run (running.Code error) = fault_of_refusal error
 
 -- What is told of a text that spells no object: the number and line of the refusal, or want of
 -- memory.
-abbrev pub fault_of_line : AsmFault → ℕ → Fault
+abbrev pub fault_of_line : AsmFault → ℕ → CommandError
 fault_of_line texts.Memory line = faults.Memory
 fault_of_line kind line = faults.Source (asm_faults.fault_number kind) line
 
-abbrev pub fault_of_text : AsmError → Fault
+abbrev pub fault_of_text : AsmError → CommandError
 fault_of_text error = fault_of_line error.kind error.line

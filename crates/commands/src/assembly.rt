@@ -7,9 +7,9 @@ ghost use Rattle.object.specs.Objects.{slots_of};
 ghost use Rattle.object.specs.Spelling.{Spells};
 ghost use Rattle.commands.specs.Assembly.{IsAssembled, IsObjectFault, IsListing, IsTextFault};
 
-use crate::fault::Fault;
+use crate::fault::CommandError;
 use crate::files;
-use crate::report::Report;
+use crate::report::CommandOutput;
 use asm::{ListError, assemble, listing};
 use isa::decode;
 use object::Object;
@@ -24,7 +24,7 @@ struct ObjectFile {
 }
 
 /// The object file that a text spells.
-fn object_file<'a>(alloc: Global, text: &str) -> Result<ObjectFile, Fault<'a>>
+fn object_file<'a>(alloc: Global, text: &str) -> Result<ObjectFile, CommandError<'a>>
     ensures text { IfOk result (λ file. TextSpells text.now file.object) }
     ensures bytes { IfOk result (λ file. Spells file.bytes.items file.object) }
     ensures fault { IfErr result (IsTextFault text.now) }
@@ -39,21 +39,22 @@ fn write_object<'a, R: Files + AllocGlobal>(
     rt: &R,
     target: &'a str,
     file: &ObjectFile,
-) -> Result<(), Fault<'a>>
+) -> Result<(), CommandError<'a>>
     requires { Spells file.now.bytes.items file.now.object }
-    ensures { IfErr result (λ fault. (fault ≡ Fault.Write target.entry) ⊎ (fault ≡ Fault.Memory)) }
+    ensures { IfErr result (λ fault. (fault ≡ CommandError.Write target.entry)
+        ⊎ (fault ≡ CommandError.Memory)) }
 {
     files::write(rt, target, file.bytes.as_slice())
 }
 
 /// What is told of an object file that was written: how many slots its code has.
-fn written(alloc: Global, file: &ObjectFile) -> Result<Report, AllocError>
+fn written(alloc: Global, file: &ObjectFile) -> Result<CommandOutput, AllocError>
     ensures text { IfOk result (λ report. string_bytes report.text ≡ codes "ok "
         ++ decimal (slots_of file.now.object) ++ 10 ∷ []) }
     ensures done { IfOk result (λ report. report.is_refused ≡ false) }
 {
     let slots = file.object.slots();
-    Ok(Report {
+    Ok(CommandOutput {
         text: format!(in alloc; "ok {slots}\n")?,
         is_refused: false,
     })
@@ -68,11 +69,11 @@ pub fn assemble_file<'a, R: Files + AllocGlobal>(
     rt: &R,
     source: &'a str,
     target: &'a str,
-) -> Result<Report, Fault<'a>>
+) -> Result<CommandOutput, CommandError<'a>>
     // Where it is done, the text of the source was one that spells an object.
     ensures done { IfOk result (λ report. (text : List ℕ) × IsAssembled text report) }
-    ensures fault { IfErr result (λ fault. (fault ≡ Fault.Read source.entry)
-        ⊎ (fault ≡ Fault.Write target.entry) ⊎ ((text : List ℕ) × IsTextFault text fault)) }
+    ensures fault { IfErr result (λ fault. (fault ≡ CommandError.Read source.entry)
+        ⊎ (fault ≡ CommandError.Write target.entry) ⊎ ((text : List ℕ) × IsTextFault text fault)) }
 {
     let alloc = rt.alloc();
     let text = files::read_text(rt, source)?;
@@ -83,20 +84,20 @@ pub fn assemble_file<'a, R: Files + AllocGlobal>(
 }
 
 /// The listing of the object file that these bytes are.
-fn listed<'a>(alloc: Global, bytes: &[u8]) -> Result<Report, Fault<'a>>
+fn listed<'a>(alloc: Global, bytes: &[u8]) -> Result<CommandOutput, CommandError<'a>>
     ensures listed { IfOk result (IsListing bytes.now) }
     ensures fault { IfErr result (IsObjectFault bytes.now) }
 {
     let object = object::read(alloc, bytes)?;
     match listing(alloc, &object) {
-        Ok(text) => Ok(Report {
+        Ok(text) => Ok(CommandOutput {
             text,
             is_refused: false,
         }),
-        Err(ListError::Memory) => Err(Fault::Memory),
+        Err(ListError::Memory) => Err(CommandError::Memory),
         Err(ListError::Code) => match decode(alloc, object.code()) {
             Ok(_) => unreachable!(),
-            Err(error) => Err(Fault::from(error)),
+            Err(error) => Err(CommandError::from(error)),
         },
     }
 }
@@ -104,9 +105,12 @@ fn listed<'a>(alloc: Global, bytes: &[u8]) -> Result<Report, Fault<'a>>
 /// The listing of the object file at `path`.
 ///
 /// A fault where the file can't be read, is no object file, holds no code, or memory is refused.
-pub fn list<'a, R: Files + AllocGlobal>(rt: &R, path: &'a str) -> Result<Report, Fault<'a>>
+pub fn list<'a, R: Files + AllocGlobal>(
+    rt: &R,
+    path: &'a str,
+) -> Result<CommandOutput, CommandError<'a>>
     ensures listed { IfOk result (λ report. (bytes : List ℕ) × IsListing bytes report) }
-    ensures fault { IfErr result (λ fault. (fault ≡ Fault.Read path.entry)
+    ensures fault { IfErr result (λ fault. (fault ≡ CommandError.Read path.entry)
         ⊎ ((bytes : List ℕ) × IsObjectFault bytes fault)) }
 {
     let bytes = files::read(rt, path)?;

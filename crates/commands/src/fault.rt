@@ -1,7 +1,7 @@
 ghost use Rattle.std.specs.Prelude.{◌≡◌, ◌≤◌};
 ghost use Rattle.commands.specs.Statuses.{fault_of_object, fault_of_refusal, fault_of_run};
 ghost use Rattle.commands.specs.Statuses.{fault_of_text, fault_of_words, status_of};
-ghost use Rattle.commands.specs.declared.fault.Fault.TheVariants.{Memory};
+ghost use Rattle.commands.specs.declared.fault.CommandError.TheVariants.{Memory};
 
 use asm::{AsmError, AsmFault};
 use clap::error::ErrorKind;
@@ -25,7 +25,7 @@ pub const MEMORY: u8 = 4;
 
 /// Why a command didn't do what it was asked. The text is the line that is printed.
 #[derive(Debug, Drop, Error)]
-pub enum Fault<'a> {
+pub enum CommandError<'a> {
     /// A file can't be opened or read.
     #[error("cannot read {path}")]
     Read { path: &'a str },
@@ -53,29 +53,29 @@ pub enum Fault<'a> {
     Memory,
 }
 
-impl<'a> From<AllocError> for Fault<'a> {
+impl<'a> From<AllocError> for CommandError<'a> {
     ghost from_gives = { λ _ fault. fault ≡ Memory };
 
-    fn from(_error: AllocError) -> Fault<'a> {
-        Fault::Memory
+    fn from(_error: AllocError) -> CommandError<'a> {
+        CommandError::Memory
     }
 }
 
-impl<'a, T: Drop> From<AllocFailed<T>> for Fault<'a> {
+impl<'a, T: Drop> From<AllocFailed<T>> for CommandError<'a> {
     ghost from_gives = { λ _ fault. fault ≡ Memory };
 
-    fn from(_error: AllocFailed<T>) -> Fault<'a> {
-        Fault::Memory
+    fn from(_error: AllocFailed<T>) -> CommandError<'a> {
+        CommandError::Memory
     }
 }
 
-impl<'a> From<DecodeError> for Fault<'a> {
+impl<'a> From<DecodeError> for CommandError<'a> {
     ghost from_gives = { λ error fault. fault ≡ fault_of_refusal error };
 
-    fn from(error: DecodeError) -> Fault<'a> {
+    fn from(error: DecodeError) -> CommandError<'a> {
         match error.kind {
-            isa::DecodeFault::Memory => Fault::Memory,
-            kind => Fault::Code {
+            isa::DecodeFault::Memory => CommandError::Memory,
+            kind => CommandError::Code {
                 number: kind.number(),
                 slot: error.slot as u64,
             },
@@ -83,37 +83,37 @@ impl<'a> From<DecodeError> for Fault<'a> {
     }
 }
 
-impl<'a> From<ReadError> for Fault<'a> {
+impl<'a> From<ReadError> for CommandError<'a> {
     ghost from_gives = { λ error fault. fault ≡ fault_of_object error };
 
-    fn from(error: ReadError) -> Fault<'a> {
+    fn from(error: ReadError) -> CommandError<'a> {
         match error {
-            ReadError::Memory => Fault::Memory,
-            error => Fault::Object {
+            ReadError::Memory => CommandError::Memory,
+            error => CommandError::Object {
                 number: error.number(),
             },
         }
     }
 }
 
-impl<'a> From<RunError> for Fault<'a> {
+impl<'a> From<RunError> for CommandError<'a> {
     ghost from_gives = { λ error fault. fault ≡ fault_of_run error };
 
-    fn from(error: RunError) -> Fault<'a> {
+    fn from(error: RunError) -> CommandError<'a> {
         match error {
-            RunError::Object(error) => Fault::from(error),
-            RunError::Code(error) => Fault::from(error),
+            RunError::Object(error) => CommandError::from(error),
+            RunError::Code(error) => CommandError::from(error),
         }
     }
 }
 
-impl<'a> From<AsmError> for Fault<'a> {
+impl<'a> From<AsmError> for CommandError<'a> {
     ghost from_gives = { λ error fault. fault ≡ fault_of_text error };
 
-    fn from(error: AsmError) -> Fault<'a> {
+    fn from(error: AsmError) -> CommandError<'a> {
         match error.kind {
-            AsmFault::Memory => Fault::Memory,
-            kind => Fault::Source {
+            AsmFault::Memory => CommandError::Memory,
+            kind => CommandError::Source {
                 number: kind.number(),
                 line: error.line as u64,
             },
@@ -121,38 +121,40 @@ impl<'a> From<AsmError> for Fault<'a> {
     }
 }
 
-impl<'a> From<MapsError> for Fault<'a> {
+impl<'a> From<MapsError> for CommandError<'a> {
     ghost from_gives = { λ _ fault. fault ≡ Memory };
 
     // The number of seats was judged with the words.
-    fn from(_error: MapsError) -> Fault<'a> {
-        Fault::Memory
+    fn from(_error: MapsError) -> CommandError<'a> {
+        CommandError::Memory
     }
 }
 
-impl<'a> From<clap::Error> for Fault<'a> {
+impl<'a> From<clap::Error> for CommandError<'a> {
     ghost from_gives = { λ error fault. fault ≡ fault_of_words error };
 
-    fn from(error: clap::Error) -> Fault<'a> {
+    fn from(error: clap::Error) -> CommandError<'a> {
         match error.kind() {
-            ErrorKind::OutOfMemory => Fault::Memory,
-            _ => Fault::Usage(error),
+            ErrorKind::OutOfMemory => CommandError::Memory,
+            _ => CommandError::Usage(error),
         }
     }
 }
 
-impl<'a> Fault<'a> {
+impl<'a> CommandError<'a> {
     /// The status that the program ends with.
     pub fn status(&self) -> u8
         ensures value { result ≡ status_of self.now }
         ensures within { result ≤ 4 }
     {
         match self {
-            Fault::Read { .. } | Fault::Write { .. } | Fault::Output => OUTSIDE,
-            Fault::Source { .. } | Fault::Code { .. } | Fault::Object { .. } => REFUSED,
-            Fault::Usage(error) if error.use_stderr() => USAGE,
-            Fault::Usage(_) => DONE,
-            Fault::Memory => MEMORY,
+            CommandError::Read { .. } | CommandError::Write { .. } | CommandError::Output =>
+                OUTSIDE,
+            CommandError::Source { .. } | CommandError::Code { .. } | CommandError::Object { .. } =>
+                REFUSED,
+            CommandError::Usage(error) if error.use_stderr() => USAGE,
+            CommandError::Usage(_) => DONE,
+            CommandError::Memory => MEMORY,
         }
     }
 }

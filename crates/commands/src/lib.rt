@@ -11,6 +11,6 @@ mod routing;
 mod run;
 mod verify;
 
-pub use fault::Fault;
-pub use report::Report;
+pub use fault::CommandError;
+pub use report::CommandOutput;
 pub use routing::Routing;

@@ -6,44 +6,48 @@ ghost use Rattle.clap.specs.Simple.{App};
 ghost use Rattle.command_line.specs.CommandLine.{IsCommandLine};
 ghost use Rattle.commands.specs.Endings.{Ends, EndsRequest, EndsWords, Prints, Tells};
 
-use crate::fault::{DONE, Fault, REFUSED};
-use crate::report::Report;
+use crate::fault::{CommandError, DONE, REFUSED};
+use crate::report::CommandOutput;
 use crate::routing::Routing;
 use crate::{assembly, files, raw, run, verify};
-use command_line::Request;
+use command_line::CommandRequest;
 use std::alloc::Global;
 use std::io::{self, BufRead, ErrorKind, Write};
 use std::rt::Files;
 use std::thread::Threads;
 
 // Prints what a command made, and answers the status.
-fn print<O: Write>(report: &Report, output: &mut O) -> u8
+fn print<O: Write>(report: &CommandOutput, output: &mut O) -> u8
     ensures { Prints report.now (O.contents output.old) (O.contents output.new) result }
 {
     match output.write_all(report.text.as_bytes()) {
         Ok(()) if report.is_refused => REFUSED,
         Ok(()) => DONE,
-        Err(_) => Fault::Output.status(),
+        Err(_) => CommandError::Output.status(),
     }
 }
 
 // The text of a fault goes to the second writer where it is clap's, and else to the first.
-fn tell<O: Write, E: Write>(fault: &Fault<'_>, output: &mut O, errors: &mut E) -> u8
+fn tell<O: Write, E: Write>(fault: &CommandError<'_>, output: &mut O, errors: &mut E) -> u8
     ensures { Tells fault.now (O.contents output.old) (O.contents output.new)
         (E.contents errors.old) (E.contents errors.new) result }
 {
     let written = match fault {
-        Fault::Usage(error) => write!(errors, "{error}"),
+        CommandError::Usage(error) => write!(errors, "{error}"),
         _ => writeln!(output, "{fault}"),
     };
     match written {
         Ok(()) => fault.status(),
-        Err(_) => Fault::Output.status(),
+        Err(_) => CommandError::Output.status(),
     }
 }
 
 // Prints what a command made or what its fault is, and answers the status.
-fn end<O: Write, E: Write>(outcome: Result<Report, Fault<'_>>, output: &mut O, errors: &mut E) -> u8
+fn end<O: Write, E: Write>(
+    outcome: Result<CommandOutput, CommandError<'_>>,
+    output: &mut O,
+    errors: &mut E,
+) -> u8
     ensures { Ends outcome.entry (O.contents output.old) (O.contents output.new)
         (E.contents errors.old) (E.contents errors.new) result }
 {
@@ -64,7 +68,7 @@ pub fn end_without_words<O: Write, E: Write>(
     ensures memory { error_kind error.now ≡ ErrorKind.OutOfMemory → (result ≡ 3) ⊎ (result ≡ 4) }
     ensures told { (result ≡ 2) ⊎ (result ≡ 3) ⊎ (result ≡ 4) }
 {
-    let fault = Fault::from(command_line::unread(alloc, error));
+    let fault = CommandError::from(command_line::unread(alloc, error));
     tell(&fault, output, errors)
 }
 
@@ -78,8 +82,8 @@ fn route<R: Files + AllocGlobal, G: Routing, I: BufRead, O: Write, E: Write>(
     output: &mut O,
     errors: &mut E,
 ) -> u8
-    ensures { EndsRequest (Request.Route path.entry) (O.contents output.old) (O.contents output.new)
-        (E.contents errors.old) (E.contents errors.new) result }
+    ensures { EndsRequest (CommandRequest.Route path.entry) (O.contents output.old)
+        (O.contents output.new) (E.contents errors.old) (E.contents errors.new) result }
 {
     match files::read_text(rt, path) {
         Ok(text) => routing.route(text.as_str(), input, output),
@@ -91,7 +95,7 @@ fn route<R: Files + AllocGlobal, G: Routing, I: BufRead, O: Write, E: Write>(
 fn carry_out<R: Files + AllocGlobal + Threads + Sync, G: Routing, I: BufRead, O: Write, E: Write>(
     rt: &R,
     routing: &G,
-    request: Request<'_>,
+    request: CommandRequest<'_>,
     input: &mut I,
     output: &mut O,
     errors: &mut E,
@@ -100,20 +104,20 @@ fn carry_out<R: Files + AllocGlobal + Threads + Sync, G: Routing, I: BufRead, O:
         (E.contents errors.old) (E.contents errors.new) result }
 {
     match request {
-        Request::Raw { hook, file, seats } => {
+        CommandRequest::Raw { hook, file, seats } => {
             end(raw::raw(rt, hook, file, seats), output, errors)
         }
-        Request::Run {
+        CommandRequest::Run {
             object,
             context,
             packet,
         } => end(run::run(rt, object, context, packet), output, errors),
-        Request::Asm { source, object } => {
+        CommandRequest::Asm { source, object } => {
             end(assembly::assemble_file(rt, source, object), output, errors)
         }
-        Request::List { object } => end(assembly::list(rt, object), output, errors),
-        Request::Verify { object } => end(verify::verify(rt, object), output, errors),
-        Request::Route { config } => route(rt, routing, config, input, output, errors),
+        CommandRequest::List { object } => end(assembly::list(rt, object), output, errors),
+        CommandRequest::Verify { object } => end(verify::verify(rt, object), output, errors),
+        CommandRequest::Route { config } => route(rt, routing, config, input, output, errors),
     }
 }
 
@@ -137,6 +141,6 @@ pub fn program<R: Files + AllocGlobal + Threads + Sync, G: Routing, I: BufRead, 
 {
     match command_line::parse(rt.alloc(), words) {
         Ok(request) => carry_out(rt, routing, request, input, output, errors),
-        Err(error) => end(Err(Fault::from(error)), output, errors),
+        Err(error) => end(Err(CommandError::from(error)), output, errors),
     }
 }

@@ -7,9 +7,9 @@ ghost use Rattle.machine.specs.Given.{given_by};
 ghost use Rattle.commands.specs.RawRuns.{EachRan, IsBareRefused, IsRawReport, IsToldOfRuns, Ran};
 ghost use Rattle.commands.specs.RawRuns.{counter_line, counter_lines, seat_line, seat_lines};
 
-use crate::fault::Fault;
+use crate::fault::CommandError;
 use crate::files;
-use crate::report::Report;
+use crate::report::CommandOutput;
 use interp::{Run, Trap, run_checked};
 use isa::{Code, Hook, decode};
 use machine::Input;
@@ -154,9 +154,9 @@ fn report_of<'a, R: AllocGlobal + Threads + Sync>(
     code: &Code,
     hook: Hook,
     seats: usize,
-) -> Result<Report, Fault<'a>>
+) -> Result<CommandOutput, CommandError<'a>>
     ensures runs { IfOk result (IsToldOfRuns code.now hook seats) }
-    ensures fault { IfErr result (λ fault. fault ≡ Fault.Memory) }
+    ensures fault { IfErr result (λ fault. fault ≡ CommandError.Memory) }
 {
     let alloc = rt.alloc();
     let (shared, seats) = Shared::new(alloc, seats)?;
@@ -172,7 +172,7 @@ fn report_of<'a, R: AllocGlobal + Threads + Sync>(
     let seats = seats_of(alloc, &shared, finished)?;
     let totals = shared.close(seats);
     push_counters(&mut text, &totals.sums)?;
-    Ok(Report { text, is_refused })
+    Ok(CommandOutput { text, is_refused })
 }
 
 /// Runs the bare code of the file at `path` once on each of `seats` threads, all on the same
@@ -184,10 +184,10 @@ pub fn raw<'a, R: Files + AllocGlobal + Threads + Sync>(
     hook: Hook,
     path: &'a str,
     seats: usize,
-) -> Result<Report, Fault<'a>>
+) -> Result<CommandOutput, CommandError<'a>>
     ensures runs { IfOk result (λ report. IsRawReport hook seats report) }
-    ensures fault { IfErr result (λ fault. (fault ≡ Fault.Read path.entry) ⊎ (fault ≡ Fault.Memory)
-        ⊎ ((bytes : List ℕ) × IsBareRefused bytes fault)) }
+    ensures fault { IfErr result (λ fault. (fault ≡ CommandError.Read path.entry)
+        ⊎ (fault ≡ CommandError.Memory) ⊎ ((bytes : List ℕ) × IsBareRefused bytes fault)) }
 {
     let bytes = files::read(rt, path)?;
     let code = decode(rt.alloc(), bytes.as_slice())?;

@@ -5,9 +5,9 @@ ghost use Rattle.machine.specs.Given.{given_by};
 ghost use Rattle.commands.specs.Assembly.{IsObjectFault};
 ghost use Rattle.commands.specs.Runs.{IsRun, Ran, outcome_line};
 
-use crate::fault::Fault;
+use crate::fault::CommandError;
 use crate::files;
-use crate::report::Report;
+use crate::report::CommandOutput;
 use interp::{Run, Trap};
 use machine::Input;
 use maps::Shared;
@@ -37,7 +37,7 @@ fn outcome_of<'a>(
     alloc: Global,
     bytes: &[u8],
     input: &Input,
-) -> Result<Result<Run, Trap>, Fault<'a>>
+) -> Result<Result<Run, Trap>, CommandError<'a>>
     ensures run { IfOk result (Ran bytes.now (given_by input.now)) }
     ensures fault { IfErr result (IsObjectFault bytes.now) }
 {
@@ -45,7 +45,7 @@ fn outcome_of<'a>(
     let mut seat = seats.remove(0);
     match run_object(alloc, bytes, Limit::Own, input, &shared, &mut seat) {
         Ok(outcome) => Ok(outcome),
-        Err(error) => Err(Fault::from(error)),
+        Err(error) => Err(CommandError::from(error)),
     }
 }
 
@@ -56,7 +56,7 @@ fn run_of<'a>(
     bytes: &[u8],
     context: [u8; 64],
     packet: Vec<u8>,
-) -> Result<Report, Fault<'a>>
+) -> Result<CommandOutput, CommandError<'a>>
     ensures run { IfOk result (IsRun bytes.now context packet.items) }
     ensures fault { IfErr result (IsObjectFault bytes.now) }
 {
@@ -66,7 +66,7 @@ fn run_of<'a>(
         rows: &[],
     };
     let outcome = outcome_of(alloc, bytes, &input)?;
-    Ok(Report {
+    Ok(CommandOutput {
         text: text_of(alloc, outcome)?,
         is_refused: outcome.is_err(),
     })
@@ -81,10 +81,10 @@ pub fn run<'a, R: Files + AllocGlobal>(
     path: &'a str,
     context: [u8; 64],
     packet: Vec<u8>,
-) -> Result<Report, Fault<'a>>
+) -> Result<CommandOutput, CommandError<'a>>
     ensures run { IfOk result (λ report. (bytes : List ℕ) × IsRun bytes context packet.items
         report) }
-    ensures fault { IfErr result (λ fault. (fault ≡ Fault.Read path.entry)
+    ensures fault { IfErr result (λ fault. (fault ≡ CommandError.Read path.entry)
         ⊎ ((bytes : List ℕ) × IsObjectFault bytes fault)) }
 {
     let bytes = files::read(rt, path)?;

@@ -4,48 +4,50 @@ ghost use Rattle.std.specs.Prelude.{◌≡◌, ◌⊎◌, List, ℕ, true, false
 ghost use Rattle.commands.specs.Assembly.{IsObjectFault};
 ghost use Rattle.commands.specs.Verdicts.{IsVerdict, accepted_line, refused_line};
 
-use crate::fault::Fault;
+use crate::fault::CommandError;
 use crate::files;
-use crate::report::Report;
+use crate::report::CommandOutput;
 use object_verdicts::{VerifyError, verify_object};
 use std::alloc::{AllocError, Global};
 use std::rt::Files;
 use verifier::{Refusal, Rule};
 
 /// What is told of a program that is accepted with this bound.
-fn accepted(alloc: Global, bound: u64) -> Result<Report, AllocError>
+fn accepted(alloc: Global, bound: u64) -> Result<CommandOutput, AllocError>
     ensures told { IfOk result (λ report. string_bytes report.text ≡ accepted_line bound) }
     ensures done { IfOk result (λ report. report.is_refused ≡ false) }
 {
-    Ok(Report {
+    Ok(CommandOutput {
         text: format!(in alloc; "accepted bound {bound}\n")?,
         is_refused: false,
     })
 }
 
 /// What is told of a program that is refused: the first slot that breaks a rule, and which rule.
-fn refused(alloc: Global, refusal: Refusal) -> Result<Report, AllocError>
+fn refused(alloc: Global, refusal: Refusal) -> Result<CommandOutput, AllocError>
     ensures told { IfOk result (λ report. string_bytes report.text ≡ refused_line refusal) }
     ensures refused { IfOk result (λ report. report.is_refused ≡ true) }
 {
     let slot = refusal.slot;
     let rule = refusal.rule.number();
-    Ok(Report {
+    Ok(CommandOutput {
         text: format!(in alloc; "refused slot {slot} rule {rule}\n")?,
         is_refused: true,
     })
 }
 
 /// What the verifier says of the program of the object file that these bytes are.
-fn verdict_of<'a>(alloc: Global, bytes: &[u8]) -> Result<Report, Fault<'a>>
+fn verdict_of<'a>(alloc: Global, bytes: &[u8]) -> Result<CommandOutput, CommandError<'a>>
     ensures verdict { IfOk result (IsVerdict bytes.now) }
     ensures fault { IfErr result (IsObjectFault bytes.now) }
 {
     match verify_object(alloc, bytes) {
         Ok(program) => Ok(accepted(alloc, program.bound())?),
-        Err(VerifyError::Object(error)) => Err(Fault::from(error)),
-        Err(VerifyError::Code(error)) => Err(Fault::from(error)),
-        Err(VerifyError::Refused(refusal)) if refusal.rule == Rule::Memory => Err(Fault::Memory),
+        Err(VerifyError::Object(error)) => Err(CommandError::from(error)),
+        Err(VerifyError::Code(error)) => Err(CommandError::from(error)),
+        Err(VerifyError::Refused(refusal)) if refusal.rule == Rule::Memory => Err(
+            CommandError::Memory,
+        ),
         Err(VerifyError::Refused(refusal)) => Ok(refused(alloc, refusal)?),
     }
 }
@@ -54,9 +56,12 @@ fn verdict_of<'a>(alloc: Global, bytes: &[u8]) -> Result<Report, Fault<'a>>
 /// by which it is refused.
 ///
 /// A fault where the file can't be read, is no object file, holds no code, or memory is refused.
-pub fn verify<'a, R: Files + AllocGlobal>(rt: &R, path: &'a str) -> Result<Report, Fault<'a>>
+pub fn verify<'a, R: Files + AllocGlobal>(
+    rt: &R,
+    path: &'a str,
+) -> Result<CommandOutput, CommandError<'a>>
     ensures verdict { IfOk result (λ report. (bytes : List ℕ) × IsVerdict bytes report) }
-    ensures fault { IfErr result (λ fault. (fault ≡ Fault.Read path.entry)
+    ensures fault { IfErr result (λ fault. (fault ≡ CommandError.Read path.entry)
         ⊎ ((bytes : List ℕ) × IsObjectFault bytes fault)) }
 {
     let bytes = files::read(rt, path)?;
