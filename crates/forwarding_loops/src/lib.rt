@@ -15,4 +15,4 @@ mod tables;
 pub use counting::count_loops;
 pub use hop::Hop;
 pub use marking::loops;
-pub use tables::{Link, Way, count_looping};
+pub use tables::{LinkEnds, PrefixRoute, count_looping};

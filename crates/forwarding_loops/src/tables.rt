@@ -12,21 +12,21 @@ use words::Hops;
 /// A router's route to a prefix: the outgoing interfaces, bit k for interface k, where 0 is the
 /// router itself; and the cost.
 #[derive(Clone, Copy)]
-pub struct Way {
+pub struct PrefixRoute {
     pub hops: u64,
     pub cost: u32,
 }
 
 /// A link between interfaces of two routers, which are given by their indices.
 #[derive(Clone, Copy)]
-pub struct Link {
+pub struct LinkEnds {
     pub one: usize,
     pub one_interface: u8,
     pub other: usize,
     pub other_interface: u8,
 }
 
-impl Way {
+impl PrefixRoute {
     /// Whether packets are sent out of the interface. Those that end at the router are sent out of
     /// none.
     pub fn leaves_by(&self, interface: u8) -> bool
@@ -40,7 +40,7 @@ impl Way {
 // Adds the next hop by the interface, if the route of the router before it has that.
 fn add_hop(
     hops: &mut Vec<Hop>,
-    ways: &[Way],
+    ways: &[PrefixRoute],
     from: usize,
     interface: u8,
     to: usize,
@@ -64,7 +64,7 @@ fn add_hop(
 }
 
 // Adds the next hops over the link, of both routers.
-fn add_hops(hops: &mut Vec<Hop>, ways: &[Way], link: &Link) -> Result<(), AllocError>
+fn add_hops(hops: &mut Vec<Hop>, ways: &[PrefixRoute], link: &LinkEnds) -> Result<(), AllocError>
     ensures added { OnOk result (hops.new.items ≡ hops.old.items ++ hops_over ways.now link.now) }
     ensures within { All (IsAmong (length ways.now)) hops.old.items
         → All (IsAmong (length ways.now)) hops.new.items }
@@ -74,7 +74,7 @@ fn add_hops(hops: &mut Vec<Hop>, ways: &[Way], link: &Link) -> Result<(), AllocE
 }
 
 // The next hops over all links.
-fn hops_of(alloc: Global, links: &[Link], ways: &[Way]) -> Result<Vec<Hop>, AllocError>
+fn hops_of(alloc: Global, links: &[LinkEnds], ways: &[PrefixRoute]) -> Result<Vec<Hop>, AllocError>
     ensures hops { IfOk result (λ hops. hops.items ≡ next_hops ways.now links.now) }
     ensures within { IfOk result (λ hops. All (IsAmong (length ways.now)) hops.items) }
 {
@@ -85,7 +85,7 @@ fn hops_of(alloc: Global, links: &[Link], ways: &[Way]) -> Result<Vec<Hop>, Allo
     Ok(hops)
 }
 
-fn costs_of(alloc: Global, ways: &[Way]) -> Result<Vec<u32>, AllocError>
+fn costs_of(alloc: Global, ways: &[PrefixRoute]) -> Result<Vec<u32>, AllocError>
     ensures { IfOk result (λ costs. length costs.items ≡ length ways.now) }
 {
     ways.iter().map(|way| way.cost).collect(alloc)
@@ -96,7 +96,11 @@ fn costs_of(alloc: Global, ways: &[Way]) -> Result<Vec<u32>, AllocError>
 ///
 /// # Errors
 /// `AllocError` if an allocation is refused.
-pub fn count_looping(alloc: Global, links: &[Link], ways: &[Way]) -> Result<usize, AllocError>
+pub fn count_looping(
+    alloc: Global,
+    links: &[LinkEnds],
+    ways: &[PrefixRoute],
+) -> Result<usize, AllocError>
     ensures { IfOk result (IsCountOfLoops (next_hops ways.now links.now) (length ways.now)) }
 {
     let costs = costs_of(alloc, ways)?;

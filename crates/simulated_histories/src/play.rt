@@ -3,7 +3,9 @@ use crate::acts::HistoryStep;
 use crate::mail::Mail;
 use crate::search::HistorySetting;
 use flood::{Core, Event};
-use simulated_networks::{Fault, InterfaceTimes, Link, Routers, holds_the_same, prefix, sees_full};
+use simulated_networks::{
+    InterfaceTimes, LinkEnds, NetworkError, Routers, holds_the_same, prefix, sees_full,
+};
 use words::Route;
 
 // In a second there are fewer packets.
@@ -82,9 +84,9 @@ impl<'a> Play<'a> {
     }
 
     /// Why something is left out: memory was refused, or the times aren't allowed.
-    pub fn fault(&self) -> Option<Fault> {
+    pub fn fault(&self) -> Option<NetworkError> {
         if self.mail.lacks_memory {
-            Some(Fault::Memory)
+            Some(NetworkError::Memory)
         } else {
             self.routers.fault
         }
@@ -219,7 +221,7 @@ impl<'a> Play<'a> {
     }
 
     // The routers at both ends of the link.
-    fn sides(&self, link: &Link) -> Option<(Side<'_>, Side<'_>)> {
+    fn sides(&self, link: &LinkEnds) -> Option<(Side<'_>, Side<'_>)> {
         match (self.routers.get(link.one), self.routers.get(link.other)) {
             (Some(one), Some(other)) => Some((
                 Side {
@@ -235,7 +237,7 @@ impl<'a> Play<'a> {
         }
     }
 
-    fn differ_over(&self, link: &Link) -> bool {
+    fn differ_over(&self, link: &LinkEnds) -> bool {
         match self.sides(link) {
             Some((one, other)) => {
                 sees_full(one.core, one.interface)
@@ -257,7 +259,7 @@ impl<'a> Play<'a> {
     }
 
     // None where memory is refused.
-    fn loop_over(&self, link: &Link) -> Option<bool> {
+    fn loop_over(&self, link: &LinkEnds) -> Option<bool> {
         match self.sides(link) {
             Some((one, other)) => lead_to_each_other(&one, &other),
             None => Some(false),

@@ -3,7 +3,7 @@ use crate::director::{Director, ScenarioStep};
 use crate::phase::{Look, Phase};
 use crate::plan::{Scenario, ScenarioPlan};
 use flood::Event;
-use simulated_networks::{Counts, Fault, Faults, Network, Random, Topology};
+use simulated_networks::{Counts, Faults, Network, NetworkError, Random, Topology};
 use std::alloc::Global;
 
 /// What came of a plan.
@@ -56,9 +56,9 @@ struct Run<'a> {
 
 impl<'a> Run<'a> {
     // Why something is left out: memory was refused, or the times aren't allowed.
-    fn fault(&self) -> Option<Fault> {
+    fn fault(&self) -> Option<NetworkError> {
         if self.lacks_memory || self.director.lacks_memory {
-            Some(Fault::Memory)
+            Some(NetworkError::Memory)
         } else {
             self.network.fault()
         }
@@ -207,7 +207,7 @@ fn play_in(
     plan: &ScenarioPlan,
     events: &[Event],
     outcome: &mut Outcome,
-) -> Option<Fault> {
+) -> Option<NetworkError> {
     let mut run = Run {
         network: Network::new(alloc, topology, plan.times, plan.seed),
         director: Director::new(alloc, plan, topology, random, events.len()),
@@ -227,7 +227,7 @@ fn play_into(
     plan: &ScenarioPlan,
     events: &[Event],
     outcome: &mut Outcome,
-) -> Result<(), Fault> {
+) -> Result<(), NetworkError> {
     let mut random = Random::new(plan.seed);
     let routers = plan.routers as usize;
     let topology = Topology::new(alloc, &mut random, plan.topology, routers, plan.spread)?;
@@ -245,7 +245,7 @@ pub fn play_scenario(
     alloc: Global,
     plan: &ScenarioPlan,
     events: &[Event],
-) -> Result<Outcome, Fault> {
+) -> Result<Outcome, NetworkError> {
     let mut outcome = Outcome::new(alloc);
     match play_into(alloc, plan, events, &mut outcome) {
         Ok(()) => Ok(outcome),

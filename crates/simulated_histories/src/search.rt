@@ -6,7 +6,7 @@ ghost use Rattle.std.specs.Prelude.{length, slice_set, take, vec_len};
 use crate::acts::{HistoryStep, chosen};
 use crate::play::Play;
 use flood::Event;
-use simulated_networks::{Fault, Faults, InterfaceTimes, Random, Topology};
+use simulated_networks::{Faults, InterfaceTimes, NetworkError, Random, Topology};
 use std::alloc::{AllocError, Global};
 
 /// What a history is to end with, after calm seconds.
@@ -49,7 +49,7 @@ struct Turn {
     // something was taken out or made simpler
     some: bool,
     // what stopped it
-    fault: Option<Fault>,
+    fault: Option<NetworkError>,
 }
 
 // How many acts are left out at once.
@@ -135,7 +135,11 @@ impl Search {
     ///
     /// # Errors
     /// Where memory is refused, or the times aren't allowed.
-    pub fn shows(&self, stage: HistorySetting<'_>, acts: &[HistoryStep]) -> Result<bool, Fault> {
+    pub fn shows(
+        &self,
+        stage: HistorySetting<'_>,
+        acts: &[HistoryStep],
+    ) -> Result<bool, NetworkError> {
         let mut play = Play::new(stage, self.times);
         let seen = self.is_seen(&mut play, acts);
         let fault = play.fault();
@@ -177,7 +181,7 @@ impl Search {
             else kept.old.items) }
     {
         let Ok(fewer) = without(stage.alloc, kept.as_slice(), from, many) else {
-            turn.fault = Some(Fault::Memory);
+            turn.fault = Some(NetworkError::Memory);
             return false;
         };
         if !self.shows_yet(stage, &fewer, turn) {
@@ -223,7 +227,7 @@ impl Search {
         ensures { vec_len kept.new ≡ vec_len kept.old }
     {
         let Ok(tried) = with_other(stage.alloc, kept.as_slice(), place, act) else {
-            turn.fault = Some(Fault::Memory);
+            turn.fault = Some(NetworkError::Memory);
             return;
         };
         if !self.shows_yet(stage, &tried, turn) {
@@ -263,7 +267,7 @@ impl Search {
         &self,
         stage: HistorySetting<'_>,
         kept: &mut Vec<HistoryStep>,
-    ) -> Result<(), Fault>
+    ) -> Result<(), NetworkError>
         ensures { vec_len kept.new ≤ vec_len kept.old }
     {
         for _ in 0..TURNS {
@@ -286,7 +290,7 @@ impl Search {
         &self,
         stage: HistorySetting<'_>,
         kept: &mut Vec<HistoryStep>,
-    ) -> Result<bool, Fault>
+    ) -> Result<bool, NetworkError>
         ensures { vec_len kept.new ≤ vec_len kept.old }
     {
         let shown = self.shows(stage, kept.as_slice())?;
@@ -304,7 +308,7 @@ impl Search {
         &self,
         stage: HistorySetting<'_>,
         seed: u64,
-    ) -> Result<Option<Vec<HistoryStep>>, Fault>
+    ) -> Result<Option<Vec<HistoryStep>>, NetworkError>
         ensures { IfOk result (λ found. IfSome found (λ acts. vec_len acts ≤ self.now.steps + 1)) }
     {
         let mut acts = self.history(stage.alloc, seed)?;

@@ -2,7 +2,7 @@
 ghost use Rattle.maps.specs.Words.{IsOf};
 
 use crate::addresses::of_destination;
-use crate::fault::Fault;
+use crate::fault::NetworkError;
 use flood::Event;
 use hooks::{Asker, programs};
 use maps::{Seat, Shared};
@@ -52,10 +52,10 @@ fn announcement(asker: &mut Asker, shared: &Shared, seat: &mut Seat, number: u32
     }
 }
 
-fn add(events: &mut Vec<Event>, event: Option<Event>) -> Result<(), Fault> {
+fn add(events: &mut Vec<Event>, event: Option<Event>) -> Result<(), NetworkError> {
     match event {
         Some(event) => Ok(events.push(event)?),
-        None => Err(Fault::Destination),
+        None => Err(NetworkError::Destination),
     }
 }
 
@@ -65,7 +65,7 @@ fn add_announcements(
     shared: &Shared,
     seat: &mut Seat,
     count: u32,
-) -> Result<(), Fault>
+) -> Result<(), NetworkError>
     requires { IsOf shared.now seat.old }
 {
     for number in 0..count {
@@ -80,7 +80,7 @@ fn announced(
     shared: &Shared,
     seat: &mut Seat,
     count: u32,
-) -> Result<Vec<Event>, Fault>
+) -> Result<Vec<Event>, NetworkError>
     requires { IsOf shared.now seat.old }
 {
     let mut events = Vec::new(alloc);
@@ -97,14 +97,14 @@ fn unprogrammed<R: Wait + Drop>(
     shared: &Shared,
     seat: &mut Seat,
     count: u32,
-) -> Result<Vec<Event>, Fault>
+) -> Result<Vec<Event>, NetworkError>
     requires { IsOf shared.now seat.old }
 {
     // without the loader an asker answers nothing
     let (_loader, mut askers) = programs(alloc, rt, 1)?;
     match askers.first_mut() {
         Some(asker) => announced(alloc, asker, shared, seat, count),
-        None => Err(Fault::Destination),
+        None => Err(NetworkError::Destination),
     }
 }
 
@@ -116,10 +116,10 @@ pub fn announcements<R: Wait + Drop + Copy>(
     alloc: Global,
     rt: R,
     count: u32,
-) -> Result<Vec<Event>, Fault> {
+) -> Result<Vec<Event>, NetworkError> {
     let (shared, mut seats) = Shared::new(alloc, 1)?;
     match seats.pop() {
         Some(mut seat) => unprogrammed(alloc, rt, &shared, &mut seat, count),
-        None => Err(Fault::Destination),
+        None => Err(NetworkError::Destination),
     }
 }

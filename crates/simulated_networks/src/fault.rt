@@ -9,7 +9,7 @@ use thiserror::Error;
 
 /// Why a simulation can't go on.
 #[derive(Clone, Copy, Debug, Error)]
-pub enum Fault {
+pub enum NetworkError {
     /// An allocation was refused.
     #[error("out of memory")]
     Memory,
@@ -21,49 +21,49 @@ pub enum Fault {
     Destination,
 }
 
-impl From<AllocError> for Fault {
-    ghost use Rattle.simulated_networks.specs.declared.fault.Fault.TheVariants.{Memory};
+impl From<AllocError> for NetworkError {
+    ghost use Rattle.simulated_networks.specs.declared.fault.NetworkError.TheVariants.{Memory};
 
     ghost from_gives = { λ _ fault. fault ≡ Memory };
 
-    fn from(_error: AllocError) -> Fault {
-        Fault::Memory
+    fn from(_error: AllocError) -> NetworkError {
+        NetworkError::Memory
     }
 }
 
-impl<T: Drop> From<AllocFailed<T>> for Fault {
-    ghost use Rattle.simulated_networks.specs.declared.fault.Fault.TheVariants.{Memory};
+impl<T: Drop> From<AllocFailed<T>> for NetworkError {
+    ghost use Rattle.simulated_networks.specs.declared.fault.NetworkError.TheVariants.{Memory};
 
     ghost from_gives = { λ _ fault. fault ≡ Memory };
 
-    fn from(_error: AllocFailed<T>) -> Fault {
-        Fault::Memory
+    fn from(_error: AllocFailed<T>) -> NetworkError {
+        NetworkError::Memory
     }
 }
 
-impl From<ConfigError> for Fault {
-    fn from(error: ConfigError) -> Fault {
+impl From<ConfigError> for NetworkError {
+    fn from(error: ConfigError) -> NetworkError {
         match error {
-            ConfigError::Interface => Fault::Configuration,
-            ConfigError::Memory => Fault::Memory,
+            ConfigError::Interface => NetworkError::Configuration,
+            ConfigError::Memory => NetworkError::Memory,
         }
     }
 }
 
-impl From<MapsError> for Fault {
-    fn from(error: MapsError) -> Fault {
+impl From<MapsError> for NetworkError {
+    fn from(error: MapsError) -> NetworkError {
         match error {
-            MapsError::Memory => Fault::Memory,
-            MapsError::Seats => Fault::Destination,
+            MapsError::Memory => NetworkError::Memory,
+            MapsError::Seats => NetworkError::Destination,
         }
     }
 }
 
-impl From<HookError> for Fault {
-    fn from(error: HookError) -> Fault {
+impl From<HookError> for NetworkError {
+    fn from(error: HookError) -> NetworkError {
         match error {
-            HookError::Memory => Fault::Memory,
-            HookError::Count | HookError::Places => Fault::Destination,
+            HookError::Memory => NetworkError::Memory,
+            HookError::Count | HookError::Places => NetworkError::Destination,
         }
     }
 }

@@ -19,8 +19,8 @@ mod wires;
 
 pub use counts::Counts;
 pub use destinations::{announcements, prefix};
-pub use fault::Fault;
-pub use forwarding_loops::Link;
+pub use fault::NetworkError;
+pub use forwarding_loops::LinkEnds;
 pub use network::Network;
 pub use random::{Faults, Random};
 pub use readings::NOBODY;

@@ -1,6 +1,6 @@
 //! Routers, their links, and time that goes on second by second.
 use crate::counts::{add, is_update};
-use crate::fault::Fault;
+use crate::fault::NetworkError;
 use crate::readings::Readings;
 use crate::router::InterfaceTimes;
 use crate::routers::Routers;
@@ -59,9 +59,9 @@ impl<'a> Network<'a> {
     }
 
     /// Why something is left out: memory was refused, or the times aren't allowed.
-    pub fn fault(&self) -> Option<Fault> {
+    pub fn fault(&self) -> Option<NetworkError> {
         if self.wires.lacks_memory || self.readings.lacks_memory {
-            Some(Fault::Memory)
+            Some(NetworkError::Memory)
         } else {
             self.routers.fault
         }

@@ -4,7 +4,7 @@ use crate::seen::TableFaults;
 use crate::topology::FarEnd;
 use crate::ways::{HERE, NO_COST, NONE, way_at, way_of};
 use crate::wires::Wires;
-use forwarding_loops::{Link, Way, count_looping};
+use forwarding_loops::{LinkEnds, PrefixRoute, count_looping};
 use std::alloc::Global;
 use words::{Hops, Route};
 
@@ -37,7 +37,7 @@ pub struct Readings {
     alloc: Global,
     list: Vec<Reading>,
     // to each prefix the ways of all routers; the prefixes of links come first
-    ways: Vec<Way>,
+    ways: Vec<PrefixRoute>,
 }
 
 impl Readings {
@@ -87,12 +87,12 @@ impl Readings {
     }
 
     // Whether both ends see each other as Full.
-    fn are_full(&self, link: &Link) -> bool {
+    fn are_full(&self, link: &LinkEnds) -> bool {
         self.sees(link.one, link.one_interface) && self.sees(link.other, link.other_interface)
     }
 
     // Whether the databases of both ends differ, and they see each other as Full.
-    fn differ_over(&self, link: &Link) -> bool {
+    fn differ_over(&self, link: &LinkEnds) -> bool {
         self.print(link.one) != self.print(link.other) && self.are_full(link)
     }
 
@@ -133,7 +133,7 @@ impl Readings {
         place < self.list.len() && self.list[place].has_changed
     }
 
-    fn set_way(&mut self, number: usize, place: usize, way: Way) {
+    fn set_way(&mut self, number: usize, place: usize, way: PrefixRoute) {
         let at = number.wrapping_mul(self.list.len()).wrapping_add(place);
         if at < self.ways.len() {
             self.ways[at] = way;
@@ -160,7 +160,7 @@ impl Readings {
     }
 
     // Adds the way of each router to the prefix. For who announces it, it ends there.
-    fn add_ways(&self, ways: &mut Vec<Way>, number: usize, owner: usize) -> bool {
+    fn add_ways(&self, ways: &mut Vec<PrefixRoute>, number: usize, owner: usize) -> bool {
         let count = self.list.len();
         let first = number.wrapping_mul(count);
         let all = self
@@ -178,7 +178,7 @@ impl Readings {
     fn see_prefix(
         &mut self,
         wires: &Wires<'_>,
-        up: &[Link],
+        up: &[LinkEnds],
         number: usize,
         owner: usize,
         is_there: bool,
@@ -193,7 +193,7 @@ impl Readings {
         seen
     }
 
-    fn see_all(&mut self, wires: &Wires<'_>, up: &[Link], owners: &[usize]) -> TableFaults {
+    fn see_all(&mut self, wires: &Wires<'_>, up: &[LinkEnds], owners: &[usize]) -> TableFaults {
         let links = wires.topology.links.len();
         let mut seen = TableFaults::NOTHING;
         for number in 0..links {
@@ -218,7 +218,13 @@ impl Readings {
 }
 
 // What a next hop of the way leads to.
-fn see_hop(wires: &Wires<'_>, ways: &[Way], way: &Way, end: &FarEnd, seen: &mut TableFaults) {
+fn see_hop(
+    wires: &Wires<'_>,
+    ways: &[PrefixRoute],
+    way: &PrefixRoute,
+    end: &FarEnd,
+    seen: &mut TableFaults,
+) {
     let cost = way_at(ways, end.place).cost;
     if !wires.is_up(end.link) || cost == NO_COST {
         seen.nowhere = 1;
@@ -228,7 +234,13 @@ fn see_hop(wires: &Wires<'_>, ways: &[Way], way: &Way, end: &FarEnd, seen: &mut 
 }
 
 // What the next hops of the way lead to.
-fn see_hops(wires: &Wires<'_>, ways: &[Way], way: &Way, ends: &[FarEnd], seen: &mut TableFaults) {
+fn see_hops(
+    wires: &Wires<'_>,
+    ways: &[PrefixRoute],
+    way: &PrefixRoute,
+    ends: &[FarEnd],
+    seen: &mut TableFaults,
+) {
     let mut interface = 0_u8;
     for end in ends {
         interface = interface.saturating_add(1);
@@ -239,7 +251,7 @@ fn see_hops(wires: &Wires<'_>, ways: &[Way], way: &Way, ends: &[FarEnd], seen: &
 }
 
 // What the router's way says: each count is 0 or 1.
-fn see_way(wires: &Wires<'_>, ways: &[Way], place: usize, is_there: bool) -> TableFaults {
+fn see_way(wires: &Wires<'_>, ways: &[PrefixRoute], place: usize, is_there: bool) -> TableFaults {
     let mut seen = TableFaults::NOTHING;
     let way = way_at(ways, place);
     if way.cost == NO_COST {
@@ -253,7 +265,7 @@ fn see_way(wires: &Wires<'_>, ways: &[Way], place: usize, is_there: bool) -> Tab
 
 // How many routers' ways lead nowhere, are missing, have another cost, or are there though nobody
 // announces the prefix.
-fn see_ways(wires: &Wires<'_>, ways: &[Way], is_there: bool) -> TableFaults {
+fn see_ways(wires: &Wires<'_>, ways: &[PrefixRoute], is_there: bool) -> TableFaults {
     let mut seen = TableFaults::NOTHING;
     for place in 0..ways.len() {
         seen.add(&see_way(wires, ways, place, is_there));

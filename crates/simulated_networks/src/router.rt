@@ -1,6 +1,6 @@
 //! Routers as they begin, what is read off one, and what two of them have in common.
 use crate::addresses::on_link;
-use crate::fault::Fault;
+use crate::fault::NetworkError;
 use crate::topology::FarEnd;
 use flood::{Config, Core, Interface, State};
 use lsa::Header;
@@ -53,10 +53,10 @@ fn add_interfaces(
     fits
 }
 
-fn configured(alloc: Global, config: &Config) -> Result<Core, Fault> {
+fn configured(alloc: Global, config: &Config) -> Result<Core, NetworkError> {
     match Core::new(alloc, config) {
         Ok(core) => Ok(core),
-        Err(error) => Err(Fault::from(error)),
+        Err(error) => Err(NetworkError::from(error)),
     }
 }
 
@@ -67,7 +67,7 @@ pub fn begun(
     place: usize,
     times: InterfaceTimes,
     moment: u64,
-) -> Result<Core, Fault> {
+) -> Result<Core, NetworkError> {
     let mut interfaces = Vec::new(alloc);
     let fits = add_interfaces(&mut interfaces, ends, place, times);
     let config = Config {
@@ -78,7 +78,7 @@ pub fn begun(
     if fits {
         configured(alloc, &config)
     } else {
-        Err(Fault::Memory)
+        Err(NetworkError::Memory)
     }
 }
 

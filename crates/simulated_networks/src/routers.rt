@@ -1,5 +1,5 @@
 //! The routers of a network.
-use crate::fault::Fault;
+use crate::fault::NetworkError;
 use crate::router::{InterfaceTimes, begun, fulls_of, print_of};
 use crate::topology::{FarEnd, Topology};
 use flood::{Core, CoreError, Event, Out};
@@ -11,7 +11,7 @@ use words::{Hops, Route, Second};
 /// that no other crate proves once more how the parts of a router are let go.
 pub struct Routers {
     /// Why something is left out: memory was refused, or the times aren't allowed.
-    pub fault: Option<Fault>,
+    pub fault: Option<NetworkError>,
     /// How many events were refused.
     pub refused: u64,
     alloc: Global,
@@ -48,7 +48,7 @@ impl Routers {
             Err(failed) => {
                 let AllocFailed { value } = failed;
                 value.close();
-                self.fault = Some(Fault::Memory);
+                self.fault = Some(NetworkError::Memory);
             }
         }
     }
@@ -173,9 +173,9 @@ impl Routers {
     }
 }
 
-fn fault_after(before: Option<Fault>, error: CoreError) -> Option<Fault> {
+fn fault_after(before: Option<NetworkError>, error: CoreError) -> Option<NetworkError> {
     match error {
-        CoreError::Memory => Some(Fault::Memory),
+        CoreError::Memory => Some(NetworkError::Memory),
         _ => before,
     }
 }

@@ -1,6 +1,6 @@
 //! Which routers are joined.
 use crate::random::Random;
-use forwarding_loops::Link;
+use forwarding_loops::LinkEnds;
 use std::alloc::{AllocError, Global};
 
 /// What an interface of a router leads to: the router at a place, over a link, at an interface
@@ -31,7 +31,7 @@ pub enum TopologyShape {
 pub struct Topology {
     /// For each router its interfaces, of which the first has number 1.
     pub ends: Vec<Vec<FarEnd>>,
-    pub links: Vec<Link>,
+    pub links: Vec<LinkEnds>,
     // costs are 10 and less than so many more
     spread: u32,
     // memory was refused: something is left out
@@ -140,7 +140,7 @@ impl Topology {
         end.place = one;
         end.interface = one_interface;
         self.add_end(other, end);
-        let link = Link {
+        let link = LinkEnds {
             one,
             one_interface,
             other,

@@ -3,7 +3,7 @@ use crate::counts::{Counts, add};
 use crate::random::{Faults, Random};
 use crate::topology::{FarEnd, Topology};
 use flood::{Event, Out};
-use forwarding_loops::Link;
+use forwarding_loops::LinkEnds;
 use std::alloc::Global;
 use std::mem::replace;
 
@@ -67,7 +67,7 @@ impl<'a> Wires<'a> {
     }
 
     /// Adds the links that are up. False where memory is refused.
-    pub fn add_links_up(&self, up: &mut Vec<Link>) -> bool {
+    pub fn add_links_up(&self, up: &mut Vec<LinkEnds>) -> bool {
         let links = self.topology.links.as_slice();
         let mut fits = true;
         for number in 0..links.len() {

@@ -1,9 +1,10 @@
 //! Why the program didn't do what it was asked, and the statuses.
 ghost use Rattle.std.specs.Prelude.{◌≡◌, ◌≤◌};
 ghost use Rattle.simulation.specs.Statuses.{fault_of_network, fault_of_words, status_of};
-ghost use Rattle.simulation.specs.declared.fault.Fault.TheVariants.{Output};
+ghost use Rattle.simulation.specs.declared.fault.SimulationError.TheVariants.{Output};
 
 use clap::error::ErrorKind;
+use simulated_networks::NetworkError;
 use std::io;
 use thiserror::Error;
 
@@ -20,7 +21,7 @@ pub const MEMORY: u8 = 4;
 
 /// Why the program didn't do what it was asked. The text is the line that is printed.
 #[derive(Debug, Drop, Error)]
-pub enum Fault {
+pub enum SimulationError {
     /// The words of the command line are wrong, or ask for help: the text says which.
     #[error("{0}")]
     Usage(clap::Error),
@@ -35,48 +36,48 @@ pub enum Fault {
     Memory,
 }
 
-impl From<io::Error> for Fault {
+impl From<io::Error> for SimulationError {
     ghost from_gives = { λ _ fault. fault ≡ Output };
 
-    fn from(_error: io::Error) -> Fault {
-        Fault::Output
+    fn from(_error: io::Error) -> SimulationError {
+        SimulationError::Output
     }
 }
 
-impl From<simulated_networks::Fault> for Fault {
+impl From<NetworkError> for SimulationError {
     ghost from_gives = { λ error fault. fault ≡ fault_of_network error };
 
-    fn from(fault: simulated_networks::Fault) -> Fault {
+    fn from(fault: NetworkError) -> SimulationError {
         match fault {
-            simulated_networks::Fault::Configuration => Fault::Times,
-            _ => Fault::Memory,
+            NetworkError::Configuration => SimulationError::Times,
+            _ => SimulationError::Memory,
         }
     }
 }
 
-impl From<clap::Error> for Fault {
+impl From<clap::Error> for SimulationError {
     ghost from_gives = { λ error fault. fault ≡ fault_of_words error };
 
-    fn from(error: clap::Error) -> Fault {
+    fn from(error: clap::Error) -> SimulationError {
         match error.kind() {
-            ErrorKind::OutOfMemory => Fault::Memory,
-            _ => Fault::Usage(error),
+            ErrorKind::OutOfMemory => SimulationError::Memory,
+            _ => SimulationError::Usage(error),
         }
     }
 }
 
-impl Fault {
+impl SimulationError {
     /// The status that the program ends with.
     pub fn status(&self) -> u8
         ensures value { result ≡ status_of self.now }
         ensures within { result ≤ 4 }
     {
         match self {
-            Fault::Usage(error) if error.use_stderr() => USAGE,
-            Fault::Usage(_) => DONE,
-            Fault::Times => USAGE,
-            Fault::Output => OUTSIDE,
-            Fault::Memory => MEMORY,
+            SimulationError::Usage(error) if error.use_stderr() => USAGE,
+            SimulationError::Usage(_) => DONE,
+            SimulationError::Times => USAGE,
+            SimulationError::Output => OUTSIDE,
+            SimulationError::Memory => MEMORY,
         }
     }
 }

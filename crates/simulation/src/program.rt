@@ -4,30 +4,34 @@ ghost use Rattle.std.specs.IoError.{error_kind};
 ghost use Rattle.simulation.specs.Endings.{Ends, IsVerdict, Tells};
 
 use crate::arguments;
-use crate::fault::Fault;
+use crate::fault::SimulationError;
 use crate::work::carry_out;
 use std::alloc::Global;
 use std::io::{self, ErrorKind, Write};
 use std::sync::Wait;
 
 // The text of a fault goes to the second writer where it is clap's, and else to the first.
-fn tell<O: Write, E: Write>(fault: &Fault, output: &mut O, errors: &mut E) -> u8
+fn tell<O: Write, E: Write>(fault: &SimulationError, output: &mut O, errors: &mut E) -> u8
     ensures told { Tells fault.now (O.contents output.old) (O.contents output.new)
         (E.contents errors.old) (E.contents errors.new) result }
     ensures within { result ≤ 4 }
 {
     let written = match fault {
-        Fault::Usage(error) => write!(errors, "{error}"),
+        SimulationError::Usage(error) => write!(errors, "{error}"),
         _ => writeln!(output, "{fault}"),
     };
     match written {
         Ok(()) => fault.status(),
-        Err(_) => Fault::Output.status(),
+        Err(_) => SimulationError::Output.status(),
     }
 }
 
 // Answers the status of what was played, or tells what its fault is.
-fn end<O: Write, E: Write>(outcome: Result<u8, Fault>, output: &mut O, errors: &mut E) -> u8
+fn end<O: Write, E: Write>(
+    outcome: Result<u8, SimulationError>,
+    output: &mut O,
+    errors: &mut E,
+) -> u8
     requires { IfOk outcome IsVerdict }
     ensures ended { Ends outcome (O.contents output.old) (O.contents output.new)
         (E.contents errors.old) (E.contents errors.new) result }
@@ -50,7 +54,7 @@ pub fn end_without_words<O: Write, E: Write>(
     ensures memory { error_kind error.now ≡ ErrorKind.OutOfMemory → (result ≡ 3) ⊎ (result ≡ 4) }
     ensures told { (result ≡ 2) ⊎ (result ≡ 3) ⊎ (result ≡ 4) }
 {
-    let fault = Fault::from(arguments::unread(alloc, error));
+    let fault = SimulationError::from(arguments::unread(alloc, error));
     tell(&fault, output, errors)
 }
 

@@ -2,14 +2,14 @@
 ghost use Rattle.std.specs.Prelude.{IfOk};
 ghost use Rattle.simulation.specs.Endings.{IsVerdict};
 
-use crate::fault::{DONE, FOUND, Fault};
+use crate::fault::{DONE, FOUND, SimulationError};
 use crate::json::write_run;
 use crate::page::Page;
 use crate::requests::{SearchRequest, SimulationRequest, parse};
 use crate::telling::{tell_history, tell_run};
 use flood::Event;
 use simulated_histories::{HistorySetting, Outcome, ScenarioPlan, Search, play_scenario};
-use simulated_networks::{Fault as NetworkFault, Random, Topology, announcements};
+use simulated_networks::{NetworkError, Random, Topology, announcements};
 use std::alloc::{AllocError, Global};
 use std::io::Write;
 use std::sync::Wait;
@@ -30,7 +30,7 @@ fn play_one<O: Write>(
     events: &[Event],
     json: bool,
     page: &mut Page<O>,
-) -> Result<bool, NetworkFault> {
+) -> Result<bool, NetworkError> {
     let outcome = play_scenario(alloc, plan, events)?;
     tell(page, plan, &outcome, json);
     Ok(outcome.is_at_rest())
@@ -44,7 +44,7 @@ fn play_all<O: Write>(
     json: bool,
     events: &[Event],
     page: &mut Page<O>,
-) -> Result<u8, NetworkFault>
+) -> Result<u8, NetworkError>
     ensures { IfOk result IsVerdict }
 {
     let mut plan = first;
@@ -70,7 +70,7 @@ fn search_one<O: Write>(
     stage: HistorySetting<'_>,
     seed: u64,
     page: &mut Page<O>,
-) -> Result<bool, NetworkFault> {
+) -> Result<bool, NetworkError> {
     let Some(acts) = search.found(stage, seed)? else {
         return Ok(false);
     };
@@ -84,7 +84,7 @@ fn search_all<O: Write>(
     stage: HistorySetting<'_>,
     seeds: (u64, u64),
     page: &mut Page<O>,
-) -> Result<u8, NetworkFault>
+) -> Result<u8, NetworkError>
     ensures { IfOk result IsVerdict }
 {
     let (first, count) = seeds;
@@ -112,7 +112,7 @@ fn search_in<O: Write>(
     asked: &SearchRequest,
     events: &[Event],
     page: &mut Page<O>,
-) -> Result<u8, NetworkFault>
+) -> Result<u8, NetworkError>
     ensures { IfOk result IsVerdict }
 {
     let made = topology_of(alloc, asked)?;
@@ -129,7 +129,7 @@ fn play<O: Write>(
     request: &SimulationRequest,
     events: &[Event],
     page: &mut Page<O>,
-) -> Result<u8, NetworkFault>
+) -> Result<u8, NetworkError>
     ensures { IfOk result IsVerdict }
 {
     match request {
@@ -146,7 +146,7 @@ fn play_and_tell<O: Write>(
     request: &SimulationRequest,
     events: &[Event],
     output: &mut O,
-) -> Result<u8, Fault>
+) -> Result<u8, SimulationError>
     ensures { IfOk result IsVerdict }
 {
     let mut page = Page::new(output);
@@ -164,7 +164,7 @@ pub fn carry_out<R: Wait + Drop + Copy, O: Write>(
     rt: R,
     words: &[String],
     output: &mut O,
-) -> Result<u8, Fault>
+) -> Result<u8, SimulationError>
     ensures { IfOk result IsVerdict }
 {
     let request = parse(alloc, words)?;
