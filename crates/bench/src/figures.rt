@@ -9,17 +9,17 @@ pub const MEASUREMENTS: usize = 11;
 
 /// The least and the median time of the measurements of a figure, in nanoseconds.
 #[derive(Clone, Copy)]
-pub struct Times {
+pub struct MeasuredTimes {
     pub least: u64,
     pub median: u64,
 }
 
-impl Times {
+impl MeasuredTimes {
     /// The times of all measurements.
-    pub fn of(measured: [u64; MEASUREMENTS]) -> Times {
+    pub fn of(measured: [u64; MEASUREMENTS]) -> MeasuredTimes {
         let mut nanos = measured;
         nanos.sort_unstable();
-        Times {
+        MeasuredTimes {
             least: nanos[0],
             median: nanos[MEASUREMENTS / 2],
         }
@@ -59,13 +59,13 @@ fn measure_once<R: Clock, W: Round>(rt: &R, rounds: u64, work: &mut W) -> Result
 }
 
 // How long that many rounds of the work take.
-fn measure<R: Clock, W: Round>(rt: &R, rounds: u64, work: &mut W) -> Result<Times> {
+fn measure<R: Clock, W: Round>(rt: &R, rounds: u64, work: &mut W) -> Result<MeasuredTimes> {
     let _warm_up = measure_once(rt, rounds, work)?;
     let mut measured = [0; MEASUREMENTS];
     for turn in 0..MEASUREMENTS {
         measured[turn] = measure_once(rt, rounds, work)?;
     }
-    Ok(Times::of(measured))
+    Ok(MeasuredTimes::of(measured))
 }
 
 /// A time, in hundredths of a nanosecond.

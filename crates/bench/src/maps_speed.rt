@@ -4,7 +4,7 @@ ghost use Rattle.std.specs.List.{All};
 ghost use Rattle.std.specs.Arc.{arc_value};
 ghost use Rattle.maps.specs.Words.{IsOf};
 
-use crate::figures::{MEASUREMENTS, Times, nanoseconds_since};
+use crate::figures::{MEASUREMENTS, MeasuredTimes, nanoseconds_since};
 use anyhow::{Result, ensure};
 use maps::{Seat, Shared};
 use std::rt::Clock;
@@ -145,13 +145,13 @@ fn measure<R: Clock + AllocGlobal + Threads + Wait + Copy + Send + 'static>(
     rt: R,
     count: usize,
     is_apart: bool,
-) -> Result<Times> {
+) -> Result<MeasuredTimes> {
     let _warm_up = measure_once(rt, count, is_apart)?;
     let mut measured = [0; MEASUREMENTS];
     for turn in 0..MEASUREMENTS {
         measured[turn] = measure_once(rt, count, is_apart)?;
     }
-    Ok(Times::of(measured))
+    Ok(MeasuredTimes::of(measured))
 }
 
 // Prints the most additions per second, and the median.
@@ -160,7 +160,7 @@ fn print_each<R: Clock + Print + AllocGlobal + Threads + Wait + Copy + Send + 's
     count: usize,
     is_apart: bool,
 ) -> Result<()> {
-    let Times { least, median } = measure(rt, count, is_apart)?;
+    let MeasuredTimes { least, median } = measure(rt, count, is_apart)?;
     let cores = thread::available_parallelism(&rt)?;
     let adds = (count as u128) * (ADDS as u128) * 1_000;
     let most = adds / (least.max(1) as u128);

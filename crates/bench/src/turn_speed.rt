@@ -3,7 +3,7 @@
 ghost use Rattle.std.specs.Prelude.{◌≡◌};
 ghost use Rattle.worker.specs.Opening.{IsSetUpFor};
 
-use crate::figures::{MEASUREMENTS, Times, nanoseconds_since};
+use crate::figures::{MEASUREMENTS, MeasuredTimes, nanoseconds_since};
 use crate::programs::program;
 use anyhow::{Result, anyhow, ensure};
 use flood::{Config, Interface};
@@ -135,7 +135,7 @@ fn print_turns<R: Wait + Clock + Print + AllocGlobal>(
     for turn in 0..MEASUREMENTS {
         measured[turn] = measure_once(rt, rt.alloc(), counts)?;
     }
-    let Times { least, median } = Times::of(measured);
+    let MeasuredTimes { least, median } = MeasuredTimes::of(measured);
     let (least, median) = (least / TURNS, median / TURNS);
     println!(rt; "{what}: least {least}, median {median} ns a turn")?;
     Ok(())

@@ -1,6 +1,6 @@
 //! What has to be on a router's retransmission lists, and what no longer may be, as far as its
 //! packets show it (RFC 2328, sections 13.3, 13.6 and 13.7).
-use crate::named::{Kind, Named};
+use crate::named::{Named, PacketKind};
 use std::alloc::Global;
 
 // An instance that was flooded at an interface, when it was last sent there, and whether the
@@ -34,11 +34,11 @@ impl Flooded {
 
     /// Notes an instance in a packet received at this interface. A Link State Update may have
     /// another instance of the LSA.
-    pub fn hears(&mut self, interface: u16, kind: Kind, instance: &Named) {
+    pub fn hears(&mut self, interface: u16, kind: PacketKind, instance: &Named) {
         for entry in &mut self.entries {
             if entry.instance == *instance {
                 entry.is_acknowledged = entry.is_acknowledged || entry.interface == interface;
-            } else if kind == Kind::Update && entry.instance.key == instance.key {
+            } else if kind == PacketKind::Update && entry.instance.key == instance.key {
                 entry.is_lost = true;
             }
         }

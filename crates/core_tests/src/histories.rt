@@ -6,7 +6,7 @@
 //! The databases need not be the same then: see `networks`, a flushed LSA that comes back.
 ghost use Rattle.std.specs.Prelude.{◌<◌};
 
-use crate::network::{Act, CALM, DESTINATIONS, Fate, Network};
+use crate::network::{Act, CALM, DESTINATIONS, Fate, TestNetwork};
 use flood::Event;
 use simulated_networks::announcements;
 use std::alloc::Global;
@@ -76,7 +76,7 @@ impl Random {
 }
 
 // The steps of a history, and then some seconds without disturbance.
-fn comes_out(network: &mut Network, events: &[Event], random: &mut Random) -> bool {
+fn comes_out(network: &mut TestNetwork, events: &[Event], random: &mut Random) -> bool {
     for number in 0..STEPS {
         let act = if number == 150 || number == 330 {
             Act::Restart(random.place())
@@ -93,7 +93,7 @@ fn comes_out(network: &mut Network, events: &[Event], random: &mut Random) -> bo
 // How many instances were acknowledged in the history with this seed, if it has the expected
 // result.
 fn played(alloc: Global, events: &[Event], number: u64) -> Option<usize> {
-    let mut network = Network::new(alloc, 3)?;
+    let mut network = TestNetwork::new(alloc, 3)?;
     let is_right = comes_out(&mut network, events, &mut Random { state: number });
     let acknowledged = network.acknowledged();
     network.close();

@@ -1,6 +1,6 @@
 //! A router, and the instances that it knows.
 use crate::flooded::Flooded;
-use crate::named::{Kind, Named, first_place, header_in, kind_of, place_behind};
+use crate::named::{Named, PacketKind, first_place, header_in, kind_of, place_behind};
 use flood::{Config, Core, CoreError, Event, Interface, Out, State};
 use lsa::Header;
 use std::alloc::Global;
@@ -8,7 +8,7 @@ use words::{Address, RouterId, Second, Sequence};
 
 /// A router, and the instances that it has received or originated, also before a restart. Its owner
 /// closes it.
-pub struct Member {
+pub struct TestRouter {
     pub core: Core,
     /// How many instances it has acknowledged.
     pub acknowledged: usize,
@@ -97,11 +97,11 @@ fn stepped(core: &mut Core, moment: Second, event: &Event) -> Option<Vec<Out>> {
     }
 }
 
-impl Member {
+impl TestRouter {
     /// The router at an index, which starts at 0 and knows nothing.
-    pub fn new(alloc: Global, place: usize) -> Option<Member> {
+    pub fn new(alloc: Global, place: usize) -> Option<TestRouter> {
         let core = begun(alloc, place, Second::new(0))?;
-        Some(Member {
+        Some(TestRouter {
             core,
             acknowledged: 0,
             known: Vec::new(alloc),
@@ -111,7 +111,7 @@ impl Member {
 
     /// Drops the router.
     pub fn close(self) {
-        let Member {
+        let TestRouter {
             core,
             acknowledged: _,
             known: _,
@@ -140,14 +140,14 @@ impl Member {
 
     // What is acknowledged was received: what a received Link State Update contains is known from
     // now on, and so is an own instance in one that is sent; all else that is sent has to be known.
-    fn takes_note(&mut self, way: Way, kind: Kind, header: &Header) -> bool {
+    fn takes_note(&mut self, way: Way, kind: PacketKind, header: &Header) -> bool {
         let instance = Named::by(header);
         let is_own = header.advertising_router == self.core.router_id();
         match (way, kind) {
-            (Way::In, Kind::Update) => self.learns(&instance),
+            (Way::In, PacketKind::Update) => self.learns(&instance),
             (Way::In, _) => true,
-            (_, Kind::Update) if is_own => self.learns(&instance),
-            (_, Kind::Update) => self.knows(&instance),
+            (_, PacketKind::Update) if is_own => self.learns(&instance),
+            (_, PacketKind::Update) => self.knows(&instance),
             (_, _) => {
                 self.acknowledged = self.acknowledged.saturating_add(1);
                 self.knows(&instance)
@@ -156,7 +156,7 @@ impl Member {
     }
 
     // What was acknowledged isn't sent again, as far as packets show it.
-    fn lists(&mut self, way: Way, place: (u16, u64), kind: Kind, header: &Header) -> bool {
+    fn lists(&mut self, way: Way, place: (u16, u64), kind: PacketKind, header: &Header) -> bool {
         let instance = Named::by(header);
         let (interface, moment) = place;
         match (way, kind) {
@@ -164,7 +164,7 @@ impl Member {
                 self.flooded.hears(interface, kind, &instance);
                 true
             }
-            (Way::AtTick | Way::Out, Kind::Update) => {
+            (Way::AtTick | Way::Out, PacketKind::Update) => {
                 self.flooded
                     .tells(interface, &instance, moment, way == Way::AtTick)
             }

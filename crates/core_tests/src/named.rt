@@ -27,27 +27,27 @@ impl Named {
 
 /// The kind of a packet.
 #[derive(Clone, Copy, PartialEq, Eq)]
-pub enum Kind {
+pub enum PacketKind {
     Update,
     Acknowledgment,
     Other,
 }
 
 /// The kind of the packet.
-pub fn kind_of(bytes: &[u8]) -> Kind {
+pub fn kind_of(bytes: &[u8]) -> PacketKind {
     match bytes.get(1) {
-        Some(4) => Kind::Update,
-        Some(5) => Kind::Acknowledgment,
-        _ => Kind::Other,
+        Some(4) => PacketKind::Update,
+        Some(5) => PacketKind::Acknowledgment,
+        _ => PacketKind::Other,
     }
 }
 
 /// The index of the first header, or of the end if there is none.
-pub fn first_place(kind: Kind, bytes: &[u8]) -> usize {
+pub fn first_place(kind: PacketKind, bytes: &[u8]) -> usize {
     match kind {
-        Kind::Update => 28,
-        Kind::Acknowledgment => 24,
-        Kind::Other => bytes.len(),
+        PacketKind::Update => 28,
+        PacketKind::Acknowledgment => 24,
+        PacketKind::Other => bytes.len(),
     }
 }
 
@@ -61,9 +61,9 @@ pub fn header_in(bytes: &[u8], at: usize) -> Option<Header> {
 }
 
 /// The index after the LSA or the header at an index.
-pub fn place_behind(kind: Kind, at: usize, header: &Header) -> usize {
+pub fn place_behind(kind: PacketKind, at: usize, header: &Header) -> usize {
     match kind {
-        Kind::Update => at.saturating_add(usize::from(header.length)),
+        PacketKind::Update => at.saturating_add(usize::from(header.length)),
         _ => at.saturating_add(HEADER_LENGTH),
     }
 }

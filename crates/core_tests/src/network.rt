@@ -12,7 +12,7 @@
 //! were sent: so "acknowledged was received" relies on all senders knowing what they send. What was
 //! flooded to a neighbor that has been Full since also shows what is on its list: a Tick sends it
 //! again once RxmtInterval has passed, unless the neighbor has acknowledged it.
-use crate::member::{Member, begun, router_at};
+use crate::member::{TestRouter, begun, router_at};
 use flood::{Core, Event, Out, State};
 use simulated_networks::{holds_the_same, prefix};
 use std::alloc::{AllocFailed, Global};
@@ -78,10 +78,10 @@ struct Coming {
 /// The first interface of router 0 leads to router 1, whose second one leads to router 2. It has no
 /// `Drop`: its owner closes it, so that this crate doesn't prove the drop of a router's parts
 /// again.
-pub struct Network {
+pub struct TestNetwork {
     alloc: Global,
     moment: u64,
-    members: Vec<Member>,
+    members: Vec<TestRouter>,
     // all that was sent; the packets before index `at` have arrived, or were lost
     packets: Vec<Coming>,
     at: usize,
@@ -124,13 +124,13 @@ fn candidates(core: &Core) -> Option<Vec<Route>> {
 }
 
 // What the router with an index sends; `None` if it doesn't exist or refuses the event.
-fn taken(members: &mut [Member], place: usize, moment: u64, event: &Event) -> Option<Vec<Out>> {
+fn taken(members: &mut [TestRouter], place: usize, moment: u64, event: &Event) -> Option<Vec<Out>> {
     members.get_mut(place)?.takes(moment, event)
 }
 
 // Adds the router with the index.
-fn joins(members: &mut Vec<Member>, alloc: Global, place: usize) -> bool {
-    match Member::new(alloc, place) {
+fn joins(members: &mut Vec<TestRouter>, alloc: Global, place: usize) -> bool {
+    match TestRouter::new(alloc, place) {
         None => false,
         Some(member) => match members.push(member) {
             Ok(()) => true,
@@ -143,7 +143,7 @@ fn joins(members: &mut Vec<Member>, alloc: Global, place: usize) -> bool {
 }
 
 // One allocation may be refused.
-fn all_join(members: &mut Vec<Member>, alloc: Global, count: usize) -> bool {
+fn all_join(members: &mut Vec<TestRouter>, alloc: Global, count: usize) -> bool {
     if members.reserve(count).is_err() && members.reserve(count).is_err() {
         return false;
     }
@@ -155,10 +155,10 @@ fn all_join(members: &mut Vec<Member>, alloc: Global, count: usize) -> bool {
     true
 }
 
-impl Network {
+impl TestNetwork {
     /// That many routers, at most three, which start at 0.
-    pub fn new(alloc: Global, count: usize) -> Option<Network> {
-        let mut network = Network {
+    pub fn new(alloc: Global, count: usize) -> Option<TestNetwork> {
+        let mut network = TestNetwork {
             alloc,
             moment: 0,
             members: Vec::new(alloc),
@@ -175,7 +175,7 @@ impl Network {
 
     /// Drops the routers.
     pub fn close(self) {
-        let Network {
+        let TestNetwork {
             alloc: _,
             moment: _,
             mut members,

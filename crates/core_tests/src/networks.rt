@@ -1,13 +1,18 @@
 //! Two and three routers in a row: they become Full, and their databases the same, whatever is
 //! lost, or arrives twice or in another order.
-use crate::network::{Act, CALM, DESTINATIONS, Fate, Network};
+use crate::network::{Act, CALM, DESTINATIONS, Fate, TestNetwork};
 use flood::Event;
 use simulated_networks::announcements;
 use std::alloc::Global;
 use std::sync::Wait;
 use std::test::Fail;
 
-fn play_at(network: &mut Network, events: &[Event], name: &str, acts: &[Act]) -> Result<(), Fail> {
+fn play_at(
+    network: &mut TestNetwork,
+    events: &[Event],
+    name: &str,
+    acts: &[Act],
+) -> Result<(), Fail> {
     for (place, act) in acts.iter().enumerate() {
         if !network.does(events, *act) {
             return Err(Fail::new(format_args!("{name}: act {place}")));
@@ -25,7 +30,7 @@ fn play<R: Wait + Drop + Copy>(
     acts: &[Act],
 ) -> Result<(), Fail> {
     let events = announcements(alloc, rt, DESTINATIONS)?;
-    let mut network = Network::new(alloc, routers).ok_or("no network")?;
+    let mut network = TestNetwork::new(alloc, routers).ok_or("no network")?;
     let played = play_at(&mut network, &events, name, acts);
     network.close();
     played

@@ -1,4 +1,4 @@
-//! How a program is tried: verified, and run on many inputs. Where memory was refused, the program is
+//! How a program is tried: verified, and run on many inputs. If memory was refused, the program is
 //! made once more, since a test run may refuse one allocation.
 ghost use Rattle.std.specs.Prelude.{◌≡◌, length, map, IfOk};
 ghost use Rattle.std.specs.List.{range_with_len, slice_range};
@@ -44,7 +44,7 @@ pub fn file_of(alloc: Global, text: &str) -> Option<Vec<u8>> {
 
 /// A program's code, and the program as it was accepted.
 #[derive(Drop)]
-pub struct Trial {
+pub struct ProgramTrial {
     pub code: Code,
     pub accepted: Accepted,
 }
@@ -69,14 +69,14 @@ fn accepted_in(alloc: Global, bytes: &[u8]) -> Option<Accepted> {
 }
 
 /// The program of an object file; `None` if it is refused.
-pub fn tried(alloc: Global, bytes: &[u8]) -> Option<Trial> {
+pub fn tried(alloc: Global, bytes: &[u8]) -> Option<ProgramTrial> {
     let accepted = accepted_in(alloc, bytes)?;
     let code = code_in(alloc, bytes)?;
-    Some(Trial { code, accepted })
+    Some(ProgramTrial { code, accepted })
 }
 
 /// The program of a text; `None` if it is refused.
-pub fn trial_of(alloc: Global, text: &str) -> Option<Trial> {
+pub fn trial_of(alloc: Global, text: &str) -> Option<ProgramTrial> {
     let bytes = file_of(alloc, text)?;
     tried(alloc, &bytes)
 }
@@ -163,14 +163,22 @@ fn ended_of(alloc: Global, accepted: &Accepted, input: &Input) -> Result<Run, Fa
 }
 
 /// The outcome of a checked run, on a table of its own. Its limit is the accepted program's bound.
-fn checked_of(alloc: Global, trial: &Trial, input: &Input) -> Result<Result<Run, Trap>, Fail> {
+fn checked_of(
+    alloc: Global,
+    trial: &ProgramTrial,
+    input: &Input,
+) -> Result<Result<Run, Trap>, Fail> {
     let (words, mut seat) = one_seat(alloc)?;
     let (hook, limit) = (trial.accepted.hook(), trial.accepted.bound());
     Ok(run_checked(&trial.code, hook, limit, input, &words, &mut seat))
 }
 
 /// The outcomes of the run and of the checked run, each on a table of its own.
-fn both_runs(alloc: Global, trial: &Trial, input: &Input) -> Result<(Run, Result<Run, Trap>), Fail>
+fn both_runs(
+    alloc: Global,
+    trial: &ProgramTrial,
+    input: &Input,
+) -> Result<(Run, Result<Run, Trap>), Fail>
     requires { number_of (slice_range input.now.context 0 4) ≡ hook_number trial.now.accepted.hook }
 {
     let ended = ended_of(alloc, &trial.accepted, input)?;
@@ -179,7 +187,12 @@ fn both_runs(alloc: Global, trial: &Trial, input: &Input) -> Result<(Run, Result
 }
 
 // Whether they agree on the input of this number, within the program's bound.
-fn agree_at(alloc: Global, trial: &Trial, rows: &[TableRow], number: u8) -> Result<bool, Fail> {
+fn agree_at(
+    alloc: Global,
+    trial: &ProgramTrial,
+    rows: &[TableRow],
+    number: u8,
+) -> Result<bool, Fail> {
     let input = Input {
         context: varied_context(trial.accepted.hook(), number),
         packet: PACKET.get(..usize::from(number % 21)).unwrap_or(&[]),
@@ -191,7 +204,7 @@ fn agree_at(alloc: Global, trial: &Trial, rows: &[TableRow], number: u8) -> Resu
 
 /// Whether `run` and `run_checked` agree on the program, within its bound, on a hundred inputs: a
 /// packet of up to 20 bytes, one row or none, and different contexts.
-pub fn runs_agree(alloc: Global, trial: &Trial) -> Result<bool, Fail> {
+pub fn runs_agree(alloc: Global, trial: &ProgramTrial) -> Result<bool, Fail> {
     let rows = [row()?];
     for number in 0..100u8 {
         if !agree_at(alloc, trial, &rows, number)? {
@@ -202,7 +215,7 @@ pub fn runs_agree(alloc: Global, trial: &Trial) -> Result<bool, Fail> {
 }
 
 // Whether its run and its checked run on the rich context have this outcome.
-fn ends_so(alloc: Global, trial: &Trial, wanted: Run) -> Result<bool, Fail> {
+fn ends_so(alloc: Global, trial: &ProgramTrial, wanted: Run) -> Result<bool, Fail> {
     let rows = [row()?];
     let input = Input {
         context: rich_context(trial.accepted.hook()),

@@ -1,6 +1,6 @@
 //! The answers to questions.
 use crate::questions::samples::SEVEN;
-use crate::questions::trial::Trial;
+use crate::questions::trial::HookTrial;
 use machine::Hook;
 use std::alloc::Global;
 use std::process::Abort;
@@ -33,7 +33,7 @@ enum Step<'a> {
 
 // Whether the step has its answer.
 fn takes<R: Wait + Drop>(
-    trial: &mut Trial<R>,
+    trial: &mut HookTrial<R>,
     alloc: Global,
     step: Step<'_>,
 ) -> Result<bool, Fail> {
@@ -53,7 +53,7 @@ fn takes<R: Wait + Drop>(
 
 // The number of steps that had their answers, up to the first that didn't.
 fn take<R: Wait + Drop>(
-    trial: &mut Trial<R>,
+    trial: &mut HookTrial<R>,
     alloc: Global,
     steps: &[Step<'_>],
 ) -> Result<usize, Fail> {
@@ -67,7 +67,7 @@ fn take<R: Wait + Drop>(
 
 // Plays the steps in a new trial.
 fn play<R: Wait + Drop + Copy>(alloc: Global, rt: R, steps: &[Step<'_>]) -> Result<usize, Fail> {
-    let mut trial = Trial::new(alloc, rt)?;
+    let mut trial = HookTrial::new(alloc, rt)?;
     take(&mut trial, alloc, steps)
 }
 

@@ -1,6 +1,6 @@
 //! Askers, and what they know.
 use crate::questions::samples::{external, moment};
-use crate::questions::trial::{Trial, loader_and_askers};
+use crate::questions::trial::{HookTrial, loader_and_askers};
 use std::alloc::Global;
 use std::process::Abort;
 use std::sync::Wait;
@@ -20,8 +20,8 @@ fn a_loader_has_up_to_64_askers(rt: HostRuntime) -> Result<(), Fail> {
 }
 
 // Whether the asker gives no answer after its loader is dropped.
-fn is_without_reading<R: Wait + Drop>(trial: Trial<R>, external: &External) -> bool {
-    let Trial {
+fn is_without_reading<R: Wait + Drop>(trial: HookTrial<R>, external: &External) -> bool {
+    let HookTrial {
         loader,
         asker,
         shared,
@@ -37,7 +37,7 @@ fn is_without_reading<R: Wait + Drop>(trial: Trial<R>, external: &External) -> b
 #[test]
 fn there_is_no_reading_without_a_loader(rt: HostRuntime) -> Result<(), Fail> {
     let external = external()?;
-    let trial = Trial::new(rt.alloc(), &rt)?;
+    let trial = HookTrial::new(rt.alloc(), &rt)?;
     assert!(rt; is_without_reading(trial, &external));
     Ok(())
 }

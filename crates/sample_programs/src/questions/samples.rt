@@ -1,5 +1,5 @@
 //! What the tests ask questions with.
-use crate::trials::{Trial, trial_of};
+use crate::trials::{ProgramTrial, trial_of};
 use std::alloc::Global;
 use std::test::Fail;
 use verifier::Accepted;
@@ -15,7 +15,7 @@ pub const SEVEN: &str = "hook price; rank 0; r0 = 7; exit";
 
 /// The program of the text.
 pub fn accepted(alloc: Global, text: &str) -> Option<Accepted> {
-    let Trial { code: _, accepted } = trial_of(alloc, text)?;
+    let ProgramTrial { code: _, accepted } = trial_of(alloc, text)?;
     Some(accepted)
 }
 

@@ -4,7 +4,7 @@ ghost use Rattle.maps.specs.Words.{IsOf};
 ghost use Rattle.hooks.specs.Known.{asks_of, history_of};
 
 use crate::questions::samples::{SEVEN, accepted, external, moment};
-use crate::questions::trial::Trial;
+use crate::questions::trial::HookTrial;
 use hooks::{Asker, Loader};
 use machine::Hook;
 use maps::{Seat, Shared};
@@ -85,10 +85,10 @@ fn load<R: Wait + Drop>(alloc: Global, loader: Loader<R>) -> (Loader<R>, bool)
 fn race<R: Threads + Wait + Sync>(
     rt: &R,
     alloc: Global,
-    trial: Trial<&R>,
+    trial: HookTrial<&R>,
     external: &External,
 ) -> (bool, u32, Option<u64>) {
-    let Trial {
+    let HookTrial {
         loader,
         asker,
         shared,
@@ -118,7 +118,7 @@ fn race<R: Threads + Wait + Sync>(
 #[test]
 fn each_word_beside_a_loader_is_the_programs_or_the_metric(rt: HostRuntime) -> Result<(), Fail> {
     let external = external()?;
-    let trial = Trial::new(rt.alloc(), &rt)?;
+    let trial = HookTrial::new(rt.alloc(), &rt)?;
     let seen = race(&rt, rt.alloc(), trial, &external);
     assert!(rt; seen == (true, 0, Some(20)), "{seen:?}");
     Ok(())

@@ -14,7 +14,7 @@ use std::test::Fail;
 
 /// The asker belongs to the loader, and the seat to the table.
 #[derive(Drop)]
-pub struct Trial<R: Wait + Drop> {
+pub struct HookTrial<R: Wait + Drop> {
     pub loader: Loader<R>,
     pub asker: Asker,
     pub shared: Shared,
@@ -51,12 +51,12 @@ pub fn loader_and_asker<R: Wait + Drop + Copy>(
     Ok((loader, asker))
 }
 
-impl<R: Wait + Drop + Copy> Trial<R> {
+impl<R: Wait + Drop + Copy> HookTrial<R> {
     /// A trial with no program attached.
-    pub fn new(alloc: Global, rt: R) -> Result<Trial<R>, Fail> {
+    pub fn new(alloc: Global, rt: R) -> Result<HookTrial<R>, Fail> {
         let (loader, asker) = loader_and_asker(alloc, rt)?;
         let (shared, seat) = one_seat(alloc)?;
-        Ok(Trial {
+        Ok(HookTrial {
             loader,
             asker,
             shared,
@@ -65,7 +65,7 @@ impl<R: Wait + Drop + Copy> Trial<R> {
     }
 }
 
-impl<R: Wait + Drop> Trial<R> {
+impl<R: Wait + Drop> HookTrial<R> {
     /// Attaches the program of the text.
     pub fn attach(&mut self, alloc: Global, text: &str) -> Result<(), Fail> {
         let program = accepted(alloc, text).ok_or("refused")?;
