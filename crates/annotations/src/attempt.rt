@@ -20,7 +20,7 @@ pub struct Task<'a> {
     pub hook: Hook,
     pub bytes: &'a [u8],
     pub given: &'a [Statement],
-    /// What code that counts turns answers where they are used up.
+    /// What code that counts turns answers once they are used up.
     pub answer: u32,
 }
 
@@ -81,7 +81,7 @@ fn judged_with(
     }
 }
 
-/// Finds ranks for these statements, and has the verifier judge them. Tells which loops lack a
+/// Finds ranks for these statements, and has the verifier judge them. Returns which loops lack a
 /// rank.
 fn try_found(
     task: &Task<'_>,
@@ -151,7 +151,7 @@ fn try_anew(task: &Task<'_>, unranked: &mut Unranked) -> Result<Annotated, Short
 }
 
 /// The same, first with the statements that are given as they are, and then without. They stay as
-/// they are where the verifier accepts them so; else they lend their slots, their numbers and their
+/// they are if the verifier accepts them so; else they lend their slots, their numbers and their
 /// ranks' registers.
 pub fn annotate(task: &Task<'_>, unranked: &mut Unranked) -> Result<Annotated, Shortfall>
     ensures { IsOutcome task.now.hook task.now.bytes.now result }

@@ -88,7 +88,8 @@ fn place_of(heads: &[usize], slot: usize, target: Option<usize>) -> Option<usize
     }
 }
 
-/// Where the turns of the loop in this place are counted: four slots for each, behind the code.
+/// The slot at which the turns of the loop in this place are counted: four slots for each, behind
+/// the code.
 fn detour_at(slots: usize, place: usize) -> usize
     requires slots { slots ≤ 4096 }
     requires place { place ≤ 4096 }
@@ -151,8 +152,7 @@ fn push_code(builder: &mut CodeBuilder, code: &Code, heads: &[usize]) -> Result<
     Ok(())
 }
 
-/// Adds what counts a turn: it goes on at the loop's head, or answers this where that was the last
-/// one.
+/// Adds what counts a turn: it goes on at the loop's head, or answers this after the last one.
 fn push_detour(
     builder: &mut CodeBuilder,
     answer: u32,
@@ -228,14 +228,14 @@ fn push_counted(
         .and(push_detours(builder, answer, counter, code.len(), heads))
 }
 
-/// The code that counts each jump back to one of these heads, and answers this instead of going back
-/// more often than `turns` times in all. Each slot of the code stands one slot later in it.
+/// The code that counts each jump back to one of these heads, and answers this instead of going
+/// back more often than `turns` times in all. Each slot of the code stands one slot later in it.
 ///
 /// # Errors
 ///
-/// Where the code names each of r6 to r9; where `turns` isn't below 1,000,000, which no program may
-/// take, or `answer` is 2^31 or more; where the code would be longer than 4096 slots, or a jump go farther than its distance can
-/// say; and where memory is refused.
+/// If the code names each of r6 to r9; if `turns` isn't below 1,000,000, which no program may take,
+/// or `answer` is 2^31 or more; if the code would be longer than 4096 slots, or a jump go farther
+/// than its distance can say; and if memory is refused.
 pub fn counted(
     alloc: Global,
     code: &Code,

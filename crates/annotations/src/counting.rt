@@ -97,7 +97,7 @@ fn adds_unranked(heads: &mut Heads, unranked: &Unranked) -> bool {
     }
 }
 
-/// Adds the loops that lack a rank, where that is what is wrong. Whether there are any more.
+/// Adds the loops that lack a rank, if that is what is wrong. Returns whether there are any more.
 fn adds_more(
     heads: &mut Heads,
     outcome: &Result<Annotated, Shortfall>,
@@ -200,9 +200,9 @@ fn annotate_loops(
     try_heads(task, code, heads, turns, unranked)
 }
 
-/// Finds statements and ranks as `annotate` does. Where a loop has no rank, its turns are counted:
-/// the object has other code, which gives the task's answer instead of more than `turns` turns in
-/// all. Loops that have a rank stay as they are.
+/// Finds statements and ranks as `annotate` does. If a loop has no rank, its turns are counted: the
+/// object has other code, which gives the task's answer instead of more than `turns` turns in all.
+/// Loops that have a rank stay as they are.
 pub fn annotate_counted(
     task: &Task<'_>,
     turns: u32,
@@ -220,8 +220,8 @@ pub fn annotate_counted(
     }
 }
 
-/// Has the loops at these heads counted by as many turns as they take at most, if that is found.
-/// Nothing where it isn't, or where the verifier refuses the code all the same.
+/// Has the loops at these heads counted by as many turns as they take at most. `None` if that isn't
+/// found, or if the verifier refuses the code all the same.
 fn try_bounded(
     task: &Task<'_>,
     code: &Code,
@@ -314,9 +314,9 @@ fn count_endless(
     }
 }
 
-/// Finds statements and ranks as `annotate` does. Where a loop has no rank, and it is found how
-/// many turns the loops take at most, those are counted. Where the verifier refuses that too, what
-/// it says of the given code is told.
+/// Finds statements and ranks as `annotate` does. If a loop has no rank, and it is found how many
+/// turns the loops take at most, those are counted. If the verifier refuses that too, the answer is
+/// what it says of the given code.
 pub fn annotate_bounded(
     task: &Task<'_>,
     unranked: &mut Unranked,

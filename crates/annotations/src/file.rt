@@ -73,13 +73,13 @@ fn annotate_object(
 
 /// Finds statements and ranks for the code in the file: bare code, or an object with statements of
 /// its own, which may be partial. Of loops that have no rank the turns are counted: as many as the
-/// fuel has, or without that where it is found how many they take at most.
+/// fuel has, or without fuel if it is found how many they take at most.
 ///
 /// # Errors
 ///
-/// Where the file is no code, or begins as an object's and is none, or is an object for another
-/// hook; where the verifier refuses the code with the best statements that were found; where turns
-/// can't be counted; and where memory is refused.
+/// If the file is no code, or begins as an object's and is none, or is an object for another hook;
+/// if the verifier refuses the code with the best statements that were found; if turns can't be
+/// counted; and if memory is refused.
 pub fn annotate_file(
     alloc: Global,
     hook: Hook,

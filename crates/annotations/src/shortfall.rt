@@ -16,8 +16,8 @@ pub enum Shortfall {
     OtherHook(Hook),
     /// The turns of its loops can't be counted.
     Uncounted(CountError),
-    /// The verifier refuses the program with the best statements that were found; where that is for
-    /// a loop without a rank, which loop it is.
+    /// The verifier refuses the program with the best statements that were found; if that is for a
+    /// loop without a rank, which loop it is.
     Refused(Rejected, Option<EndlessLoop>),
     /// The statements that were found can't stand in an object.
     Statements,

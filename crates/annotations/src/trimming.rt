@@ -106,8 +106,8 @@ fn trim_within(
     }
 }
 
-/// Leaves out the known bits that the verifier does without: of all statements, and where there are
-/// few also of one after the other.
+/// Leaves out the known bits that the verifier does without: of all statements, and if they are
+/// few, also of one after the other.
 pub fn trim(task: &Task<'_>, annotated: &mut Annotated) -> Result<(), Shortfall>
     requires program { IsProgram task.now.bytes.now }
     requires annotated { IsAnnotated task.now.hook task.now.bytes.now annotated.old.object

@@ -1,4 +1,4 @@
-//! Command lines with what they print, where, and their statuses. Files stand in the folder in which
+//! Command lines with what they print, where, and their statuses. Files are in the folder in which
 //! a test runs.
 
 mod routers;
@@ -38,7 +38,8 @@ impl Outcome {
         self.status == 4 || self.status == 3
     }
 
-    // Whether it is this status with these lines, and usage is told just where the words are wrong.
+    // Whether it is this status with these lines, and usage is printed if and only if the words are
+    // wrong.
     fn is(&self, status: u8, lines: &[u8]) -> bool {
         self.status == status
             && self.lines.as_slice() == lines

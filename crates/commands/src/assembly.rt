@@ -60,17 +60,18 @@ fn written(alloc: Global, file: &ObjectFile) -> Result<CommandOutput, AllocError
     })
 }
 
-/// Assembles the text of the file at `source` into the object file `target`, and tells how many
+/// Assembles the text of the file at `source` into the object file `target`, and reports how many
 /// slots the code has.
 ///
-/// A fault where the source can't be read or is no text, spells no object, where the target can't
-/// be written, or memory is refused.
+/// # Errors
+/// `Read` if the source can't be read or is no text, `Source` if it spells no object, `Write` if
+/// the target can't be written, `Memory` if an allocation is refused.
 pub fn assemble_file<'a, R: Files + AllocGlobal>(
     rt: &R,
     source: &'a str,
     target: &'a str,
 ) -> Result<CommandOutput, CommandError<'a>>
-    // Where it is done, the text of the source was one that spells an object.
+    // If it is done, the text of the source spells an object.
     ensures done { IfOk result (λ report. (text : List ℕ) × IsAssembled text report) }
     ensures fault { IfErr result (λ fault. (fault ≡ CommandError.Read source.entry)
         ⊎ (fault ≡ CommandError.Write target.entry) ⊎ ((text : List ℕ) × IsTextFault text fault)) }
@@ -104,7 +105,9 @@ fn listed<'a>(alloc: Global, bytes: &[u8]) -> Result<CommandOutput, CommandError
 
 /// The listing of the object file at `path`.
 ///
-/// A fault where the file can't be read, is no object file, holds no code, or memory is refused.
+/// # Errors
+/// `Read` if the file can't be read, `Object` if it is no object file, `Code` if it holds no code,
+/// `Memory` if an allocation is refused.
 pub fn list<'a, R: Files + AllocGlobal>(
     rt: &R,
     path: &'a str,

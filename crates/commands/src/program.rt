@@ -16,7 +16,7 @@ use std::io::{self, BufRead, ErrorKind, Write};
 use std::rt::Files;
 use std::thread::Threads;
 
-// Prints what a command made, and answers the status.
+// Prints what a command made. Returns the status.
 fn print<O: Write>(report: &CommandOutput, output: &mut O) -> u8
     ensures { Prints report.now (O.contents output.old) (O.contents output.new) result }
 {
@@ -27,7 +27,7 @@ fn print<O: Write>(report: &CommandOutput, output: &mut O) -> u8
     }
 }
 
-// The text of a fault goes to the second writer where it is clap's, and else to the first.
+// Prints the error: clap's texts to `errors`, all others to `output`.
 fn tell<O: Write, E: Write>(fault: &CommandError<'_>, output: &mut O, errors: &mut E) -> u8
     ensures { Tells fault.now (O.contents output.old) (O.contents output.new)
         (E.contents errors.old) (E.contents errors.new) result }
@@ -42,7 +42,7 @@ fn tell<O: Write, E: Write>(fault: &CommandError<'_>, output: &mut O, errors: &m
     }
 }
 
-// Prints what a command made or what its fault is, and answers the status.
+// Prints what a command made, or its error. Returns the status.
 fn end<O: Write, E: Write>(
     outcome: Result<CommandOutput, CommandError<'_>>,
     output: &mut O,
@@ -57,8 +57,8 @@ fn end<O: Write, E: Write>(
     }
 }
 
-/// Tells that the words can't be read, and answers the status: 4 where memory was refused, 2 where
-/// a word isn't UTF-8, and 3 where that can't be told.
+/// Prints that the words can't be read. Returns the status: 4 if memory was refused, 2 if a word
+/// isn't UTF-8, 3 if nothing can be printed.
 pub fn end_without_words<O: Write, E: Write>(
     alloc: Global,
     error: &io::Error,
@@ -72,8 +72,8 @@ pub fn end_without_words<O: Write, E: Write>(
     tell(&fault, output, errors)
 }
 
-// Runs the router of the configuration file at `path`, or tells why the file can't be read, and
-// answers the status.
+// Runs the router of the configuration file at `path`, or prints why the file can't be read.
+// Returns the status.
 fn route<R: Files + AllocGlobal, G: Routing, I: BufRead, O: Write, E: Write>(
     rt: &R,
     routing: &G,
@@ -91,7 +91,7 @@ fn route<R: Files + AllocGlobal, G: Routing, I: BufRead, O: Write, E: Write>(
     }
 }
 
-// Carries out a request, and answers the status.
+// Carries out a request. Returns the status.
 fn carry_out<R: Files + AllocGlobal + Threads + Sync, G: Routing, I: BufRead, O: Write, E: Write>(
     rt: &R,
     routing: &G,
@@ -121,7 +121,7 @@ fn carry_out<R: Files + AllocGlobal + Threads + Sync, G: Routing, I: BufRead, O:
     }
 }
 
-/// Carries out what the words ask for (the first is the program's name), and answers the status: 0
+/// Carries out what the words ask for (the first is the program's name). Returns the status: 0
 /// done, 1 refused or stuck, 2 usage, 3 a file, a socket or a stream failed, 4 memory was refused.
 ///
 /// Lines are read from `input` and written to `output`; the texts about usage go to `errors`.

@@ -147,7 +147,7 @@ fn push_counters(text: &mut String, sums: &[u64]) -> Result<(), AllocError>
     Ok(())
 }
 
-// Runs the code once on each of so many seats of a new table, and tells how they ended and what
+// Runs the code once on each of `seats` seats of a new table, and reports how they ended and what
 // they counted.
 fn report_of<'a, R: AllocGlobal + Threads + Sync>(
     rt: &R,
@@ -178,7 +178,9 @@ fn report_of<'a, R: AllocGlobal + Threads + Sync>(
 /// Runs the bare code of the file at `path` once on each of `seats` threads, all on the same
 /// counters.
 ///
-/// A fault where the file can't be read, holds no code, or memory is refused.
+/// # Errors
+/// `Read` if the file can't be read, `Code` if it holds no code, `Memory` if an allocation is
+/// refused.
 pub fn raw<'a, R: Files + AllocGlobal + Threads + Sync>(
     rt: &R,
     hook: Hook,

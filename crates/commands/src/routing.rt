@@ -7,10 +7,10 @@ use std::io::{BufRead, Write};
 /// Runs routers, or keeps what is to be run. Whoever calls the program hands one in, and so nothing
 /// here stands on the router.
 pub trait Routing {
-    /// Runs the router that a configuration's text says, with a console that reads commands from
-    /// `input` and answers on `output`, until `quit` or the end of input, and answers the status: 0
-    /// done, 1 refused, 3 a socket or the output failed, 4 memory was refused. Where no router can
-    /// be run, a line on `output` says why.
+    /// Runs the router of a configuration's text, with a console that reads commands from `input`
+    /// and answers on `output`, until `quit` or the end of input. Returns the status: 0 done, 1
+    /// refused, 3 a socket or the output failed, 4 memory was refused. If no router can be run, a
+    /// line on `output` says why.
     fn route<I: BufRead, O: Write>(&self, text: &str, input: &mut I, output: &mut O) -> u8
         ensures { result ≤ 4 };
 }

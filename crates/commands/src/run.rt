@@ -75,7 +75,9 @@ fn run_of<'a>(
 /// Runs the program of the object file at `path` once at its hook, on this context and packet and
 /// no table rows, with counters and cells of its own.
 ///
-/// A fault where the file can't be read, is no object file, holds no code, or memory is refused.
+/// # Errors
+/// `Read` if the file can't be read, `Object` if it is no object file, `Code` if it holds no code,
+/// `Memory` if an allocation is refused.
 pub fn run<'a, R: Files + AllocGlobal>(
     rt: &R,
     path: &'a str,

@@ -52,10 +52,12 @@ fn verdict_of<'a>(alloc: Global, bytes: &[u8]) -> Result<CommandOutput, CommandE
     }
 }
 
-/// Verifies the program of the object file at `path`, and tells its bound, or the slot and the rule
-/// by which it is refused.
+/// Verifies the program of the object file at `path`, and reports its bound, or the slot and the
+/// rule by which it is refused.
 ///
-/// A fault where the file can't be read, is no object file, holds no code, or memory is refused.
+/// # Errors
+/// `Read` if the file can't be read, `Object` if it is no object file, `Code` if it holds no code,
+/// `Memory` if an allocation is refused.
 pub fn verify<'a, R: Files + AllocGlobal>(
     rt: &R,
     path: &'a str,

@@ -9,8 +9,8 @@ use crate::hop::Hop;
 use std::alloc::{AllocError, Global};
 use words::Hops;
 
-/// A router's route to a prefix: the outgoing interfaces, bit k for interface k, where 0 is the
-/// router itself; and the cost.
+/// A router's route to a prefix: the outgoing interfaces, bit k for interface k (0 is the router
+/// itself), and the cost.
 #[derive(Clone, Copy)]
 pub struct PrefixRoute {
     pub hops: u64,

@@ -445,7 +445,7 @@ const PAIRS_OF_INTERVALS: &[Row] = &[
     (Call::Is(ZERO), Seen::Multiple(64)),
 ];
 
-// What the test leaves of the numbers; all where it leaves none.
+// What the test leaves of the numbers; all of them if it leaves none.
 fn left_by<D: Domain>(test: Test, value: D, number: u64) -> D {
     match D::assume(test, W64, value, D::constant(number)) {
         Some((left, _)) => left,

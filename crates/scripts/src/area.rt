@@ -22,7 +22,7 @@ pub struct ScriptArea {
     text: String,
 }
 
-/// The bytes of a word; None where it is none.
+/// The bytes of a word, if it is `-` or hex digits.
 pub fn bytes_of(alloc: Global, digits: &str) -> Result<Option<Vec<u8>>, AllocError> {
     if digits == "-" {
         return Ok(Some(Vec::new(alloc)));
@@ -34,7 +34,7 @@ pub fn bytes_of(alloc: Global, digits: &str) -> Result<Option<Vec<u8>>, AllocErr
     }
 }
 
-// The addresses of these words; None where one is none.
+// The addresses of these words, if each is one.
 fn addresses_of(alloc: Global, words: &[&str]) -> Result<Option<Vec<Address>>, AllocError> {
     let mut addresses = Vec::new(alloc);
     for word in words {

@@ -37,7 +37,7 @@ fn interface(number: u32) -> Interface {
     interface_at(address, 24, USUAL)
 }
 
-// 1.1.1.1 with so many interfaces, started at 0.
+// 1.1.1.1 with `interfaces` interfaces, started at 0.
 fn numbered(alloc: Global, interfaces: u32) -> Result<Config, AllocError> {
     let mut taken = Vec::new(alloc);
     for number in 0..interfaces {
@@ -66,7 +66,7 @@ fn intervals_in(words: &[&str]) -> Option<Intervals> {
     })
 }
 
-// The interfaces at these places; None where a word is no place.
+// The interfaces at these places, if each word is one.
 fn interfaces_at(
     alloc: Global,
     places: &[&str],
@@ -90,8 +90,8 @@ fn head_of(words: &[&str]) -> Option<(RouterId, Second, Intervals)> {
     Some((RouterId::new(router.bits()), Second::new(start), intervals))
 }
 
-/// The router of a line `router ID MOMENT HELLO DEAD RETRANSMIT PLACE..`, from the Router ID on;
-/// None where a word says nothing of it.
+/// The router of a line `router ID MOMENT HELLO DEAD RETRANSMIT PLACE..`, from the Router ID on, if
+/// the words are of this form.
 pub fn router_of(alloc: Global, words: &[&str]) -> Result<Option<Config>, AllocError> {
     let (Some((router, start, intervals)), Some(places)) = (head_of(words), words.get(5..)) else {
         return Ok(None);
@@ -118,7 +118,7 @@ fn count_in(words: &[&str]) -> Option<u32> {
     u32::try_from(count).ok()
 }
 
-/// The router that a first line of these words begins; None where it begins none.
+/// The router that a first line of these words begins, if it begins one.
 pub fn first_of(alloc: Global, words: &[&str]) -> Result<Option<Config>, AllocError> {
     match (words.split_first(), count_in(words)) {
         (_, Some(count)) => Ok(Some(numbered(alloc, count)?)),

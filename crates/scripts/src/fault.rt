@@ -15,7 +15,7 @@ pub enum ScriptError {
     /// The lines can't be read.
     #[error("cannot read the lines")]
     Input,
-    /// What they tell can't be printed.
+    /// What is to be printed can't be written.
     #[error("cannot write the output")]
     Output,
     /// An allocation was refused.

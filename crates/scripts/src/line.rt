@@ -36,8 +36,8 @@ pub enum Shown {
     Offered,
     /// `stale`: whether candidates are to be asked about.
     Stale,
-    /// `walks`: how many walks events made since this was last looked at, and how many are made
-    /// where the router is now asked whether it is stale.
+    /// `walks`: how many walks events made since this was last looked at, and how many it takes to
+    /// ask the router now whether it is stale.
     Walks,
     /// `database`: each LSA's bytes, with its age at the last event, and `end`.
     Database,

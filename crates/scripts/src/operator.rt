@@ -1,5 +1,5 @@
-//! An operator, who has each question answered where no program is published: by the configured
-//! tag and metric, and by letting each route in.
+//! An operator, who has each question answered while no program is attached: by the configured tag
+//! and metric, and by letting each route in.
 ghost use Rattle.maps.specs.Words.{IsOf};
 
 use crate::fault::ScriptError;

@@ -67,7 +67,7 @@ impl<R: Wait + Drop> Stage<R> {
         Ok(Event::Install(Sequence::from_vec(answers)))
     }
 
-    // The event, a packet's with these digits; None where they are none.
+    // The event, a packet's with these hex digits; `None` if they are none.
     fn event(
         &mut self,
         moment: Second,
@@ -210,7 +210,7 @@ impl<R: Wait + Drop> Stage<R> {
         }
     }
 
-    // Plays the lines behind the first as they come, and prints at once what each tells.
+    // Plays the lines behind the first as they come, and prints at once what each of them makes.
     fn answer_lines<I: BufRead + Drop, O: io::Write>(
         &mut self,
         input: I,
@@ -324,7 +324,7 @@ fn first_stage<R: Wait + Drop + Copy>(
 /// `refused` and the number of their refusal.
 ///
 /// # Errors
-/// `Line` where a line says nothing of this, `Memory` where an allocation was refused.
+/// `Line` if a line says nothing of this, `Memory` if an allocation was refused.
 pub fn play<R: Wait + Drop + Copy>(
     alloc: Global,
     rt: R,
@@ -337,11 +337,12 @@ pub fn play<R: Wait + Drop + Copy>(
     }
 }
 
-/// Plays the script of a router whose lines come one by one, and prints at once what each tells.
+/// Plays the script of a router whose lines come one by one, and prints at once what each of them
+/// makes.
 ///
 /// # Errors
-/// `Line` where a line says nothing, `Input` where lines can't be read, `Output` where nothing can
-/// be printed, `Memory` where an allocation was refused. What was printed before stays.
+/// `Line` if a line says nothing, `Input` if lines can't be read, `Output` if nothing can be
+/// printed, `Memory` if an allocation was refused. What was printed before stays.
 pub fn answer<R: Wait + Drop + Copy, I: BufRead + Drop, O: io::Write>(
     alloc: Global,
     rt: R,

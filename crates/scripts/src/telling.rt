@@ -68,7 +68,7 @@ fn candidates_anew(core: &Core) -> Result<Vec<Route>, AllocError> {
     routes
 }
 
-/// Adds `candidates N`, and `, others anew` where a router that walks anew has others.
+/// Adds `candidates N`, and `, others anew` if a router that walks anew has others.
 pub fn push_candidates(text: &mut String, core: &Core) -> Result<(), AllocError> {
     let kept = core.candidates()?;
     let anew = candidates_anew(core)?;

@@ -10,7 +10,7 @@ pub enum HistoryStep {
     Lost,
     Twice,
     Exchanged,
-    /// A packet comes that was sent before so many others, early or once more.
+    /// A packet comes that was sent before this many others, early or once more.
     Again(u32),
     /// A Tick at a router.
     Tick(u32),
@@ -45,7 +45,7 @@ impl HistoryStep {
     }
 }
 
-// Where the one isn't asked for, a packet comes.
+// If the act isn't asked for, a packet comes.
 fn if_asked(asked: bool, act: HistoryStep) -> HistoryStep {
     if asked { act } else { HistoryStep::Comes }
 }
@@ -71,8 +71,8 @@ fn chosen_rarely(random: &mut Random, place: u32, faults: &Faults, restarts: boo
     }
 }
 
-/// The next act among so many routers and destinations. Packets are lost, late and repeated, and
-/// routers begin anew, where that is asked for.
+/// The next act among these numbers of routers and destinations. Packets are lost, late and
+/// repeated, and routers begin anew, if that is asked for.
 pub fn chosen(
     random: &mut Random,
     routers: u32,

@@ -40,7 +40,7 @@ fn small(count: usize) -> u32 {
 }
 
 impl<'a> Director<'a> {
-    /// Nobody announces any of so many destinations, and each link is up.
+    /// No router announces any of the destinations, and each link is up.
     pub fn new(
         alloc: Global,
         plan: &'a ScenarioPlan,
@@ -180,7 +180,7 @@ impl<'a> Director<'a> {
         }
     }
 
-    // How long the link stays down yet; where there is none, not at all.
+    // How many more seconds the link stays down; 0 if there is none.
     fn left(&self, number: usize) -> u64 {
         if number < self.down.len() {
             self.down[number]

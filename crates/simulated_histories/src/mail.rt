@@ -9,7 +9,7 @@ pub struct Sent {
     pub event: Event,
 }
 
-/// All that was sent. What is refused for want of memory is left out.
+/// All that was sent. If memory is refused for something, that is left out.
 #[derive(Drop)]
 pub struct Mail<'a> {
     pub stage: HistorySetting<'a>,
@@ -55,7 +55,7 @@ impl<'a> Mail<'a> {
         self.at = self.packets.len().min(self.at.saturating_add(1));
     }
 
-    /// Tells whether all has come.
+    /// Whether all has come.
     pub fn is_quiet(&self) -> bool {
         self.at >= self.packets.len()
     }

@@ -8,9 +8,9 @@ pub struct Look {
     pub second: u64,
     /// Links that are up and not Full.
     pub not_full: usize,
-    /// Links between Full neighbors whose databases differ; None where it wasn't looked at.
+    /// Links between Full neighbors whose databases differ; `None` if they weren't compared.
     pub differ: Option<usize>,
-    /// What the tables say; None where they weren't looked at.
+    /// What is wrong with the tables; `None` if they weren't read.
     pub seen: Option<TableFaults>,
 }
 
@@ -76,7 +76,7 @@ impl Phase {
         }
     }
 
-    /// Takes note of what was seen at the end of a second. False where memory is refused for it.
+    /// Keeps what was seen at the end of a second. Returns whether memory was enough.
     pub fn note(&mut self, look: Look) -> bool {
         self.seconds = look.second;
         if look.not_full > 0 {
@@ -92,7 +92,7 @@ impl Phase {
         self.looks.push(look).is_ok()
     }
 
-    /// Tells whether all has been calm for so many seconds.
+    /// Whether all has been calm for `stay` seconds.
     pub fn has_settled_for(&self, stay: u64) -> bool {
         self.seconds >= self.settled.saturating_add(stay)
     }

@@ -45,7 +45,7 @@ pub struct ScenarioPlan {
     /// How many external destinations there are, and how many routers announce them.
     pub externals: u32,
     pub announcers: u32,
-    /// Links cost 10 and less than so many more.
+    /// The cost of a link is 10, and a number below this more.
     pub spread: u32,
     pub times: InterfaceTimes,
     pub faults: Faults,
@@ -57,6 +57,6 @@ pub struct ScenarioPlan {
     pub stay: u64,
     /// How long nothing is lost, late or repeated at the end.
     pub calm: u64,
-    /// Tables are looked at in each second, and not only where all databases are the same.
+    /// Whether tables are read in each second, and not only if all databases are the same.
     pub watches: bool,
 }

@@ -11,8 +11,8 @@ use words::Route;
 // In a second there are fewer packets.
 const MOST_PACKETS: u32 = 20_000;
 
-/// A network, whose packets come one by one. It has no `Drop`: who has one closes it. What is
-/// refused for want of memory is left out, and `fault` tells so from then on.
+/// A network whose packets come one by one. It has no `Drop`: its owner closes it. If memory is
+/// refused for something, that is left out, and `fault` reports it from then on.
 pub struct Play<'a> {
     routers: Routers,
     mail: Mail<'a>,
@@ -57,7 +57,7 @@ fn some_goes_round(one: &Side<'_>, other: &Side<'_>, routes: &[Route], others: &
     false
 }
 
-// None where memory is refused.
+// `None` if memory is refused.
 fn some_lead_back(one: &Side<'_>, other: &Side<'_>, routes: &[Route]) -> Option<bool> {
     match other.core.candidates() {
         Ok(others) => Some(some_goes_round(one, other, routes, &others)),
@@ -65,7 +65,7 @@ fn some_lead_back(one: &Side<'_>, other: &Side<'_>, routes: &[Route]) -> Option<
     }
 }
 
-// None where memory is refused.
+// `None` if memory is refused.
 fn lead_to_each_other(one: &Side<'_>, other: &Side<'_>) -> Option<bool> {
     match one.core.candidates() {
         Ok(routes) => some_lead_back(one, other, &routes),
@@ -92,7 +92,7 @@ impl<'a> Play<'a> {
         }
     }
 
-    /// Lets the routers go.
+    /// Frees the routers.
     pub fn close(self) {
         let Play {
             routers,
@@ -102,8 +102,7 @@ impl<'a> Play<'a> {
         routers.close();
     }
 
-    // The event happens to the router at the place; nothing, where there is none or it refuses the
-    // event.
+    // The event happens to the router at the place, if there is one.
     fn takes(&mut self, place: usize, event: &Event) {
         let outs = self.routers.step(place, self.moment, event);
         self.mail.send_all(place, outs);
@@ -248,7 +247,7 @@ impl<'a> Play<'a> {
         }
     }
 
-    /// Tells whether two neighbors that see each other as Full hold different databases.
+    /// Whether two neighbors that see each other as Full hold different databases.
     pub fn differ(&self) -> bool {
         for link in &self.mail.stage.topology.links {
             if self.differ_over(link) {
@@ -258,7 +257,7 @@ impl<'a> Play<'a> {
         false
     }
 
-    // None where memory is refused.
+    // `None` if memory is refused.
     fn loop_over(&self, link: &LinkEnds) -> Option<bool> {
         match self.sides(link) {
             Some((one, other)) => lead_to_each_other(&one, &other),
@@ -266,7 +265,7 @@ impl<'a> Play<'a> {
         }
     }
 
-    /// Tells whether two neighbors hand packets for a prefix to each other that neither of them
+    /// Whether two neighbors hand packets for a prefix to each other that neither of them
     /// announces.
     pub fn loop_between_two(&mut self) -> bool {
         let topology = self.mail.stage.topology;

@@ -125,8 +125,8 @@ impl<'a> Run<'a> {
         }
     }
 
-    // A second of the scenario. Tells whether all has been calm for a while since the last act, or
-    // memory was refused.
+    // A second of the scenario. Returns whether it is over: all has been calm for a while since the
+    // last act, or memory was refused.
     fn goes_on(
         &mut self,
         plan: &ScenarioPlan,
@@ -199,7 +199,7 @@ impl<'a> Run<'a> {
     }
 }
 
-// Plays the plan with routers that begin in this topology, and tells what stopped it.
+// Plays the plan with routers that begin in this topology. Returns what stopped it.
 fn play_in(
     alloc: Global,
     topology: &Topology,
@@ -240,7 +240,7 @@ fn play_into(
 /// Plays the plan with these announcements of the destinations.
 ///
 /// # Errors
-/// Where memory is refused, or the times aren't allowed.
+/// `Memory` if an allocation is refused, `Configuration` if the times aren't allowed.
 pub fn play_scenario(
     alloc: Global,
     plan: &ScenarioPlan,

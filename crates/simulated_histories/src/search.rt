@@ -35,7 +35,7 @@ pub struct Search {
     pub calm: u32,
 }
 
-/// Where histories are played: the routers, and the announcements of the destinations.
+/// What histories are played with: the routers, and the announcements of the destinations.
 #[derive(Clone, Copy)]
 pub struct HistorySetting<'a> {
     pub alloc: Global,
@@ -58,7 +58,7 @@ const PARTS: [usize; 10] = [512, 256, 128, 64, 32, 16, 8, 4, 2, 1];
 // How often all parts are tried.
 const TURNS: u32 = 8;
 
-// The acts without so many from a place on.
+// The acts without `many` from a place on.
 fn without(
     alloc: Global,
     acts: &[HistoryStep],
@@ -97,7 +97,7 @@ impl Search {
     /// The history of this seed: a start in calm, and as many acts by chance as there are steps.
     ///
     /// # Errors
-    /// Where memory is refused.
+    /// `AllocError` if an allocation is refused.
     pub fn history(&self, alloc: Global, seed: u64) -> Result<Vec<HistoryStep>, AllocError>
         ensures { IfOk result (λ acts. vec_len acts ≡ self.now.steps + 1) }
     {
@@ -131,10 +131,10 @@ impl Search {
         }
     }
 
-    /// Tells whether the history ends with what is sought.
+    /// Whether the history ends with what is sought.
     ///
     /// # Errors
-    /// Where memory is refused, or the times aren't allowed.
+    /// `Memory` if an allocation is refused, `Configuration` if the times aren't allowed.
     pub fn shows(
         &self,
         stage: HistorySetting<'_>,
@@ -150,7 +150,7 @@ impl Search {
         }
     }
 
-    // Tells whether the history ends with what is sought; not where something stopped the turn.
+    // Whether the history ends with what is sought; false if something stopped it.
     fn shows_yet(&self, stage: HistorySetting<'_>, acts: &[HistoryStep], turn: &mut Turn) -> bool {
         if turn.fault.is_some() {
             return false;
@@ -164,8 +164,8 @@ impl Search {
         }
     }
 
-    // Takes so many acts out from a place on, if the rest still shows what is sought. Tells
-    // whether.
+    // Takes `many` acts out from a place on, if the rest still shows what is sought. Returns
+    // whether it does.
     fn leaves_out(
         &self,
         stage: HistorySetting<'_>,
@@ -192,7 +192,7 @@ impl Search {
         true
     }
 
-    // Takes parts of so many acts out one after the other, each where the rest still shows what is
+    // Takes parts of `size` acts out one after the other, each if the rest still shows what is
     // sought.
     fn leave_out(
         &self,
@@ -237,7 +237,7 @@ impl Search {
         turn.some = true;
     }
 
-    // Puts a simpler act at each place, where the history still shows what is sought.
+    // Puts a simpler act at each place, if the history still shows what is sought.
     fn make_simpler(&self, stage: HistorySetting<'_>, kept: &mut Vec<HistoryStep>, turn: &mut Turn)
         ensures { vec_len kept.new ≡ vec_len kept.old }
     {
@@ -262,7 +262,7 @@ impl Search {
     /// is as short as it had become.
     ///
     /// # Errors
-    /// Where memory is refused, or the times aren't allowed.
+    /// `Memory` if an allocation is refused, `Configuration` if the times aren't allowed.
     pub fn shorten(
         &self,
         stage: HistorySetting<'_>,
@@ -285,7 +285,7 @@ impl Search {
         Ok(())
     }
 
-    // Makes the history shorter, if it shows what is sought. Tells whether it does.
+    // Makes the history shorter, if it shows what is sought. Returns whether it does.
     fn shorten_shown(
         &self,
         stage: HistorySetting<'_>,
@@ -303,7 +303,7 @@ impl Search {
     /// The short history that is left of that of this seed, if that shows what is sought.
     ///
     /// # Errors
-    /// Where memory is refused, or the times aren't allowed.
+    /// `Memory` if an allocation is refused, `Configuration` if the times aren't allowed.
     pub fn found(
         &self,
         stage: HistorySetting<'_>,

@@ -21,8 +21,8 @@ pub fn of_destination(number: u32) -> Address {
     Address::new(FIRST_DESTINATION.wrapping_add(number.wrapping_mul(256)))
 }
 
-/// The number of the prefix at this address: that of its link, or that of its destination behind
-/// so many links.
+/// The number of the prefix at this address. The prefixes of the links come first, in the order of
+/// the links, and then those of the destinations.
 pub fn number_at(address: Address, links: usize) -> usize {
     let bits = address.bits();
     let offset = bits.wrapping_sub(FIRST_LINK);

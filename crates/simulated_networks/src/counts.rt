@@ -29,7 +29,7 @@ impl Counts {
         most_under_way: 0,
     };
 
-    // Counts a packet that is sent, and tells whether it is a Link State Update.
+    // Counts a packet that is sent. Returns whether it is a Link State Update.
     pub(crate) fn count_sent(&mut self, bytes: &[u8]) -> bool {
         add(&mut self.packets, 1);
         add(&mut self.bytes, bytes.len() as u64);
@@ -42,17 +42,17 @@ impl Counts {
     }
 }
 
-/// Counts so many more.
+/// Adds `more` to the count, up to its greatest value.
 pub fn add(count: &mut u64, more: u64) {
     *count = count.saturating_add(more);
 }
 
-/// Tells whether the packet is a Link State Update (RFC 2328, A.3.1).
+/// Whether the packet is a Link State Update (RFC 2328, section A.3.1).
 pub fn is_update(bytes: &[u8]) -> bool {
     bytes.len() > 1 && bytes[1] == 4
 }
 
-// How many LSAs stand in the packet, if it is an Update (RFC 2328, A.3.5).
+// How many LSAs are in the packet, if it is an Update (RFC 2328, section A.3.5).
 fn lsas_in(bytes: &[u8]) -> u64 {
     if is_update(bytes) && bytes.len() >= 28 {
         u64::from(u32_at(bytes, 24))

@@ -1,4 +1,4 @@
-//! Destinations, as an operator has them announced while no program is published.
+//! Destinations, as an operator has them announced while no program is attached.
 ghost use Rattle.maps.specs.Words.{IsOf};
 
 use crate::addresses::of_destination;
@@ -90,7 +90,7 @@ fn announced(
     }
 }
 
-// The announcements of so many destinations, where no program is published.
+// The announcements of `count` destinations while no program is attached.
 fn unprogrammed<R: Wait + Drop>(
     alloc: Global,
     rt: R,
@@ -108,10 +108,10 @@ fn unprogrammed<R: Wait + Drop>(
     }
 }
 
-/// The announcements of so many destinations, by their numbers.
+/// The announcements of `count` destinations, in the order of their numbers.
 ///
 /// # Errors
-/// Where memory is refused.
+/// `Memory` if an allocation is refused.
 pub fn announcements<R: Wait + Drop + Copy>(
     alloc: Global,
     rt: R,

@@ -13,8 +13,8 @@ use std::alloc::Global;
 // In a second there are fewer rounds.
 const MOST_ROUNDS: u32 = 100_000;
 
-/// A network. It has no `Drop`: who has one closes it. What is refused for want of memory is left
-/// out, and `fault` tells so from then on.
+/// A network. It has no `Drop`: its owner closes it. If memory is refused for something, that is
+/// left out, and `fault` reports it from then on.
 pub struct Network<'a> {
     pub routers: Routers,
     /// The links, what is under way over them, and what was counted.
@@ -48,7 +48,7 @@ impl<'a> Network<'a> {
         }
     }
 
-    /// Lets the routers go.
+    /// Frees the routers.
     pub fn close(self) {
         let Network {
             routers,
@@ -67,8 +67,8 @@ impl<'a> Network<'a> {
         }
     }
 
-    /// The event happens to the router at the place; nothing, where there is none. An event that
-    /// the router refuses is counted.
+    /// The event happens to the router at the place, if there is one. An event that the router
+    /// refuses is counted.
     pub fn happens(&mut self, place: usize, event: &Event) {
         add(&mut self.wires.counts.events, 1);
         let outs = self.routers.step(place, self.wires.moment, event);
@@ -89,7 +89,7 @@ impl<'a> Network<'a> {
         }
     }
 
-    // All that is under way comes, where the links are up.
+    // All that is under way comes over those links that are up.
     fn round(&mut self) {
         let all = self.wires.take();
         for coming in &all {
@@ -158,8 +158,8 @@ impl<'a> Network<'a> {
         }
     }
 
-    /// What the tables of all routers say now, where each external destination is announced by the
-    /// router at this place.
+    /// What is wrong with the tables of all routers now. `owners` has for each external destination
+    /// the place of the router that announces it.
     pub fn see(&mut self, owners: &[usize]) -> TableFaults {
         let links = self.wires.topology.links.len();
         let prefixes = links.wrapping_add(owners.len());

@@ -49,7 +49,7 @@ impl Random {
         }
     }
 
-    /// The next number below the limit; 0 where the limit is 0.
+    /// The next number below the limit; 0 if the limit is 0.
     pub fn below(&mut self, limit: u32) -> u32
         ensures value { 0 < limit → result ≡ word_of self.old % limit }
         ensures none { limit ≡ 0 → result ≡ 0 }
@@ -60,7 +60,7 @@ impl Random {
         if limit == 0 { 0 } else { word % limit }
     }
 
-    /// The next place of so many; 0 where there is none.
+    /// The next place of `count`; 0 if there is none.
     pub fn place(&mut self, count: usize) -> usize
         ensures value { 0 < count → result ≡ word_of self.old % count }
         ensures none { count ≡ 0 → result ≡ 0 }
@@ -71,7 +71,7 @@ impl Random {
         if count == 0 { 0 } else { word as usize % count }
     }
 
-    /// Comes true so many times of 10,000; without such times no number is taken.
+    /// Is true `many` times out of 10,000. If that is 0, no number of the seed is used up.
     pub fn happens(&mut self, many: u32) -> bool
         ensures sometimes { 0 < many → (IsTrue result ↔ (word_of self.old % 10000 < many)) }
         ensures next { 0 < many → self.new ≡ behind self.old }

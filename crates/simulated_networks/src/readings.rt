@@ -8,7 +8,7 @@ use forwarding_loops::{LinkEnds, PrefixRoute, count_looping};
 use std::alloc::Global;
 use words::{Hops, Route};
 
-/// The place of who announces an external destination that nobody announces.
+/// Stands for the place of a router where no router announces the external destination.
 pub const NOBODY: usize = 0xffff_ffff;
 
 // What was last read off a router.
@@ -16,7 +16,7 @@ pub const NOBODY: usize = 0xffff_ffff;
 struct Reading {
     // the interfaces with a Full neighbor
     full: Hops,
-    // a number that the database's instances give; 0 where it isn't known
+    // a hash of the instances in the database; 0 if it isn't known
     print: u64,
     // the table may be another one than the ways
     has_changed: bool,
@@ -29,7 +29,7 @@ const UNREAD: Reading = Reading {
     has_changed: true,
 };
 
-/// What was last read off all routers. What is refused for want of memory is left out.
+/// What was last read off all routers. If memory is refused for something, that is left out.
 #[derive(Drop)]
 pub struct Readings {
     /// Memory was refused: something is left out.
@@ -41,7 +41,7 @@ pub struct Readings {
 }
 
 impl Readings {
-    /// Nothing was read off so many routers.
+    /// `count` routers, none of which was read.
     pub fn new(alloc: Global, count: usize) -> Readings {
         let mut list = Vec::new(alloc);
         let lacks_memory = list.resize(count, UNREAD).is_err();
@@ -66,7 +66,7 @@ impl Readings {
         }
     }
 
-    /// The number that the router's database gives; 0 where it isn't known.
+    /// The hash of the router's database; 0 if it isn't known.
     pub fn print(&self, place: usize) -> u64 {
         if place < self.list.len() {
             self.list[place].print
@@ -75,7 +75,7 @@ impl Readings {
         }
     }
 
-    /// This is the number that the router's database gives.
+    /// Keeps the hash of the router's database.
     pub fn set_print(&mut self, place: usize, print: u64) {
         if place < self.list.len() {
             self.list[place].print = print;
@@ -120,7 +120,7 @@ impl Readings {
         count
     }
 
-    /// There are so many prefixes.
+    /// Makes room for the routes to `count` prefixes.
     pub fn set_prefixes(&mut self, count: usize) {
         let ways = count.wrapping_mul(self.list.len());
         if self.ways.resize(ways, NONE).is_err() {
@@ -128,7 +128,7 @@ impl Readings {
         }
     }
 
-    /// Tells whether the router's table may be another one than when it was last read.
+    /// Whether the router's table may differ from what was last read.
     pub fn has_changed(&self, place: usize) -> bool {
         place < self.list.len() && self.list[place].has_changed
     }
@@ -149,8 +149,8 @@ impl Readings {
         }
     }
 
-    /// These are the routes of the router's table. Of so many prefixes the first are those of so
-    /// many links.
+    /// Keeps the routes of the router's table. The first `links` of the `prefixes` are those of
+    /// links.
     pub fn take_routes(&mut self, place: usize, routes: &[Route], links: usize, prefixes: usize) {
         self.clear_ways(place, prefixes);
         for route in routes {
@@ -159,7 +159,7 @@ impl Readings {
         }
     }
 
-    // Adds the way of each router to the prefix. For who announces it, it ends there.
+    // Adds the way of each router to the prefix. It ends at the router that announces the prefix.
     fn add_ways(&self, ways: &mut Vec<PrefixRoute>, number: usize, owner: usize) -> bool {
         let count = self.list.len();
         let first = number.wrapping_mul(count);
@@ -206,8 +206,8 @@ impl Readings {
         seen
     }
 
-    /// What the tables of all routers say, where each external destination is announced by the
-    /// router at this place.
+    /// What is wrong with the tables of all routers. `owners` has for each external destination
+    /// the place of the router that announces it.
     pub fn see(&mut self, wires: &Wires<'_>, owners: &[usize]) -> TableFaults {
         let mut up = Vec::new(self.alloc);
         if !wires.add_links_up(&mut up) {

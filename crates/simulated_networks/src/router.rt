@@ -39,7 +39,7 @@ fn interface(end: &FarEnd, place: usize, times: InterfaceTimes) -> Interface {
     }
 }
 
-// False where memory is refused.
+// Whether memory was enough.
 fn add_interfaces(
     list: &mut Vec<Interface>,
     ends: &[FarEnd],
@@ -82,7 +82,7 @@ pub fn begun(
     }
 }
 
-/// Tells whether the router sees its neighbor at the interface as Full.
+/// Whether the router's neighbor at the interface is Full.
 pub fn sees_full(core: &Core, interface: u8) -> bool {
     match core.neighbor(u16::from(interface)) {
         Some((_, State::Full)) => true,
@@ -113,8 +113,7 @@ fn both_hold(one: &Core, other: &Core, key: &Key) -> bool {
     }
 }
 
-/// Tells whether both hold LSAs of the same keys with the same lengths, sequence numbers and
-/// checksums.
+/// Whether both hold LSAs of the same keys with the same lengths, sequence numbers and checksums.
 pub fn holds_the_same(one: &Core, other: &Core) -> bool {
     let mut same = one.database().len() == other.database().len();
     for key in one.database().keys() {
@@ -135,7 +134,7 @@ fn mixed_with(hash: u64, header: &Header) -> u64 {
     mixed(of_sequence, u64::from(header.checksum))
 }
 
-/// A number that the instances give which the router holds below MaxAge.
+/// A hash of the instances that the router holds below MaxAge.
 pub fn print_of(core: &Core) -> u64 {
     let mut hash = 1_u64;
     for key in core.database().keys() {

@@ -7,8 +7,8 @@ use std::alloc::{AllocError, AllocFailed, Global};
 use std::mem::replace;
 use words::{Hops, Route, Second};
 
-/// The routers of a network, by their places. They have no `Drop`: who has them closes them, so
-/// that no other crate proves once more how the parts of a router are let go.
+/// The routers of a network, by their places. They have no `Drop`: their owner closes them, so that
+/// no other crate proves once more how the parts of a router are dropped.
 pub struct Routers {
     /// Why something is left out: memory was refused, or the times aren't allowed.
     pub fault: Option<NetworkError>,
@@ -80,8 +80,8 @@ impl Routers {
         }
     }
 
-    /// What the router at a place sends at an event; nothing, where there is no router, or it
-    /// refuses the event.
+    /// What the router at a place sends at an event: nothing if there is no router, or it refuses
+    /// the event.
     pub fn step(&mut self, place: usize, moment: u64, event: &Event) -> Vec<Out> {
         match self.answered(place, moment, event) {
             Ok(outs) => outs,
@@ -101,7 +101,7 @@ impl Routers {
         }
     }
 
-    /// The router at a place begins anew at this moment; nothing, where there is none.
+    /// The router at a place, if there is one, begins anew at this moment.
     pub fn restart(&mut self, topology: &Topology, place: usize, moment: u64) {
         if place >= self.cores.len() {
             return;
@@ -127,7 +127,7 @@ impl Routers {
         }
     }
 
-    /// A number that the instances give which the router holds below MaxAge.
+    /// A hash of the instances that the router holds below MaxAge.
     pub(crate) fn print(&self, place: usize) -> u64 {
         if place < self.cores.len() {
             print_of(&self.cores[place])
@@ -139,7 +139,7 @@ impl Routers {
     /// The routes that the router has for its table.
     ///
     /// # Errors
-    /// Where memory is refused.
+    /// `AllocError` if an allocation is refused.
     pub(crate) fn routes(&self, place: usize) -> Result<Vec<Route>, AllocError> {
         if place < self.cores.len() {
             self.cores[place].candidates()
@@ -157,7 +157,7 @@ impl Routers {
         walks
     }
 
-    /// Lets the routers go.
+    /// Frees the routers.
     pub fn close(self) {
         let Routers {
             fault: _,

@@ -1,7 +1,7 @@
-//! What the tables of all routers say together.
+//! What is wrong with the tables of all routers together.
 use crate::counts::add;
 
-/// How many pairs of a router and a prefix show this.
+/// How many pairs of a router and a prefix have this fault.
 #[derive(Clone, Copy)]
 pub struct TableFaults {
     /// A walk over next hops comes back to the router.
@@ -26,12 +26,12 @@ impl TableFaults {
         stray: 0,
     };
 
-    /// Tells whether none shows any of it.
+    /// Whether there is no fault.
     pub fn is_nothing(&self) -> bool {
         (self.looping | self.nowhere | self.missing | self.other_cost | self.stray) == 0
     }
 
-    /// Both together.
+    /// Adds the counts of the other ones.
     pub fn add(&mut self, more: &TableFaults) {
         add(&mut self.looping, more.looping);
         add(&mut self.nowhere, more.nowhere);

@@ -32,7 +32,7 @@ pub struct Topology {
     /// For each router its interfaces, of which the first has number 1.
     pub ends: Vec<Vec<FarEnd>>,
     pub links: Vec<LinkEnds>,
-    // costs are 10 and less than so many more
+    // the cost of a link is 10, and a number below this more
     spread: u32,
     // memory was refused: something is left out
     lacks_memory: bool,
@@ -42,11 +42,11 @@ pub struct Topology {
 const MOST_INTERFACES: usize = 63;
 
 impl Topology {
-    /// The topology of this kind with so many routers (a fat tree: with at most so many). Each link
-    /// costs 10 and less than `spread` more.
+    /// The topology of this kind with `routers` routers, a fat tree with at most that many. A
+    /// link's cost is 10, and a number below `spread` more.
     ///
     /// # Errors
-    /// Where memory is refused.
+    /// `AllocError` if an allocation is refused.
     pub fn new(
         alloc: Global,
         random: &mut Random,
@@ -94,7 +94,7 @@ impl Topology {
         }
     }
 
-    /// What the router's interfaces lead to; nothing, where there is no router.
+    /// What the interfaces of the router lead to, if there is one.
     pub fn ends_of(&self, place: usize) -> &[FarEnd] {
         if place < self.ends.len() {
             self.ends[place].as_slice()
@@ -158,7 +158,7 @@ impl Topology {
         }
     }
 
-    // Joins a router to so many others from a place on.
+    // Joins a router to those at `count` places from `first` on.
     fn join_all(&mut self, random: &mut Random, one: usize, first: usize, count: usize) {
         for step in 0..count {
             self.join(random, one, first.wrapping_add(step));
@@ -216,7 +216,7 @@ fn lead_to(ends: &[FarEnd], place: usize) -> bool {
     false
 }
 
-// Half of the ports of a switch in the greatest fat tree of at most so many, and at least 1.
+// Half of the ports of a switch in the greatest fat tree of at most this many, and at least 1.
 fn half_of(routers: usize) -> usize {
     (routers / 5).isqrt().max(1)
 }

@@ -2,7 +2,7 @@
 use forwarding_loops::PrefixRoute;
 use words::{Route, RouteKind};
 
-/// The cost where there is no way.
+/// The cost if there is no way.
 pub const NO_COST: u32 = 0xffff_ffff;
 
 /// There is no way.
@@ -26,7 +26,7 @@ pub fn way_of(route: &Route) -> PrefixRoute {
     }
 }
 
-/// The way at this place; none, where there is none.
+/// The way at this place, or `NONE`.
 pub fn way_at(ways: &[PrefixRoute], place: usize) -> PrefixRoute {
     if place < ways.len() {
         ways[place]

@@ -17,7 +17,8 @@ pub struct Coming {
     due: u64,
 }
 
-/// The links, and what is under way over them. What is refused for want of memory is left out.
+/// The links, and what is under way over them. If memory is refused for something, that is left
+/// out.
 #[derive(Drop)]
 pub struct Wires<'a> {
     pub topology: &'a Topology,
@@ -54,7 +55,7 @@ impl<'a> Wires<'a> {
         }
     }
 
-    /// Tells whether the link is up.
+    /// Whether the link is up.
     pub fn is_up(&self, link: usize) -> bool {
         link < self.is_up.len() && self.is_up[link]
     }
@@ -66,7 +67,7 @@ impl<'a> Wires<'a> {
         }
     }
 
-    /// Adds the links that are up. False where memory is refused.
+    /// Adds the links that are up. Returns whether memory was enough.
     pub fn add_links_up(&self, up: &mut Vec<LinkEnds>) -> bool {
         let links = self.topology.links.as_slice();
         let mut fits = true;
@@ -78,7 +79,7 @@ impl<'a> Wires<'a> {
         fits
     }
 
-    // The event is under way. Where it is due, it comes with the next round.
+    // The event is under way. If it is due, it comes with the next round.
     fn put(&mut self, coming: Coming) {
         let list = if coming.due <= self.moment {
             &mut self.next
@@ -140,7 +141,7 @@ impl<'a> Wires<'a> {
         }
     }
 
-    /// The router at the place sends all of this. Tells whether a Link State Update is among it.
+    /// The router at the place sends these packets. Returns whether one is a Link State Update.
     pub fn send_all(&mut self, place: usize, outs: Vec<Out>) -> bool {
         let mut updates = false;
         for out in outs {
@@ -164,7 +165,7 @@ impl<'a> Wires<'a> {
         replace(&mut self.next, Vec::new(self.alloc))
     }
 
-    /// Tells whether nothing comes with the next round.
+    /// Whether nothing comes with the next round.
     pub fn is_quiet(&self) -> bool {
         self.next.is_empty()
     }

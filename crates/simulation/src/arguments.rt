@@ -289,7 +289,7 @@ fn playing<'a>(alloc: Global) -> Result<Command<'a>, AllocError> {
 /// The whole command line.
 ///
 /// # Errors
-/// Where memory is refused.
+/// `AllocError` if an allocation is refused.
 pub fn whole<'a>(alloc: Global) -> Result<Command<'a>, AllocError> {
     let with_run = with_command(alloc, without_commands(alloc), &RUN)?;
     let with_search = with_command(alloc, with_run, &SEARCH)?;
@@ -302,7 +302,7 @@ fn error(alloc: Global, kind: ErrorKind, text: &str) -> Result<Error, AllocError
     whole(alloc)?.error(kind, text)
 }
 
-// An error about the words, or want of memory.
+// An error about the words, or that memory was refused.
 fn error_of(alloc: Global, kind: ErrorKind, text: &str) -> Error
     ensures { (kind_of result ≡ ErrorKind.OutOfMemory) ⊎ (kind_of result ≡ kind) }
 {
@@ -312,7 +312,7 @@ fn error_of(alloc: Global, kind: ErrorKind, text: &str) -> Error
     }
 }
 
-// An error about a wrong word, or want of memory.
+// An error about a wrong word, or that memory was refused.
 fn wrong_value(alloc: Global, text: &str) -> Error
     ensures { (kind_of result ≡ ErrorKind.OutOfMemory)
         ⊎ (kind_of result ≡ ErrorKind.InvalidValue) }
@@ -327,7 +327,7 @@ fn out_of_range(alloc: Global, name: &str, least: u64, most: u64) -> Error {
     }
 }
 
-/// The text for words that are wrong, or want of memory.
+/// The text for words that are wrong, or that memory was refused.
 pub fn told(alloc: Global, wrong: Wrong) -> Error {
     match wrong {
         Wrong::Command => error_of(alloc, ErrorKind::MissingSubcommand, "no command is given"),

@@ -1,4 +1,4 @@
-//! `simulation`: networks of many routers in memory. It plays scenarios and tells how long they
+//! `simulation`: networks of many routers in memory. It plays scenarios, measures how long they
 //! take to settle and how often packets go round meanwhile, and searches for histories that end
 //! with Full neighbors whose databases differ. It also plays what happens at one router, from a
 //! file or line by line.

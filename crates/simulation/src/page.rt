@@ -18,10 +18,10 @@ impl<O: Write> Page<O> {
         }
     }
 
-    /// Nothing, where all could be written.
+    /// Whether all could be written.
     ///
     /// # Errors
-    /// Where it couldn't.
+    /// The first error of the writer.
     pub fn written(&self) -> io::Result<()> {
         self.written
     }

@@ -25,7 +25,7 @@ fn end<O: Write>(output: &mut O, text: &str, status: u8) -> u8 {
     }
 }
 
-// Tells why a script ended, and answers the status.
+// Prints why a script ended. Returns the status.
 fn end_early<O: Write>(output: &mut O, error: ScriptError) -> u8 {
     let status = match error {
         ScriptError::Line(_) => FOUND,
@@ -46,8 +46,8 @@ fn play_text<R: AllocGlobal + Wait, O: Write>(rt: &R, text: &str, output: &mut O
     }
 }
 
-/// Plays the lines of the standard input as they come, prints at once what each tells, and answers
-/// the status, as `play_file` does.
+/// Plays the lines of the standard input as they come, and prints at once what each of them makes.
+/// Returns the status, as `play_file` does.
 pub fn play_input<R: Input + AllocGlobal + Wait, O: Write>(rt: &R, output: &mut O) -> u8 {
     let Ok(input) = BufReader::new(rt.alloc(), rt.reader()) else {
         return end(output, "out of memory\n", MEMORY);
@@ -64,8 +64,8 @@ fn end_unread<O: Write>(output: &mut O, path: &str) -> u8 {
     OUTSIDE
 }
 
-/// Plays the script of this file, prints what goes out and what is shown, and answers the status: 1
-/// where a line says nothing, 3 where the file or the output failed, 4 where memory was refused.
+/// Plays the script of this file, and prints what goes out and what is shown. Returns the status: 1
+/// if a line says nothing, 3 if the file or the output failed, 4 if memory was refused.
 pub fn play_file<R: Files + AllocGlobal + Wait, O: Write>(
     rt: &R,
     path: &str,

@@ -10,7 +10,7 @@ use std::alloc::Global;
 use std::io::{self, ErrorKind, Write};
 use std::sync::Wait;
 
-// The text of a fault goes to the second writer where it is clap's, and else to the first.
+// Prints the error: clap's texts to `errors`, all others to `output`.
 fn tell<O: Write, E: Write>(fault: &SimulationError, output: &mut O, errors: &mut E) -> u8
     ensures told { Tells fault.now (O.contents output.old) (O.contents output.new)
         (E.contents errors.old) (E.contents errors.new) result }
@@ -26,7 +26,7 @@ fn tell<O: Write, E: Write>(fault: &SimulationError, output: &mut O, errors: &mu
     }
 }
 
-// Answers the status of what was played, or tells what its fault is.
+// Returns the status of what was played, or prints its error.
 fn end<O: Write, E: Write>(
     outcome: Result<u8, SimulationError>,
     output: &mut O,
@@ -43,8 +43,8 @@ fn end<O: Write, E: Write>(
     }
 }
 
-/// Tells that the words can't be read, and answers the status: 4 where memory was refused, 2 where
-/// a word isn't UTF-8, and 3 where that can't be told.
+/// Prints that the words can't be read. Returns the status: 4 if memory was refused, 2 if a word
+/// isn't UTF-8, 3 if nothing can be printed.
 pub fn end_without_words<O: Write, E: Write>(
     alloc: Global,
     error: &io::Error,
@@ -58,11 +58,10 @@ pub fn end_without_words<O: Write, E: Write>(
     tell(&fault, output, errors)
 }
 
-/// Carries out what the words ask for (the first is the program's name), and answers the status: 0
-/// all is at rest or nothing was found, 1 not so, 2 usage, 3 the output failed, 4 memory was
-/// refused.
+/// Carries out what the words ask for (the first is the program's name). Returns the status: 0 all
+/// is at rest or nothing was found, 1 not so, 2 usage, 3 the output failed, 4 memory was refused.
 ///
-/// What is played is told to `output`; the texts about usage go to `errors`.
+/// What is played is printed to `output`; the texts about usage go to `errors`.
 pub fn program<R: Wait + Drop + Copy, O: Write, E: Write>(
     alloc: Global,
     rt: R,

@@ -28,10 +28,10 @@ pub enum Wrong {
     },
 }
 
-/// The number under a name, or the usual one where there is none.
+/// The number under a name, or the usual one if there is none.
 ///
 /// # Errors
-/// Where the word is no number from `least` to `most`.
+/// `Number` if the word is no number from `least` to `most`.
 pub fn number_of(
     matches: &ArgMatches<'_>,
     name: &'static str,
@@ -54,7 +54,7 @@ pub fn number_of(
 /// The same, below 2^32.
 ///
 /// # Errors
-/// Where the word is no number from `least` to `most`.
+/// `Number` if the word is no number from `least` to `most`.
 pub fn small_of(
     matches: &ArgMatches<'_>,
     name: &'static str,
@@ -78,7 +78,7 @@ pub fn small_of(
 /// The shape under `topology`.
 ///
 /// # Errors
-/// Where there is no such shape.
+/// `Topology` if there is no such shape.
 pub fn topology_in(matches: &ArgMatches<'_>) -> Result<TopologyShape, Wrong>
     ensures { IfOk result (λ kind. OrElse (first_value (found_of matches.now) (codes "topology"))
         (kind ≡ TopologyShape.Grid) (λ word. word ≡ topology_word kind)) }
@@ -95,7 +95,7 @@ pub fn topology_in(matches: &ArgMatches<'_>) -> Result<TopologyShape, Wrong>
 /// The scenario under `scenario`.
 ///
 /// # Errors
-/// Where there is no such scenario.
+/// `Scenario` if there is no such scenario.
 pub fn scenario_in(matches: &ArgMatches<'_>) -> Result<Scenario, Wrong>
     ensures { IfOk result (λ s. OrElse (first_value (found_of matches.now) (codes "scenario"))
         (s ≡ Scenario.Start) (λ word. word ≡ scenario_word s)) }
@@ -125,7 +125,7 @@ impl<'m, 'a> Reader<'m, 'a> {
         }
     }
 
-    // The value that was read, or this one where the word is wrong.
+    // The value that was read, or this one if the word is wrong.
     fn kept<T: Copy>(&mut self, read: Result<T, Wrong>, other: T) -> T {
         match read {
             Ok(value) => value,
@@ -136,13 +136,13 @@ impl<'m, 'a> Reader<'m, 'a> {
         }
     }
 
-    /// As `number_of`; the usual number where the word is wrong.
+    /// As `number_of`; the usual number if the word is wrong.
     pub fn number(&mut self, name: &'static str, usual: u64, least: u64, most: u64) -> u64 {
         let read = number_of(self.matches, name, usual, least, most);
         self.kept(read, usual)
     }
 
-    /// As `small_of`; the usual number where the word is wrong.
+    /// As `small_of`; the usual number if the word is wrong.
     pub fn small(&mut self, name: &'static str, usual: u32, least: u32, most: u32) -> u32 {
         let read = small_of(self.matches, name, usual, least, most);
         self.kept(read, usual)
@@ -189,7 +189,7 @@ impl<'m, 'a> Reader<'m, 'a> {
     /// What was made of the words.
     ///
     /// # Errors
-    /// Where a word is wrong: what is wrong with the first one.
+    /// What is wrong with the first wrong word.
     pub fn ends_with<T: Copy>(&self, made: T) -> Result<T, Wrong> {
         match self.wrong {
             None => Ok(made),

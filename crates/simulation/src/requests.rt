@@ -6,7 +6,7 @@ use simulated_histories::{ScenarioPlan, Search, Sought};
 use simulated_networks::TopologyShape;
 use std::alloc::Global;
 
-/// A search for histories of so many seeds from the first one on, and the network that is searched.
+/// A search for histories of `seeds` seeds from `seed` on, and the network that is searched.
 #[derive(Clone, Copy)]
 pub struct SearchRequest {
     pub search: Search,
@@ -19,7 +19,7 @@ pub struct SearchRequest {
 /// A request.
 #[derive(Clone, Copy)]
 pub enum SimulationRequest {
-    /// Play a scenario for so many seeds from the plan's own on.
+    /// Play a scenario for `seeds` seeds from the plan's own on.
     Run {
         plan: ScenarioPlan,
         seeds: u64,
@@ -143,8 +143,8 @@ fn request_of(alloc: Global, matches: &ArgMatches<'_>) -> Result<SimulationReque
 /// Reads the words of a command line, of which the first is the program's name.
 ///
 /// # Errors
-/// Where the words are wrong or ask for help, with the text for the user; and where memory is
-/// refused.
+/// The text for the user if the words are wrong or ask for help. Its kind is `OutOfMemory` if an
+/// allocation was refused.
 pub fn parse(alloc: Global, words: &[String]) -> Result<SimulationRequest, Error> {
     let matches = whole(alloc)?.try_get_matches_from(words)?;
     request_of(alloc, &matches)

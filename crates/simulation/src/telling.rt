@@ -61,7 +61,7 @@ fn tell_seen<O: Write>(page: &mut Page<O>, seen: &TableFaults) {
     page.fill(SEEN, &numbers);
 }
 
-// What was seen last, where that isn't rest.
+// What was seen last, if that isn't rest.
 fn tell_unrest<O: Write>(page: &mut Page<O>, look: &Look) {
     page.fill("not at rest: not full {}", &[look.not_full as u64]);
     if let Some(differ) = look.differ {
@@ -83,7 +83,7 @@ fn tell_rest<O: Write>(page: &mut Page<O>, outcome: &Outcome) {
     }
 }
 
-/// Tells what came of a plan for one seed.
+/// Prints what came of a plan for one seed.
 pub fn tell_run<O: Write>(page: &mut Page<O>, plan: &ScenarioPlan, outcome: &Outcome) {
     let numbers = [
         plan.seed,
@@ -123,7 +123,7 @@ fn tell_act<O: Write>(page: &mut Page<O>, act: HistoryStep) {
     page.fill(line, &numbers);
 }
 
-/// Tells of a history that was found.
+/// Prints a history that was found.
 pub fn tell_history<O: Write>(page: &mut Page<O>, seed: u64, acts: &[HistoryStep]) {
     page.fill("seed {}: {} acts\n", &[seed, acts.len() as u64]);
     for act in acts {

@@ -14,7 +14,7 @@ use std::alloc::{AllocError, Global};
 use std::io::Write;
 use std::sync::Wait;
 
-// Tells what came of the plan.
+// Prints what came of the plan.
 fn tell<O: Write>(page: &mut Page<O>, plan: &ScenarioPlan, outcome: &Outcome, json: bool) {
     if json {
         write_run(page, plan, outcome);
@@ -23,7 +23,7 @@ fn tell<O: Write>(page: &mut Page<O>, plan: &ScenarioPlan, outcome: &Outcome, js
     }
 }
 
-// Plays the plan once, and tells of it. Answers whether all is at rest at the end.
+// Plays the plan once, and prints what came of it. Returns whether all is at rest at the end.
 fn play_one<O: Write>(
     alloc: Global,
     plan: &ScenarioPlan,
@@ -36,7 +36,7 @@ fn play_one<O: Write>(
     Ok(outcome.is_at_rest())
 }
 
-// Plays the plan for so many seeds from its own on, as long as that can be told.
+// Plays the plan for `seeds` seeds from its own on, as long as its outcomes can be printed.
 fn play_all<O: Write>(
     alloc: Global,
     first: ScenarioPlan,
@@ -64,7 +64,7 @@ fn play_all<O: Write>(
     Ok(if well == seeds { DONE } else { FOUND })
 }
 
-// Searches for the history of this seed, and tells of it. Answers whether it was found.
+// Searches for the history of this seed, and prints it. Returns whether it was found.
 fn search_one<O: Write>(
     search: &Search,
     stage: HistorySetting<'_>,
@@ -78,7 +78,7 @@ fn search_one<O: Write>(
     Ok(true)
 }
 
-// Searches among so many seeds from the first one on, as long as that can be told.
+// Searches among these seeds (the first, and how many) as long as the histories can be printed.
 fn search_all<O: Write>(
     search: &Search,
     stage: HistorySetting<'_>,
@@ -106,7 +106,7 @@ fn topology_of(alloc: Global, asked: &SearchRequest) -> Result<Topology, AllocEr
     Topology::new(alloc, &mut random, asked.topology, routers, asked.spread)
 }
 
-// Searches in a network of this shape, where these destinations may be announced.
+// Searches in a network of this shape, in which these destinations may be announced.
 fn search_in<O: Write>(
     alloc: Global,
     asked: &SearchRequest,
@@ -155,10 +155,11 @@ fn play_and_tell<O: Write>(
     Ok(verdict)
 }
 
-/// Carries out what the words ask for (the first is the program's name), and answers the status.
+/// Carries out what the words ask for (the first is the program's name). Returns the status.
 ///
 /// # Errors
-/// Where the words are wrong, the output can't be written, or memory is refused.
+/// `Usage` if the words are wrong, `Times` if the times aren't allowed, `Output` if nothing can be
+/// written, `Memory` if an allocation is refused.
 pub fn carry_out<R: Wait + Drop + Copy, O: Write>(
     alloc: Global,
     rt: R,

@@ -56,7 +56,7 @@ fn is_lost(error: &io::Error) -> bool
 ///
 /// # Errors
 ///
-/// `LinkFault` where the error says that the socket is of no use.
+/// `LinkFault` if the error says that the socket is of no use.
 pub fn sent(outcome: io::Result<usize>) -> Result<bool, LinkFault>
     ensures went { IfOk outcome (λ _. result ≡ Ok true) }
     ensures lost { IfErr outcome (λ error. IsTrue (is_lost error) → result ≡ Ok false) }
@@ -69,12 +69,12 @@ pub fn sent(outcome: io::Result<usize>) -> Result<bool, LinkFault>
     }
 }
 
-/// The length of the datagram that came, by what a receive answered; None where none did, or where
-/// it was refused for a reason of a packet or of its way.
+/// The length of the datagram that came, by what a receive answered; `None` if none did, or it was
+/// refused for a reason of a packet or of its way.
 ///
 /// # Errors
 ///
-/// `LinkFault` where the error says that the socket is of no use.
+/// `LinkFault` if the error says that the socket is of no use.
 pub fn came(outcome: io::Result<usize>) -> Result<Option<usize>, LinkFault>
     ensures length { IfOk outcome (λ length. result ≡ Ok (Some length)) }
     ensures none { IfErr outcome (λ error. IsTrue (is_passing error) → result ≡ Ok None) }

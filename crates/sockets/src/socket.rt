@@ -24,8 +24,8 @@ pub trait DatagramSocket {
     fn send(&self, bytes: &[u8], port: u16) -> io::Result<usize>
         ensures { takes self.now port bytes.now };
 
-    /// Puts a datagram that is there at the buffer's front, and tells its length. One that is
-    /// longer than the buffer is cut.
+    /// Puts a datagram that is there at the buffer's front. Returns its length. One that is longer
+    /// than the buffer is cut.
     fn receive(&self, buffer: &mut [u8; 8193]) -> io::Result<usize>
         ensures length { IfOk result (λ n. n ≤ 8193) }
         ensures handed { IfOk result (λ n. hands self.now (take n buffer.new)) }

@@ -1,6 +1,7 @@
 //! A worker's link over the sockets of all interfaces: any worker sends at each of them, its own
 //! worker alone receives.
-ghost use Rattle.std.specs.Prelude.{◌≡◌, ◌<◌, ◌≤◌, All, IfNone, IfOk, IfSome, OnOk, length, map, take};
+ghost use Rattle.std.specs.Prelude.{◌≡◌, ◌<◌, ◌≤◌, All, IfNone, IfOk, IfSome, OnOk};
+ghost use Rattle.std.specs.Prelude.{length, map, take};
 ghost use Rattle.std.specs.Prelude.{nat_lt, vec_len};
 ghost use Rattle.links.specs.Descending.{CountDownTo};
 ghost use Rattle.sockets.specs.Ends.{has_failed};
@@ -47,8 +48,8 @@ impl LinkEnd {
 
 impl<'a, S, E> Sockets<'a, S, E> {
     /// The link of the worker at the interface of this number, which waits at that interface's
-    /// socket. `Wait` where the socket can't be waited at, or there is none of this number;
-    /// `Memory` where memory was refused.
+    /// socket. `Wait` if the socket can't be waited at, or there is none of this number; `Memory`
+    /// if memory was refused.
     #[tactic(auto, using(crate::proofs::Silent::listening_at))]
     pub fn of_interface_with<P: ListensAt<S, E>>(
         poller: &P,
@@ -78,7 +79,7 @@ impl<'a, S, E> Sockets<'a, S, E> {
 }
 
 impl<'a> Sockets<'a> {
-    /// Lets the link go.
+    /// The end of the link.
     pub fn end(self) -> LinkEnd
         ensures { has_failed result ≡ nat_lt 0 self.entry.faults }
     {
@@ -114,8 +115,8 @@ impl<'a, S> Sockets<'a, S> {
 ///
 /// # Errors
 ///
-/// `Wait` where a socket can't be waited at, or there are more than 65,535; `Memory` where memory
-/// was refused.
+/// `Wait` if a socket can't be waited at, or there are more than 65,535; `Memory` if memory was
+/// refused.
 pub fn listening_with<'x, S, E: Drop, P: ListensAt<S, E>>(
     poller: &P,
     alloc: Global,
@@ -182,7 +183,7 @@ fn wait<E: Waits>(ear: &mut Option<E>) -> Result<(), LinkFault>
 }
 
 /// A datagram that is there, or that comes within a second. The poll is edge-triggered: it needn't
-/// tell of a datagram that was left before, so the socket is read first.
+/// report a datagram that was left before, so the socket is read first.
 fn hear<S: DatagramSocket, E: Waits>(
     wire: &Wire<S>,
     ear: &mut Option<E>,

@@ -17,7 +17,7 @@ use std::time::Duration;
 pub trait Waits {
     ghost waited: { Self → (seconds : ℕ) → Self → Type 0 };
 
-    /// Waits until a datagram may be there, but no longer than so many seconds. A signal may end it
+    /// Waits until a datagram may be there, but no longer than `seconds`. A signal may end it
     /// earlier.
     fn wait(&mut self, seconds: u64) -> io::Result<()>
         ensures { OnOk result (waited self.old seconds self.new) };

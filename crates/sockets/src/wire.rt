@@ -43,7 +43,7 @@ pub trait BindsSockets<S> {
 
     ghost refused: { (port : ℕ) → Type 0 };
 
-    /// A socket at this port; None where that can't be had.
+    /// A socket at this port; `None` if that can't be had.
     fn bind(&self, port: u16) -> Option<S>
         ensures bound { IfSome result (λ socket. bound socket port) }
         ensures refused { IfNone result (refused port) };
@@ -85,7 +85,7 @@ fn bound<S: Drop, B: BindsSockets<S>>(
 ///
 /// # Errors
 ///
-/// `Bind` with the first port that can't be had; `Memory` where an allocation was refused.
+/// `Bind` with the first port that can't be had; `Memory` if an allocation was refused.
 #[tactic(auto, using(crate::proofs::Refused::refused_at, crate::proofs::Binding::all_bound))]
 pub fn bind_each_with<S: Drop, B: BindsSockets<S>>(
     binder: &B,

@@ -9,7 +9,7 @@ use std::test::Fail;
 use std::thread::Threads;
 use std::{fs, io, str};
 
-// Takes so many bytes and then fails.
+// Takes the `left` bytes and then fails.
 #[derive(Drop)]
 struct Failing {
     left: usize,
@@ -30,7 +30,7 @@ impl io::Write for Failing {
     }
 }
 
-// The status where the output takes so many bytes, and the errors' writer so many.
+// The status if the output takes this many bytes, and the errors' writer that many.
 fn status_with<R: Files + AllocGlobal + Threads + Sync>(
     rt: &R,
     words: &[&str],
@@ -63,8 +63,8 @@ fn ends_with<R: Files + AllocGlobal + Threads + Sync>(
     status == wanted
 }
 
-// The words have a text of so many bytes to print, as usage or as lines: whether they end with 3
-// where the writer takes fewer, and with this status where it takes all.
+// The words have a text of this length to print, as usage or as lines: whether they end with 3 if
+// the writer takes fewer bytes, and with this status if it takes all.
 fn fails_below<R: Files + AllocGlobal + Threads + Sync>(
     rt: &R,
     words: &[&str],
@@ -118,7 +118,7 @@ fn without_words(alloc: Global, cause: io::ErrorKind) -> Outcome {
     }
 }
 
-// What is printed where the words can't be read for this cause, which is to end with this status. An
+// What is printed if the words can't be read for this cause, which is to end with this status. An
 // allocation may be refused once.
 fn told_without_words(alloc: Global, cause: io::ErrorKind, status: u8) -> Outcome {
     let outcome = without_words(alloc, cause);
@@ -146,7 +146,7 @@ fn words_that_cant_be_read_are_told(rt: HostRuntime) {
     assert!(rt; outcome.is(4, b"out of memory\n"));
 }
 
-// The status where want of memory is told to a writer that takes so many bytes.
+// The status if a writer that takes this many bytes is to print that memory was refused.
 fn status_of_want(alloc: Global, left: usize) -> u8 {
     let error = io::Error::from(io::ErrorKind::OutOfMemory);
     let mut lines = Failing { left };

@@ -109,7 +109,7 @@ fn wires<R: Net + AllocGlobal>(rt: &R, port: u16, peers: &[u16]) -> Result<Vec<W
     bind_each(rt, rt.alloc(), &interfaces)
 }
 
-// The status of a router with these sockets, or 9 where `neighbors` isn't answered by the one line
+// The status of a router with these sockets, or 9 if `neighbors` isn't answered by the one line
 // `end`.
 fn run<R: Net + Threads + Wait + Clock + Log + Files + AllocGlobal + Sync + Drop>(
     rt: &R,
@@ -175,8 +175,8 @@ fn without_interfaces(alloc: Global) -> Config {
     }
 }
 
-// Whether a router of this configuration, which is at no link, is refused before it prints; None
-// where memory was refused.
+// Whether a router of this configuration, which is at no link, is refused before it prints; `None`
+// if memory was refused.
 fn is_refused<R: Net + Threads + Wait + Clock + Log + Files + AllocGlobal + Sync + Drop>(
     rt: &R,
     config: &Config,

@@ -178,8 +178,8 @@ impl<'a, R: Wait + Clock> Read for Operator<'a, R> {
     }
 }
 
-// Runs the router of this screen, one of these. The status, or 9 where it doesn't run. An allocation
-// may be refused once: then it is run once more.
+// Runs the router of this screen, one of these. The status, or 9 if it doesn't run. If an
+// allocation is refused, it is run once more.
 fn routed<R: Net + Threads + Wait + Clock + Log + Files + AllocGlobal + Sync + Drop>(
     rt: &R,
     screens: &[Screen],

@@ -128,8 +128,8 @@ fn begins_some(line: &str, lines: &str) -> bool {
     false
 }
 
-// Whether each line is one of the other lines, or tells that memory was refused. It may be cut, where
-// that was so for what is printed.
+// Whether each line is one of the other lines, or says that memory was refused. It may be cut, if
+// memory was refused for what is printed.
 fn are_known(lines: &[u8], others: &[u8]) -> bool {
     let (Ok(lines), Ok(others)) = (str::from_utf8(lines), str::from_utf8(others)) else {
         return false;
@@ -142,8 +142,8 @@ fn are_known(lines: &[u8], others: &[u8]) -> bool {
     true
 }
 
-// Whether a router with this configuration is answered so, and ends with this status. If not, lines
-// are missing or tell that memory was refused.
+// Whether a router with this configuration answers these lines, and ends with this status. If not,
+// lines are missing or say that memory was refused.
 fn is_answered<R: Net + Threads + Wait + Clock + Log + Files + AllocGlobal + Sync + Drop + Abort>(
     rt: &R,
     configuration: &str,
@@ -211,7 +211,7 @@ fn each_line_is_answered(rt: HostRuntime) -> Result<(), Fail> {
 const LONG: &str = "router 1.1.1.1\n\
         interface 1 10.0.1.1/24 cost 10 hello 10 dead 40 rxmt 5 delay 1 port 27109 peer 27110\n";
 
-// A line of so many letters, and `table`.
+// A line of `length` letters, and `table`.
 fn long_line(alloc: Global, length: usize) -> Result<Vec<u8>, AllocError> {
     let mut lines = Vec::new(alloc);
     for _letter in 0..length {
