@@ -1,8 +1,8 @@
 //! What is printed for programs: an object of JSON on one line.
 use crate::names::{scenario_word, topology_word};
+use crate::numbers::{numbers_of_counts, numbers_of_faults};
 use crate::page::Page;
 use simulated_histories::{Look, Outcome, Phase, ScenarioPlan};
-use simulated_networks::{Counts, TableFaults};
 use std::io::Write;
 
 const PLAN: &str = concat!(
@@ -17,17 +17,6 @@ const COUNTS: &str = concat!(
 
 const SEEN: &str = r#","looping":{},"nowhere":{},"missing":{},"other_cost":{},"stray":{}"#;
 
-fn write_seen<O: Write>(page: &mut Page<O>, seen: &TableFaults) {
-    let numbers = [
-        seen.looping,
-        seen.nowhere,
-        seen.missing,
-        seen.other_cost,
-        seen.stray,
-    ];
-    page.fill(SEEN, &numbers);
-}
-
 fn write_look<O: Write>(page: &mut Page<O>, look: &Look) {
     let numbers = [look.second, look.not_full as u64];
     page.fill(r#"{"second":{},"not_full":{}"#, &numbers);
@@ -35,7 +24,7 @@ fn write_look<O: Write>(page: &mut Page<O>, look: &Look) {
         page.fill(r#","differ":{}"#, &[differ as u64]);
     }
     if let Some(seen) = look.seen {
-        write_seen(page, &seen);
+        page.fill(SEEN, &numbers_of_faults(&seen));
     }
     page.text("}");
 }
@@ -55,20 +44,6 @@ fn write_phase<O: Write>(page: &mut Page<O>, name: &str, phase: &Phase) {
     page.fill(r#"{},"settled":{},"seconds":{},"looks":["#, &numbers);
     write_looks(page, &phase.looks);
     page.text("]}");
-}
-
-fn write_counts<O: Write>(page: &mut Page<O>, counts: &Counts, walks: u64) {
-    let numbers = [
-        counts.events,
-        counts.refused,
-        walks,
-        counts.packets,
-        counts.bytes,
-        counts.lost,
-        counts.copies,
-        counts.most_under_way,
-    ];
-    page.fill(COUNTS, &numbers);
 }
 
 // The network that is played, and what may become of packets.
@@ -94,7 +69,7 @@ fn write_outcome<O: Write>(page: &mut Page<O>, outcome: &Outcome) {
     let numbers = [outcome.routers, outcome.links, outcome.lsas];
     page.fill(r#","routers":{},"links":{},"lsas":{}"#, &numbers);
     page.fill(r#","at_rest":{}"#, &[outcome.is_at_rest()]);
-    write_counts(page, &outcome.counts, outcome.walks);
+    page.fill(COUNTS, &numbers_of_counts(&outcome.counts, outcome.walks));
 }
 
 /// Writes what came of a plan for one seed.

@@ -8,6 +8,7 @@ mod arguments;
 mod fault;
 mod json;
 mod names;
+mod numbers;
 mod page;
 mod play;
 mod program;

@@ -1,8 +1,8 @@
 //! What is printed for people.
 use crate::names::scenario_word;
+use crate::numbers::{numbers_of_counts, numbers_of_faults};
 use crate::page::Page;
 use simulated_histories::{HistoryStep, Look, Outcome, Phase, Scenario, ScenarioPlan};
-use simulated_networks::{Counts, TableFaults};
 use std::io::Write;
 
 const PHASE: &str = "\
@@ -36,31 +36,6 @@ fn tell_phase<O: Write>(page: &mut Page<O>, name: &str, phase: &Phase) {
     page.fill(PHASE, &numbers);
 }
 
-fn tell_counts<O: Write>(page: &mut Page<O>, counts: &Counts, walks: u64) {
-    let numbers = [
-        counts.events,
-        counts.refused,
-        walks,
-        counts.packets,
-        counts.bytes,
-        counts.lost,
-        counts.copies,
-        counts.most_under_way,
-    ];
-    page.fill(COUNTS, &numbers);
-}
-
-fn tell_seen<O: Write>(page: &mut Page<O>, seen: &TableFaults) {
-    let numbers = [
-        seen.looping,
-        seen.nowhere,
-        seen.missing,
-        seen.other_cost,
-        seen.stray,
-    ];
-    page.fill(SEEN, &numbers);
-}
-
 // What was seen last, if that isn't rest.
 fn tell_unrest<O: Write>(page: &mut Page<O>, look: &Look) {
     page.fill("not at rest: not full {}", &[look.not_full as u64]);
@@ -68,7 +43,7 @@ fn tell_unrest<O: Write>(page: &mut Page<O>, look: &Look) {
         page.fill(", databases differ {}", &[differ as u64]);
     }
     if let Some(seen) = look.seen {
-        tell_seen(page, &seen);
+        page.fill(SEEN, &numbers_of_faults(&seen));
     }
     page.text("\n");
 }
@@ -96,7 +71,7 @@ pub fn tell_run<O: Write>(page: &mut Page<O>, plan: &ScenarioPlan, outcome: &Out
     if plan.scenario != Scenario::Start {
         tell_phase(page, scenario_word(plan.scenario), &outcome.change);
     }
-    tell_counts(page, &outcome.counts, outcome.walks);
+    page.fill(COUNTS, &numbers_of_counts(&outcome.counts, outcome.walks));
     tell_rest(page, outcome);
 }
 
