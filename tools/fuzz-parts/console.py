@@ -9,15 +9,17 @@ from family import Broken, CannotTry, Errors, Family, changed
 from leafrunt_host.announcements import Announcements
 from leafrunt_host.desk import Desk
 from leafrunt_host.exchange import Side
-from leafrunt_host.router import LONGEST_LINE, Router, RouterGone
+from leafrunt_host.router import LISTS, LONGEST_LINE, Router, RouterGone
 from leafrunt_host.server import Asked
 from leafrunt_host.topology import Topology
+from leafrunt_host.words import ROUTERD_WORDS
 from tests.test_desk import known
 from tests.test_topology import external, router_lsa, update
 
 DESK = 1
 """The first byte of a line for the box; 0 is for the router itself."""
-WORDS = "attach detach add withdraw table neighbors counters status interfaces announced programs database map log capture".split()
+WORDS = [each.partition(" ")[0] for each in ROUTERD_WORDS]
+WORDS += "status interfaces announced programs database map log capture".split()
 LATER = "count tag price veto json off -1 0 1 2 20 16777214 16777215 4294967295 4294967296 10.0.0.0/8 0.0.0.0/0 203.0.113.0/24".split()
 LATER += "203.0.113.1/24 255.255.255.255/32 1.1.1.1 300.1.1.1 /dev/null /dev/full / . /proc/self/mem nowhere \0 \x1b[2J \u20ac".split(" ")
 FORMS = {
@@ -30,7 +32,6 @@ FORMS = {
     "neighbors": r"(neighbor [0-9]+ [0-9.]+ (Init|ExStart|Exchange|Loading|Full)\n)*end",
     "counters": r"(counter [0-9]+ [0-9]+\n)*end",
 }
-LISTS = ("table", "neighbors", "counters")
 
 
 def line_of(rng: random.Random) -> str:

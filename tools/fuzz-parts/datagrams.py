@@ -9,7 +9,7 @@ import neighbor
 import packets
 from family import Broken, CannotTry, Errors, Family
 from leafrunt_host.inbox import waiting_at
-from leafrunt_host.router import Router, RouterGone
+from leafrunt_host.router import LISTS, Router, RouterGone
 
 LONGEST = 65_507
 LOOKED_EACH = 32
@@ -111,7 +111,7 @@ class Datagrams(Family):
 
     def settle(self) -> None:
         self.drain()
-        for line in ("neighbors", "table", "counters"):
+        for line in LISTS:
             self.asked(line)
         self.part()
         self.wait(GOES_DOWN, lambda lines: lines == ["end"], "still has a neighbor that is silent")
