@@ -105,12 +105,7 @@ fn bare_context(hook: Hook) -> [u8; 64]
     ensures { number_of (slice_range result 0 4) ≡ hook_number hook }
 {
     let mut context = [0; 64];
-    context[0] = match hook {
-        Hook::Count => 1,
-        Hook::Tag => 2,
-        Hook::Price => 3,
-        Hook::Veto => 4,
-    };
+    context[0] = hook.number();
     context
 }
 
