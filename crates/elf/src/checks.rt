@@ -28,7 +28,7 @@ fn check_elf(bytes: &[u8]) -> Result<(), ElfFault>
     Ok(())
 }
 
-/// Tells whether the file has the class, the order of bytes and the version.
+/// Whether the file has the class, the order of bytes and the version.
 fn is_little_endian_64(bytes: &[u8]) -> bool
     requires { 64 ≤ length bytes.now }
     ensures { IsTrue result ↔ IsLittleEndian64 bytes.now }
@@ -82,7 +82,7 @@ fn check_contents(bytes: &[u8]) -> Result<(), ElfFault>
     Ok(())
 }
 
-/// Tells whether the section has whole entries of this size, and a link to one of this kind.
+/// Whether the section has whole entries of this size, and a link to one of this kind.
 fn is_table(bytes: &[u8], section: usize, size: usize, linked: SectionKind) -> bool
     requires sections { HasSections bytes.now }
     requires index { section < section_count bytes.now }
@@ -103,7 +103,7 @@ fn is_table(bytes: &[u8], section: usize, size: usize, linked: SectionKind) -> b
     section_at(bytes, link).kind == linked
 }
 
-/// Tells whether each string of the table ends.
+/// Whether each string of the table ends.
 fn is_string_table(table: &[u8]) -> bool
     ensures { IsTrue result ↔ IsStringTable table.now }
 {

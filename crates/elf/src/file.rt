@@ -73,7 +73,7 @@ impl<'a> ObjectFile<'a> {
         string_at(tables::section_names(self.bytes), name)
     }
 
-    /// The section's bytes: none where it has none in the file.
+    /// The section's bytes: none if it has none in the file.
     pub fn contents(&self, index: usize) -> &'a [u8]
         requires { index < section_count self.now }
         ensures { result.now ≡ contents_of self.now index }

@@ -27,7 +27,7 @@ pub(crate) fn xword(bytes: &[u8], at: usize) -> u64
     u64::from(word(bytes, at)) + 0x1_0000_0000 * u64::from(word(bytes, at + 4))
 }
 
-/// The bytes in front of the first null byte; all of them where there is none.
+/// The bytes in front of the first null byte; all of them if there is none.
 fn first_string(bytes: &[u8]) -> &[u8]
     ensures { result.now ≡ before_first (λ byte. byte == 0) bytes.now }
 {

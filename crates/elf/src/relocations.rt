@@ -9,7 +9,7 @@ use crate::section::{Section, SectionKind};
 use crate::tables::{contents_of, section_at, section_count};
 use std::alloc::{AllocError, Global};
 
-/// Tells whether these are relocations of the section.
+/// Whether these are relocations of the section.
 fn changes(header: Section, section: usize) -> bool
     ensures { result ≡ changes header section }
 {

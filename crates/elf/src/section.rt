@@ -66,7 +66,7 @@ pub struct Section {
 impl Section {
     ghost use Rattle.elf.specs.Entries.{is_code};
 
-    /// Tells whether the section has instructions (SHF_EXECINSTR).
+    /// Whether the section has instructions (SHF_EXECINSTR).
     pub fn is_code(&self) -> bool
         ensures { result ≡ is_code self.now }
     {

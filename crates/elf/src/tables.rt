@@ -22,7 +22,7 @@ pub(crate) fn section_at(bytes: &[u8], index: usize) -> Section
     section_header(bytes, xword(bytes, 40) as usize + 64 * index)
 }
 
-/// Tells whether the section's bytes lie in the file.
+/// Whether the section's bytes lie in the file.
 pub(crate) fn is_in_file(bytes: &[u8], section: Section) -> bool
     ensures { IsTrue result ↔ InFile bytes.now section }
 {
