@@ -31,7 +31,7 @@ use Rattle.asm_lines.specs.declared.line.Range.{Range}
 use Rattle.asm_lines.specs.declared.line.RegisterContent.TheVariants as contents
 use Rattle.asm_words.specs.Numbers.{number_of, distance_of}
 use Rattle.asm_words.specs.Words.{hook_word, operation_word, test_word, load_word, store_word}
-use Rattle.asm_words.specs.Words.{reorder_word, register_word, register_table, register_of, test_of}
+use Rattle.asm_words.specs.Words.{reorder_word, register_word, register_table, register_of}
 use Rattle.asm_words.specs.Words.{extension_word, extension_width, Word}
 use Rattle.asm_lines.specs.Forms.{Exactly, Number, Definition, Matches, Spells, the_register}
 use Rattle.asm_lines.specs.Forms.{the_operand, the_target, the_slot, is_label, IsOperand}

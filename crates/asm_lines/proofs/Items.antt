@@ -1,11 +1,13 @@
 -- Lines and names that grow together.
 use Rattle.std.proofs.Common.{◌≡◌, ℕ, List, [], ◌∷◌, ◌++◌, length, Option, None, refl, ap, arith}
-use Rattle.std.proofs.Common.{sym, subst}
-use Rattle.std.specs.Prelude.{map, filter, Bool, true, false}
+use Rattle.std.proofs.Common.{sym, subst, ◌∙◌, Some}
+use Rattle.std.specs.Prelude.{map, filter, Bool, true, false, option_map, IfSome}
 use denote.Ref.{Bor}
 use Rattle.asm_lines.specs.declared.line.AssemblyLine.{AssemblyLine}
+use Rattle.asm_lines.specs.declared.line.Item.{Item}
 use Rattle.asm_words.specs.Words.{Word}
-use Rattle.asm_lines.specs.Views.{views, item, items}
+use Rattle.asm_lines.specs.Forms.{Spells}
+use Rattle.asm_lines.specs.Views.{views, item, item_view, items, SpellsItem}
 use Rattle.asm_lines.specs.Text.{words_in, Reads, Readings, AddsReading}
 use Rattle.asm_lines.specs.Reading.{line_of}
 use Rattle.asm_lines.proofs.Complete.{complete}
@@ -60,6 +62,14 @@ adds_readings ls old new l h a = subst
 
 pub no_reading : (words : List Word) → None ≡ line_of words → Reads words None
 no_reading words e line name s = absurd (cc (complete words line name s))
+
+-- what was found in words spells what they read as
+pub reads_found : (words ws : List Word) (found : Option Item) → words ≡ ws
+    → option_map item_view found ≡ line_of words → IfSome found (SpellsItem words)
+    → Reads ws (option_map item_view found)
+reads_found words ws (Some item) e value spells =
+    subst (λ (all : List Word). Spells all item.line item.name.now) e spells
+reads_found words ws None e value spells = no_reading ws (value ∙ ap line_of e)
 
 pub adds : (lines more_lines : List (Option AssemblyLine)) (names more_names : List (Bor Word))
     (words : List Word) (l : Option AssemblyLine) (n : Bor Word) → length lines ≡ length names

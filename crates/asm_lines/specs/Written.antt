@@ -1,5 +1,5 @@
 -- How a line is written: a word for each part of its form, separated by single spaces.
-use Rattle.std.specs.Prelude.{◌≡◌, ℕ, ◌+◌, List, [], ◌∷◌, ◌++◌, map, Option, Some, Bool, true}
+use Rattle.std.specs.Prelude.{◌≡◌, ℕ, ◌+◌, List, [], ◌∷◌, ◌++◌, map, Option, Some, true}
 use Rattle.std.specs.Prelude.{false, codes}
 use Rattle.std.specs.Fmt.{decimal}
 use Rattle.asm_words.specs.declared.numeral.Numeral.{Numeral}

@@ -5,28 +5,28 @@ use isa::{
 };
 
 /// The second operand of an instruction, as a line writes it.
-#[derive(Clone, Copy, PartialEq, Eq, Debug)]
+#[derive(Clone, Copy)]
 pub enum Operand {
     Register(Register),
     Number(Numeral),
 }
 
 /// Where a jump goes, or which slot a statement is for: a number, or the label that the line names.
-#[derive(Clone, Copy, PartialEq, Eq, Debug)]
+#[derive(Clone, Copy)]
 pub enum LabelOrNumber {
     Number(Numeral),
     Label,
 }
 
 /// A register of a rank, with its coefficient.
-#[derive(Clone, Copy, PartialEq, Eq, Debug)]
+#[derive(Clone, Copy)]
 pub struct Term {
     pub register: Register,
     pub coefficient: Numeral,
 }
 
 /// The registers of a rank.
-#[derive(Clone, Copy, PartialEq, Eq, Debug)]
+#[derive(Clone, Copy)]
 pub enum Terms {
     None,
     One(Term),
@@ -34,7 +34,7 @@ pub enum Terms {
 }
 
 /// A set of numbers: those from `low` to `high` whose bits under `mask` are `value`.
-#[derive(Clone, Copy, PartialEq, Eq, Debug)]
+#[derive(Clone, Copy)]
 pub struct Range {
     pub low: Numeral,
     pub high: Numeral,
@@ -43,7 +43,7 @@ pub struct Range {
 }
 
 /// What a statement says of a register.
-#[derive(Clone, Copy, PartialEq, Eq, Debug)]
+#[derive(Clone, Copy)]
 pub enum RegisterContent {
     Number(Range),
     Context(Numeral),
@@ -53,7 +53,7 @@ pub enum RegisterContent {
 
 /// What a line says. Its numbers are as written, whether or not a field can hold them; the name of
 /// a label is kept beside it.
-#[derive(Clone, Copy, PartialEq, Eq, Debug)]
+#[derive(Clone, Copy)]
 pub enum AssemblyLine {
     Empty,
     Hook(Hook),
@@ -209,7 +209,7 @@ impl AssemblyLine {
 
 /// A line of a text: what it says, and the name of the label that it defines or uses, empty if
 /// there is none.
-#[derive(Clone, Copy, Debug)]
+#[derive(Clone, Copy)]
 pub(crate) struct Item<'a> {
     pub line: AssemblyLine,
     pub name: &'a str,

@@ -5,7 +5,7 @@ ghost use Rattle.asm_lines.specs.Forms.{Spells, Matches, Fits, Name, the_operand
 ghost use Rattle.asm_lines.specs.Forms.{the_target, the_slot, is_label, the_terms, AreTerms};
 ghost use Rattle.asm_lines.specs.Forms.{the_range, the_term};
 ghost use Rattle.asm_words.specs.Words.{Word, register_word};
-ghost use Rattle.asm_lines.specs.Views.{item_view, target_view, views, items, SpellsItem};
+ghost use Rattle.asm_lines.specs.Views.{item_view, items, target_view, views, SpellsItem};
 ghost use Rattle.asm_lines.specs.Views.{SpellsPlain};
 ghost use Rattle.asm_lines.specs.Reading.{register_at, operand_at, name_at, target_at, slot_at};
 ghost use Rattle.asm_lines.specs.Reading.{label_at, one, two};
@@ -16,7 +16,7 @@ ghost use Rattle.asm_lines.specs.Reading.{state_of, offset_of, four};
 ghost use Rattle.asm_lines.specs.Reading.{load_line, store_line, five};
 ghost use Rattle.asm_lines.specs.Reading.{six, range_of, term_of, numbers_of};
 ghost use Rattle.asm_lines.specs.Reading.{seven, map_value_of, eight, terms_of, ten, line_of};
-ghost use Rattle.asm_lines.specs.Text.{words_in, lines_in, AddsReading, Readings};
+ghost use Rattle.asm_lines.specs.Text.{words_in, lines_in, AddsReading, Reads, Readings};
 ghost use Rattle.asm_lines.specs.declared.line.AssemblyLine.{AssemblyLine};
 
 use crate::line::{
@@ -589,6 +589,14 @@ fn words_of<'a>(alloc: Global, line: &'a str) -> Result<Vec<&'a str>, AllocError
     Ok(words)
 }
 
+/// What a line spells, if it spells anything.
+fn item_of<'a>(alloc: Global, line: &'a str) -> Result<Option<Item<'a>>, AllocError>
+    ensures { IfOk result (λ found. Reads (words_in line.now) (option_map item_view found)) }
+{
+    let words = words_of(alloc, line)?;
+    Ok(line_of(&words))
+}
+
 /// Appends what a line spells, `None` if nothing, and the name of the label that it defines or
 /// uses.
 fn read_line<'a>(
@@ -602,16 +610,16 @@ fn read_line<'a>(
     ensures added { OnOk result (AddsReading (words_in line.now) (items lines.old.items
         names.old.items) (items lines.new.items names.new.items)) }
 {
-    let words = words_of(alloc, line)?;
-    match line_of(&words) {
-        Some(item) => {
+    match item_of(alloc, line) {
+        Ok(Some(item)) => {
             lines.push(Some(item.line))?;
             names.push(item.name)?;
         }
-        None => {
+        Ok(None) => {
             lines.push(None)?;
             names.push("")?;
         }
+        Err(error) => return Err(error),
     }
     Ok(())
 }

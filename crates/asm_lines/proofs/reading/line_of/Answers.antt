@@ -1,4 +1,4 @@
-use Rattle.std.proofs.Common.{◌∙◌, sym, ap, arith, List, [], refl, None, ◌≡◌}
+use Rattle.std.proofs.Common.{◌∙◌, sym, ap, arith, [], refl}
 use denote.Ref.{Bor}
 use Rattle.asm_words.specs.Words.{Word}
 use Rattle.asm_lines.specs.Reading.{line_of}
