@@ -1,5 +1,6 @@
 pub mod Fronts
 pub mod Keys
+pub mod Places
 pub mod Neighbors
 pub mod Stay
 pub mod Roots

@@ -1,20 +1,25 @@
--- The links of a router without transit links are those of the graph from it.
-use Rattle.std.proofs.Common.{◌≡◌, ◌<◌, ◌⊎◌, ℕ, inl, inr, List, [], Option, None, Some, refl, sym}
-use Rattle.std.proofs.Common.{subst, ◌∙◌, ap, arith}
+-- The links that are looked up for a node are those of the graph from it.
+use Rattle.std.proofs.Common.{◌≡◌, ◌<◌, ◌≤◌, ◌+◌, ◌++◌, ◌∷◌, ℕ, inl, inr, List, [], None}
+use Rattle.std.proofs.Common.{Some, refl, sym, subst, ◌∙◌, ap, arith}
+use Rattle.std.proofs.lemmas.Bool.{cases_lt}
 use Rattle.std.proofs.lemmas.Option.{none-some, same_Some}
 use Rattle.std.specs.List.{Contains}
 use Rattle.lsa.specs.declared.body.Link.{Link as Told}
-use Rattle.lsa.specs.declared.body.LinkKind.TheVariants.{PointToPoint}
+use Rattle.lsa.specs.declared.body.LinkKind.{LinkKind}
+use Rattle.lsa.specs.declared.body.LinkKind.TheVariants.{PointToPoint, Transit}
+use Rattle.lsa.specs.declared.body.NetworkLsa.{NetworkLsa}
 use Rattle.lsa.specs.declared.body.RouterLsa.{RouterLsa}
-use Rattle.area_graph.proofs.KeyNodes.{router_said}
-use Rattle.area_graph.proofs.Lists.{adds_none, adds_same}
+use Rattle.area_graph.proofs.KeyNodes.{network_said, router_said}
+use Rattle.area_graph.proofs.Lists.{adds_both, adds_none, adds_one, adds_same}
 use Rattle.area_graph.proofs.Whole.{one_place}
+use Rattle.area_graph.specs.Entries.{IsListedAt}
 use Rattle.area_graph.specs.Graphs.{Adds, AreLinksFrom, IsLinkFrom, OfEach, StandsAt}
 use Rattle.area_graph.specs.Links.{IsExitTo}
-use Rattle.area_graph.specs.Nodes.{Ascend, router_in, router_lsa}
-use Rattle.area_routes.specs.GraphLinks.{HasNoTransit, IsNeighbor, IsToNeighbor, Names}
+use Rattle.area_graph.specs.Nodes.{Ascend, network_in, network_lsa, router_in, router_lsa}
+use Rattle.area_routes.specs.GraphLinks.{HasLinkTo, IsAttached, IsNeighbor, IsToEnd, IsToNeighbor}
+use Rattle.area_routes.specs.GraphLinks.{IsToNetwork, IsToNetworkAt}
 use Rattle.routes.proofs.Lists.{of_empty}
-use Rattle.routes.specs.Links.{Counts, IsRouterLsa, LeadsTo, LinksBack}
+use Rattle.routes.specs.Links.{Counts, IsRouterLsa, LeadsTo, LinksBack, ListsRouter}
 use Rattle.routes.specs.Said.{Said}
 use Rattle.routes.specs.declared.graph.Link.{Link}
 use Rattle.routes.specs.declared.node.Node.{Node}
@@ -29,35 +34,70 @@ module _ (said : Said) (router : ℕ) (lsa : RouterLsa) (is : router_lsa said ro
   pub the_lsa : (other : RouterLsa) → IsRouterLsa said router other → other ≡ lsa
   the_lsa other says = same_Some other lsa (sym (ap router_in says) ∙ is)
 
--- ---- the router at the far end
+-- ---- links back
 
-module _ (said : Said) (far router : ℕ) where
-  pub none_back : router_lsa said far ≡ None → LinksBack said far PointToPoint router → ⊥
-  none_back is b = none-some b.1.lsa (sym is ∙ ap router_in b.1.its)
+module _ (said : Said) (router : ℕ) (kind : LinkKind) (id : ℕ) where
+  pub back_is : (lsa : RouterLsa) → router_lsa said router ≡ Some lsa → HasLinkTo lsa kind id
+      → LinksBack said router kind id
+  back_is lsa is n = (
+    n.0,
+    record {
+      lsa = lsa;
+      its = its said router lsa is;
+      among = n.1;
+    },
+    n.2,
+    n.3,
+  )
 
-  pub back_is : (lsa : RouterLsa) → router_lsa said far ≡ Some lsa → Names lsa router
-      → LinksBack said far PointToPoint router
-  back_is lsa is n = (n.0, record { lsa = lsa; its = its said far lsa is; among = n.1 }, n.2, n.3)
-
-  pub back_names : (lsa : RouterLsa) → router_lsa said far ≡ Some lsa
-      → LinksBack said far PointToPoint router → Names lsa router
+  pub back_names : (lsa : RouterLsa) → router_lsa said router ≡ Some lsa
+      → LinksBack said router kind id → HasLinkTo lsa kind id
   back_names lsa is b = (
     b.0,
     subst (λ (l : RouterLsa). Contains l.links b.0)
-        (the_lsa said far lsa is b.1.lsa b.1.its) b.1.among,
+        (the_lsa said router lsa is b.1.lsa b.1.its) b.1.among,
     b.2,
     b.3,
   )
 
--- ---- one link
+-- ---- lists of networks
+
+module _ (said : Said) (id by router : ℕ) where
+  pub never_lists : network_lsa said id by ≡ None → ListsRouter said id by router → ⊥
+  never_lists is l = none-some l.lsa (sym is ∙ ap network_in l.its)
+
+  pub lists_is : (lsa : NetworkLsa) → network_lsa said id by ≡ Some lsa
+      → Contains lsa.attached router → ListsRouter said id by router
+  lists_is lsa is among = record { lsa = lsa; its = network_said _ lsa is; among = among }
+
+  pub is_listed : (lsa : NetworkLsa) → network_lsa said id by ≡ Some lsa
+      → ListsRouter said id by router → Contains lsa.attached router
+  is_listed lsa is l =
+      subst (λ (n : NetworkLsa). Contains n.attached router)
+      (same_Some l.lsa lsa (sym (ap network_in l.its) ∙ is)) l.among
+
+-- one network stands at an index
+pub one_network : (nodes : List Node) (id by other place : ℕ)
+    → StandsAt nodes (ANetwork id by) place → StandsAt nodes (ANetwork id other) place → by ≡ other
+one_network nodes id by other place p q =
+    let same : ANetwork id by ≡ ANetwork id other =
+    same_Some (ANetwork id by) (ANetwork id other) (sym p ∙ q) in cc
+
+pub is_no_transit : (told : Told) → told.kind ≡ PointToPoint → told.kind ≡ Transit → ⊥
+is_no_transit told p q = let same : PointToPoint ≡ Transit = sym p ∙ q in cc
+
+pub is_no_point : (told : Told) → told.kind ≡ Transit → told.kind ≡ PointToPoint → ⊥
+is_no_point told p q = is_no_transit told q p
+
+-- ---- one link to a router
 
 module _ (said : Said) (root : Root) (nodes : List Node) (router : ℕ) (told : Told) where
-  pub no_neighbor : (xs : List Link) → IsNeighbor said nodes told.link_id router None
+  pub no_neighbor : (xs : List Link) → IsNeighbor said nodes told.link_id PointToPoint router None
       → Adds (IsToNeighbor said root nodes router told) xs xs
   no_neighbor xs none = adds_none (IsToNeighbor said root nodes router told) xs (λ x t. none t.back)
 
   pub to_neighbor : (to : ℕ) (xs ys : List Link) → Ascend nodes → told.kind ≡ PointToPoint
-      → 0 < told.metric → IsNeighbor said nodes told.link_id router (Some to)
+      → 0 < told.metric → IsNeighbor said nodes told.link_id PointToPoint router (Some to)
       → Adds (IsExitTo root router to told.metric told.link_data) xs ys
       → Adds (IsToNeighbor said root nodes router told) xs ys
   to_neighbor to xs ys ascend kind counts at a =
@@ -78,67 +118,253 @@ module _ (said : Said) (root : Root) (nodes : List Node) (router : ℕ) (told : 
         t.leads.2,
       )) a
 
--- ---- all links
+  -- ---- or to networks
+
+  module _ (place : ℕ) where
+    pub no_network : (xs : List Link) → (IsListedAt said nodes router told.link_id place → ⊥)
+        → Adds (IsToNetworkAt said root nodes router told place) xs xs
+    no_network xs none =
+        adds_none (IsToNetworkAt said root nodes router told place) xs
+        (λ x t. none (subst (IsListedAt said nodes router told.link_id) t.0 t.1.listed))
+
+    pub to_network : (xs ys : List Link) → told.kind ≡ Transit → 0 < told.metric
+        → IsListedAt said nodes router told.link_id place
+        → Adds (IsExitTo root router place told.metric told.link_data) xs ys
+        → Adds (IsToNetworkAt said root nodes router told place) xs ys
+    to_network xs ys kind counts listed a =
+        adds_same (IsExitTo root router place told.metric told.link_data)
+        (IsToNetworkAt said root nodes router told place) xs ys
+        (λ x e. (
+          e.0,
+          record {
+            is_kind = kind;
+            counts = counts;
+            listed = subst (IsListedAt said nodes router told.link_id) (sym e.0) listed;
+            leads = (refl, e.1, e.2);
+          },
+        ))
+        (λ x t. (t.0, t.1.leads.1, t.1.leads.2)) a
+
+  -- to a network below this index
+  abbrev pub IsToNetworkBelow : ℕ → Link → Type 0
+  IsToNetworkBelow place link = (link.to < place) × IsToNetwork said root nodes router told link
+
+  pub none_below : (first : ℕ) (xs : List Link) → ((by place : ℕ)
+      → StandsAt nodes (ANetwork told.link_id by) place → first ≤ place)
+      → Adds (IsToNetworkBelow first) xs xs
+  none_below first xs earliest =
+      adds_none (IsToNetworkBelow first) xs
+      (λ x t. omega (arith, t.0, earliest t.1.listed.0 x.to t.1.listed.1))
+
+  pub one_more : (place : ℕ) (xs ys zs : List Link) → Adds (IsToNetworkBelow place) xs ys
+      → Adds (IsToNetworkAt said root nodes router told place) ys zs
+      → Adds (IsToNetworkBelow (place + 1)) xs zs
+  one_more place xs ys zs a b =
+      adds_both (IsToNetworkBelow place) (IsToNetworkAt said root nodes router told place)
+      (IsToNetworkBelow (place + 1)) xs ys zs a b
+      (λ x t. elim (cases_lt x.to place) [
+        | inl lt ↦ inl (lt, t.1)
+        | inr past ↦ inr (omega (arith, t.0, past), t.1)
+      ])
+      (λ x t. (omega (arith, t.0), t.1))
+      (λ x t. (omega (arith, t.0), t.1))
+
+  pub all_below : (place end : ℕ) (xs ys : List Link) → ((by place : ℕ)
+      → StandsAt nodes (ANetwork told.link_id by) place → place < end) → end ≤ place
+      → Adds (IsToNetworkBelow place) xs ys → Adds (IsToNetwork said root nodes router told) xs ys
+  all_below place end xs ys last done a =
+      adds_same (IsToNetworkBelow place) (IsToNetwork said root nodes router told) xs ys
+      (λ x t. t.1)
+      (λ x t. (omega (arith, last t.listed.0 x.to t.listed.1, done), t)) a
+
+  -- ---- what the link leads to
+
+  pub no_end : (xs : List Link) → (0 < told.metric → ⊥)
+      → Adds (IsToEnd said root nodes router told) xs xs
+  no_end xs never =
+      adds_none (IsToEnd said root nodes router told) xs
+      (λ x t. elim t [ inl n ↦ never n.counts | inr n ↦ never n.counts ])
+
+  pub other_end : (xs : List Link) → (told.kind ≡ PointToPoint → ⊥) → (told.kind ≡ Transit → ⊥)
+      → Adds (IsToEnd said root nodes router told) xs xs
+  other_end xs point transit =
+      adds_none (IsToEnd said root nodes router told) xs
+      (λ x t. elim t [ inl n ↦ point n.is_kind | inr n ↦ transit n.is_kind ])
+
+  pub router_end : (xs ys : List Link) → (told.kind ≡ Transit → ⊥)
+      → Adds (IsToNeighbor said root nodes router told) xs ys
+      → Adds (IsToEnd said root nodes router told) xs ys
+  router_end xs ys other a =
+      adds_same (IsToNeighbor said root nodes router told) (IsToEnd said root nodes router told) xs
+      ys (λ x n. inl n) (λ x t. elim t [ inl n ↦ n | inr n ↦ absurd (other n.is_kind) ]) a
+
+  pub network_end : (xs ys : List Link) → (told.kind ≡ PointToPoint → ⊥)
+      → Adds (IsToNetwork said root nodes router told) xs ys
+      → Adds (IsToEnd said root nodes router told) xs ys
+  network_end xs ys other a =
+      adds_same (IsToNetwork said root nodes router told) (IsToEnd said root nodes router told) xs
+      ys (λ x n. inr n) (λ x t. elim t [ inl n ↦ absurd (other n.is_kind) | inr n ↦ n ]) a
+
+-- ---- all links of a router
 
 module _ (said : Said) (root : Root) (nodes : List Node) (router : ℕ) (lsa : RouterLsa)
-    (is : router_lsa said router ≡ Some lsa) (plain : HasNoTransit lsa) where
-  to_link : (x : Link) → OfEach (IsToNeighbor said root nodes router) lsa.links x
+    (is : router_lsa said router ≡ Some lsa) where
+  counted : (told : Told) → Contains lsa.links told → (kind : LinkKind) → told.kind ≡ kind
+      → 0 < told.metric → (x : Link) → IsExitTo root router x.to told.metric told.link_data x
+      → Counts said root router kind told.link_id x.cost x.interface
+  counted told among kind is_kind counts x leads = record {
+    link = told;
+    its = record { lsa = lsa; its = its said router lsa is; among = among };
+    is_kind = is_kind;
+    is_id = refl;
+    costs = sym leads.1;
+    not_free = omega (arith, leads.1, counts);
+    by_interface = leads.2.by_interface;
+    elsewhere = leads.2.elsewhere;
+  }
+
+  to_link : (x : Link) → OfEach (IsToEnd said root nodes router) lsa.links x
       → IsLinkFrom said root nodes (ARouter router) x
   to_link x o =
-      let t = o.2 in
-      let counts : Counts said root router PointToPoint o.0.link_id x.cost x.interface = record {
-        link = o.0;
-        its = record { lsa = lsa; its = its said router lsa is; among = o.1 };
-        is_kind = t.is_kind;
-        is_id = refl;
-        costs = sym t.leads.1;
-        not_free = omega (arith, t.leads.1, t.counts);
-        by_interface = t.leads.2.by_interface;
-        elsewhere = t.leads.2.elsewhere;
-      } in
-      record { target = ARouter o.0.link_id; stands = t.stands; leads = (counts, t.back) }
+      elim o.2 [
+        | inl t ↦ record {
+          target = ARouter o.0.link_id;
+          stands = t.stands;
+          leads = (counted o.0 o.1 PointToPoint t.is_kind t.counts x t.leads, t.back);
+        }
+        | inr t ↦ record {
+          target = ANetwork o.0.link_id t.listed.0;
+          stands = t.listed.1;
+          leads = (counted o.0 o.1 Transit t.is_kind t.counts x t.leads, t.listed.2);
+        }
+      ]
 
   among_its : (link : Told) (other : RouterLsa) → IsRouterLsa said router other
       → Contains other.links link → Contains lsa.links link
   among_its link other says among =
       subst (λ (l : RouterLsa). Contains l.links link) (the_lsa said router lsa is other says) among
 
+  exit_of : (kind : LinkKind) (id : ℕ) (x : Link)
+      → (c : Counts said root router kind id x.cost x.interface)
+      → IsExitTo root router x.to c.link.metric c.link.link_data x
+  exit_of kind id x c = (
+    refl,
+    sym c.costs,
+    record {
+      by_interface = c.by_interface;
+      elsewhere = c.elsewhere;
+    },
+  )
+
   of_link : (x : Link) (to : Node) → StandsAt nodes to x.to
       → LeadsTo said root (ARouter router) to x.cost x.interface
-      → OfEach (IsToNeighbor said root nodes router) lsa.links x
+      → OfEach (IsToEnd said root nodes router) lsa.links x
   of_link x (ARouter b) stands l =
       let told = l.0.link in
       let S : ℕ → Type 0 = λ r. StandsAt nodes (ARouter r) x.to in
       let B : ℕ → Type 0 = λ r. LinksBack said r PointToPoint router in (
         told,
         among_its told l.0.its.lsa l.0.its.its l.0.its.among,
-        record {
+        inl (record {
           is_kind = l.0.is_kind;
           counts = omega (arith, l.0.costs, l.0.not_free);
           stands = subst S (sym l.0.is_id) stands;
           back = subst B (sym l.0.is_id) l.1;
-          leads = (
-            refl,
-            sym l.0.costs,
-            record {
-              by_interface = l.0.by_interface;
-              elsewhere = l.0.elsewhere;
-            },
-          );
-        },
+          leads = exit_of PointToPoint b x l.0;
+        }),
       )
   of_link x (ANetwork id by) stands l =
-      absurd (plain l.0.link (among_its l.0.link l.0.its.lsa l.0.its.its l.0.its.among) l.0.is_kind)
+      let told = l.0.link in
+      let L : ℕ → Type 0 = λ n. IsListedAt said nodes router n x.to in (
+        told,
+        among_its told l.0.its.lsa l.0.its.its l.0.its.among,
+        inr (record {
+          is_kind = l.0.is_kind;
+          counts = omega (arith, l.0.costs, l.0.not_free);
+          listed = subst L (sym l.0.is_id) (by, stands, l.1);
+          leads = exit_of Transit id x l.0;
+        }),
+      )
 
-  pub are_links : (links : List Link)
-      → Adds (OfEach (IsToNeighbor said root nodes router) lsa.links) [] links
+  pub router_links : (links : List Link)
+      → Adds (OfEach (IsToEnd said root nodes router) lsa.links) [] links
       → AreLinksFrom said root nodes (ARouter router) links
-  are_links links adds = record {
+  router_links links adds = record {
     only = λ x among. elim ((adds x).0 among)
         [ inl none ↦ absurd (of_empty x none) | inr o ↦ to_link x o ];
     each = λ x f. (
       x,
       (adds x).1 (inr (of_link x f.target f.stands f.leads)),
+      record {
+        same_end = refl;
+        same_exit = refl;
+        costs = omega arith;
+      },
+    );
+  }
+
+-- ---- from a network
+
+module _ (said : Said) (nodes : List Node) (id router : ℕ) where
+  pub not_attached : (xs : List Link) → IsNeighbor said nodes router Transit id None
+      → Adds (IsAttached said nodes id router) xs xs
+  not_attached xs none = adds_none (IsAttached said nodes id router) xs (λ x t. none t.back)
+
+  pub to_attached : (to : ℕ) (xs : List Link) → Ascend nodes
+      → IsNeighbor said nodes router Transit id (Some to)
+      → Adds (IsAttached said nodes id router) xs (xs ++ record {
+        to = to;
+        cost = 0;
+        interface = 0;
+      } ∷ [])
+  to_attached to xs ascend at =
+      let link : Link = record { to = to; cost = 0; interface = 0 } in
+      adds_one (IsAttached said nodes id router) xs link (record {
+        stands = at.0;
+        back = at.1;
+        free = refl;
+        exit = refl;
+      })
+      (λ x t.
+      let same = one_place nodes ascend (ARouter router) x.to to t.stands at.0 in
+      let free = t.free in
+      let exit = t.exit in
+      λ j. record { to = same j; cost = free j; interface = exit j })
+
+module _ (said : Said) (root : Root) (nodes : List Node) (id by : ℕ) (lsa : NetworkLsa)
+    (is : network_lsa said id by ≡ Some lsa) where
+  to_router : (x : Link) → OfEach (IsAttached said nodes id) lsa.attached x
+      → IsLinkFrom said root nodes (ANetwork id by) x
+  to_router x o = record {
+    target = ARouter o.0;
+    stands = o.2.stands;
+    leads = (lists_is said id by o.0 lsa is o.1, o.2.back, o.2.free, o.2.exit);
+  }
+
+  from_network : (x : Link) (to : Node) → StandsAt nodes to x.to
+      → LeadsTo said root (ANetwork id by) to x.cost x.interface
+      → OfEach (IsAttached said nodes id) lsa.attached x
+  from_network x (ARouter b) stands l = (
+    b,
+    is_listed said id by b lsa is l.0,
+    record {
+      stands = stands;
+      back = l.1;
+      free = l.2;
+      exit = l.3;
+    },
+  )
+  from_network x (ANetwork other from) stands l = absurd l
+
+  pub network_links : (links : List Link)
+      → Adds (OfEach (IsAttached said nodes id) lsa.attached) [] links
+      → AreLinksFrom said root nodes (ANetwork id by) links
+  network_links links adds = record {
+    only = λ x among. elim ((adds x).0 among)
+        [ inl none ↦ absurd (of_empty x none) | inr o ↦ to_router x o ];
+    each = λ x f. (
+      x,
+      (adds x).1 (inr (from_network x f.target f.stands f.leads)),
       record {
         same_end = refl;
         same_exit = refl;

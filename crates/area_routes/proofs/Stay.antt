@@ -1,6 +1,6 @@
--- Nodes are unchanged if only recorded router-LSAs change, and so is each vertex whose index wasn't
--- recorded.
-use Rattle.std.proofs.Common.{◌≡◌, ◌≤◌, ◌⊎◌, ◌↔◌, ℕ, inl, inr, List, [], ◌∷◌, ◌++◌, Option, Some}
+-- Nodes are unchanged if only recorded LSAs of routers and networks change, and so is each vertex
+-- whose index wasn't recorded.
+use Rattle.std.proofs.Common.{◌≡◌, ◌≤◌, ◌⊎◌, ℕ, inl, inr, List, [], ◌∷◌, ◌++◌, Option, Some}
 use Rattle.std.proofs.Common.{length, slice_get, sym, subst, ◌∙◌, ap, arith}
 use Rattle.std.proofs.lemmas.Bool.{cases_eq}
 use Rattle.std.proofs.lemmas.List.Elements.{Contains-push_cases}
@@ -10,10 +10,12 @@ use Rattle.lsa.specs.declared.body.Body.TheVariants as body
 use Rattle.lsa.specs.declared.body.Link.{Link as Told}
 use Rattle.lsa.specs.declared.body.LinkKind.{LinkKind}
 use Rattle.lsa.specs.declared.body.LinkKind.TheVariants.{PointToPoint, Transit}
+use Rattle.lsa.specs.declared.body.NetworkLsa.{NetworkLsa}
 use Rattle.lsa.specs.declared.body.RouterLsa.{RouterLsa}
 use Rattle.area_graph.specs.Graphs.{AreVertices, IsVertexOf, StandsAt}
 use Rattle.area_graph.specs.Nodes.{AreNodes, HasLsa}
-use Rattle.area_routes.specs.GraphChanges.{AreCovered, IsCovered, IsNoted}
+use Rattle.area_routes.specs.GraphChanges.{AreCovered, AreEndsAmong, AreListedAmong, IsCovered}
+use Rattle.area_routes.specs.GraphChanges.{IsEndAmong, IsNetworkNoted, IsRouterNoted}
 use Rattle.area_routes.specs.Vertices.{IsRenewed, StayUnlessAmong}
 use Rattle.area_routes.proofs.Keys.{among_or_not}
 use Rattle.kept_routes.specs.Sameness.{SayTheSame}
@@ -22,16 +24,20 @@ use Rattle.routes.specs.Graphs.{Graph}
 use Rattle.routes.specs.Links.{Counts, HasLink, LeadsTo, LinksBack, ListsRouter, network_key}
 use Rattle.routes.specs.Links.{router_key}
 use Rattle.routes.specs.Said.{Said}
-use Rattle.routes.specs.declared.graph.Link.{Link}
 use Rattle.routes.specs.declared.graph.Vertex.{Vertex}
 use Rattle.routes.specs.declared.node.Node.{Node}
 use Rattle.routes.specs.declared.node.Node.TheVariants.{ANetwork, ARouter}
 use Rattle.routes.specs.declared.root.Root.{Root}
 use Rattle.words.specs.declared.key.Key.{Key}
 
-same_lsa : (a b : RouterLsa) → ◌≡◌ {A = Option Body} (Some (body.Router a)) (Some (body.Router b))
+same_router : (a b : RouterLsa) → ◌≡◌ {A = Option Body} (Some (body.Router a))
+    (Some (body.Router b))
     → a ≡ b
-same_lsa a b e = cc
+same_router a b e = cc
+
+same_network : (a b : NetworkLsa)
+    → ◌≡◌ {A = Option Body} (Some (body.Network a)) (Some (body.Network b)) → a ≡ b
+same_network a b e = cc
 
 -- each vertex is one of what LSAs say now, or, if its index isn't among these, of what they said
 pub record AreEither (old : Said) (new : Said) (root : Root) (nodes : List Node)
@@ -47,20 +53,28 @@ abbrev pub AllCovered : Said → Said → List Node → List ℕ → Type 0
 AllCovered old new nodes places = (key : Key) → key.ls_type ≤ 2 → IsCovered old new nodes places key
 
 -- what is recorded is so in both directions
-noted_back : (old new : Said) (nodes : List Node) (places : List ℕ) (router : ℕ)
-    → IsNoted old new nodes places router → IsNoted new old nodes places router
-noted_back old new nodes places router n = record {
+router_back : (said says : Option Body) (nodes : List Node) (places : List ℕ) (router : ℕ)
+    → IsRouterNoted said says nodes places router → IsRouterNoted says said nodes places router
+router_back said says nodes places router n = record {
   was = n.is;
   is = n.was;
-  said = n.says;
-  says = n.said;
-  change = record {
-    plain_before = n.change.plain;
-    plain = n.change.plain_before;
-    own = n.change.own;
-    named_before = n.change.named;
-    named = n.change.named_before;
-  };
+  before = n.now;
+  now = n.before;
+  own = n.own;
+  ends_before = n.ends;
+  ends = n.ends_before;
+}
+
+network_back : (said says : Option Body) (nodes : List Node) (places : List ℕ) (network : Node)
+    → IsNetworkNoted said says nodes places network → IsNetworkNoted says said nodes places network
+network_back said says nodes places network n = record {
+  was = n.is;
+  is = n.was;
+  before = n.now;
+  now = n.before;
+  own = n.own;
+  listed_before = n.listed;
+  listed = n.listed_before;
 }
 
 pub covered_back : (old new : Said) (nodes : List Node) (places : List ℕ)
@@ -68,35 +82,79 @@ pub covered_back : (old new : Said) (nodes : List Node) (places : List ℕ)
 covered_back old new nodes places covered key few =
     elim (covered key few) [
       | inl same ↦ inl (sym same)
-      | inr n ↦ inr (n.0, n.1, noted_back old new nodes places n.0 n.2)
+      | inr n ↦
+          elim n [
+            | inl r ↦ inr (inl
+                (r.0, r.1, router_back (old key) (new key) nodes places r.0 r.2))
+            | inr r ↦
+                inr (inr (
+                  r.0,
+                  r.1,
+                  r.2,
+                  network_back (old key) (new key) nodes places (ANetwork r.0 r.1) r.3,
+                ))
+          ]
     ]
 
 module _ (old new : Said) (nodes : List Node) (places : List ℕ)
     (covered : AllCovered old new nodes places) where
+  abbrev RouterNoted : (router : ℕ) → Type 0
+  RouterNoted router =
+      IsRouterNoted (old (router_key router)) (new (router_key router)) nodes places router
+
+  abbrev NetworkNoted : (id by : ℕ) → Type 0
+  NetworkNoted id by =
+      IsNetworkNoted (old (network_key id by)) (new (network_key id by)) nodes places
+      (ANetwork id by)
+
   -- a router-LSA says what it said, or was recorded
   of_router : (router : ℕ) → (old (router_key router) ≡ new (router_key router))
-      ⊎ IsNoted old new nodes places router
+      ⊎ RouterNoted router
   of_router router =
       elim (covered (router_key router) (omega arith)) [
         | inl same ↦ inl same
-        | inr n ↦ let is : router ≡ n.0 = ap (λ (k : Key). k.link_state_id) n.1 in
-            inr (subst (λ r. IsNoted old new nodes places r) (sym is) n.2)
+        | inr n ↦
+            elim n [
+              | inl r ↦
+                  let is : router ≡ r.0 = ap (λ (k : Key). k.link_state_id) r.1 in
+                  let P : ℕ → Type 0 = λ x. IsRouterNoted (old (router_key router))
+                  (new (router_key router)) nodes places x in
+                  inr (subst P (sym is) r.2)
+              | inr r ↦ absurd (omega (arith, ap (λ (k : Key). k.ls_type) r.2))
+            ]
       ]
 
-  of_network : (id by : ℕ) → old (network_key id by) ≡ new (network_key id by)
+  -- and so is a network-LSA
+  of_network : (id by : ℕ) → (old (network_key id by) ≡ new (network_key id by))
+      ⊎ NetworkNoted id by
   of_network id by =
       elim (covered (network_key id by) (omega arith)) [
-        | inl same ↦ same
-        | inr n ↦ absurd (omega (arith, ap (λ (k : Key). k.ls_type) n.1))
+        | inl same ↦ inl same
+        | inr n ↦
+            elim n [
+              | inl r ↦ absurd (omega (arith, ap (λ (k : Key). k.ls_type) r.1))
+              | inr r ↦
+                  let of_id : id ≡ r.0 = ap (λ (k : Key). k.link_state_id) r.2 in
+                  let of_by : by ≡ r.1 = ap (λ (k : Key). k.advertising_router) r.2 in
+                  let P : ℕ → Type 0 = λ x. IsNetworkNoted (old (network_key id by))
+                  (new (network_key id by)) nodes places (ANetwork x r.1) in
+                  let Q : ℕ → Type 0 = λ x. IsNetworkNoted (old (network_key id by))
+                  (new (network_key id by)) nodes places (ANetwork id x) in
+                  inr (subst Q (sym of_by) (subst P (sym of_id) r.3))
+            ]
       ]
 
   has_lsa : (node : Node) → HasLsa old node → HasLsa new node
   has_lsa (ARouter router) has =
       elim (of_router router) [
         | inl same ↦ (has.0, sym same ∙ has.1)
-        | inr n ↦ (n.is, n.says)
+        | inr n ↦ (n.is, n.now)
       ]
-  has_lsa (ANetwork id by) has = (has.0, sym (of_network id by) ∙ has.1)
+  has_lsa (ANetwork id by) has =
+      elim (of_network id by) [
+        | inl same ↦ (has.0, sym same ∙ has.1)
+        | inr n ↦ (n.is, n.now)
+      ]
 
   -- ---- links
 
@@ -122,27 +180,34 @@ module _ (old new : Said) (nodes : List Node) (places : List ℕ)
     elsewhere = c.elsewhere;
   }
 
-  lists : (id by router : ℕ) → ListsRouter old id by router → ListsRouter new id by router
-  lists id by router l = record {
+  lists : (id by router : ℕ) → old (network_key id by) ≡ new (network_key id by)
+      → ListsRouter old id by router → ListsRouter new id by router
+  lists id by router same l = record {
     lsa = l.lsa;
-    its = sym (of_network id by) ∙ l.its;
+    its = sym same ∙ l.its;
     among = l.among;
   }
 
   -- a link of the LSA that was recorded is one of what it said
-  of_was : (router : ℕ) (n : IsNoted old new nodes places router) (link : Told)
+  of_was : (router : ℕ) (n : RouterNoted router) (link : Told)
       → HasLink old router link → Contains n.was.links link
   of_was router n link has = subst (λ (l : RouterLsa). Contains l.links link)
-      (same_lsa has.lsa n.was (sym has.its ∙ n.said)) has.among
+      (same_router has.lsa n.was (sym has.its ∙ n.before)) has.among
 
-  -- a router whose index isn't recorded says what it said, and is named by no recorded LSA
+  was_listed : (id by : ℕ) (n : NetworkNoted id by) (router : ℕ)
+      → ListsRouter old id by router → Contains n.was.attached router
+  was_listed id by n router l = subst (λ (x : NetworkLsa). Contains x.attached router)
+      (same_network l.lsa n.was (sym l.its ∙ n.before)) l.among
+
+  -- the LSA of a node whose index isn't recorded says what it said, and no LSA that is recorded
+  -- named it
   module _ (at : ℕ) (none : Contains places at → ⊥) where
     unnoted : (router : ℕ) → StandsAt nodes (ARouter router) at
         → old (router_key router) ≡ new (router_key router)
     unnoted router here =
         elim (of_router router) [
           | inl same ↦ same
-          | inr n ↦ absurd (none (n.change.own at here))
+          | inr n ↦ absurd (none (n.own at here))
         ]
 
     back_to_router : (router far : ℕ) → StandsAt nodes (ARouter router) at
@@ -150,15 +215,37 @@ module _ (old new : Said) (nodes : List Node) (places : List ℕ)
     back_to_router router far here b =
         elim (of_router far) [
           | inl same ↦ (b.0, has_link far b.0 same b.1, b.2, b.3)
-          | inr n ↦ absurd (none (n.change.named_before router (b.0, of_was far n b.0 b.1, b.2, b.3)
-              at here))
+          | inr n ↦
+              let end = n.ends_before b.0 (of_was far n b.0 b.1) in
+              absurd (none (end.router b.2 at
+              (subst (λ r. StandsAt nodes (ARouter r) at) (sym b.3) here)))
         ]
 
-    back_to_network : (id far : ℕ) → LinksBack old far Transit id → LinksBack new far Transit id
-    back_to_network id far b =
+    back_to_network : (id by far : ℕ) → StandsAt nodes (ANetwork id by) at
+        → LinksBack old far Transit id → LinksBack new far Transit id
+    back_to_network id by far here b =
         elim (of_router far) [
           | inl same ↦ (b.0, has_link far b.0 same b.1, b.2, b.3)
-          | inr n ↦ absurd (n.change.plain_before b.0 (of_was far n b.0 b.1) b.2)
+          | inr n ↦
+              let end = n.ends_before b.0 (of_was far n b.0 b.1) in
+              absurd (none (end.networks b.2 by at
+              (subst (λ i. StandsAt nodes (ANetwork i by) at) (sym b.3) here)))
+        ]
+
+    lists_router : (id by router : ℕ) → StandsAt nodes (ARouter router) at
+        → ListsRouter old id by router → ListsRouter new id by router
+    lists_router id by router here l =
+        elim (of_network id by) [
+          | inl same ↦ lists id by router same l
+          | inr n ↦ absurd (none (n.listed_before router (was_listed id by n router l) at here))
+        ]
+
+    lists_still : (id by router : ℕ) → StandsAt nodes (ANetwork id by) at
+        → ListsRouter old id by router → ListsRouter new id by router
+    lists_still id by router here l =
+        elim (of_network id by) [
+          | inl same ↦ lists id by router same l
+          | inr n ↦ absurd (none (n.own at here))
         ]
 
     pub leads : (root : Root) (from to : Node) (price exit : ℕ) → StandsAt nodes from at
@@ -166,9 +253,9 @@ module _ (old new : Said) (nodes : List Node) (places : List ℕ)
     leads root (ARouter a) (ARouter b) price exit here l =
         (counts root a PointToPoint b price exit (unnoted a here) l.0, back_to_router a b here l.1)
     leads root (ARouter a) (ANetwork id by) price exit here l =
-        (counts root a Transit id price exit (unnoted a here) l.0, lists id by a l.1)
+        (counts root a Transit id price exit (unnoted a here) l.0, lists_router id by a here l.1)
     leads root (ANetwork id by) (ARouter b) price exit here l =
-        (lists id by b l.0, back_to_network id b l.1, l.2, l.3)
+        (lists_still id by b here l.0, back_to_network id by b here l.1, l.2, l.3)
     leads root (ANetwork id by) (ANetwork other its) price exit here l = absurd l
 
 module _ (old new : Said) (nodes : List Node) (places : List ℕ)
@@ -233,33 +320,59 @@ all_covered old new nodes places keys others covered key few =
     ]
 
 -- what is recorded is still so with more indices
-pub covered_more : (old new : Said) (nodes : List Node) (few more : List ℕ) (key : Key)
-    → ((place : ℕ) → Contains few place → Contains more place) → IsCovered old new nodes few key
-    → IsCovered old new nodes more key
-covered_more old new nodes few more key kept covered =
-    elim covered [
-      | inl same ↦ inl same
-      | inr n ↦
-          let change = n.2.change in
-          inr (
-            n.0,
-            n.1,
-            record {
-              was = n.2.was;
-              is = n.2.is;
-              said = n.2.said;
-              says = n.2.says;
-              change = record {
-                plain_before = change.plain_before;
-                plain = change.plain;
-                own = λ at here. kept at (change.own at here);
-                named_before = λ router named at here. kept at
-                    (change.named_before router named at here);
-                named = λ router named at here. kept at (change.named router named at here);
-              };
-            },
-          )
-    ]
+module _ (nodes : List Node) (few more : List ℕ)
+    (kept : (place : ℕ) → Contains few place → Contains more place) where
+  pub end_more : (link : Told) → IsEndAmong nodes few link → IsEndAmong nodes more link
+  end_more link end = record {
+    router = λ is at here. kept at (end.router is at here);
+    networks = λ is by at here. kept at (end.networks is by at here);
+  }
+
+  pub ends_more : (lsa : RouterLsa) → AreEndsAmong nodes few lsa → AreEndsAmong nodes more lsa
+  ends_more lsa ends link among = end_more link (ends link among)
+
+  pub listed_more : (lsa : NetworkLsa) → AreListedAmong nodes few lsa
+      → AreListedAmong nodes more lsa
+  listed_more lsa listed router among at here = kept at (listed router among at here)
+
+  pub covered_more : (old new : Said) (key : Key) → IsCovered old new nodes few key
+      → IsCovered old new nodes more key
+  covered_more old new key covered =
+      elim covered [
+        | inl same ↦ inl same
+        | inr n ↦
+            elim n [
+              | inl r ↦
+                  inr (inl (
+                    r.0,
+                    r.1,
+                    record {
+                      was = r.2.was;
+                      is = r.2.is;
+                      before = r.2.before;
+                      now = r.2.now;
+                      own = λ at here. kept at (r.2.own at here);
+                      ends_before = ends_more r.2.was r.2.ends_before;
+                      ends = ends_more r.2.is r.2.ends;
+                    },
+                  ))
+              | inr r ↦
+                  inr (inr (
+                    r.0,
+                    r.1,
+                    r.2,
+                    record {
+                      was = r.3.was;
+                      is = r.3.is;
+                      before = r.3.before;
+                      now = r.3.now;
+                      own = λ at here. kept at (r.3.own at here);
+                      listed_before = listed_more r.3.was r.3.listed_before;
+                      listed = listed_more r.3.is r.3.listed;
+                    },
+                  ))
+            ]
+      ]
 
 -- ---- recalculated vertices
 

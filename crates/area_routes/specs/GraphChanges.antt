@@ -1,50 +1,81 @@
--- Router-LSAs that change, and the nodes whose links this may change (RFC 2328, section 16.1):
--- those of the routers themselves, and of the routers that their LSAs name or named.
-use Rattle.std.specs.Prelude.{◌≡◌, ◌≤◌, ◌⊎◌, ℕ, List}
+-- LSAs of routers and networks that change, and the nodes whose links this may change (RFC 2328,
+-- section 16.1): their own, and those that they name or named.
+use Rattle.std.specs.Prelude.{◌≡◌, ◌≤◌, ◌⊎◌, ℕ, List, Option, Some}
 use Rattle.std.specs.List.{Contains}
+use Rattle.lsa.specs.declared.body.Body.{Body}
+use Rattle.lsa.specs.declared.body.Body.TheVariants as body
+use Rattle.lsa.specs.declared.body.Link.{Link}
+use Rattle.lsa.specs.declared.body.LinkKind.TheVariants.{PointToPoint, Transit}
+use Rattle.lsa.specs.declared.body.NetworkLsa.{NetworkLsa}
 use Rattle.lsa.specs.declared.body.RouterLsa.{RouterLsa}
 use Rattle.area_graph.specs.Graphs.{StandsAt}
-use Rattle.area_routes.specs.GraphLinks.{HasNoTransit, Names}
-use Rattle.routes.specs.Links.{IsRouterLsa, router_key}
+use Rattle.routes.specs.Links.{network_key, router_key}
 use Rattle.routes.specs.Said.{Said}
 use Rattle.routes.specs.declared.node.Node.{Node}
-use Rattle.routes.specs.declared.node.Node.TheVariants.{ARouter}
+use Rattle.routes.specs.declared.node.Node.TheVariants.{ANetwork, ARouter}
 use Rattle.words.specs.Numbers.{RouterNumber}
 use Rattle.words.specs.declared.key.Key.{Key}
 
--- the router's index is among these
-abbrev pub IsAmong : List Node → (places : List ℕ) → RouterNumber → Type 0
-IsAmong nodes places router = (at : ℕ) → StandsAt nodes (ARouter router) at → Contains places at
+-- the node's index, if it has one, is among these
+abbrev pub IsAmong : List Node → (places : List ℕ) → Node → Type 0
+IsAmong nodes places node = (at : ℕ) → StandsAt nodes node at → Contains places at
 
--- the indices of all routers that the LSA names are among these
-abbrev pub AreNamedAmong : List Node → (places : List ℕ) → RouterLsa → Type 0
-AreNamedAmong nodes places lsa =
-    (router : RouterNumber) → Names lsa router → IsAmong nodes places router
+-- so are those of all networks with this Link State ID
+abbrev pub AreNetworksAmong : List Node → (places : List ℕ) → (id : ℕ) → Type 0
+AreNetworksAmong nodes places id = (by : RouterNumber) → IsAmong nodes places (ANetwork id by)
 
--- the router's LSA had and has no transit link, and the indices of the router and of all that its
--- LSA named or names are among these
-pub record IsChange (nodes : List Node) (places : List ℕ) (router : RouterNumber)
-    (was : RouterLsa) (is : RouterLsa) : Type 0 where
-  pub plain_before : HasNoTransit was
-  pub plain : HasNoTransit is
-  pub own : IsAmong nodes places router
-  pub named_before : AreNamedAmong nodes places was
-  pub named : AreNamedAmong nodes places is
+-- so are those of the nodes that the link may lead to: the router that a point-to-point link names,
+-- the networks that have a transit link's Link ID as Link State ID
+pub record IsEndAmong (nodes : List Node) (places : List ℕ) (link : Link) : Type 0 where
+  pub router : link.kind ≡ PointToPoint → IsAmong nodes places (ARouter link.link_id)
+  pub networks : link.kind ≡ Transit → AreNetworksAmong nodes places link.link_id
 
--- what the router's LSA said and says is recorded
-pub record IsNoted (old : Said) (new : Said) (nodes : List Node) (places : List ℕ)
-    (router : RouterNumber) : Type 0 where
+-- and of all links of the LSA
+abbrev pub AreEndsAmong : List Node → (places : List ℕ) → RouterLsa → Type 0
+AreEndsAmong nodes places lsa =
+    (link : Link) → Contains lsa.links link → IsEndAmong nodes places link
+
+-- so are those of the routers that the LSA lists
+abbrev pub AreListedAmong : List Node → (places : List ℕ) → NetworkLsa → Type 0
+AreListedAmong nodes places lsa =
+    (router : RouterNumber) → Contains lsa.attached router
+    → IsAmong nodes places (ARouter router)
+
+-- a router's LSA says something before and after, and the router is recorded, with all that its
+-- links led to or lead to
+pub record IsRouterNoted (said : Option Body) (says : Option Body) (nodes : List Node)
+    (places : List ℕ) (router : RouterNumber) : Type 0 where
   pub was : RouterLsa
   pub is : RouterLsa
-  pub said : IsRouterLsa old router was
-  pub says : IsRouterLsa new router is
-  pub change : IsChange nodes places router was is
+  pub before : said ≡ Some (body.Router was)
+  pub now : says ≡ Some (body.Router is)
+  pub own : IsAmong nodes places (ARouter router)
+  pub ends_before : AreEndsAmong nodes places was
+  pub ends : AreEndsAmong nodes places is
 
--- the LSA says what it said, or is a router-LSA that was recorded
+-- a network's LSA says something before and after, and the network is recorded, with all routers
+-- that were or are listed
+pub record IsNetworkNoted (said : Option Body) (says : Option Body) (nodes : List Node)
+    (places : List ℕ) (network : Node) : Type 0 where
+  pub was : NetworkLsa
+  pub is : NetworkLsa
+  pub before : said ≡ Some (body.Network was)
+  pub now : says ≡ Some (body.Network is)
+  pub own : IsAmong nodes places network
+  pub listed_before : AreListedAmong nodes places was
+  pub listed : AreListedAmong nodes places is
+
+-- the key is that of a router-LSA or a network-LSA that was recorded
+abbrev pub IsNoted : (old : Said) → (new : Said) → List Node → (places : List ℕ) → Key → Type 0
+IsNoted old new nodes places key =
+    ((router : RouterNumber) × (key ≡ router_key router)
+    × IsRouterNoted (old key) (new key) nodes places router)
+    ⊎ ((id : ℕ) × (by : RouterNumber) × (key ≡ network_key id by)
+    × IsNetworkNoted (old key) (new key) nodes places (ANetwork id by))
+
+-- the LSA says what it said, or was recorded
 abbrev pub IsCovered : (old : Said) → (new : Said) → List Node → (places : List ℕ) → Key → Type 0
-IsCovered old new nodes places key =
-    (old key ≡ new key)
-    ⊎ ((router : RouterNumber) × (key ≡ router_key router) × IsNoted old new nodes places router)
+IsCovered old new nodes places key = (old key ≡ new key) ⊎ IsNoted old new nodes places key
 
 -- the same for each of these keys that is of a router-LSA or network-LSA
 abbrev pub AreCovered : (old : Said) → (new : Said) → List Node → (places : List ℕ) → List Key

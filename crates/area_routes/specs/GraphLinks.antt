@@ -1,34 +1,37 @@
--- The links of a router without transit links (RFC 2328, section 16.1).
-use Rattle.std.specs.Prelude.{◌≡◌, ◌<◌, ℕ, List, Option, None, Some}
+-- The links of the graph from a router or a network, each from one link or list of its LSA (RFC
+-- 2328, section 16.1).
+use Rattle.std.specs.Prelude.{◌≡◌, ◌<◌, ◌⊎◌, ℕ, List, Option, None, Some}
 use Rattle.std.specs.List.{Contains}
 use Rattle.lsa.specs.declared.body.Link.{Link as Told}
+use Rattle.lsa.specs.declared.body.LinkKind.{LinkKind}
 use Rattle.lsa.specs.declared.body.LinkKind.TheVariants.{PointToPoint, Transit}
 use Rattle.lsa.specs.declared.body.RouterLsa.{RouterLsa}
+use Rattle.area_graph.specs.Entries.{IsListedAt}
 use Rattle.area_graph.specs.Graphs.{StandsAt}
 use Rattle.area_graph.specs.Links.{IsExitTo}
 use Rattle.routes.specs.Links.{LinksBack}
 use Rattle.routes.specs.Said.{Said}
 use Rattle.routes.specs.declared.graph.Link.{Link}
 use Rattle.routes.specs.declared.node.Node.{Node}
-use Rattle.routes.specs.declared.node.Node.TheVariants.{ARouter}
+use Rattle.routes.specs.declared.node.Node.TheVariants.{ANetwork, ARouter}
 use Rattle.routes.specs.declared.root.Root.{Root}
 use Rattle.words.specs.Numbers.{RouterNumber}
 
--- the LSA has no link to a transit network
-abbrev pub HasNoTransit : RouterLsa → Type 0
-HasNoTransit lsa = (link : Told) → Contains lsa.links link → link.kind ≡ Transit → ⊥
+-- the node is a network whose LSA has this Link State ID
+abbrev pub IsOfId : (id : ℕ) → Node → Type 0
+IsOfId id (ARouter router) = ⊥
+IsOfId id (ANetwork its by) = its ≡ id
 
--- the LSA has a point-to-point link to the router
-abbrev pub Names : RouterLsa → RouterNumber → Type 0
-Names lsa router =
-    (link : Told) × Contains lsa.links link × (link.kind ≡ PointToPoint) × (link.link_id ≡ router)
+-- the LSA has a link of this kind to this Link ID
+abbrev pub HasLinkTo : RouterLsa → LinkKind → (id : ℕ) → Type 0
+HasLinkTo lsa kind id =
+    (link : Told) × Contains lsa.links link × (link.kind ≡ kind) × (link.link_id ≡ id)
 
--- the index of the router at the far end, if that has a point-to-point link back
-abbrev pub IsNeighbor : Said → List Node → (far : RouterNumber) → (router : RouterNumber)
-    → Option ℕ → Type 0
-IsNeighbor said nodes far router None = LinksBack said far PointToPoint router → ⊥
-IsNeighbor said nodes far router (Some at) =
-    StandsAt nodes (ARouter far) at × LinksBack said far PointToPoint router
+-- the index of a router, if it has a link of this kind to this Link ID
+abbrev pub IsNeighbor : Said → List Node → RouterNumber → LinkKind → (id : ℕ) → Option ℕ → Type 0
+IsNeighbor said nodes router kind id None = LinksBack said router kind id → ⊥
+IsNeighbor said nodes router kind id (Some at) =
+    StandsAt nodes (ARouter router) at × LinksBack said router kind id
 
 -- to the router at the far end of a point-to-point link that may count, which has a link back
 pub record IsToNeighbor (said : Said) (root : Root) (nodes : List Node) (router : RouterNumber)
@@ -38,3 +41,31 @@ pub record IsToNeighbor (said : Said) (root : Root) (nodes : List Node) (router 
   pub stands : StandsAt nodes (ARouter told.link_id) link.to
   pub back : LinksBack said told.link_id PointToPoint router
   pub leads : IsExitTo root router link.to told.metric told.link_data link
+
+-- to a network with the Link ID of a transit link that may count, which lists the router
+pub record IsToNetwork (said : Said) (root : Root) (nodes : List Node) (router : RouterNumber)
+    (told : Told) (link : Link) : Type 0 where
+  pub is_kind : told.kind ≡ Transit
+  pub counts : 0 < told.metric
+  pub listed : IsListedAt said nodes router told.link_id link.to
+  pub leads : IsExitTo root router link.to told.metric told.link_data link
+
+-- to the network at this index
+abbrev pub IsToNetworkAt : Said → Root → List Node → RouterNumber → Told → (place : ℕ) → Link
+    → Type 0
+IsToNetworkAt said root nodes router told place link =
+    (link.to ≡ place) × IsToNetwork said root nodes router told link
+
+-- to a node that the link of the router's LSA leads to
+abbrev pub IsToEnd : Said → Root → List Node → RouterNumber → Told → Link → Type 0
+IsToEnd said root nodes router told link =
+    IsToNeighbor said root nodes router told link ⊎ IsToNetwork said root nodes router told link
+
+-- from a network with this Link State ID to a router that it lists and that has a link back, at
+-- cost 0
+pub record IsAttached (said : Said) (nodes : List Node) (id : ℕ) (router : RouterNumber)
+    (link : Link) : Type 0 where
+  pub stands : StandsAt nodes (ARouter router) link.to
+  pub back : LinksBack said router Transit id
+  pub free : link.cost ≡ 0
+  pub exit : link.interface ≡ 0

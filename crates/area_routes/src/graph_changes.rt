@@ -3,53 +3,113 @@ ghost use Rattle.std.specs.Prelude.{◌≡◌, ℕ, IfOk, IfSome, IsTrue, MatchO
 ghost use Rattle.std.specs.Prelude.{option_copied};
 ghost use Rattle.std.specs.List.{Contains};
 ghost use Rattle.area_graph.specs.Nodes.{Ascend};
-ghost use Rattle.area_routes.specs.GraphChanges.{AreCovered, AreNamedAmong, IsAmong, IsChange};
-ghost use Rattle.area_routes.specs.GraphChanges.{IsCovered};
+ghost use Rattle.area_routes.specs.GraphChanges.{AreCovered, AreEndsAmong, AreListedAmong};
+ghost use Rattle.area_routes.specs.GraphChanges.{AreNetworksAmong, IsAmong, IsCovered, IsEndAmong};
+ghost use Rattle.area_routes.specs.GraphChanges.{IsNetworkNoted, IsRouterNoted};
 ghost use Rattle.lsa.specs.declared.body.Body.TheVariants as body;
+ghost use Rattle.lsa.specs.declared.body.NetworkLsa.{NetworkLsa as NetworkValue};
 ghost use Rattle.lsa.specs.declared.body.RouterLsa.{RouterLsa as RouterValue};
-ghost use Rattle.routes.specs.Links.{router_key};
+ghost use Rattle.routes.specs.Links.{network_key, router_key};
 ghost use Rattle.routes.specs.Said.{said_at};
 
-use crate::graph_links::{Surroundings, has_transit, is_point_to_point};
+use crate::lookups::SPARE;
+use crate::surroundings::{Surroundings, places_of};
 use area_graph::NETWORK_LSA;
 use candidates::find;
-use lsa::{Body, RouterLsa};
+use lsa::{Body, Link, LinkKind, NetworkLsa, RouterLsa};
 use routes::Node;
 use std::alloc::{AllocError, Global};
-use words::{Key, RouterId, Second};
+use words::{Key, LinkStateId, RouterId, Second};
 
-// Records the index of a router, if it is a node.
-fn note_router(
-    at: &Surroundings<'_>,
-    router: RouterId,
-    places: &mut Vec<usize>,
-) -> Result<(), AllocError>
+// Records the index of a node, if it is one.
+fn note_node(at: &Surroundings<'_>, node: &Node, places: &mut Vec<usize>) -> Result<(), AllocError>
     requires { Ascend at.now.nodes.now }
     ensures kept { OnOk result ((place : ℕ) → Contains places.old.items place
         → Contains places.new.items place) }
-    ensures noted { OnOk result (IsAmong at.now.nodes.now places.new.items router) }
+    ensures noted { OnOk result (IsAmong at.now.nodes.now places.new.items node.now) }
 {
-    if let Some(place) = find(at.nodes, at.slots, &Node::ARouter(router)) {
+    if let Some(place) = find(at.nodes, at.slots, node) {
         places.push(place)?;
     }
     Ok(())
 }
 
-// Records the indices of the routers that the LSA names.
-fn note_named(
+// Records the indices of the networks with this Link State ID.
+fn note_networks(
     at: &Surroundings<'_>,
-    lsa: &RouterLsa,
+    id: LinkStateId,
     places: &mut Vec<usize>,
 ) -> Result<(), AllocError>
     requires { Ascend at.now.nodes.now }
     ensures kept { OnOk result ((place : ℕ) → Contains places.old.items place
         → Contains places.new.items place) }
-    ensures noted { OnOk result (AreNamedAmong at.now.nodes.now places.new.items lsa.now) }
+    ensures noted { OnOk result (AreNetworksAmong at.now.nodes.now places.new.items id) }
+{
+    let (first, end) = places_of(at, id);
+    for place in first..end {
+        places.push(place)?;
+    }
+    Ok(())
+}
+
+// Records the indices of the nodes that a link may lead to.
+fn note_end(at: &Surroundings<'_>, link: &Link, places: &mut Vec<usize>) -> Result<(), AllocError>
+    requires { Ascend at.now.nodes.now }
+    ensures kept { OnOk result ((place : ℕ) → Contains places.old.items place
+        → Contains places.new.items place) }
+    ensures noted { OnOk result (IsEndAmong at.now.nodes.now places.new.items link.now) }
+{
+    match link.kind {
+        LinkKind::PointToPoint => {
+            note_node(at, &Node::ARouter(RouterId::new(link.link_id)), places)
+        }
+        LinkKind::Transit => note_networks(at, LinkStateId::new(link.link_id), places),
+        LinkKind::Stub => Ok(()),
+        LinkKind::Virtual => Ok(()),
+    }
+}
+
+// Whether these are more than the nodes and some: with many networks of one Link State ID, and many
+// links to it, each network would be recorded often.
+fn are_many(places: &[usize], nodes: &[Node]) -> bool {
+    places.len() > nodes.len().saturating_add(SPARE)
+}
+
+// Records the indices of the nodes that the LSA's links may lead to. Returns false if these are
+// many.
+fn note_ends(
+    at: &Surroundings<'_>,
+    lsa: &RouterLsa,
+    places: &mut Vec<usize>,
+) -> Result<bool, AllocError>
+    requires { Ascend at.now.nodes.now }
+    ensures kept { OnOk result ((place : ℕ) → Contains places.old.items place
+        → Contains places.new.items place) }
+    ensures noted { IfOk result (λ noted. IsTrue noted
+        → AreEndsAmong at.now.nodes.now places.new.items lsa.now) }
 {
     for link in lsa.links.as_slice() {
-        if is_point_to_point(link) {
-            note_router(at, RouterId::new(link.link_id), places)?;
+        if are_many(places, at.nodes) {
+            return Ok(false);
         }
+        note_end(at, link, places)?;
+    }
+    Ok(true)
+}
+
+// Records the indices of the routers that the LSA lists.
+fn note_listed(
+    at: &Surroundings<'_>,
+    lsa: &NetworkLsa,
+    places: &mut Vec<usize>,
+) -> Result<(), AllocError>
+    requires { Ascend at.now.nodes.now }
+    ensures kept { OnOk result ((place : ℕ) → Contains places.old.items place
+        → Contains places.new.items place) }
+    ensures noted { OnOk result (AreListedAmong at.now.nodes.now places.new.items lsa.now) }
+{
+    for router in lsa.attached.as_slice() {
+        note_node(at, &Node::ARouter(*router), places)?;
     }
     Ok(())
 }
@@ -66,27 +126,75 @@ fn router_of(says: Option<&Body>) -> Option<&RouterLsa>
     }
 }
 
-// Records a router, and those that its LSA named or names. Returns false if it had or has a transit
-// link.
-fn note_change(
+// The network-LSA in the body, if it is one.
+fn network_of(says: Option<&Body>) -> Option<&NetworkLsa>
+    ensures { MatchOption result ((lsa : NetworkValue)
+        → option_copied says.entry ≡ Some (body.Network lsa) → ⊥) (λ lsa.
+        option_copied says.entry ≡ Some (body.Network lsa.now)) }
+{
+    match says? {
+        Body::Network(lsa) => Some(lsa),
+        _ => None,
+    }
+}
+
+// Records a router, and the nodes that the links of its LSA may have led to or may lead to. Returns
+// false if there was or is no such LSA, or if these are many.
+fn note_router(
     at: &Surroundings<'_>,
     router: RouterId,
-    was: &RouterLsa,
-    is: &RouterLsa,
+    was: Option<&Body>,
+    is: Option<&Body>,
     places: &mut Vec<usize>,
 ) -> Result<bool, AllocError>
     requires { Ascend at.now.nodes.now }
     ensures kept { OnOk result ((place : ℕ) → Contains places.old.items place
         → Contains places.new.items place) }
-    ensures noted { IfOk result (λ noted. IsTrue noted → IsChange at.now.nodes.now
-        places.new.items router was.now is.now) }
+    ensures noted { IfOk result (λ noted. IsTrue noted
+        → IsRouterNoted (option_copied was.entry) (option_copied is.entry) at.now.nodes.now
+        places.new.items router) }
 {
-    if has_transit(was) || has_transit(is) {
+    let Some(was) = router_of(was) else {
+        return Ok(false);
+    };
+    let Some(is) = router_of(is) else {
+        return Ok(false);
+    };
+    note_node(at, &Node::ARouter(router), places)?;
+    if !note_ends(at, was, places)? {
         return Ok(false);
     }
-    note_router(at, router, places)?;
-    note_named(at, was, places)?;
-    note_named(at, is, places)?;
+    if !note_ends(at, is, places)? {
+        return Ok(false);
+    }
+    Ok(true)
+}
+
+// Records a network, and the routers that its LSA listed or lists. Returns false if there was or is
+// no such LSA.
+fn note_network(
+    at: &Surroundings<'_>,
+    node: &Node,
+    was: Option<&Body>,
+    is: Option<&Body>,
+    places: &mut Vec<usize>,
+) -> Result<bool, AllocError>
+    requires { Ascend at.now.nodes.now }
+    ensures kept { OnOk result ((place : ℕ) → Contains places.old.items place
+        → Contains places.new.items place) }
+    ensures noted { IfOk result (λ noted. IsTrue noted
+        → IsNetworkNoted (option_copied was.entry) (option_copied is.entry) at.now.nodes.now
+        places.new.items node.now) }
+{
+    let Some(was) = network_of(was) else {
+        return Ok(false);
+    };
+    let Some(is) = network_of(is) else {
+        return Ok(false);
+    };
+    note_node(at, node, places)?;
+    note_listed(at, was, places)?;
+    note_listed(at, is, places)?;
     Ok(true)
 }
 
@@ -97,8 +205,16 @@ fn is_of_router(key: &Key) -> bool
     key.ls_type == 1 && key.link_state_id.number() == key.advertising_router.number()
 }
 
-// Records the nodes whose links this LSA's change may affect. Returns false if these are unknown:
-// if it isn't a router-LSA, was added or removed, or had or has a transit link.
+// Whether it is the key of a network-LSA.
+fn is_of_network(key: &Key) -> bool
+    ensures { IsTrue result
+        → key.now ≡ network_key key.now.link_state_id key.now.advertising_router }
+{
+    key.ls_type == NETWORK_LSA
+}
+
+// Records the nodes whose links this LSA's change may affect. Returns false if these are unknown or
+// many: if the LSA was added or removed, or makes no node.
 fn note_key(
     at: &Surroundings<'_>,
     before: Second,
@@ -117,21 +233,21 @@ fn note_key(
     if was.is_none() && is.is_none() {
         return Ok(true);
     }
-    let Some(was) = router_of(was) else {
-        return Ok(false);
-    };
-    let Some(is) = router_of(is) else {
-        return Ok(false);
-    };
-    if !is_of_router(key) {
-        return Ok(false);
+    let by = key.advertising_router;
+    if is_of_router(key) {
+        return note_router(at, by, was, is, places);
     }
-    note_change(at, key.advertising_router, was, is, places)
+    if is_of_network(key) {
+        let node = Node::ANetwork(key.link_state_id, by);
+        return note_network(at, &node, was, is, places);
+    }
+    Ok(false)
 }
 
 /// The indices of the nodes whose links may have changed since the moment `before`, if only the
-/// LSAs with these keys may have changed. `None` if these are unknown: a router or network was
-/// added or removed, or a network-LSA or a router-LSA with a transit link changed.
+/// LSAs with these keys may have changed: those of the LSAs themselves, and of the routers and
+/// networks that they named or name. `None` if these are unknown, since a router or network was
+/// added or removed, or if they are many.
 ///
 /// # Errors
 /// `AllocError` if an allocation is refused.
@@ -149,7 +265,7 @@ pub fn places_to_renew(
     let mut places = Vec::new(alloc);
     for key in keys {
         if key.ls_type <= NETWORK_LSA {
-            if !note_key(at, before, key, &mut places)? {
+            if !note_key(at, before, key, &mut places)? || are_many(&places, at.nodes) {
                 return Ok(None);
             }
         }

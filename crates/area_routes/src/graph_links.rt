@@ -1,99 +1,35 @@
-//! The links of a router without transit links.
-ghost use Rattle.std.specs.Prelude.{◌≡◌, ◌<◌, ◌≤◌, ◌↔◌, false, length, IfOk, IfSome, IsTrue, OnOk};
-ghost use Rattle.std.specs.Prelude.{option_copied};
-ghost use Rattle.std.specs.List.{All};
-ghost use Rattle.area_graph.specs.Graphs.{Adds, AreLinksFrom, CostFits, OfEach};
-ghost use Rattle.area_graph.specs.Nodes.{AreNodes, router_lsa};
-ghost use Rattle.area_routes.specs.GraphLinks.{HasNoTransit, IsNeighbor, IsToNeighbor, Names};
+//! The links of the graph from one node, each looked up for itself.
+ghost use Rattle.std.specs.Prelude.{◌≡◌, ◌<◌, ◌≤◌, ◌↔◌, ℕ, length, IfOk, IsTrue, OnOk};
+ghost use Rattle.std.specs.Prelude.{MatchOption};
+ghost use Rattle.std.specs.List.{All, Contains};
+ghost use Rattle.area_graph.specs.Entries.{IsListedAt};
+ghost use Rattle.area_graph.specs.Graphs.{Adds, AreLinksFrom, CostFits, IsVertexOf, OfEach};
+ghost use Rattle.area_graph.specs.Graphs.{StandsAt, kind_of};
+ghost use Rattle.area_graph.specs.Nodes.{AreNodes};
+ghost use Rattle.area_routes.specs.GraphLinks.{IsAttached, IsNeighbor, IsToEnd, IsToNeighbor};
+ghost use Rattle.area_routes.specs.GraphLinks.{IsToNetwork, IsToNetworkAt};
+ghost use Rattle.routes.specs.Links.{ListsRouter};
 ghost use Rattle.routes.specs.Said.{said_at};
-ghost use Rattle.routes.specs.declared.node.Node.TheVariants.{ARouter};
+ghost use Rattle.routes.specs.declared.node.Node.TheVariants.{ANetwork};
 
-use area_graph::{Slots, add_exits};
+use crate::surroundings::{Surroundings, has_link_to, network_lsa, places_of, router_lsa};
+use area_graph::add_exits;
 use candidates::find;
-use lsa::{Body, Link as ToldLink, LinkKind, RouterLsa};
-use routes::{Link, Lsdb, Node, Root};
+use lsa::{Link as ToldLink, LinkKind, NetworkLsa, RouterLsa};
+use routes::{Kind, Link, Node, Root, Vertex};
 use std::alloc::{AllocError, Global};
-use words::{Key, LinkStateId, RouterId, Second};
+use words::{LinkStateId, RouterId};
 
-/// A database at a moment, and its nodes.
-#[derive(Drop)]
-pub struct Surroundings<'a> {
-    pub db: &'a Lsdb,
-    pub moment: Second,
-    pub nodes: &'a [Node],
-    pub slots: &'a Slots,
-}
-
-// The router-LSA of a router, unless it is at MaxAge.
-fn router_lsa<'a>(at: &Surroundings<'a>, router: RouterId) -> Option<&'a RouterLsa>
-    ensures { option_copied result ≡ router_lsa (said_at at.now.moment at.now.db.now.present)
-        router }
-{
-    let key = Key {
-        ls_type: 1,
-        link_state_id: LinkStateId::new(router.number()),
-        advertising_router: router,
-    };
-    match at.db.body_at(at.moment, &key) {
-        Some(Body::Router(lsa)) => Some(lsa),
-        _ => None,
-    }
-}
-
-fn is_transit(link: &ToldLink) -> bool
-    ensures { IsTrue result ↔ (link.now.kind ≡ LinkKind.Transit) }
-{
-    link.kind == LinkKind::Transit
-}
-
-/// Whether the LSA has a link to a transit network.
-pub fn has_transit(lsa: &RouterLsa) -> bool
-    ensures { result ≡ false → HasNoTransit lsa.now }
-{
-    for link in lsa.links.as_slice() {
-        if is_transit(link) {
-            return true;
-        }
-    }
-    false
-}
-
-/// Whether it is a point-to-point link.
-pub fn is_point_to_point(link: &ToldLink) -> bool
-    ensures { IsTrue result ↔ (link.now.kind ≡ LinkKind.PointToPoint) }
-{
-    link.kind == LinkKind::PointToPoint
-}
-
-// Whether the LSA has a point-to-point link to the router.
-fn names(lsa: &RouterLsa, router: RouterId) -> bool
-    ensures { IsTrue result ↔ Names lsa.now router }
-{
-    for link in lsa.links.as_slice() {
-        if is_to(link, router) {
-            return true;
-        }
-    }
-    false
-}
-
-fn is_to(link: &ToldLink, router: RouterId) -> bool
-    ensures { IsTrue result ↔ ((link.now.kind ≡ LinkKind.PointToPoint)
-        × (link.now.link_id ≡ router)) }
-{
-    link.kind == LinkKind::PointToPoint && link.link_id == router.number()
-}
-
-// The index of the router at the far end, if that has a point-to-point link back.
-fn neighbor_at(at: &Surroundings<'_>, far: RouterId, router: RouterId) -> Option<usize>
+// The index of a router, if its LSA has a link of this kind to this Link ID.
+fn neighbor_at(at: &Surroundings<'_>, far: RouterId, kind: LinkKind, id: u32) -> Option<usize>
     requires { AreNodes (said_at at.now.moment at.now.db.now.present) at.now.nodes.now }
-    ensures { IsNeighbor (said_at at.now.moment at.now.db.now.present) at.now.nodes.now far router
+    ensures { IsNeighbor (said_at at.now.moment at.now.db.now.present) at.now.nodes.now far kind id
         result }
 {
     match router_lsa(at, far) {
         None => None,
         Some(lsa) => {
-            if names(lsa, router) {
+            if has_link_to(lsa, kind, id) {
                 find(at.nodes, at.slots, &Node::ARouter(far))
             } else {
                 None
@@ -102,7 +38,7 @@ fn neighbor_at(at: &Surroundings<'_>, far: RouterId, router: RouterId) -> Option
     }
 }
 
-// Adds the links to the router at the far end of one, if that has a link back.
+// Adds the links to the router at the far end of a point-to-point link, if that has a link back.
 fn add_neighbor(
     at: &Surroundings<'_>,
     root: &Root,
@@ -120,21 +56,157 @@ fn add_neighbor(
     ensures fits { OnOk result (All CostFits links.old.items → All CostFits links.new.items) }
 {
     let far = RouterId::new(told.link_id);
-    match neighbor_at(at, far, router) {
+    match neighbor_at(at, far, LinkKind::PointToPoint, router.number()) {
         None => Ok(()),
         Some(to) => add_exits(root, router, told.link_data, told.metric, to, links),
     }
 }
 
-// Whether it is a point-to-point link of a metric above 0: others don't count.
-fn may_count(told: &ToldLink) -> bool
-    ensures { IsTrue result ↔ ((told.now.kind ≡ LinkKind.PointToPoint) × (0 < told.now.metric)) }
+fn is_same(a: RouterId, b: RouterId) -> bool
+    ensures { IsTrue result ↔ (a ≡ b) }
 {
-    told.kind == LinkKind::PointToPoint && told.metric > 0
+    a.number() == b.number()
 }
 
-// Adds the links to the routers at the far ends of point-to-point links.
-fn add_neighbors(
+// Whether the LSA lists the router.
+fn is_listed(lsa: &NetworkLsa, router: RouterId) -> bool
+    ensures { IsTrue result ↔ Contains lsa.now.attached router }
+{
+    for other in lsa.attached.as_slice() {
+        if is_same(*other, router) {
+            return true;
+        }
+    }
+    false
+}
+
+// Whether the network's LSA lists the router.
+fn lists(at: &Surroundings<'_>, id: LinkStateId, by: RouterId, router: RouterId) -> bool
+    ensures { IsTrue result ↔ ListsRouter (said_at at.now.moment at.now.db.now.present) id by
+        router }
+{
+    match network_lsa(at, id, by) {
+        None => false,
+        Some(lsa) => is_listed(lsa, router),
+    }
+}
+
+// The router that advertises the network at this index, if that is one whose LSA has this Link
+// State ID.
+fn advertiser_at(at: &Surroundings<'_>, place: usize, id: LinkStateId) -> Option<RouterId>
+    ensures { MatchOption result
+        ((by : ℕ) → StandsAt at.now.nodes.now (ANetwork id by) place → ⊥)
+        (λ by. StandsAt at.now.nodes.now (ANetwork id by) place) }
+{
+    match at.nodes.get(place)? {
+        Node::ARouter(_) => None,
+        Node::ANetwork(its, by) => {
+            if its.number() == id.number() {
+                Some(*by)
+            } else {
+                None
+            }
+        }
+    }
+}
+
+// Whether the node at this index is a network whose LSA has this Link State ID and lists the
+// router.
+fn lists_at(at: &Surroundings<'_>, place: usize, id: LinkStateId, router: RouterId) -> bool
+    ensures { IsTrue result ↔ IsListedAt (said_at at.now.moment at.now.db.now.present)
+        at.now.nodes.now router id place }
+{
+    match advertiser_at(at, place, id) {
+        None => false,
+        Some(by) => lists(at, id, by, router),
+    }
+}
+
+// Adds the links to the network at this index, if its LSA has the Link ID of a transit link as its
+// Link State ID, and lists the router.
+fn add_network(
+    at: &Surroundings<'_>,
+    root: &Root,
+    router: RouterId,
+    told: &ToldLink,
+    place: usize,
+    links: &mut Vec<Link>,
+) -> Result<(), AllocError>
+    requires nodes { AreNodes (said_at at.now.moment at.now.db.now.present) at.now.nodes.now }
+    requires interfaces { length root.now.addresses ≤ 63 }
+    requires is_kind { told.now.kind ≡ LinkKind.Transit }
+    requires counts { 0 < told.now.metric }
+    ensures adds { OnOk result (Adds (IsToNetworkAt
+        (said_at at.now.moment at.now.db.now.present) root.now at.now.nodes.now router told.now
+        place) links.old.items links.new.items) }
+    ensures fits { OnOk result (All CostFits links.old.items → All CostFits links.new.items) }
+{
+    if !lists_at(at, place, LinkStateId::new(told.link_id), router) {
+        return Ok(());
+    }
+    add_exits(root, router, told.link_data, told.metric, place, links)
+}
+
+// Adds the links to the networks that have the Link ID of a transit link and list the router.
+fn add_networks(
+    at: &Surroundings<'_>,
+    root: &Root,
+    router: RouterId,
+    told: &ToldLink,
+    links: &mut Vec<Link>,
+) -> Result<(), AllocError>
+    requires nodes { AreNodes (said_at at.now.moment at.now.db.now.present) at.now.nodes.now }
+    requires interfaces { length root.now.addresses ≤ 63 }
+    requires is_kind { told.now.kind ≡ LinkKind.Transit }
+    requires counts { 0 < told.now.metric }
+    ensures adds { OnOk result (Adds (IsToNetwork
+        (said_at at.now.moment at.now.db.now.present) root.now at.now.nodes.now router told.now)
+        links.old.items links.new.items) }
+    ensures fits { OnOk result (All CostFits links.old.items → All CostFits links.new.items) }
+{
+    let (first, end) = places_of(at, LinkStateId::new(told.link_id));
+    for place in first..end {
+        add_network(at, root, router, told, place, links)?;
+    }
+    Ok(())
+}
+
+// A link of metric 0 doesn't count, unlike in RFC 2328, section 16.1: the calculation needs costs
+// above 0 (`routes::is_graph`).
+fn counts(told: &ToldLink) -> bool
+    ensures { IsTrue result ↔ (0 < told.now.metric) }
+{
+    told.metric > 0
+}
+
+// Adds the links of the graph that one link of the router's LSA stands for.
+fn add_ends(
+    at: &Surroundings<'_>,
+    root: &Root,
+    router: RouterId,
+    told: &ToldLink,
+    links: &mut Vec<Link>,
+) -> Result<(), AllocError>
+    requires nodes { AreNodes (said_at at.now.moment at.now.db.now.present) at.now.nodes.now }
+    requires interfaces { length root.now.addresses ≤ 63 }
+    ensures adds { OnOk result (Adds (IsToEnd
+        (said_at at.now.moment at.now.db.now.present) root.now at.now.nodes.now router told.now)
+        links.old.items links.new.items) }
+    ensures fits { OnOk result (All CostFits links.old.items → All CostFits links.new.items) }
+{
+    if !counts(told) {
+        return Ok(());
+    }
+    match told.kind {
+        LinkKind::PointToPoint => add_neighbor(at, root, router, told, links),
+        LinkKind::Transit => add_networks(at, root, router, told, links),
+        LinkKind::Stub => Ok(()),
+        LinkKind::Virtual => Ok(()),
+    }
+}
+
+// Adds the links of a router with this LSA.
+fn add_all(
     at: &Surroundings<'_>,
     root: &Root,
     router: RouterId,
@@ -143,44 +215,99 @@ fn add_neighbors(
 ) -> Result<(), AllocError>
     requires nodes { AreNodes (said_at at.now.moment at.now.db.now.present) at.now.nodes.now }
     requires interfaces { length root.now.addresses ≤ 63 }
-    ensures adds { OnOk result (Adds (OfEach (IsToNeighbor
+    ensures adds { OnOk result (Adds (OfEach (IsToEnd
         (said_at at.now.moment at.now.db.now.present) root.now at.now.nodes.now router)
         lsa.now.links) links.old.items links.new.items) }
     ensures fits { OnOk result (All CostFits links.old.items → All CostFits links.new.items) }
 {
     for told in lsa.links.as_slice() {
-        if may_count(told) {
-            add_neighbor(at, root, router, told, links)?;
+        add_ends(at, root, router, told, links)?;
+    }
+    Ok(())
+}
+
+// Adds the links of a network with this Link State ID to the routers that its LSA lists and that
+// have a link back.
+fn add_attached(
+    at: &Surroundings<'_>,
+    id: LinkStateId,
+    lsa: &NetworkLsa,
+    links: &mut Vec<Link>,
+) -> Result<(), AllocError>
+    requires { AreNodes (said_at at.now.moment at.now.db.now.present) at.now.nodes.now }
+    ensures adds { OnOk result (Adds (OfEach (IsAttached
+        (said_at at.now.moment at.now.db.now.present) at.now.nodes.now id) lsa.now.attached)
+        links.old.items links.new.items) }
+    ensures fits { OnOk result (All CostFits links.old.items → All CostFits links.new.items) }
+{
+    for router in lsa.attached.as_slice() {
+        if let Some(to) = neighbor_at(at, *router, LinkKind::Transit, id.number()) {
+            links.push(Link {
+                to,
+                cost: 0,
+                interface: 0,
+            })?;
         }
     }
     Ok(())
 }
 
-/// The links of the graph from a router; `None` if it has no LSA below MaxAge, or has a transit
-/// link. It takes the time of two lookups for each of its links.
-///
-/// # Errors
-/// `AllocError` if an allocation is refused.
-pub fn links_of(
+// The links of the graph from a node.
+fn links_of(
     alloc: Global,
     at: &Surroundings<'_>,
     root: &Root,
-    router: RouterId,
-) -> Result<Option<Vec<Link>>, AllocError>
+    node: &Node,
+) -> Result<Vec<Link>, AllocError>
     requires nodes { AreNodes (said_at at.now.moment at.now.db.now.present) at.now.nodes.now }
     requires interfaces { length root.now.addresses ≤ 63 }
-    ensures links { IfOk result (λ found. IfSome found (λ links. AreLinksFrom
-        (said_at at.now.moment at.now.db.now.present) root.now at.now.nodes.now (ARouter router)
-        links.items)) }
-    ensures fits { IfOk result (λ found. IfSome found (λ links. All CostFits links.items)) }
+    ensures links { IfOk result (λ links. AreLinksFrom
+        (said_at at.now.moment at.now.db.now.present) root.now at.now.nodes.now node.now
+        links.items) }
+    ensures fits { IfOk result (λ links. All CostFits links.items) }
 {
-    let Some(lsa) = router_lsa(at, router) else {
-        return Ok(None);
-    };
-    if has_transit(lsa) {
-        return Ok(None);
-    }
     let mut links = Vec::new(alloc);
-    add_neighbors(at, root, router, lsa, &mut links)?;
-    Ok(Some(links))
+    match node {
+        Node::ARouter(router) => {
+            if let Some(lsa) = router_lsa(at, *router) {
+                add_all(at, root, *router, lsa, &mut links)?;
+            }
+        }
+        Node::ANetwork(id, by) => {
+            if let Some(lsa) = network_lsa(at, *id, *by) {
+                add_attached(at, *id, lsa, &mut links)?;
+            }
+        }
+    }
+    Ok(links)
+}
+
+fn kind_of(node: &Node) -> Kind
+    ensures { result ≡ kind_of node.now }
+{
+    match node {
+        Node::ARouter(_) => Kind::Router,
+        Node::ANetwork(..) => Kind::Network,
+    }
+}
+
+/// The vertex of a node. It takes the time of two lookups for each of its links, and for a
+/// router's transit link of a look at each network-LSA with its Link ID.
+///
+/// # Errors
+/// `AllocError` if an allocation is refused.
+pub fn vertex_of(
+    alloc: Global,
+    at: &Surroundings<'_>,
+    root: &Root,
+    node: &Node,
+) -> Result<Vertex, AllocError>
+    requires nodes { AreNodes (said_at at.now.moment at.now.db.now.present) at.now.nodes.now }
+    requires interfaces { length root.now.addresses ≤ 63 }
+    ensures { IfOk result (λ vertex. IsVertexOf (said_at at.now.moment at.now.db.now.present)
+        root.now at.now.nodes.now node.now vertex) }
+{
+    let kind = kind_of(node);
+    let links = links_of(alloc, at, root, node)?;
+    Ok(Vertex { kind, links })
 }

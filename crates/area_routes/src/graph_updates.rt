@@ -6,21 +6,18 @@ ghost use Rattle.routes.specs.Said.{said_at};
 ghost use Rattle.candidates.specs.AreaGraphs.{IsAreaGraph};
 
 use crate::graph_changes::places_to_renew;
-use crate::graph_links::{Surroundings, links_of};
+use crate::graph_links::vertex_of;
+use crate::lookups::are_costly;
+use crate::surroundings::Surroundings;
 use area_graph::NETWORK_LSA;
 use candidates::AreaGraph;
 use external_updates::changed_keys;
 use kept_routes::say_the_same;
-use routes::{Kind, Lsdb, Node, Root, Vertex};
+use routes::{Lsdb, Root, Vertex};
 use std::alloc::{AllocError, Global};
 use words::Second;
 
-// The graph is rebuilt if this many times the number of changed nodes exceeds the number of all
-// nodes plus 64.
-const NODES_TO_A_PLACE: usize = 4;
-
-// Recalculates the vertex at this index. Returns false unless it is that of a router without
-// transit links.
+// Recalculates the vertex at this index. Returns false if there is none.
 fn renew(
     alloc: Global,
     at: &Surroundings<'_>,
@@ -34,19 +31,13 @@ fn renew(
         (said_at at.now.moment at.now.db.now.present) root.now at.now.nodes.now place
         vertices.old.items vertices.new.items) }
 {
-    let Some(Node::ARouter(router)) = at.nodes.get(place) else {
-        return Ok(false);
-    };
-    let Some(links) = links_of(alloc, at, root, *router)? else {
+    let Some(node) = at.nodes.get(place) else {
         return Ok(false);
     };
     if place >= vertices.len() {
         return Ok(false);
     }
-    vertices[place] = Vertex {
-        kind: Kind::Router,
-        links,
-    };
+    vertices[place] = vertex_of(alloc, at, root, node)?;
     Ok(true)
 }
 
@@ -92,16 +83,11 @@ fn renewed(
     }))
 }
 
-// Whether rebuilding the graph is cheaper than recalculating this many vertices of it.
-fn are_many(places: usize, nodes: usize) -> bool {
-    places.saturating_mul(NODES_TO_A_PLACE) > nodes.saturating_add(64)
-}
-
 /// The graph of a database after an event, from the graph before it: from what the settled database
 /// said at the moment `before` to what the database says at this moment. `None` if it has to be
-/// rebuilt: if a router or network was added or removed, if a network-LSA or a router-LSA with a
-/// transit link changed, or if many LSAs did. It takes the time of two lookups for each link of the
-/// routers whose LSAs changed and of their neighbors.
+/// rebuilt: if a router or network was added or removed, or if many LSAs changed. It takes the time
+/// of two lookups for each link of the routers and networks whose LSAs changed, and of those that
+/// these named or name: at most as many as there are nodes, and 64.
 ///
 /// # Errors
 /// `AllocError` if an allocation is refused.
@@ -131,7 +117,7 @@ pub fn follow_graph(
     match places_to_renew(alloc, &at, before, &keys)? {
         None => Ok(None),
         Some(places) => {
-            if are_many(places.len(), graph.nodes.len()) {
+            if are_costly(&at, &places) {
                 return Ok(None);
             }
             renewed(alloc, db, graph, before, moment, &places)

@@ -49,12 +49,63 @@ const CHANGES: &[(&str, &[u8], bool)] = &[
         "it has a transit link",
         b"\x00\x01\x02\x01\x02\x02\x02\x02\x02\x02\x02\x02\x80\x00\x00\x01\x19\x15\x00\x24\x02\x00\
             \x00\x01\x01\x01\x01\x01\x0a\x00\x01\x02\x02\x00\x00\x03",
-        false,
+        true,
     ),
     (
         "a third router comes",
         b"\x00\x01\x02\x01\x03\x03\x03\x03\x03\x03\x03\x03\x80\x00\x00\x01\xbd\x69\x00\x24\x02\x00\
             \x00\x01\x01\x01\x01\x01\x0a\x00\x01\x02\x01\x00\x00\x03",
+        false,
+    ),
+];
+
+// The same routers on a transit network, 10.0.1.0/24, whose LSA 2.2.2.2 originates.
+const ON_A_NETWORK: &[&[u8]] = &[
+    b"\x00\x01\x02\x01\x01\x01\x01\x01\x01\x01\x01\x01\x80\x00\x00\x01\x11\x18\x00\x24\x00\x00\x00\
+        \x01\x0a\x00\x01\x02\x0a\x00\x01\x01\x02\x00\x00\x0a",
+    b"\x00\x01\x02\x01\x02\x02\x02\x02\x02\x02\x02\x02\x80\x00\x00\x01\xd2\x4d\x00\x24\x00\x00\x00\
+        \x01\x0a\x00\x01\x02\x0a\x00\x01\x02\x02\x00\x00\x0a",
+    b"\x00\x01\x02\x02\x0a\x00\x01\x02\x02\x02\x02\x02\x80\x00\x00\x01\x2a\x0f\x00\x20\xff\xff\xff\
+        \x00\x01\x01\x01\x01\x02\x02\x02\x02",
+];
+
+// A name; an LSA; whether the graph of the network with two routers can be updated for it.
+const CHANGES_OF_NETWORKS: &[(&str, &[u8], bool)] = &[
+    (
+        "the other router's transit link costs something else",
+        b"\x00\x01\x02\x01\x02\x02\x02\x02\x02\x02\x02\x02\x80\x00\x00\x01\x54\xd2\x00\x24\x00\x00\
+            \x00\x01\x0a\x00\x01\x02\x0a\x00\x01\x02\x02\x00\x00\x03",
+        true,
+    ),
+    (
+        "it has a point-to-point link instead",
+        b"\x00\x01\x02\x01\x02\x02\x02\x02\x02\x02\x02\x02\x80\x00\x00\x01\x04\x2d\x00\x24\x00\x00\
+            \x00\x01\x01\x01\x01\x01\x0a\x00\x01\x02\x01\x00\x00\x03",
+        true,
+    ),
+    (
+        "it has two links to the network",
+        b"\x00\x01\x02\x01\x02\x02\x02\x02\x02\x02\x02\x02\x80\x00\x00\x01\x8d\x6a\x00\x30\x00\x00\
+            \x00\x02\x0a\x00\x01\x02\x0a\x00\x01\x02\x02\x00\x00\x03\x0a\x00\x01\x02\x0a\x00\
+            \x01\x03\x02\x00\x00\x05",
+        false,
+    ),
+    (
+        "the network lists the other router alone",
+        b"\x00\x01\x02\x02\x0a\x00\x01\x02\x02\x02\x02\x02\x80\x00\x00\x01\xdf\x61\x00\x1c\xff\xff\
+            \xff\x00\x02\x02\x02\x02",
+        true,
+    ),
+    (
+        "the network's LSA has MaxAge",
+        b"\x0e\x10\x02\x02\x0a\x00\x01\x02\x02\x02\x02\x02\x80\x00\x00\x01\x2a\x0f\x00\x20\xff\xff\
+            \xff\x00\x01\x01\x01\x01\x02\x02\x02\x02",
+        false,
+    ),
+    (
+        "another network with its Link State ID comes",
+        b"\x00\x01\x02\x02\x0a\x00\x01\x02\x01\x01\x01\x01\x80\x00\x00\x01\x48\xf4\x00\x20\xff\xff\
+            \xff\x00\x01\x01\x01\x01\x02\x02\x02\x02",
         false,
     ),
 ];
@@ -68,8 +119,8 @@ fn root(alloc: Global) -> Result<Root, AllocError> {
     })
 }
 
-fn install_two(alloc: Global, db: &mut Lsdb) -> Result<(), Fail> {
-    for text in TWO {
+fn install(alloc: Global, db: &mut Lsdb, texts: &[&[u8]]) -> Result<(), Fail> {
+    for text in texts {
         db.install_flooded(Second::new(1000), read(alloc, text)?)?;
         db.settle();
     }
@@ -89,24 +140,33 @@ fn is_followed(alloc: Global, db: &mut Lsdb, root: &Root, lsa: Lsa) -> Result<bo
     Ok(next.is_some())
 }
 
-// The same for the LSA in these bytes and the graph of two routers.
-fn follows(alloc: Global, db: &mut Lsdb, root: &Root, text: &[u8]) -> Result<bool, Fail> {
-    install_two(alloc, db)?;
+// The same for the LSA in these bytes, and the graph of those LSAs.
+fn follows(alloc: Global, texts: &[&[u8]], text: &[u8]) -> Result<bool, Fail> {
+    let root = root(alloc)?;
+    let mut db = Lsdb::new(alloc, root.router);
+    install(alloc, &mut db, texts)?;
     let lsa = read(alloc, text)?;
     if db.len() > 16384 || root.addresses.as_slice().len() > 63 {
         return Err(Fail::from("a database or a router that is too large"));
     }
-    is_followed(alloc, db, root, lsa)
+    is_followed(alloc, &mut db, &root, lsa)
 }
 
 #[test]
 fn a_graph_follows_router_lsas(rt: HostRuntime) -> Result<(), Fail> {
-    let root = root(rt.alloc())?;
     for change in CHANGES {
         let (name, text, wanted) = *change;
-        let mut db = Lsdb::new(rt.alloc(), RouterId::new(0x0101_0101));
+        assert!(rt; follows(rt.alloc(), TWO, text)? == wanted, "{name}");
+    }
+    Ok(())
+}
+
+#[test]
+fn a_graph_follows_network_lsas(rt: HostRuntime) -> Result<(), Fail> {
+    for change in CHANGES_OF_NETWORKS {
+        let (name, text, wanted) = *change;
         assert!(rt;
-            follows(rt.alloc(), &mut db, &root, text)? == wanted,
+            follows(rt.alloc(), ON_A_NETWORK, text)? == wanted,
             "{name}"
         );
     }

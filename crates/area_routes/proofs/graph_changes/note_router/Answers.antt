@@ -1,16 +1,19 @@
-use Rattle.std.proofs.Common.{◌≡◌, ◌∷◌, [], ◌++◌, ℕ, List, sym, subst, ◌∙◌}
-use Rattle.std.specs.List.{Contains}
-use Rattle.std.proofs.lemmas.List.Elements.{Contains-push}
-use Rattle.area_graph.proofs.Whole.{one_place}
-use Rattle.routes.specs.declared.node.Node.TheVariants.{ARouter}
+use Rattle.area_routes.proofs.Stay.{ends_more}
 use Rattle.area_routes.proofs.graph_changes.note_router.Goals as goal
 
-pub returns-in_ok-push-clause-noted : goal.returns-in_ok-push-clause-noted
-returns-in_ok-push-clause-noted c at stands =
-    let place = c.in-Some.place in
-    let same : place ≡ at = one_place c.args.at.now.nodes.now c.requires (ARouter c.args.router)
-    place at c.in-Some.ensures.found stands in
-    let pushed : Contains (c.args.places.now.items ++ place ∷ []) at =
-    subst (λ p. Contains (c.args.places.now.items ++ place ∷ []) p) same
-    (Contains-push c.args.places.now.items place) in
-    subst (λ (ps : List ℕ). Contains ps at) (sym c.in_ok-push.ensures.items) pushed
+pub returns-clause-noted : goal.returns-clause-noted
+returns-clause-noted c t =
+    let nodes = c.args.at.now.nodes.now in
+    let middle = c.note_ends.new.places.items in
+    let new = c.note_ends-2.new.places.items in
+    record {
+      was = c.in-Some.was.now;
+      is = c.in-Some-router_of.is'.now;
+      before = c.in-Some.ensures;
+      now = c.in-Some-router_of.ensures;
+      own = λ at here. c.in_ok-note_ends-2.ensures.kept at
+          (c.in_ok-note_ends.ensures.kept at (c.in_ok-note_node.ensures.noted at here));
+      ends_before = ends_more nodes middle new c.in_ok-note_ends-2.ensures.kept c.in-Some.was.now
+          (c.in_ok-note_ends.ensures.noted cc);
+      ends = c.in_ok-note_ends-2.ensures.noted cc;
+    }

@@ -1,7 +1,8 @@
-use Rattle.std.proofs.Common.{◌≡◌, Some, Option, ℕ, subst}
+use Rattle.std.proofs.Common.{Some, Option, ℕ, subst}
 use Rattle.area_graph.proofs.Steps.{on_ok}
 use Rattle.area_graph.specs.Graphs.{Adds}
 use Rattle.area_graph.specs.Links.{IsExitTo}
+use Rattle.lsa.specs.declared.body.LinkKind.TheVariants.{PointToPoint}
 use Rattle.routes.specs.Said.{said_at}
 use Rattle.area_routes.specs.GraphLinks.{IsNeighbor, IsToNeighbor}
 use Rattle.area_routes.proofs.Neighbors.{to_neighbor}
@@ -17,10 +18,11 @@ returns-in-Some-clause-adds c =
     let to = c.in-Some.to in
     let old = c.args.links.now.items in
     let new = c.add_exits.new.links.items in
-    let F : ℕ → Type 0 = λ far. IsNeighbor said nodes far router (Some to) in
-    let O : Option ℕ → Type 0 = λ o. IsNeighbor said nodes c.new-far.result router o in
-    let at : IsNeighbor said nodes told.link_id router (Some to) =
-    subst F c.new-far.ensures (subst O c.in-Some.is c.neighbor_at.ensures) in
+    let F : ℕ → ℕ → Option ℕ → Type 0 = λ far id o. IsNeighbor said nodes far PointToPoint id o in
+    let at : IsNeighbor said nodes told.link_id PointToPoint router (Some to) =
+    subst (λ far. F far router (Some to)) c.new-far.ensures
+    (subst (λ id. F c.new-far.result id (Some to)) c.number.ensures
+    (subst (F c.new-far.result c.number.result) c.in-Some.is c.neighbor_at.ensures)) in
     on_ok c.add_exits.result (Adds (IsExitTo root router to told.metric told.link_data) old new)
     (Adds (IsToNeighbor said root nodes router told) old new)
     (to_neighbor said root nodes router told to old new c.requires.nodes.ascend c.requires.is_kind

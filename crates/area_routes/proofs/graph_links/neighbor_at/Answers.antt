@@ -1,9 +1,8 @@
-use Rattle.std.proofs.Common.{◌≡◌, None, Some, Option, ℕ, slice_get, sym, ◌∙◌, ap}
+use Rattle.std.proofs.Common.{◌≡◌, None, Some, ℕ, slice_get, sym, ◌∙◌, ap}
 use Rattle.std.specs.Prelude.{IfNone, IfSome}
 use Rattle.std.specs.Option.{option_copied}
 use Rattle.area_graph.proofs.Whole.{placed}
 use Rattle.area_graph.specs.Nodes.{router_lsa}
-use Rattle.lsa.specs.declared.body.LinkKind.TheVariants.{PointToPoint}
 use Rattle.routes.specs.Links.{LinksBack}
 use Rattle.routes.specs.Said.{said_at}
 use Rattle.routes.specs.declared.node.Node.{Node}
@@ -12,21 +11,23 @@ use Rattle.area_routes.specs.GraphLinks.{IsNeighbor}
 use Rattle.area_routes.proofs.Neighbors.{back_is, its}
 use Rattle.area_routes.proofs.graph_links.neighbor_at.Goals as goal
 
-pub returns-then-names : goal.returns-then-names
-returns-then-names c =
+pub returns-then-has_link_to : goal.returns-then-has_link_to
+returns-then-has_link_to c =
     let said = said_at c.args.at.now.moment c.args.at.now.db.now.present in
     let nodes = c.args.at.now.nodes.now in
     let far = c.args.far in
+    let kind = c.args.kind in
+    let id = c.args.id in
     let lsa = c.in-Some.lsa.now in
     let is : router_lsa said far ≡ Some lsa =
     sym c.router_lsa.ensures ∙ ap option_copied c.in-Some.is in
-    let back : LinksBack said far PointToPoint c.args.router =
-    back_is said far c.args.router lsa is (c.names.ensures.0 c.if-names.true) in
+    let back : LinksBack said far kind id =
+    back_is said far kind id lsa is (c.has_link_to.ensures.0 c.if-has_link_to.true) in
     let N : Node → Type 0 = λ node. (at : ℕ) → slice_get nodes at ≡ Some node → ⊥ in
     let stands = placed nodes (ARouter far)
     ((c.requires.each (ARouter far)).1 (lsa, its said far lsa is)) in
     elim c.find.result as (λ o. IfSome o (λ at. slice_get nodes at ≡ Some (ARouter far))
-    → IfNone o (N (ARouter far)) → IsNeighbor said nodes far c.args.router o) [
+    → IfNone o (N (ARouter far)) → IsNeighbor said nodes far kind id o) [
       | None ↦ λ found missing b. missing stands.0 stands.1
       | Some at ↦ λ found missing. (found, back)
     ] c.find.ensures.found c.find.ensures.missing

@@ -1,4 +1,4 @@
-use Rattle.std.proofs.Common.{◌≡◌, ℕ, List, [], Some, Option, sym, subst, ◌∙◌}
+use Rattle.std.proofs.Common.{ℕ, List, [], Some, Option, sym, subst}
 use Rattle.std.specs.Prelude.{IfSome}
 use Rattle.external_updates.specs.Changes.{OthersSayTheSame}
 use Rattle.area_routes.specs.GraphChanges.{AreCovered}
@@ -61,6 +61,6 @@ renewed-requires-clause-others c =
     subst (λ (ks : List Key). OthersSayTheSame ks old new) (sym c.deref-2.ensures.value)
     c.in_ok-keys.ensures in
     subst (λ (ps : List ℕ). StayUnlessAmong old new root nodes ps)
-    (sym c.deref-in-Some.ensures.value)
+    (sym c.deref-in-Some-2.ensures.value)
     (vertices_stay old new nodes places
     (all_covered old new nodes places c.deref-2.result.now others on_nodes) root)

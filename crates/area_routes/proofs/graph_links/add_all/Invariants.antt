@@ -1,13 +1,13 @@
 use Rattle.std.specs.List.{All}
 use Rattle.area_graph.specs.Graphs.{Adds, CostFits}
 use Rattle.area_graph.proofs.Lists.{OfFront}
-use Rattle.area_routes.specs.GraphLinks.{IsToNeighbor}
+use Rattle.area_routes.specs.GraphLinks.{IsToEnd}
 use Rattle.routes.specs.Said.{said_at}
-use Rattle.area_routes.proofs.graph_links.add_neighbors.Given as goal
+use Rattle.area_routes.proofs.graph_links.add_all.Given as goal
 
 abbrev pub invariant-loop-told : goal.invariant-loop-told
 invariant-loop-told l = record {
-  adds : Adds (OfFront (IsToNeighbor (said_at l.at.moment l.at.db.now.present) l.root l.at.nodes.now
+  adds : Adds (OfFront (IsToEnd (said_at l.at.moment l.at.db.now.present) l.root l.at.nodes.now
       l.router) l.told-items l.told-index) l.fn.links.items l.links.items;
   fits : All CostFits l.fn.links.items → All CostFits l.links.items;
 }

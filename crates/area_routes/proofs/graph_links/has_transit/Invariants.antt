@@ -1,8 +1,0 @@
-use Rattle.std.proofs.Common.{◌≡◌}
-use Rattle.lsa.specs.declared.body.Link.{Link}
-use Rattle.lsa.specs.declared.body.LinkKind.TheVariants.{Transit}
-use Rattle.area_routes.proofs.Fronts.{OfFront}
-use Rattle.area_routes.proofs.graph_links.has_transit.Given as goal
-
-abbrev pub invariant-loop-link : goal.invariant-loop-link
-invariant-loop-link l = OfFront (λ (link : Link). link.kind ≡ Transit → ⊥) l.link-items l.link-index
