@@ -79,7 +79,7 @@ fn let_in(
     requires { IsSorted answer_cmp answers.now }
     ensures { IfOk result (λ part. AreLetIn answers.now routes.now part.items) }
 {
-    let mut part = Vec::new(alloc);
+    let mut part = Vec::with_capacity(alloc, routes.len())?;
     let mut next = 0;
     for route in routes {
         let (found, after) = is_let_in(answers, next, route);
