@@ -1,4 +1,4 @@
-//! The expected indices of the routers among the nodes.
+//! The expected indices of the nodes.
 ghost use Rattle.std.specs.Prelude.{◌≡◌, ◌<◌, ◌≤◌, ℕ, Some, length, slice_get};
 ghost use Rattle.std.specs.declared.cmp.Ordering.TheVariants.{Less};
 ghost use Rattle.area_graph.specs.Nodes.{Ascend, node_cmp};
@@ -7,11 +7,10 @@ ghost use Rattle.routes.specs.declared.node.Node.{Node as NodeValue};
 use crate::nodes::place_near;
 use routes::Node;
 use std::alloc::{AllocError, Global};
-use words::RouterId;
 
-/// The indices of the routers among some nodes, each in a slot that its Router ID gives. If two
-/// routers share a slot, it has the later one. Only the time of a lookup depends on the slots:
-/// those of other nodes give the same results, but seldom the right index.
+/// The indices of some nodes, each in a slot that its Router ID or Link State ID gives. If two
+/// nodes share a slot, it has the later one. Only the time of a lookup depends on the slots: those
+/// of other nodes give the same results, but seldom the right index.
 #[derive(Debug, Drop)]
 pub struct Slots {
     places: Vec<u16>,
@@ -57,35 +56,38 @@ impl Slots {
 }
 
 fn expected_at(places: &[u16], node: &Node) -> usize {
+    match places.get(slot_of(number_of(node), places.len())) {
+        None => 0,
+        Some(place) => usize::from(*place),
+    }
+}
+
+// The number of which a node's slot is made.
+fn number_of(node: &Node) -> u32 {
     match node {
-        Node::ANetwork(..) => 0,
-        Node::ARouter(router) => match places.get(slot_of(*router, places.len())) {
-            None => 0,
-            Some(place) => usize::from(*place),
-        },
+        Node::ARouter(router) => router.number(),
+        Node::ANetwork(id, _) => id.number(),
     }
 }
 
 // 2^32 divided by the golden ratio: its products with consecutive numbers lie far apart, so that
-// few routers share a slot.
+// few nodes share a slot.
 const SPREAD: u32 = 2_654_435_769;
 
-// The slot of a router among `slots` slots.
-fn slot_of(router: RouterId, slots: usize) -> usize {
-    let mixed = router.number().wrapping_mul(SPREAD) as usize;
+// The slot of a number among `slots` slots.
+fn slot_of(number: u32, slots: usize) -> usize {
+    let mixed = number.wrapping_mul(SPREAD) as usize;
     mixed.wrapping_mul(slots) / 4_294_967_296
 }
 
-// The indices of the routers, with four slots for each node.
+// The indices of the nodes, with four slots for each.
 fn places_of(alloc: Global, nodes: &[Node]) -> Result<Vec<u16>, AllocError> {
     let mut places = Vec::new(alloc);
     places.resize(nodes.len().saturating_mul(4), 0)?;
     for at in 0..nodes.len() {
-        if let Node::ARouter(router) = &nodes[at] {
-            let slot = slot_of(*router, places.len());
-            if let Some(place) = places.get_mut(slot) {
-                *place = u16::try_from(at).unwrap_or(0);
-            }
+        let slot = slot_of(number_of(&nodes[at]), places.len());
+        if let Some(place) = places.get_mut(slot) {
+            *place = u16::try_from(at).unwrap_or(0);
         }
     }
     Ok(places)
