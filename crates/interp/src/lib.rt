@@ -10,6 +10,7 @@ mod checked;
 mod contents;
 mod control;
 mod loads;
+mod numbers;
 mod pieces;
 mod registers;
 mod steps;

@@ -7,6 +7,7 @@ use isa::{Register, Source};
 use machine::{Content, State};
 
 /// What a register holds.
+#[inline(always)]
 pub(crate) fn held(state: &State, register: Register) -> Content
     ensures { result ≡ held state.now register }
 {
@@ -14,6 +15,7 @@ pub(crate) fn held(state: &State, register: Register) -> Content
 }
 
 /// The second operand: a number, sign-extended, or what a register holds.
+#[inline(always)]
 pub(crate) fn operand(state: &State, source: Source) -> Content
     ensures { result ≡ operand state.now source }
 {
