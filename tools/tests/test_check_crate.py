@@ -1,0 +1,44 @@
+"""tools/check-crate: in which function an edit's line and the prover's are."""
+import importlib.machinery
+import importlib.util
+import pathlib
+import unittest
+
+TOOL = pathlib.Path(__file__).resolve().parent.parent / "check-crate"
+SOURCE = """use isa::Width;
+
+/// One.
+#[inline(always)]
+#[must_use]
+fn one() -> u64
+    ensures { result = 1 }
+{
+    1
+}
+
+pub(crate) fn two() -> u64 {
+    2
+}
+""".split("\n")
+
+
+def check_crate():
+    loader = importlib.machinery.SourceFileLoader("check_crate", str(TOOL))
+    module = importlib.util.module_from_spec(importlib.util.spec_from_loader("check_crate", loader))
+    loader.exec_module(module)
+    return module
+
+
+class TestFunctionAt(unittest.TestCase):
+    def test_a_function_begins_at_its_first_attribute(self) -> None:
+        self.assertEqual(check_crate().function_at(SOURCE, 8), ("one", 3, 9))
+
+    def test_a_function_without_attributes_begins_at_its_line(self) -> None:
+        self.assertEqual(check_crate().function_at(SOURCE, 12), ("two", 11, 13))
+
+    def test_a_line_outside_of_functions_stands_alone(self) -> None:
+        self.assertEqual(check_crate().function_at(SOURCE, 0), ("", 0, 0))
+
+
+if __name__ == "__main__":
+    unittest.main()
