@@ -7,7 +7,7 @@ use std::io::{self, ErrorKind};
 use thiserror::Error;
 
 /// Why a script isn't played to its end.
-#[derive(Clone, Copy, Debug, PartialEq, Eq, Error)]
+#[derive(Clone, Copy, Debug, Error)]
 pub enum ScriptError {
     /// The line of this number, from 1 on, names nothing that can happen or be shown.
     #[error("script refusal line {0}")]
