@@ -1,18 +1,22 @@
 -- What is noted in a book, and what it refuses, after it was marked or not.
 use Rattle.std.proofs.Common.{◌≡◌, true, List, [], ◌∷◌, ◌++◌, sym, subst, refl, ap, ◌∙◌, inl, inr}
-use Rattle.std.proofs.Common.{◌+◌, Result, Ok, Err}
-use Rattle.std.specs.Prelude.{false, is_err, OnOk}
+use Rattle.std.proofs.Common.{◌+◌, ℕ, Bool, Option, None, Some, Result, Ok, Err}
+use Rattle.std.specs.Prelude.{false, if◌then◌else◌, is_err, OnOk}
 use Rattle.words.specs.Numbers.{Moment}
+use Rattle.events.specs.declared.model.CoreError.{CoreError}
+use Rattle.events.specs.declared.model.CoreError.TheVariants as error
 use Rattle.events.specs.declared.model.Out.{Out}
 use Rattle.events.specs.Events.{Happens}
 use Rattle.events.specs.Refusals as router
-use Rattle.events.specs.Routers.{Router}
+use Rattle.events.specs.Refusals.{is_clock_back, is_interface}
+use Rattle.events.specs.Routers.{Occurrence, Router}
+use Rattle.flood.specs.Early.{early_refusal}
 use Rattle.flood.specs.declared.event.Event.{Event}
 use Rattle.flood.specs.Occurrences.{brings_answers, occurrence_of}
 use Rattle.book.specs.declared.entry.Entry.{Entry}
 use Rattle.book.specs.declared.error.BookError.{BookError}
 use Rattle.book.specs.declared.error.BookError.TheVariants as refusing
-use Rattle.book.specs.Refusals.{AnswersAnew}
+use Rattle.book.specs.Refusals.{AnswersAnew, IsRefusedEarly, IsSpent}
 use Rattle.book.specs.Replay.{BookView, EndsWith, IsLightened, IsNoted, IsNotedAtLast, IsNotedIn}
 use Rattle.book.specs.Replay.{IsSameOrAnew, IsSameOrMarked, entry, forgotten_at, marked_book}
 
@@ -59,17 +63,27 @@ same_or_anew old new (inl same) = inl same
 same_or_anew old new (inr marked) = inr marked.1
 
 -- a book that is marked, or was
-pub anew : (old between new : BookView) → IsSameOrMarked old between
-    → IsSameOrMarked (marked_book between) new → IsSameOrAnew old new
-anew old between new first second = inr (marked second ∙ was first)
+marked_anew : (old between new : BookView) → IsSameOrMarked old between
+    → IsSameOrMarked (marked_book between) new → new ≡ marked_book old
+marked_anew old between new first second = marked second ∙ was first
   where
     marked : IsSameOrMarked (marked_book between) new → new ≡ marked_book between
-    marked (inl same) = same
+    marked (inl same) = same.1
     marked (inr again) = again.1
 
     was : IsSameOrMarked old between → marked_book between ≡ marked_book old
-    was (inl same) = ap marked_book same
+    was (inl same) = ap marked_book same.1
     was (inr before) = ap marked_book before.1
+
+anew : (old between new : BookView) → IsSameOrMarked old between
+    → IsSameOrMarked (marked_book between) new → IsSameOrAnew old new
+anew old between new first second = inr (marked_anew old between new first second)
+
+-- a book that is marked for want of memory, whatever room was made in it before and after
+pub left_marked : (old between middle new : BookView) → IsSameOrMarked old between
+    → middle ≡ marked_book between → IsSameOrMarked middle new → new ≡ marked_book old
+left_marked old between middle new first is second =
+    marked_anew old between new first (subst (λ (b : BookView). IsSameOrMarked b new) is second)
 
 pub at_last : (old new : BookView) (e : Entry) → IsNoted old e new → IsNotedAtLast old e new
 at_last old new e (before, is, ends) = (before, same_or_anew old before is, ends)
@@ -86,11 +100,11 @@ noted_anew old between new moment e back same first (before, is, ends) = (
 )
 
 pub same_router : (old new : BookView) → IsSameOrMarked old new → new.current ≡ old.current
-same_router old new (inl same) = ap (λ (b : BookView). b.current) same
+same_router old new (inl same) = ap (λ (b : BookView). b.current) same.1
 same_router old new (inr marked) = ap (λ (b : BookView). b.current) marked.1
 
 pub same_count : (old new : BookView) → IsSameOrMarked old new → new.taken ≡ old.taken
-same_count old new (inl same) = ap (λ (b : BookView). b.taken) same
+same_count old new (inl same) = ap (λ (b : BookView). b.taken) same.1
 same_count old new (inr marked) = ap (λ (b : BookView). b.taken) marked.1
 
 -- the same event at the same router
@@ -127,3 +141,36 @@ answered_back {X = X} a b moment e back r same current taken answers =
 pub where_ok : {X E : Type 0} (r : Result X E) (P : Type 0) → is_err r ≡ false → OnOk r P → P
 where_ok (Ok x) P is holds = holds
 where_ok (Err x) P is holds = absurd cc
+
+-- ---- refusals before any mark
+
+clock_short : (b : Bool) (early : Option CoreError) → (early ≡ Some error.Memory → ⊥)
+    → (if b then Some error.ClockBack else early) ≡ Some error.Memory → ⊥
+clock_short true early never e = absurd cc
+clock_short false early never e = never e
+
+there_short : (b : Bool) → (if b then None else Some error.NoInterface) ≡ Some error.Memory → ⊥
+there_short true e = absurd cc
+there_short false e = absurd cc
+
+-- what is refused early isn't refused for want of memory
+pub never_short : (old : Router) (moment : ℕ) (o : Occurrence)
+    → early_refusal old moment o ≡ Some error.Memory → ⊥
+never_short old moment (Occurrence.Packet number bytes) =
+    clock_short (is_clock_back moment old) _ (there_short (is_interface number old))
+never_short old moment Occurrence.Tick =
+    clock_short (is_clock_back moment old) None (λ e. absurd cc)
+never_short old moment (Occurrence.Redistribute tagged tag priced price) =
+    clock_short (is_clock_back moment old) None (λ e. absurd cc)
+never_short old moment (Occurrence.Withdraw prefix) =
+    clock_short (is_clock_back moment old) None (λ e. absurd cc)
+never_short old moment (Occurrence.Install answers) =
+    clock_short (is_clock_back moment old) None (λ e. absurd cc)
+never_short old moment (Occurrence.LinkDown number) =
+    clock_short (is_clock_back moment old) _ (there_short (is_interface number old))
+
+-- a book that may take more, and whose router refuses nothing early
+pub not_early : (b : BookView) (moment : Moment) (e : Event) → (IsSpent b → ⊥)
+    → early_refusal b.current moment (occurrence_of e) ≡ None → IsRefusedEarly b moment e → ⊥
+not_early b moment e more none (inl spent) = more spent
+not_early b moment e more none (inr early) = early none

@@ -1,8 +1,9 @@
 -- When a book takes no event.
-use Rattle.std.specs.Prelude.{◌≡◌, ◌⊎◌, length, Result, Ok, Err}
+use Rattle.std.specs.Prelude.{◌≡◌, ◌⊎◌, length, None, Result, Ok, Err}
 use Rattle.words.specs.Numbers.{Moment}
 use Rattle.events.specs.Refusals as router
 use Rattle.flood.specs.declared.event.Event.{Event}
+use Rattle.flood.specs.Early.{early_refusal}
 use Rattle.flood.specs.Occurrences.{occurrence_of}
 use Rattle.book.specs.declared.error.BookError.{BookError}
 use Rattle.book.specs.declared.error.BookError.TheVariants as refusing
@@ -16,6 +17,11 @@ IsSpent b = b.taken ≡ 9223372036854775808
 -- the journal has no place left, or no more events may be taken
 abbrev pub IsFull : BookView → Type 0
 IsFull b = (length b.journal ≡ 65536) ⊎ IsSpent b
+
+-- what needs no memory refuses the event: no more may be taken, or its moment, or its interface
+abbrev pub IsRefusedEarly : BookView → Moment → Event → Type 0
+IsRefusedEarly b moment e =
+    IsSpent b ⊎ (early_refusal b.current moment (occurrence_of e) ≡ None → ⊥)
 
 -- A book that is refused for itself says so, and only such a one; else the router's answer stands.
 abbrev pub AnswersWhere : {X : Type 0} → (IsRefused : BookView → Type 0)

@@ -102,13 +102,14 @@ IsDue b =
     (length b.journal ≡ 65536)
     ⊎ (allowed_for (finite.len b.current.area.database) < bytes_of b.journal)
 
--- it is the same book; or the one that was marked
+-- it is the same book, whose journal isn't too much; or the one that was marked
 abbrev pub IsSameOrAnew : (old new : BookView) → Type 0
-IsSameOrAnew old new = (new ≡ old) ⊎ (new ≡ marked_book old)
+IsSameOrAnew old new = ((IsDue old → ⊥) × (new ≡ old)) ⊎ (new ≡ marked_book old)
 
--- it is the same book; or the one that was marked, which only a book is whose journal is too much
+-- it is the book that was marked where its journal was too much, and only there; else the same one
 abbrev pub IsSameOrMarked : (old new : BookView) → Type 0
-IsSameOrMarked old new = (new ≡ old) ⊎ (IsDue old × (new ≡ marked_book old))
+IsSameOrMarked old new =
+    ((IsDue old → ⊥) × (new ≡ old)) ⊎ (IsDue old × (new ≡ marked_book old))
 
 -- the entry stands last in the journal
 abbrev pub IsNotedIn : (before : BookView) → Entry → (new : BookView) → Type 0
@@ -119,7 +120,7 @@ IsNotedIn before e new = (new.start ≡ before.start) × EndsWith before.journal
 abbrev pub IsNoted : (old : BookView) → Entry → (new : BookView) → Type 0
 IsNoted old e new = (before : BookView) × IsSameOrMarked old before × IsNotedIn before e new
 
--- the same in a book that is marked for want of memory, too
+-- the same in a book that may be marked for want of memory, too
 abbrev pub IsNotedAtLast : (old : BookView) → Entry → (new : BookView) → Type 0
 IsNotedAtLast old e new = (before : BookView) × IsSameOrAnew old before × IsNotedIn before e new
 

@@ -1,12 +1,11 @@
 //! The book itself: an event is taken, and the book starts anew.
-ghost use Rattle.std.specs.Prelude.{◌≡◌, ℕ, ◌+◌, ◌^◌, ◌<◌, ◌≤◌, [], ◌∷◌, ◌++◌, ◌↔◌, length, IfOk};
-ghost use Rattle.std.specs.Prelude.{IfErr, IsOk, IsTrue, None, OnErr, OnOk, Some, false, true};
+ghost use Rattle.std.specs.Prelude.{◌≡◌, ℕ, ◌+◌, ◌^◌, ◌<◌, ◌≤◌, [], ◌∷◌, ◌++◌, ◌↔◌, ◌⊎◌, length};
+ghost use Rattle.std.specs.Prelude.{Err, IfErr, IfOk, IsOk, IsTrue, OnErr, OnOk, Some, false, true};
 ghost use Rattle.std.specs.FinMap as finite;
 ghost use Rattle.events.specs.Events.{Happens};
 ghost use Rattle.flood.specs.Occurrences.{occurrence_of};
-ghost use Rattle.flood.specs.Early.{early_refusal};
 ghost use Rattle.flood.specs.Offers.{IsStaleNow};
-ghost use Rattle.book.specs.Refusals.{Answers, AnswersAnew, without_event};
+ghost use Rattle.book.specs.Refusals.{Answers, AnswersAnew, IsRefusedEarly, without_event};
 ghost use Rattle.book.specs.Replay.{IsDue, IsLightened, IsNoted, IsNotedAtLast, IsSameOrAnew};
 ghost use Rattle.book.specs.Replay.{IsSameOrMarked, Leads, Replays, entry, marked_book, start_of};
 ghost use Rattle.book.specs.Replay.{started_book};
@@ -244,6 +243,7 @@ impl<L: Origin> Book<L> {
     // Whether the journal holds 65,536 events, or more bytes than it may beside the router's LSAs.
     fn is_due(&self) -> bool
         ensures due { result ≡ true → IsDue self.now }
+        ensures light { result ≡ false → IsDue self.now → ⊥ }
         ensures room { result ≡ false → length self.now.journal < 65536 }
     {
         self.journal.len() == JOURNAL || self.noted > allowance(self.current.database().len())
@@ -314,8 +314,9 @@ impl<L: Origin> Book<L> {
     /// An Install that another one follows stands in the journal without its answers, since no
     /// router after the later one tells them: so the journal holds the answers of one alone.
     ///
-    /// A mark stands, whether the event is taken or not. None is made where the event is refused
-    /// for its moment or its interface, which needs no memory.
+    /// A mark stands, whether the event is taken or not: so where it is refused for want of memory,
+    /// the book is marked. None is made where 2^63 events were taken, nor where the event is refused
+    /// for its moment or its interface.
     pub fn apply_anew(
         &mut self,
         mine: &mut Share<L>,
@@ -330,10 +331,12 @@ impl<L: Origin> Book<L> {
         ensures share { OnOk result (mine.new.amount ≡ mine.old.amount + 1) }
         ensures parts { mine.new.parts ≡ mine.old.parts }
         ensures refused { AnswersAnew self.old moment event result }
-        ensures early { (early_refusal self.old.current moment (occurrence_of event) ≡ None → ⊥)
-            → self.new ≡ self.old }
+        ensures early { IsRefusedEarly self.old moment event → self.new ≡ self.old }
+        ensures short { result ≡ Err (BookError.Core CoreError.Memory)
+            → self.new ≡ marked_book self.old }
         ensures err { OnErr result
-            (IsSameOrAnew self.old self.new × (mine.new.amount ≡ mine.old.amount)) }
+            ((IsRefusedEarly self.old moment event ⊎ IsSameOrAnew self.old self.new)
+            × (mine.new.amount ≡ mine.old.amount)) }
     {
         if self.taken == TAKEN {
             return Err(BookError::Journal);
@@ -365,6 +368,16 @@ impl<L: Origin> Book<L> {
         ensures share { (all.new.amount ≡ all.old.amount) × (all.new.parts ≡ all.old.parts) }
     {
         self.total.audit(all);
+    }
+
+    /// Whoever brings a share learns that the book has taken at least as many events as it counts.
+    /// It changes nothing.
+    pub fn compare(&mut self, mine: &mut Share<L>)
+        ensures least { mine.old.amount ≤ self.old.taken }
+        ensures book { self.new ≡ self.old }
+        ensures share { (mine.new.amount ≡ mine.old.amount) × (mine.new.parts ≡ mine.old.parts) }
+    {
+        self.total.audit(mine);
     }
 
     /// Tells whether some candidate of the router as it is now stands in none of the answers of its
