@@ -9,8 +9,8 @@ use Rattle.hooks.specs.Answered.{IsAnswered}
 use Rattle.hooks.specs.Questions.{count_input}
 use Rattle.book.specs.declared.error.BookError.TheVariants as book_error
 use Rattle.book.specs.Event.{Event}
-use Rattle.turns.specs.Turns.{CountsFor, IsCounted, IsFor, IsInstalling, IsUnaskedFor, Lack, Offers}
-use Rattle.turns.specs.Turns.{Refuses}
+use Rattle.turns.specs.Turns.{AsksFor, CountsFor, IsCounted, IsFor, IsInstalling, IsUnaskedFor}
+use Rattle.turns.specs.Turns.{Lack, Offers, Refuses, Took}
 use Rattle.turns.specs.declared.turned.TurnError.{TurnError}
 use Rattle.turns.specs.declared.turned.TurnError.TheVariants as turn_error
 use Rattle.turns.specs.declared.work.Work.{Work}
@@ -34,6 +34,14 @@ module _ {A : Type 0} (word : A → ℕ) (refuses : Refuses) (before now : List 
       let P : List ℕ → Type 0 = λ p. IsCounted refuses before now old new number moment p in
       let Q : Work → Type 0 = λ x. CountsFor refuses before now old new x moment in
       subst Q (sym is) (subst P same (counted r unread lacking answered))
+
+-- so the programs were asked about it
+pub asks : (took : Took) (number : InterfaceNumber) (moment : Moment) (packet bytes : List ℕ)
+    (w : Work) → packet ≡ bytes → w ≡ work.Datagram number bytes
+    → took.asked (count_input number moment packet) → AsksFor took moment w
+asks took number moment packet bytes w same is asked =
+    subst (λ (x : Work). AsksFor took moment x) (sym is)
+    (subst (λ (p : List ℕ). took.asked (count_input number moment p)) same asked)
 
 pub installs : (offers : Offers) (known : List Operation) (w : Work) (moment : Moment) (e : Event)
     → IsFor offers known w moment e → w ≡ work.Refresh → IsInstalling e

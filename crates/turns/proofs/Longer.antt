@@ -1,6 +1,6 @@
 -- What begins with a longer list begins with a shorter one.
 use Rattle.std.proofs.Common.{◌≡◌, ◌⊎◌, inl, inr, ◌∙◌, ℕ, ◌+◌, Bool, List, Option, None, Some}
-use Rattle.std.proofs.Common.{arith}
+use Rattle.std.proofs.Common.{arith, subst}
 use Rattle.std.specs.Prelude.{IfNone, IfSome, MatchOption}
 use Rattle.std.specs.List.{All}
 use mathlib.Core.List.{IsPrefix}
@@ -15,8 +15,9 @@ use Rattle.hooks.specs.Questions.{ExternalAnswer, RouteAnswer}
 use Rattle.hooks.proofs.Fronts.{prefix_trans}
 use Rattle.book.specs.Event.{Event}
 use Rattle.turns.specs.Turns.{AreAsked, AreBeside, AreVetoes, IsChangedSince, IsFor, IsInstall}
-use Rattle.turns.specs.Turns.{IsPriceOn, IsRedistribute, IsTagOn, IsTurned, IsUnrefreshed, IsVetoOn}
-use Rattle.turns.specs.Turns.{IsWordOn, Offers, Refuses, RefusesFor, TakesFor, Took}
+use Rattle.turns.specs.Turns.{IsPriceOn, IsRedistribute, IsTagOn, IsTurned, IsUnchanged}
+use Rattle.turns.specs.Turns.{IsUnrefreshed, IsVetoOn, IsWordOn, Offers, Refuses, RefusesFor}
+use Rattle.turns.specs.Turns.{TakesFor, Took}
 use Rattle.turns.specs.declared.turned.Turned.{Turned}
 use Rattle.turns.specs.declared.turned.TurnError.{TurnError}
 use Rattle.turns.specs.declared.work.Work.{Work}
@@ -96,25 +97,31 @@ module _ (known more : List Operation) (longer : IsPrefix known more) where
   refused_longer offers refuses moment w error (inr (e, why, is, refused, same)) =
       inr (e, why, for_longer offers w moment e is, refused, same)
 
-  unrefreshed_longer : (offers : Offers) (refuses : Refuses) (moment : Moment)
-      → IsUnrefreshed offers refuses more moment → IsUnrefreshed offers refuses known moment
-  unrefreshed_longer offers refuses moment (inl changed) = inl changed
-  unrefreshed_longer offers refuses moment (inr (error, why)) =
+  unrefreshed_longer : (offers : Offers) (refuses : Refuses) (moment : Moment) (events : ℕ)
+      → IsUnrefreshed offers refuses more moment events
+      → IsUnrefreshed offers refuses known moment events
+  unrefreshed_longer offers refuses moment events (inl changed) = inl changed
+  unrefreshed_longer offers refuses moment events (inr (error, why)) =
       inr (error, refused_longer offers refuses moment work.Refresh error why)
 
   refreshed_longer : {X : Type 0} (items : X → List Out) (offers : Offers) (took : Took)
-      (refuses : Refuses) (moment : Moment) (one due two : Type 0) (o : Option X)
-      → MatchOption o (one × (due → IsUnrefreshed offers refuses more moment))
-      (λ x. due × ((left : Option Bool)
+      (refuses : Refuses) (moment : Moment) (events : ℕ) (one due still two : Type 0)
+      (o : Option X)
+      → MatchOption o (one × (due → IsUnrefreshed offers refuses more moment events))
+      (λ x. due × still × ((left : Option Bool)
       × TakesFor offers took more moment work.Refresh (items x) left) × two)
-      → MatchOption o (one × (due → IsUnrefreshed offers refuses known moment))
-      (λ x. due × ((left : Option Bool)
+      → MatchOption o (one × (due → IsUnrefreshed offers refuses known moment events))
+      (λ x. due × still × ((left : Option Bool)
       × TakesFor offers took known moment work.Refresh (items x) left)
       × two)
-  refreshed_longer items offers took refuses moment one due two None h =
-      (h.0, λ is. unrefreshed_longer offers refuses moment (h.1 is))
-  refreshed_longer items offers took refuses moment one due two (Some x) h =
-      (h.0, (h.1.0, takes_longer offers took moment work.Refresh (items x) h.1.0 h.1.1), h.2)
+  refreshed_longer items offers took refuses moment events one due still two None h =
+      (h.0, λ is. unrefreshed_longer offers refuses moment events (h.1 is))
+  refreshed_longer items offers took refuses moment events one due still two (Some x) h = (
+    h.0,
+    h.1,
+    (h.2.0, takes_longer offers took moment work.Refresh (items x) h.2.0 h.2.1),
+    h.3,
+  )
 
   pub turned_longer : (offers : Offers) (took : Took) (refuses : Refuses) (moment : Moment)
       (w : Work) (before after : ℕ) (turned : Turned)
@@ -123,40 +130,46 @@ module _ (known more : List Operation) (longer : IsPrefix known more) where
   turned_longer offers took refuses moment w before after turned h = record {
     stale = h.stale;
     outs = takes_longer offers took moment w turned.outs.items h.stale h.outs;
-    refreshed = refreshed_longer (λ outs. outs.items) offers took refuses moment _ _ _
+    refreshed = refreshed_longer (λ outs. outs.items) offers took refuses moment before _ _ _ _
         turned.refreshed h.refreshed;
   }
 
-  unrefreshed_since : (offers : Offers) (refuses : Refuses) (moment : Moment) (changes : ℕ)
-      → refuses.counted changes → IsChangedSince refuses changes
+  unrefreshed_since : (offers : Offers) (refuses : Refuses) (moment : Moment)
+      (before between changes : ℕ) → between ≡ before + 1 → refuses.counted before changes
+      → IsChangedSince refuses between changes
       ⊎ ((error : TurnError) × RefusesFor offers refuses more moment work.Refresh error)
-      → IsUnrefreshed offers refuses known moment
-  unrefreshed_since offers refuses moment changes counted (inl changed) =
-      inl (changes, counted, changed)
-  unrefreshed_since offers refuses moment changes counted (inr (error, why)) =
+      → IsUnrefreshed offers refuses known moment before
+  unrefreshed_since offers refuses moment before between changes one counted (inl changed) =
+      inl (changes, counted, subst (λ n. IsChangedSince refuses n changes) one changed)
+  unrefreshed_since offers refuses moment before between changes one counted (inr (error, why)) =
       inr (error, refused_longer offers refuses moment work.Refresh error why)
 
   -- what follows an event that counts once
   pub follows : {X : Type 0} (items : X → List Out) (offers : Offers) (took : Took)
       (refuses : Refuses) (moment : Moment) (before between after changes : ℕ) (due : Type 0)
-      (o : Option X) → between ≡ before + 1 → refuses.counted changes
+      (o : Option X) → between ≡ before + 1 → refuses.counted before changes
       → IfNone o ((after ≡ between)
-      × (due → IsChangedSince refuses changes
+      × (due → IsChangedSince refuses between changes
       ⊎ ((error : TurnError) × RefusesFor offers refuses more moment work.Refresh
       error))) → IfSome o (λ x. due
       × ((left : Option Bool) × TakesFor offers took more moment
       work.Refresh (items x) left) × (after ≡ between + 1))
+      → IfSome o (λ _. refuses.counted between changes)
       → MatchOption o ((after ≡ before + 1)
-      × (due → IsUnrefreshed offers refuses known moment))
-      (λ x. due × ((left : Option Bool)
+      × (due → IsUnrefreshed offers refuses known moment before))
+      (λ x. due × IsUnchanged refuses before × ((left : Option Bool)
       × TakesFor offers took known moment work.Refresh
       (items x) left) × (after ≡ before + 2))
   follows items offers took refuses moment before between after changes due None one counted none
-      some =
-      (none.0 ∙ one, λ is. unrefreshed_since offers refuses moment changes counted (none.1 is))
+      some unchanged = (
+        none.0 ∙ one,
+        λ is. unrefreshed_since offers refuses moment before between changes one counted
+            (none.1 is),
+      )
   follows items offers took refuses moment before between after changes due (Some x) one counted
-      none some = (
+      none some unchanged = (
         some.0,
+        (changes, counted, subst (λ n. refuses.counted n changes) one unchanged),
         (some.1.0, takes_longer offers took moment work.Refresh (items x) some.1.0 some.1.1),
         omega (arith, some.2, one),
       )

@@ -1,6 +1,6 @@
 -- What a turn gives to the book, and what comes of it.
-use Rattle.std.specs.Prelude.{◌≡◌, ◌≢◌, ◌⊎◌, ◌↔◌, ℕ, ◌+◌, ◌<◌, Bool, true, List, [], Option, Some}
-use Rattle.std.specs.Prelude.{IfSome, IsTrue, MatchOption}
+use Rattle.std.specs.Prelude.{◌≡◌, ◌≢◌, ◌⊎◌, ◌↔◌, ℕ, ◌+◌, ◌<◌, ◌≤◌, Bool, true, List, [], Option}
+use Rattle.std.specs.Prelude.{IfSome, IsTrue, MatchOption, Some}
 use Rattle.std.specs.Prelude.{Result, Err, length, map, max, slice_get}
 use Rattle.std.specs.FinMap as finite
 use Rattle.std.specs.List.{All}
@@ -41,12 +41,14 @@ use Rattle.turns.specs.declared.work.Work.TheVariants as work
 
 -- ---- what the book is asked
 
--- Two predicates that a `Taker` leaves open: an event was taken at a moment, sent these outs and
--- left the router stale or not (None where that isn't known, for want of memory); and the workers
--- were told that the programs are now those that these operations leave.
+-- Three predicates that a `Taker` leaves open: an event was taken at a moment, sent these outs and
+-- left the router stale or not (None where that isn't known, for want of memory); the workers were
+-- told that the programs are now those that these operations leave; and the programs at `count`
+-- were asked about this input.
 pub record Took : Type 1 where
   pub taken : Moment → Event → List Out → (stale : Option Bool) → Type 0
   pub told : List Operation → Type 0
+  pub asked : Given → Type 0
 
 -- what a question is refused for: no reading of the programs for its input, or no memory
 pub data Lack : Type 0 where
@@ -54,11 +56,12 @@ pub data Lack : Type 0 where
   Memory : Lack
 
 -- Three more: an event was refused at a moment, and why; a question got no reading, or memory was
--- lacking; and this number of changes of the programs was read.
+-- lacking; and this number of changes of the programs was read, by a port whose events until then
+-- are so many.
 pub record Refuses : Type 1 where
   pub refused : Moment → Event → BookError → Type 0
   pub lacks : Lack → Type 0
-  pub counted : ℕ → Type 0
+  pub counted : (events : ℕ) → (changes : ℕ) → Type 0
 
 -- the fields by names of their own, for contracts
 abbrev pub IsTaken : Took → Moment → Event → List Out → (stale : Option Bool) → Type 0
@@ -67,13 +70,16 @@ IsTaken took = took.taken
 abbrev pub IsTold : Took → List Operation → Type 0
 IsTold took = took.told
 
+abbrev pub IsAsked : Took → Given → Type 0
+IsAsked took = took.asked
+
 abbrev pub IsRefused : Refuses → Moment → Event → BookError → Type 0
 IsRefused refuses = refuses.refused
 
 abbrev pub IsLacking : Refuses → Lack → Type 0
 IsLacking refuses = refuses.lacks
 
-abbrev pub is_counted : Refuses → ℕ → Type 0
+abbrev pub is_counted : Refuses → (events : ℕ) → (changes : ℕ) → Type 0
 is_counted refuses = refuses.counted
 
 -- what is said of candidates, and of the rows of the table beside them
@@ -110,16 +116,20 @@ abbrev pub IsRefusedBySome : (origin : Router) → Moment → Event → BookErro
 IsRefusedBySome origin moment e error =
     (b : BookView) × Leads origin b.taken b.current × RefusesAt b moment e error
 
--- All that is said of a book which began with this router. Nothing is known of a question that got
--- no reading or no memory, nor of a number of changes that was read or told.
+-- All that is said of a book which began with this router. Nothing is known of a question that was
+-- asked, or got no reading or no memory, nor of a number of changes that was read or told.
 abbrev pub took_from : (origin : Router) → Took
-took_from origin = record { taken = Sends origin; told = λ operations. Unit {0} }
+took_from origin = record {
+  taken = Sends origin;
+  told = λ operations. Unit {0};
+  asked = λ input. Unit {0};
+}
 
 abbrev pub refuses_from : (origin : Router) → Refuses
 refuses_from origin = record {
   refused = IsRefusedBySome origin;
   lacks = λ lack. Unit {0};
-  counted = λ number. Unit {0};
+  counted = λ events changes. Unit {0};
 }
 
 -- a book that began with this router says: they are those of a router to which events lead from
@@ -133,10 +143,11 @@ abbrev pub announces : Router → Network → Bool
 announces r prefix = is_for prefix (finite.get r.announced (external_key r.id prefix))
 
 -- a book that began with this router says: a router to which events lead from there does, or
--- doesn't
-abbrev pub IsWantedBySome : (origin : Router) → Network → Bool → Type 0
-IsWantedBySome origin prefix wanted =
-    (taken : ℕ) × (r : Router) × Leads origin taken r × (wanted ≡ announces r prefix)
+-- doesn't, which took at least as many as those of the port that asks
+abbrev pub IsWantedBySome : (origin : Router) → (events : ℕ) → Network → Bool → Type 0
+IsWantedBySome origin events prefix wanted =
+    (taken : ℕ) × (r : Router) × (events ≤ taken) × Leads origin taken r
+    × (wanted ≡ announces r prefix)
 
 -- a book is one that began with this router
 abbrev pub IsOwn : (origin : Router) → BookView → Type 0
@@ -208,6 +219,15 @@ CountsFor refuses before now old new (work.Add external) moment = Unit {0}
 CountsFor refuses before now old new (work.Withdraw prefix) moment = Unit {0}
 CountsFor refuses before now old new (work.Down number) moment = Unit {0}
 CountsFor refuses before now old new work.Refresh moment = Unit {0}
+
+-- where the work is a datagram, the programs at `count` were asked about it
+abbrev pub AsksFor : Took → Moment → Work → Type 0
+AsksFor took moment (work.Datagram number bytes) = took.asked (count_input number moment bytes)
+AsksFor took moment work.Tick = Unit {0}
+AsksFor took moment (work.Add external) = Unit {0}
+AsksFor took moment (work.Withdraw prefix) = Unit {0}
+AsksFor took moment (work.Down number) = Unit {0}
+AsksFor took moment work.Refresh = Unit {0}
 
 -- ---- the event of a work
 
@@ -304,28 +324,36 @@ abbrev pub RefusesFor : Offers → Refuses → (known : List Operation) → Mome
 RefusesFor offers refuses known moment w error =
     IsUnaskedFor refuses w moment error ⊎ IsGivenInVain offers refuses known moment w error
 
--- a number of changes of the programs was read that isn't this one
-abbrev pub IsChangedSince : Refuses → ℕ → Type 0
-IsChangedSince refuses before = (now : ℕ) × refuses.counted now × (now ≢ before)
+-- a number of changes of the programs was read, after so many events, that isn't this one
+abbrev pub IsChangedSince : Refuses → (events : ℕ) → ℕ → Type 0
+IsChangedSince refuses events before = (now : ℕ) × refuses.counted events now × (now ≢ before)
 
--- The refresh that was due isn't taken: the programs were changed meanwhile, which two numbers of
--- changes tell; or it was refused, as any refresh is.
-abbrev pub IsUnrefreshed : Offers → Refuses → (known : List Operation) → Moment → Type 0
-IsUnrefreshed offers refuses known moment =
-    ((before : ℕ) × refuses.counted before × IsChangedSince refuses before)
+-- The refresh that was due isn't taken: the programs were changed meanwhile, as the number of
+-- changes tells that was read before the event, beside the one after it; or it was refused, as any
+-- refresh is.
+abbrev pub IsUnrefreshed : Offers → Refuses → (known : List Operation) → Moment → (events : ℕ)
+    → Type 0
+IsUnrefreshed offers refuses known moment events =
+    ((before : ℕ) × refuses.counted events before × IsChangedSince refuses (events + 1) before)
     ⊎ ((error : TurnError) × RefusesFor offers refuses known moment work.Refresh error)
+
+-- the number of changes that was read before the event was read after it too
+abbrev pub IsUnchanged : Refuses → (events : ℕ) → Type 0
+IsUnchanged refuses events =
+    (changes : ℕ) × refuses.counted events changes × refuses.counted (events + 1) changes
 
 -- ---- a turn
 
 -- What comes of a turn at a port that knew these operations: the outs of the work's event, and,
 -- where a refresh followed, those of its installation. It followed where the event left the router
--- stale and only there, unless one wasn't taken. The events count in the port's share, which grew
--- from one number to the other.
+-- stale and only there, unless one wasn't taken, and only where the programs weren't changed
+-- meanwhile. The events count in the port's share, which grew from one number to the other.
 pub record IsTurned (offers : Offers) (took : Took) (refuses : Refuses) (known : List Operation)
     (moment : Moment) (w : Work) (before after : ℕ) (turned : Turned) : Type 0 where
   pub stale : Option Bool
   pub outs : TakesFor offers took known moment w turned.outs.items stale
   pub refreshed : MatchOption turned.refreshed
-      ((after ≡ before + 1) × (stale ≡ Some true → IsUnrefreshed offers refuses known moment))
-      (λ outs. (stale ≡ Some true) × ((left : Option Bool)
+      ((after ≡ before + 1)
+      × (stale ≡ Some true → IsUnrefreshed offers refuses known moment before))
+      (λ outs. (stale ≡ Some true) × IsUnchanged refuses before × ((left : Option Bool)
       × TakesFor offers took known moment work.Refresh outs.items left) × (after ≡ before + 2))

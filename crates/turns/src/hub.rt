@@ -111,11 +111,11 @@ impl<L: Site, B: Taker<L>> Hub<L, B> {
         B::tell(&self.changes, notice);
     }
 
-    // How often the programs were changed.
-    pub(crate) fn changes(&self) -> u64
-        ensures { is_counted B.refuses result }
+    // How often the programs were changed, as a port reads it.
+    pub(crate) fn changes(&self, mine: &Share<L>) -> u64
+        ensures { is_counted B.refuses mine.now.amount result }
     {
-        B::changes(&self.changes)
+        B::changes(&self.changes, mine)
     }
 
     /// Takes an event under the lock.
@@ -134,7 +134,7 @@ impl<L: Site, B: Taker<L>> Hub<L, B> {
         ensures err { OnErr result (mine.new.amount ≡ mine.old.amount) }
         ensures clock { IsInstalling event
             → result ≡ Err (BookError.Core CoreError.ClockBack)
-            → (book : B) × (clock_end ≤ max moment (B.moment_of book)) }
+            → (book : B) × B.own book × (clock_end ≤ max moment (B.moment_of book)) }
     {
         let mut guard = self.book.lock(rt);
         let book: &mut B = &mut *guard;
@@ -152,15 +152,17 @@ impl<L: Site, B: Taker<L>> Hub<L, B> {
     ) -> Result<Taken, TurnError>
         requires { 0 < mine.old.parts }
         ensures ok { IfOk result (λ r. IsTaken B.took moment event r.outs.items r.stale) }
-        ensures refused { IfErr result (λ error. IsChangedSince B.refuses changes
+        ensures refused { IfErr result (λ error.
+            IsChangedSince B.refuses mine.old.amount changes
             ⊎ ((why : BookError) × IsRefused B.refuses moment event why
             × (error ≡ TurnError.Book why))) }
+        ensures unchanged { OnOk result (is_counted B.refuses mine.old.amount changes) }
         ensures share { OnOk result (mine.new.amount ≡ mine.old.amount + 1) }
         ensures parts { mine.new.parts ≡ mine.old.parts }
         ensures err { OnErr result (mine.new.amount ≡ mine.old.amount) }
     {
         let mut guard = self.book.lock(rt);
-        if self.changes() != changes {
+        if self.changes(mine) != changes {
             return Err(TurnError::Away);
         }
         let book: &mut B = &mut *guard;
@@ -214,13 +216,17 @@ impl<L: Site, B: Taker<L>> Hub<L, B> {
         neighbors_of::<L, B>(alloc, book, interfaces)
     }
 
-    /// Tells whether this destination is announced.
-    pub fn wants<R: Wait>(&self, rt: &R, prefix: Prefix) -> bool
-        ensures { B.wanted prefix result }
+    /// Tells whether this destination is announced, after the port's events so far.
+    pub fn wants<R: Wait>(&self, rt: &R, port: &mut Port<L>, prefix: Prefix) -> bool
+        ensures wanted { B.wanted port.old.share.amount prefix result }
+        ensures share { port.new.share.amount ≡ port.old.share.amount }
+        ensures seat { port.new.seat ≡ port.old.seat }
+        ensures number { port.new.number ≡ port.old.number }
+        ensures known { known_to port.new.asker ≡ known_to port.old.asker }
     {
-        let guard = self.book.lock(rt);
-        let book: &B = &*guard;
-        book.wants(prefix)
+        let mut guard = self.book.lock(rt);
+        let book: &mut B = &mut *guard;
+        book.wants(&mut port.share, prefix)
     }
 }
 

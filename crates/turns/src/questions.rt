@@ -5,6 +5,7 @@ ghost use Rattle.maps.specs.Words.{IsOf};
 ghost use Rattle.hooks.specs.Known.{asks_of, known_to};
 ghost use Rattle.turns.specs.Turns.{
   AreVetoes,
+  AsksFor,
   CountsFor,
   IsFor,
   IsInstall,
@@ -39,6 +40,7 @@ pub fn asked<L: Site, B: Taker<L>, R: Wait>(
         IsFor B.offers (known_to asker.old) work.now moment event) }
     ensures counted { CountsFor B.refuses (known_to asker.old) (known_to asker.new)
         seat.old seat.new work.now moment }
+    ensures asked { AsksFor B.took moment work.now }
     ensures err { IfErr result (IsUnaskedFor B.refuses work.now moment) }
     ensures seat { IsOf L.words seat.new }
     ensures history { asks_of asker.new ≡ asks_of asker.old }

@@ -20,6 +20,7 @@ ghost use Rattle.book.specs.Occurrences.{occurrence_of};
 ghost use Rattle.book.specs.Offers.{AreCandidatesNow, IsOffered, IsStaleNow};
 ghost use Rattle.book.specs.State.{State};
 ghost use Rattle.turns.specs.Turns.{
+  IsAsked,
   IsInstalling,
   IsLacking,
   IsOfferedBySome,
@@ -72,7 +73,7 @@ pub trait Taker<L: Origin> {
 
     ghost offers: { List RouteValue → List TableRow → Type 0 };
 
-    ghost wanted: { Network → Bool → Type 0 };
+    ghost wanted: { ℕ → Network → Bool → Type 0 };
 
     ghost own: { Self → Type 0 };
 
@@ -98,7 +99,7 @@ pub trait Taker<L: Origin> {
         ensures err { OnErr result (mine.new.amount ≡ mine.old.amount) }
         ensures clock { IsInstalling event
             → result ≡ Err (BookError.Core CoreError.ClockBack)
-            → clock_end ≤ max moment (moment_of self.old) };
+            → own self.old × (clock_end ≤ max moment (moment_of self.old)) };
 
     /// The candidates now, and the rows of the table now.
     fn offered(&self) -> Result<Offered, AllocError>
@@ -111,9 +112,10 @@ pub trait Taker<L: Origin> {
         ensures offered { IfOk result (λ c. (rows : List TableRow) × offers c.items rows) }
         ensures short { OnErr result (IsLacking refuses Lack.Memory) };
 
-    /// Tells whether this destination is announced now.
-    fn wants(&self, prefix: Prefix) -> bool
-        ensures { wanted prefix result };
+    /// Tells whether this destination is announced now, as the port asks that has this share.
+    fn wants(&mut self, mine: &mut Share<L>, prefix: Prefix) -> bool
+        ensures wanted { wanted mine.old.amount prefix result }
+        ensures share { (mine.new.amount ≡ mine.old.amount) × (mine.new.parts ≡ mine.old.parts) };
 
     /// The neighbor at the interface of this number and its state now, or None where it is Down or
     /// there is no such interface.
@@ -132,6 +134,7 @@ pub trait Taker<L: Origin> {
     ) -> Option<Answer>
         requires { IsOf shared.now seat.old }
         ensures history { asks_of asker.new ≡ asks_of asker.old }
+        ensures asked { IsAsked took (count_input interface moment packet.now) }
         ensures unread { IfNone result ((known_to asker.new ≡ known_to asker.old)
             × (seat.new ≡ seat.old)) }
         ensures lacking { IfNone result
@@ -233,9 +236,9 @@ pub trait Taker<L: Origin> {
     fn tell(changes: &AtomicU64, notice: &Notice)
         ensures { IsTold took (told_by notice.now) };
 
-    /// How many changes were counted.
-    fn changes(changes: &AtomicU64) -> u64
-        ensures { is_counted refuses result };
+    /// How many changes were counted, as it is read by the port that has this share.
+    fn changes(changes: &AtomicU64, mine: &Share<L>) -> u64
+        ensures { is_counted refuses mine.now.amount result };
 }
 
 // When an event that is given at a moment is taken, after one that came last: an installation isn't
@@ -274,7 +277,7 @@ impl<L: Origin> Taker<L> for Book<L> {
 
     ghost offers = { λ candidates rows. IsOfferedBySome L.origin candidates rows };
 
-    ghost wanted = { λ prefix wanted. IsWantedBySome L.origin prefix wanted };
+    ghost wanted = { λ events prefix wanted. IsWantedBySome L.origin events prefix wanted };
 
     ghost own = { λ book. IsOwn L.origin book };
 
@@ -302,7 +305,7 @@ impl<L: Origin> Taker<L> for Book<L> {
         ensures err { OnErr result (mine.new.amount ≡ mine.old.amount) }
         ensures clock { IsInstalling event
             → result ≡ Err (BookError.Core CoreError.ClockBack)
-            → clock_end ≤ max moment self.old.current.moment }
+            → IsOwn L.origin self.old × (clock_end ≤ max moment self.old.current.moment) }
     {
         let at = taken_at(&event, moment, self.now().moment());
         match self.apply_anew(mine, at, event) {
@@ -329,10 +332,12 @@ impl<L: Origin> Taker<L> for Book<L> {
         self.now().candidates()
     }
 
-    fn wants(&self, prefix: Prefix) -> bool
-        ensures now { result ≡ announces self.now.current prefix }
-        ensures some { IsWantedBySome L.origin prefix result }
+    fn wants(&mut self, mine: &mut Share<L>, prefix: Prefix) -> bool
+        ensures now { result ≡ announces self.old.current prefix }
+        ensures some { IsWantedBySome L.origin mine.old.amount prefix result }
+        ensures share { (mine.new.amount ≡ mine.old.amount) × (mine.new.parts ≡ mine.old.parts) }
     {
+        self.compare(mine);
         self.now().wants(prefix)
     }
 
@@ -405,7 +410,7 @@ impl<L: Origin> Taker<L> for Book<L> {
         let _before = changes.fetch_add(1, Ordering::SeqCst);
     }
 
-    fn changes(changes: &AtomicU64) -> u64 {
+    fn changes(changes: &AtomicU64, _mine: &Share<L>) -> u64 {
         changes.load(Ordering::SeqCst)
     }
 }

@@ -7,6 +7,7 @@ ghost use Rattle.maps.specs.Words.{SeatView};
 ghost use Rattle.hooks.specs.Known.{known_to};
 ghost use Rattle.hooks.specs.declared.operation.Operation.{Operation};
 ghost use Rattle.turns.specs.Turns.{
+  AsksFor,
   CountsFor,
   IsChangedSince,
   IsGivenInVain,
@@ -14,6 +15,7 @@ ghost use Rattle.turns.specs.Turns.{
   IsUnaskedFor,
   RefusesFor,
   TakesFor,
+  is_counted,
 };
 
 use crate::gate::Gate;
@@ -61,6 +63,7 @@ pub fn turn<L: Site, B: Taker<L>, G: Gate, R: Wait>(
         (known_to port.old.asker) moment work.now error) }
     ensures counted { (known : List Operation) × (seat : SeatView)
         × CountsFor B.refuses (known_to port.old.asker) known port.old.seat seat work.now moment }
+    ensures asked { AsksFor B.took moment work.now }
     ensures passed { OnOk result (G.passes gate.old port.old.number gate.new) }
     ensures held { IfErr result (λ error.
         ((gate.new ≡ gate.old) × IsUnaskedFor B.refuses work.now moment error)
@@ -69,11 +72,11 @@ pub fn turn<L: Site, B: Taker<L>, G: Gate, R: Wait>(
     ensures err { OnErr result (port.new.share.amount ≡ port.old.share.amount) }
     ensures clock { work.now ≡ Work.Refresh
         → result ≡ Err (TurnError.Book (BookError.Core CoreError.ClockBack))
-        → (book : B) × (clock_end ≤ max moment (B.moment_of book)) }
+        → (book : B) × B.own book × (clock_end ≤ max moment (B.moment_of book)) }
     ensures number { port.new.number ≡ port.old.number }
     ensures known { IsPrefix (known_to port.old.asker) (known_to port.new.asker) }
 {
-    let changes = hub.changes();
+    let changes = hub.changes(&port.share);
     let event = asked(rt, hub, &mut port.asker, &mut port.seat, moment, work)?;
     gate.pass(port.number);
     let taken = hub.take(rt, &mut port.share, moment, event)?;
@@ -106,11 +109,14 @@ fn follow<L: Site, B: Taker<L>, R: Wait>(
     stale: Option<bool>,
 ) -> Option<Vec<Out>>
     ensures none { IfNone result ((port.new.share.amount ≡ port.old.share.amount)
-        × (stale ≡ Some true → IsChangedSince B.refuses changes ⊎ ((error : TurnError)
+        × (stale ≡ Some true → IsChangedSince B.refuses port.old.share.amount changes
+        ⊎ ((error : TurnError)
         × RefusesFor B.offers B.refuses (known_to port.old.asker) moment Work.Refresh error))) }
     ensures some { IfSome result (λ outs. (stale ≡ Some true) × ((left : Option Bool)
         × TakesFor B.offers B.took (known_to port.old.asker) moment Work.Refresh outs.items left)
         × (port.new.share.amount ≡ port.old.share.amount + 1)) }
+    ensures unchanged { IfSome result (λ _.
+        is_counted B.refuses port.old.share.amount changes) }
     ensures number { port.new.number ≡ port.old.number }
     ensures known { IsPrefix (known_to port.old.asker) (known_to port.new.asker) }
 {
@@ -133,8 +139,10 @@ fn refresh<L: Site, B: Taker<L>, R: Wait>(
 ) -> Result<Vec<Out>, TurnError>
     ensures outs { IfOk result (λ outs. (left : Option Bool) × TakesFor B.offers B.took
         (known_to port.old.asker) moment Work.Refresh outs.items left) }
-    ensures refused { IfErr result (λ error. IsChangedSince B.refuses changes
+    ensures refused { IfErr result (λ error.
+        IsChangedSince B.refuses port.old.share.amount changes
         ⊎ RefusesFor B.offers B.refuses (known_to port.old.asker) moment Work.Refresh error) }
+    ensures unchanged { OnOk result (is_counted B.refuses port.old.share.amount changes) }
     ensures share { OnOk result (port.new.share.amount ≡ port.old.share.amount + 1) }
     ensures err { OnErr result (port.new.share.amount ≡ port.old.share.amount) }
     ensures number { port.new.number ≡ port.old.number }

@@ -1,5 +1,5 @@
 use Rattle.hooks.specs.Known.{known_to}
-use Rattle.turns.proofs.Counted.{counts}
+use Rattle.turns.proofs.Counted.{asks, counts}
 use Rattle.turns.proofs.questions.asked.Goals as goal
 
 pub returns-in_err-copied-in-Datagram-clause-counted :
@@ -15,3 +15,15 @@ returns-in_ok-copied-in-Datagram-clause-counted g c =
     counts (λ a. a.word) g.B.Taker.refuses _ _ _ _ c.in-Datagram.number c.args.moment _
     c.count-passed.result _ _ c.as_slice.ensures c.in-Datagram.is
     c.count-passed.ensures.unread c.count-passed.ensures.lacking c.count-passed.ensures.answered
+
+pub returns-in_err-copied-in-Datagram-clause-asked :
+    goal.returns-in_err-copied-in-Datagram-clause-asked
+returns-in_err-copied-in-Datagram-clause-asked g c =
+    asks g.B.Taker.took c.in-Datagram.number c.args.moment _ _ _ c.as_slice.ensures
+    c.in-Datagram.is c.count-passed.ensures.asked
+
+pub returns-in_ok-copied-in-Datagram-clause-asked :
+    goal.returns-in_ok-copied-in-Datagram-clause-asked
+returns-in_ok-copied-in-Datagram-clause-asked g c =
+    asks g.B.Taker.took c.in-Datagram.number c.args.moment _ _ _ c.as_slice.ensures
+    c.in-Datagram.is c.count-passed.ensures.asked

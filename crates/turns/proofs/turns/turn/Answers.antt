@@ -10,5 +10,6 @@ returns-clause-turned g c = record {
       follows (known_to c.args.port.now.asker) _ c.in_ok-event.ensures.known (λ outs. outs.items)
       g.B.Taker.offers g.B.Taker.took g.B.Taker.refuses c.args.moment
       _ _ _ _ _ c.follow-refreshed.result c.in_ok-taken.ensures.share c.changes-changes.ensures
-      c.follow-refreshed.ensures.none c.follow-refreshed.ensures.some;
+      c.follow-refreshed.ensures.none c.follow-refreshed.ensures.some
+      c.follow-refreshed.ensures.unchanged;
 }

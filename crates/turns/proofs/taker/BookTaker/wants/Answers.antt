@@ -1,13 +1,21 @@
-use Rattle.std.proofs.Common.{subst, sym}
+use Rattle.std.proofs.Common.{◌≤◌, ap, subst, sym, ◌∙◌}
 use Rattle.book.specs.events.Routers.{Router}
-use Rattle.book.specs.Replay.{Leads}
+use Rattle.book.specs.Replay.{BookView, Leads}
+use Rattle.turns.specs.Turns.{announces}
 use Rattle.turns.proofs.taker.BookTaker.wants.Goals as goal
+
+pub returns-clause-now : goal.returns-clause-now
+returns-clause-now g c =
+    c.wants.ensures ∙ ap (λ (r : Router). announces r c.args.prefix) c.now.ensures.router
+    ∙ ap (λ (b : BookView). announces b.current c.args.prefix) c.compare.ensures.book
 
 pub returns-clause-some : goal.returns-clause-some
 returns-clause-some g c =
-    let P : Router → Type 0 = λ r. Leads g.L.Origin.origin c.args.self.now.taken r in (
-      c.args.self.now.taken,
+    let P : Router → Type 0 = λ r. Leads g.L.Origin.origin c.compare.new.self.taken r in (
+      c.compare.new.self.taken,
       c.now.result.now,
+      subst (λ (b : BookView). c.args.mine.now.amount ≤ b.taken) (sym c.compare.ensures.book)
+          c.compare.ensures.least,
       subst P (sym c.now.ensures.router) c.now.ensures.leads,
       c.wants.ensures,
     )
