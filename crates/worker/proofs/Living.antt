@@ -1,5 +1,6 @@
 -- The steps of a worker's life, put together.
 use Rattle.std.proofs.Common.{◌≡◌, ◌≢◌, ◌⊎◌, inl, inr, ℕ, zero, suc, ◌+◌, ◌≤◌, List, [], ◌∷◌}
+use Rattle.std.proofs.Common.{true, false}
 use Rattle.std.proofs.Common.{length, Option, Some, None, Result, Ok, Err, OnOk, refl, sym, subst}
 use Rattle.std.proofs.Common.{◌∙◌, arith}
 use Rattle.std.specs.Prelude.{MatchResult}
@@ -13,9 +14,9 @@ use Rattle.turns.specs.declared.work.Work.{Work}
 use Rattle.turns.specs.declared.work.Work.TheVariants.{Datagram, Tick}
 use Rattle.worker.specs.Refusals.{clock_back}
 use Rattle.worker.specs.Sending.{Gives}
-use Rattle.worker.specs.Lives.{AreAhead, HasLived, Hears, IsHeard, IsSent, IsTried, IsTurnedTo}
-use Rattle.worker.specs.Lives.{Listens, Lives, Round, Senses, Serves, Shows, ShowsEach, Standing}
-use Rattle.worker.specs.Lives.{Ticks, latest, senses_of}
+use Rattle.worker.specs.Lives.{AreAhead, HasLived, HasLivedOn, Hears, IsHeard, IsSent, IsTried}
+use Rattle.worker.specs.Lives.{IsTurnedTo, Listens, Lives, Reads, Round, Senses, Serves, Shows}
+use Rattle.worker.specs.Lives.{ShowsEach, Standing, Ticks, latest, senses_of}
 
 -- a turn was tried so often again, until now
 pub record IsTriedSo {Clock : Type 0} (shows : Shows Clock)
@@ -67,14 +68,16 @@ pub served : {Link Clock : Type 0} (senses : Senses Link Clock) (moment : ℕ) (
     (before : Standing Link Clock) (ended : ℕ) (after : Standing Link Clock)
     (outcome : Result Turned TurnError) (turned : Turned) → outcome ≡ Ok turned
     → IsTried senses.shows (λ m. senses.refusals m work) before.clock moment after.clock
-    ended outcome → senses.turns ended work before.events after.events turned
+    ended outcome → senses.asks ended work
+    → senses.turns ended work before.events after.events turned
     → IsSent senses.gives before.link turned after.link
     → Serves senses moment work before ended after
-served senses moment work before ended after outcome turned is tried turns sent =
+served senses moment work before ended after outcome turned is tried asked turns sent =
     record {
       outcome = Ok turned;
       tried = subst (IsTried senses.shows (λ m. senses.refusals m work) before.clock moment
           after.clock ended) is tried;
+      asked = asked;
       given = (turns, sent);
     }
 
@@ -82,13 +85,15 @@ pub refused : {Link Clock : Type 0} (senses : Senses Link Clock) (moment : ℕ) 
     (before : Standing Link Clock) (ended : ℕ) (after : Standing Link Clock)
     (outcome : Result Turned TurnError) (error : TurnError) → outcome ≡ Err error
     → IsTried senses.shows (λ m. senses.refusals m work) before.clock moment after.clock
-    ended outcome → senses.refusals ended work error → after.link ≡ before.link
-    → after.events ≡ before.events → Serves senses moment work before ended after
-refused senses moment work before ended after outcome error is tried why link events =
+    ended outcome → senses.asks ended work → senses.refusals ended work error
+    → after.link ≡ before.link → after.events ≡ before.events
+    → Serves senses moment work before ended after
+refused senses moment work before ended after outcome error is tried asked why link events =
     record {
       outcome = Err error;
       tried = subst (IsTried senses.shows (λ m. senses.refusals m work) before.clock moment
           after.clock ended) is tried;
+      asked = asked;
       given = (why, link, events);
     }
 
@@ -194,6 +199,7 @@ module _ {Link Clock : Type 0} (gives : Gives Link) (hears : Hears Link) (shows 
         record {
           outcome = h.outcome;
           tried = tried_longer work before.clock moment after.clock ended h.outcome h.tried;
+          asked = h.asked;
           given = given_longer work ended before after h.outcome h.given;
         }
 
@@ -284,15 +290,28 @@ in_turn gives hears shows offers took refuses known more number now ticked befor
 
 -- ---- the rounds
 
-pub lives_on : {Link Clock : Type 0} (senses : Senses Link Clock) (start : Standing Link Clock)
-    (earlier : Option ℕ) (then : Standing Link Clock) (ticked : Option ℕ)
-    (now : Standing Link Clock) → ((rounds : ℕ) × Lives senses start rounds earlier then)
-    → Round senses earlier then ticked now
-    → (rounds : ℕ) × Lives senses start rounds ticked now
-lives_on senses start earlier then ticked now (rounds, lived) round =
-    (suc rounds, (earlier, then, lived, round))
+-- the flag was found set in the end
+pub found_set : {Flag : Type 0} (reads : Reads Flag) (flag told : Flag) → reads flag true told
+    → (earlier : Flag) × reads earlier true told
+found_set reads flag told read = (flag, read)
 
-pub has_lived : {Link Clock : Type 0} (senses : Senses Link Clock) (start now : Standing Link Clock)
-    (ticked : Option ℕ) → ((rounds : ℕ) × Lives senses start rounds ticked now)
-    → HasLived senses start now
-has_lived senses start now ticked (rounds, lived) = (rounds, ticked, lived)
+module _ {Link Clock Flag : Type 0} (senses : Senses Link Clock) (reads : Reads Flag) (begun : Flag)
+    (start : Standing Link Clock) where
+  pub lives_on : (earlier : Option ℕ) (unset : Flag) (then : Standing Link Clock)
+      (ticked : Option ℕ) (flag : Flag) (now : Standing Link Clock)
+      → ((rounds : ℕ) × Lives senses reads begun start rounds earlier unset then)
+      → reads unset false flag → Round senses earlier then ticked now
+      → (rounds : ℕ) × Lives senses reads begun start rounds ticked flag now
+  lives_on earlier unset then ticked flag now (rounds, lived) read round =
+      (suc rounds, (earlier, unset, then, lived, read, round))
+
+  pub has_lived : (ticked : Option ℕ) (flag told : Flag) (now : Standing Link Clock)
+      → ((rounds : ℕ) × Lives senses reads begun start rounds ticked flag now)
+      → reads flag true told → HasLived senses reads begun start told now
+  has_lived ticked flag told now (rounds, lived) read = (rounds, ticked, flag, lived, read)
+
+  pub has_lived_on : (ticked : Option ℕ) (flag untold : Flag) (then : Standing Link Clock)
+      → ((rounds : ℕ) × Lives senses reads begun start rounds ticked flag then)
+      → reads flag false untold → HasLivedOn senses reads begun start untold
+  has_lived_on ticked flag untold then (rounds, lived) read =
+      (rounds, ticked, flag, then, lived, read)

@@ -1,10 +1,10 @@
 -- The life of a worker: what its clock showed, what its link heard, and the turns that came of
 -- both.
 use Rattle.std.specs.Prelude.{◌≡◌, ◌≢◌, ◌⊎◌, ℕ, zero, suc, ◌+◌, ◌≤◌, List, [], ◌∷◌, ◌++◌, length}
-use Rattle.std.specs.Prelude.{Option, Some, None, MatchOption}
+use Rattle.std.specs.Prelude.{Bool, true, false, Option, Some, None, MatchOption}
 use Rattle.std.specs.Prelude.{Result, Ok, Err, MatchResult}
 use Rattle.hooks.specs.declared.operation.Operation.{Operation}
-use Rattle.turns.specs.Turns.{IsTurned, Offers, Refuses, RefusesFor, Took}
+use Rattle.turns.specs.Turns.{AsksFor, IsTurned, Offers, Refuses, RefusesFor, Took}
 use Rattle.turns.specs.declared.turned.Turned.{Turned}
 use Rattle.turns.specs.declared.turned.TurnError.{TurnError}
 use Rattle.turns.specs.declared.work.Work.{Work}
@@ -12,7 +12,11 @@ use Rattle.turns.specs.declared.work.Work.TheVariants.{Datagram, Tick}
 use Rattle.worker.specs.Sending.{Gives, IsGivenEach}
 use Rattle.worker.specs.Refusals.{clock_back}
 
--- ---- what is said of a worker's clock, of its link and of its turns
+-- ---- what is said of a worker's flag, of its clock, of its link and of its turns
+
+-- a flag before it was found set or unset, and after that
+abbrev pub Reads : (Flag : Type 0) → Type 1
+Reads Flag = (before : Flag) → (is_set : Bool) → (after : Flag) → Type 0
 
 -- a clock before it showed a moment, and after that
 abbrev pub Shows : (Clock : Type 0) → Type 1
@@ -30,6 +34,11 @@ Turns = (moment : ℕ) → Work → (before after : ℕ) → Turned → Type 0
 abbrev pub Refusals : Type 1
 Refusals = (moment : ℕ) → Work → TurnError → Type 0
 
+-- a turn at a moment, for a work, whose datagram the programs at `count` were asked about, where it
+-- is one
+abbrev pub Asks : Type 1
+Asks = (moment : ℕ) → Work → Type 0
+
 -- all that is said of a worker: of its link, its clock and its turns; and the number of its port
 pub record Senses (Link Clock : Type 0) : Type 1 where
   pub gives : Gives Link
@@ -37,6 +46,7 @@ pub record Senses (Link Clock : Type 0) : Type 1 where
   pub shows : Shows Clock
   pub turns : Turns
   pub refusals : Refusals
+  pub asks : Asks
   pub number : ℕ
 
 -- its link, its clock, and how many events its port has given to the router
@@ -57,6 +67,7 @@ senses_of gives hears shows offers took refuses known number = record {
   shows = shows;
   turns = IsTurned offers took refuses known;
   refusals = RefusesFor offers refuses known;
+  asks = AsksFor took;
   number = number;
 }
 
@@ -98,13 +109,14 @@ pub record IsTried {Clock : Type 0} (shows : Shows Clock)
   pub at_last : last ≡ latest first again
   pub thrice : outcome ≡ Err clock_back → length again ≡ 3
 
--- a turn, and the link was given what it sends; where it is refused nothing is sent, and the router
--- has no event more
+-- a turn that asked what it has to ask, and the link was given what it sends; where it is refused
+-- nothing is sent, and the router has no event more
 pub record Serves {Link Clock : Type 0} (senses : Senses Link Clock) (moment : ℕ) (work : Work)
     (before : Standing Link Clock) (ended : ℕ) (after : Standing Link Clock) : Type 0 where
   pub outcome : Result Turned TurnError
   pub tried : IsTried senses.shows (λ m. senses.refusals m work)
       before.clock moment after.clock ended outcome
+  pub asked : senses.asks ended work
   pub given : MatchResult outcome
       (λ turned. senses.turns ended work before.events after.events turned
       × IsSent senses.gives before.link turned after.link)
@@ -155,17 +167,29 @@ Round {Link = Link} {Clock = Clock} senses ticked before next after =
     (between : Standing Link Clock) × Ticks senses ticked before next between
     × Listens senses between after
 
--- so many rounds, after which this is the moment of the last Tick
-abbrev pub Lives : {Link Clock : Type 0} → Senses Link Clock → (start : Standing Link Clock)
-    → (rounds : ℕ)
-    → (ticked : Option ℕ) → (now : Standing Link Clock) → Type 0
-Lives senses start zero ticked now = (ticked ≡ None) × (now ≡ start)
-Lives {Link = Link} {Clock = Clock} senses start (suc rounds) ticked now =
-    (earlier : Option ℕ) × (then : Standing Link Clock) × Lives senses start rounds earlier then
-    × Round senses earlier then ticked now
+-- So many rounds, after which this is the moment of the last Tick. Before each the flag was looked
+-- at once, and found unset.
+abbrev pub Lives : {Link Clock Flag : Type 0} → Senses Link Clock → Reads Flag → (begun : Flag)
+    → (start : Standing Link Clock) → (rounds : ℕ) → (ticked : Option ℕ) → (flag : Flag)
+    → (now : Standing Link Clock) → Type 0
+Lives senses reads begun start zero ticked flag now =
+    (ticked ≡ None) × (flag ≡ begun) × (now ≡ start)
+Lives {Link = Link} {Clock = Clock} {Flag = Flag} senses reads begun start (suc rounds) ticked flag
+    now =
+    (earlier : Option ℕ) × (unset : Flag) × (then : Standing Link Clock)
+    × Lives senses reads begun start rounds earlier unset then
+    × reads unset false flag × Round senses earlier then ticked now
 
--- some rounds
-abbrev pub HasLived : {Link Clock : Type 0} → Senses Link Clock → (start now : Standing Link Clock)
-    → Type 0
-HasLived senses start now = (rounds : ℕ) × (ticked : Option ℕ) × Lives senses start rounds ticked
-    now
+-- some rounds, and then the flag was found set
+abbrev pub HasLived : {Link Clock Flag : Type 0} → Senses Link Clock → Reads Flag → (begun : Flag)
+    → (start : Standing Link Clock) → (told : Flag) → (now : Standing Link Clock) → Type 0
+HasLived {Flag = Flag} senses reads begun start told now =
+    (rounds : ℕ) × (ticked : Option ℕ) × (flag : Flag)
+    × Lives senses reads begun start rounds ticked flag now × reads flag true told
+
+-- some rounds, and then the flag was found unset, and one more round began
+abbrev pub HasLivedOn : {Link Clock Flag : Type 0} → Senses Link Clock → Reads Flag
+    → (begun : Flag) → (start : Standing Link Clock) → (untold : Flag) → Type 0
+HasLivedOn {Link = Link} {Clock = Clock} {Flag = Flag} senses reads begun start untold =
+    (rounds : ℕ) × (ticked : Option ℕ) × (flag : Flag) × (then : Standing Link Clock)
+    × Lives senses reads begun start rounds ticked flag then × reads flag false untold

@@ -8,7 +8,7 @@ mod serving;
 mod settling;
 mod setup;
 
-pub use flag::Flag;
+pub use flag::{Flag, Signal};
 pub use opening::open_hub;
 pub use serving::{Ended, run, send_all, tried};
 pub use settling::{Closed, Settled, close_hub, settle};

@@ -3,11 +3,11 @@ ghost use Rattle.std.specs.Prelude.{◌≡◌, ◌<◌, ◌++◌, ◌↔◌, Err
 ghost use Rattle.std.specs.Prelude.{OnOk, OnErr, false, true};
 ghost use mathlib.Core.List.{IsPrefix};
 ghost use Rattle.hooks.specs.Known.{known_to};
-ghost use Rattle.turns.specs.Turns.{IsTurned, RefusesFor};
+ghost use Rattle.turns.specs.Turns.{AsksFor, IsTurned, RefusesFor};
 ghost use Rattle.worker.specs.Refusals.{clock_back};
 ghost use Rattle.worker.specs.Sending.{IsGivenEach};
-ghost use Rattle.worker.specs.Lives.{HasLived, IsTried, IsTurnedTo, Listens, Round, Serves, Ticks};
-ghost use Rattle.worker.specs.Lives.{senses_of};
+ghost use Rattle.worker.specs.Lives.{HasLived, HasLivedOn, IsTried, IsTurnedTo, Listens, Round};
+ghost use Rattle.worker.specs.Lives.{Serves, Ticks, senses_of};
 ghost use Rattle.worker.specs.declared.serving.Ended.TheVariants.{Fault, Quit};
 
 use crate::flag::Flag;
@@ -42,13 +42,13 @@ impl Ended {
 }
 
 /// A worker's life. In each round it takes a Tick's turn if the second has changed, and a turn with
-/// the datagram that its link gave, if one came, and sends what these turns send. Once a round it
-/// looks at `quit`, and ends with `Quit` if that is set. With `Fault` it ends if its link failed,
-/// and only then.
+/// the datagram that its link gave, if one came, and sends what these turns send. Once before each
+/// round it looks at `quit`, and ends with `Quit` if that is set. With `Fault` it ends if its link
+/// failed, and only then.
 ///
 /// A refused turn sends nothing. After a fault in the midst of a turn's outs the event stands, and
 /// the later outs aren't sent.
-#[tactic(auto, using(crate::proofs::Living::has_lived, crate::proofs::Tries::known_first))]
+#[tactic(auto, using(crate::proofs::Living::found_set, crate::proofs::Living::has_lived, crate::proofs::Tries::known_first))]
 pub fn run<L: Site, B: Taker<L>, G: Gate, K: Link, S: Seconds, F: Flag, R: Wait>(
     rt: &R,
     alloc: Global,
@@ -57,15 +57,19 @@ pub fn run<L: Site, B: Taker<L>, G: Gate, K: Link, S: Seconds, F: Flag, R: Wait>
     gate: &mut G,
     link: &mut K,
     clock: &mut S,
-    quit: &F,
+    quit: &mut F,
 ) -> Ended
-    ensures told { result ≡ Quit → F.reads quit.now true }
+    ensures told { result ≡ Quit → (flag : F) × F.reads flag true quit.new }
     ensures ended { (result ≡ Fault) ↔ (K.faults link.old < K.faults link.new) }
     ensures lived { result ≡ Quit → HasLived
         (senses_of K.gives K.hears S.shows B.offers B.took B.refuses
-        (known_to port.old.asker) port.old.number)
-        (record { link = link.old; clock = clock.old; events = port.old.share.amount })
+        (known_to port.old.asker) port.old.number) F.reads quit.old
+        (record { link = link.old; clock = clock.old; events = port.old.share.amount }) quit.new
         (record { link = link.new; clock = clock.new; events = port.new.share.amount }) }
+    ensures lived_on { result ≡ Fault → HasLivedOn
+        (senses_of K.gives K.hears S.shows B.offers B.took B.refuses
+        (known_to port.old.asker) port.old.number) F.reads quit.old
+        (record { link = link.old; clock = clock.old; events = port.old.share.amount }) quit.new }
     ensures number { port.new.number ≡ port.old.number }
     ensures known { IsPrefix (known_to port.old.asker) (known_to port.new.asker) }
 {
@@ -267,6 +271,7 @@ pub fn tried<L: Site, B: Taker<L>, G: Gate, S: Seconds, R: Wait>(
     ensures tried { IsTried S.shows
         (λ m error. RefusesFor B.offers B.refuses (known_to port.old.asker) m work.now error)
         clock.old moment.old clock.new moment.new result }
+    ensures asked { AsksFor B.took moment.new work.now }
     ensures number { port.new.number ≡ port.old.number }
     ensures known { IsPrefix (known_to port.old.asker) (known_to port.new.asker) }
 {

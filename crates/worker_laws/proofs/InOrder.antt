@@ -3,7 +3,7 @@ use Rattle.std.proofs.Common.{◌≡◌, inl, inr, ℕ, zero, suc, List, [], ◌
 use Rattle.std.proofs.Common.{None, refl, sym, subst, ap, ◌∙◌}
 use Rattle.std.proofs.lemmas.List.{append-nil, append_assoc, map-append}
 use Rattle.worker.specs.Work.TheVariants.{Datagram, Tick}
-use Rattle.worker.specs.Lives.{IsHeard, Listens, Lives, Senses, Standing, Ticks}
+use Rattle.worker.specs.Lives.{IsHeard, Listens, Lives, Reads, Senses, Standing, Ticks}
 use Rattle.worker_laws.specs.Deeds.{Deed, DoesEach, EachMayFollow, HasDone, LivesAreDeedsInOrder}
 use Rattle.worker_laws.specs.Deeds.{MayFollow, given, given_by, heard, heard_by, last_tick}
 use Rattle.worker_laws.specs.Deeds.{tick_after}
@@ -179,21 +179,24 @@ module _ {Link Clock : Type 0} (senses : Senses Link Clock) where
   listened_now start ticked before after l h =
       heard_now start ticked before h.heard h.between after l h.is_heard h.turn
 
-  so_many : (start : Standing Link Clock) (rounds : ℕ) (ticked : Option ℕ)
-      (now : Standing Link Clock) → Lives senses start rounds ticked now → Done start ticked now
-  so_many start zero ticked now (none, same) = record {
+  so_many : {Flag : Type 0} (reads : Reads Flag) (begun : Flag) (start : Standing Link Clock)
+      (rounds : ℕ) (ticked : Option ℕ) (flag : Flag) (now : Standing Link Clock)
+      → Lives senses reads begun start rounds ticked flag now → Done start ticked now
+  so_many reads begun start zero ticked flag now (none, unread, same) = record {
     deeds = [];
     does = same;
     follows = tt;
     works = refl;
     last = sym none;
   }
-  so_many start (suc rounds) ticked now (earlier, then, lives, (between, ticks, listens)) =
+  so_many reads begun start (suc rounds) ticked flag now
+      (earlier, unset, then, lives, read, (between, ticks, listens)) =
       listened_now start ticked between now
-      (ticked_now start earlier then ticked between (so_many start rounds earlier then lives)
-      ticks) listens
+      (ticked_now start earlier then ticked between
+      (so_many reads begun start rounds earlier unset then lives) ticks) listens
 
-pub in_order : {Link Clock : Type 0} (senses : Senses Link Clock) → LivesAreDeedsInOrder senses
-in_order senses start now (rounds, ticked, lives) =
-    let d = so_many senses start rounds ticked now lives in
+pub in_order : {Link Clock Flag : Type 0} (senses : Senses Link Clock) (reads : Reads Flag)
+    → LivesAreDeedsInOrder senses reads
+in_order senses reads begun flag start now rounds ticked lives =
+    let d = so_many senses reads begun start rounds ticked flag now lives in
     record { deeds = d.deeds; does = d.does; follows = d.follows; works = d.works }

@@ -2,7 +2,7 @@
 use Rattle.std.specs.Prelude.{◌≡◌, ◌≢◌, ◌⊎◌, ℕ, List, [], ◌∷◌, ◌++◌, map, Option, Some, None}
 use Rattle.worker.specs.Work.{Work}
 use Rattle.worker.specs.Work.TheVariants.{Add, Datagram, Down, Refresh, Tick, Withdraw}
-use Rattle.worker.specs.Lives.{HasLived, Senses, Serves, Standing}
+use Rattle.worker.specs.Lives.{Lives, Reads, Senses, Serves, Standing}
 
 -- ---- one after the other
 
@@ -133,6 +133,8 @@ pub record HasDone {Link Clock : Type 0} (senses : Senses Link Clock)
   pub follows : EachMayFollow [] deeds
   pub works : given deeds ≡ map (λ bytes. Datagram senses.number bytes) (heard deeds)
 
-abbrev pub LivesAreDeedsInOrder : {Link Clock : Type 0} → Senses Link Clock → Type 0
-LivesAreDeedsInOrder {Link = Link} {Clock = Clock} senses =
-    (start now : Standing Link Clock) → HasLived senses start now → HasDone senses start now
+abbrev pub LivesAreDeedsInOrder : {Link Clock Flag : Type 0} → Senses Link Clock → Reads Flag
+    → Type 0
+LivesAreDeedsInOrder {Link = Link} {Clock = Clock} {Flag = Flag} senses reads =
+    (begun flag : Flag) (start now : Standing Link Clock) (rounds : ℕ) (ticked : Option ℕ)
+    → Lives senses reads begun start rounds ticked flag now → HasDone senses start now

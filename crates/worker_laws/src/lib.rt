@@ -7,15 +7,15 @@ ghost use Rattle.worker.specs.Lives.{senses_of};
 ghost use Rattle.worker_laws.specs.Deeds.{LivesAreDeedsInOrder};
 
 use links::{Link, Seconds};
-use worker::{Site, Taker};
+use worker::{Flag, Site, Taker};
 
 /// Whatever rounds a worker has lived, it did one thing after the other: it looked at its clock, it
 /// listened at its link, or it gave a work to a turn. The works that it gave are, in order, the
 /// datagrams that it heard, with Ticks between. A Tick was given at each second that the clock
 /// showed before the worker listened, unless that was the second of the last Tick, and then none
-/// was. So it is of any link, any clock and whatever takes the events.
+/// was. So it is of any link, any clock, any flag and whatever takes the events.
 #[tactic(auto, using(crate::proofs::InOrder::in_order))]
-pub fn lives_are_deeds_in_order<L: Site, B: Taker<L>, K: Link, S: Seconds>()
+pub fn lives_are_deeds_in_order<L: Site, B: Taker<L>, K: Link, S: Seconds, F: Flag>()
     ensures { (known : List Operation) (number : ℕ) → LivesAreDeedsInOrder
-        (senses_of K.gives K.hears S.shows B.offers B.took B.refuses known number) }
+        (senses_of K.gives K.hears S.shows B.offers B.took B.refuses known number) F.reads }
 {}

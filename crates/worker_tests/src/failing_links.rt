@@ -7,7 +7,7 @@ use std::sync::Wait;
 use std::sync::atomic::AtomicBool;
 use std::test::Fail;
 use words::Sequence;
-use worker::{Hub, Open, Port, Site, Taker, run};
+use worker::{Hub, Open, Port, Signal, Site, Taker, run};
 
 // Forty calls of a link, of which one fails: the others send, or receive the Hello.
 fn calls(alloc: Global, fails: usize) -> Result<Vec<Answer>, AllocError> {
@@ -47,7 +47,7 @@ pub fn serve<L: Site, B: Taker<L>, R: Wait>(
         &mut Open {},
         &mut link,
         &mut clock,
-        &quit,
+        &mut Signal { word: &quit },
     );
     Ok((ended.status(), link.sent))
 }

@@ -152,7 +152,7 @@ impl<L: Site, Q: Wait + Drop> Stage<L, Q> {
     fn shown<B: Taker<L>, R: Wait>(&mut self, rt: &R, hub: &Hub<L, B>) -> Shown {
         Shown {
             neighbors: (hub.neighbor(rt, 1).is_some(), hub.neighbor(rt, 2).is_some()),
-            wanted: hub.wants(rt, self.destination.prefix),
+            wanted: hub.wants(rt, &mut self.console, self.destination.prefix),
             counted: hub.counter(&mut self.console, 5),
         }
     }

@@ -28,17 +28,21 @@ struct Tableless<L: Site> {
 }
 
 impl<L: Site> Taker<L> for Tableless<L> {
-    ghost took = { record { taken = λ moment event outs stale. ⊤; told = λ operations. ⊤ } };
+    ghost took = { record {
+      taken = λ moment event outs stale. ⊤;
+      told = λ operations. ⊤;
+      asked = λ input. ⊤;
+    } };
 
     ghost refuses = { record {
       refused = λ moment event error. ⊤;
       lacks = λ lack. ⊤;
-      counted = λ number. ⊤;
+      counted = λ events number. ⊤;
     } };
 
     ghost offers = { λ candidates rows. ⊤ };
 
-    ghost wanted = { λ prefix wanted. ⊤ };
+    ghost wanted = { λ events prefix wanted. ⊤ };
 
     ghost own = { λ it. ⊤ };
 
@@ -63,8 +67,8 @@ impl<L: Site> Taker<L> for Tableless<L> {
         Err(AllocError)
     }
 
-    fn wants(&self, prefix: Prefix) -> bool {
-        self.book.wants(prefix)
+    fn wants(&mut self, mine: &mut Share<L>, prefix: Prefix) -> bool {
+        self.book.wants(mine, prefix)
     }
 
     fn neighbor(&self, interface: u16) -> Option<(RouterId, State)> {
@@ -136,7 +140,7 @@ impl<L: Site> Taker<L> for Tableless<L> {
         let _before = changes.fetch_add(1, Ordering::SeqCst);
     }
 
-    fn changes(changes: &AtomicU64) -> u64 {
+    fn changes(changes: &AtomicU64, _mine: &Share<L>) -> u64 {
         changes.load(Ordering::SeqCst)
     }
 }

@@ -4,7 +4,7 @@ use links::{Answer, Script, Seconds, Times};
 use std::alloc::{AllocError, Global};
 use std::sync::Wait;
 use std::sync::atomic::AtomicBool;
-use worker::{Hub, Open, Port, Site, Taker, Work, run, tried};
+use worker::{Hub, Open, Port, Signal, Site, Taker, Work, run, tried};
 
 /// After a Tick at moment 6, what a turn is answered that tells that an interface went down, or of a
 /// Tick if it is none; 9 where the clock then shows another moment than the next. The clock shows the
@@ -59,7 +59,7 @@ pub fn follow<L: Site, B: Taker<L>, R: Wait>(
         &mut Open {},
         &mut link,
         &mut clock,
-        &quit,
+        &mut Signal { word: &quit },
     );
     Ok((ended.status(), link.sent))
 }

@@ -2,7 +2,7 @@ use Rattle.std.proofs.Common.{rules, subst}
 use Rattle.hooks.specs.Known.{known_to}
 use Rattle.hooks.proofs.Fronts.{prefix_trans}
 use Rattle.worker.specs.Lives.{Round, senses_of}
-use Rattle.worker.proofs.Living.{lives_on, round_longer}
+use Rattle.worker.proofs.Living.{has_lived_on, lives_on, round_longer}
 use Rattle.worker.proofs.serving.run.Goals as goal
 
 pub loop-preserved : goal.loop-preserved
@@ -39,18 +39,38 @@ loop-preserved g c =
           (known_to c.round.new.port.asker)
           c.loop.invariant.known c.round.ensures.known;
       lived = lives_on (senses (known_to c.args.port.now.asker) c.args.port.now.number)
+          g.F.Flag.reads c.args.quit.now
           (record {
             link = c.args.link.now;
             clock = c.args.clock.now;
             events = c.args.port.now.share.amount;
           })
-          c.loop.ticked
+          c.loop.ticked c.loop.quit
           (record { link = c.loop.link; clock = c.loop.clock; events = c.loop.port.share.amount })
-          c.round.new.ticked
+          c.round.new.ticked c.is_set.new.self
           (record {
             link = c.round.new.link;
             clock = c.round.new.clock;
             events = c.round.new.port.share.amount;
           })
-          c.loop.invariant.lived longer;
+          c.loop.invariant.lived
+          (subst (λ b. g.F.Flag.reads c.loop.quit b c.is_set.new.self) c.if-is_set.false
+          c.is_set.ensures)
+          longer;
     }
+
+pub returns-in_default-clause-lived_on : goal.returns-in_default-clause-lived_on
+returns-in_default-clause-lived_on g c fault =
+    has_lived_on (senses_of g.K.Link.gives g.K.Link.hears g.S.Seconds.shows g.B.Taker.offers
+    g.B.Taker.took g.B.Taker.refuses (known_to c.args.port.now.asker) c.args.port.now.number)
+    g.F.Flag.reads c.args.quit.now
+    (record {
+      link = c.args.link.now;
+      clock = c.args.clock.now;
+      events = c.args.port.now.share.amount;
+    })
+    c.loop.ticked c.loop.quit c.is_set.new.self
+    (record { link = c.loop.link; clock = c.loop.clock; events = c.loop.port.share.amount })
+    c.loop.invariant.lived
+    (subst (λ b. g.F.Flag.reads c.loop.quit b c.is_set.new.self) c.if-is_set.false
+    c.is_set.ensures)

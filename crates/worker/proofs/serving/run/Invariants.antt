@@ -11,12 +11,12 @@ invariant-loop g l = record {
   known : IsPrefix (known_to l.initial.port.asker) (known_to l.port.asker);
   lived : (rounds : ℕ) × Lives (senses_of g.K.Link.gives g.K.Link.hears g.S.Seconds.shows
       g.B.Taker.offers g.B.Taker.took g.B.Taker.refuses (known_to l.initial.port.asker)
-      l.initial.port.number)
+      l.initial.port.number) g.F.Flag.reads l.initial.quit
       (record {
         link = l.initial.link;
         clock = l.initial.clock;
         events = l.initial.port.share.amount;
       })
-      rounds l.ticked
+      rounds l.ticked l.quit
       (record { link = l.link; clock = l.clock; events = l.port.share.amount });
 }
