@@ -1,3 +1,4 @@
 pub mod Begun
 pub mod Answered
+pub mod Done
 mod Read

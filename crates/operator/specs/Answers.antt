@@ -1,21 +1,22 @@
 -- What a line of the console is answered. Each answer may be that memory was refused.
 use Rattle.std.specs.Prelude.{◌≡◌, ℕ, Bool, true, false, List, [], ◌∷◌, ◌++◌, Option, None, Some}
-use Rattle.std.specs.Prelude.{MatchBool, string_bytes}
+use Rattle.std.specs.Prelude.{string_bytes}
 use mathlib.Core.List.{IsPrefix}
 use Rattle.words.specs.Numbers.{Moment, RouterNumber}
 use Rattle.words.specs.Prefixes.{Network}
 use Rattle.words.specs.declared.route.External.{External}
 use Rattle.isa.specs.declared.hook.Hook.{Hook}
 use Rattle.adjacency.specs.declared.state.State.{State}
-use Rattle.events.specs.declared.model.Out.{Out}
 use Rattle.verifier.specs.Programs.{Program}
 use Rattle.object_verdicts.specs.Verdicts.{Accepts}
 use Rattle.maps.specs.Words.{SeatView}
 use Rattle.hooks.specs.declared.operation.Operation.{Operation}
 use Rattle.hooks.specs.declared.operation.Operation.TheVariants.{Attach, Detach}
 use Rattle.worker.specs.Numbers.{turn_error_number}
+use Rattle.worker.specs.Lives.{Senses, Serves, Standing}
+use Rattle.worker.specs.Turned.{Turned}
 use Rattle.worker.specs.TurnError.{TurnError}
-use Rattle.worker.specs.Turns.{Offers, Refuses, RefusesFor, TakesFor, Took}
+use Rattle.worker.specs.Turns.{IsTurned, Offers, Refuses, RefusesFor, Took}
 use Rattle.worker.specs.Work.{Work}
 use Rattle.worker.specs.Work.TheVariants as work
 use Rattle.console.specs.Commands.{LineAsks}
@@ -39,9 +40,10 @@ IsAnyFile path bytes = Unit {0}
 abbrev pub IsAnyPath : Unreadable
 IsAnyPath path = Unit {0}
 
--- what is said of the destinations that a router announces, or doesn't
+-- what is said of the destinations that a router announces, or doesn't, after so many events of the
+-- port that asks
 abbrev pub Wanted : Type 1
-Wanted = Network → Bool → Type 0
+Wanted = (events : ℕ) → Network → Bool → Type 0
 
 -- what the router says: what it offers, what comes of the events that it takes and why it takes
 -- others not, what it announces and who its neighbors are; and what files hold, and which can't be
@@ -91,11 +93,20 @@ change before now known due counted counts seat seated = record {
   seated = seated;
 }
 
--- the router took the event of this work, at some moment, whatever was known of the programs
-abbrev pub IsDone : Offers → Took → Work → Type 0
-IsDone offers took w =
-    (known : List Operation) × (moment : Moment) × (outs : List Out) × (stale : Option Bool)
-    × TakesFor offers took known moment w outs stale
+-- a turn for this work was taken, at some moment, whatever was known of the programs, and just what
+-- it gave the router counts
+abbrev pub IsDone : Offers → Took → Refuses → Work → (counted counts : ℕ) → Type 0
+IsDone offers took refuses w counted counts =
+    (known : List Operation) × (moment : Moment) × (turned : Turned)
+    × IsTurned offers took refuses known moment w counted counts turned
+
+-- as a worker serves one: a turn for this work was tried at a moment that the clock showed, and the
+-- link was given what it sends
+abbrev pub IsServed : {Link Clock : Type 0} → Senses Link Clock → Work
+    → (before after : Standing Link Clock) → Type 0
+IsServed {Clock = Clock} senses w before after =
+    (moment : Moment) × (shown : Clock) × (ended : Moment) × senses.shows before.clock moment shown
+    × Serves senses moment w (record before { clock = shown }) ended after
 
 -- the event of this work was refused for this, or its questions were, at some moment, whatever was
 -- known of the programs
@@ -109,31 +120,38 @@ IsRefusal offers refuses w counted counts number =
     (error : TurnError) × IsRefusedOnce offers refuses w error
     × (number ≡ turn_error_number error) × (counts ≡ counted)
 
--- Where a refresh of the table is due, it's tried: the router takes it, or it's due still, and
--- nothing counts. Else nothing is done.
-abbrev pub IsMadeUp : Offers → Took → (due still : Bool) → (before counted : ℕ)
+-- a refresh of the table was tried: it is due still where it was refused, and nothing counts then
+abbrev pub IsRefreshed : Offers → Took → Refuses → (due : Bool) → (counted counts : ℕ) → Type 0
+IsRefreshed offers took refuses false counted counts =
+    IsDone offers took refuses work.Refresh counted counts
+IsRefreshed offers took refuses true counted counts =
+    (error : TurnError) × IsRefusedOnce offers refuses work.Refresh error × (counts ≡ counted)
+
+-- where a refresh of the table is due, it was tried; else nothing was done
+abbrev pub IsMadeUp : Offers → Took → Refuses → (due still : Bool) → (before counted : ℕ)
     → (seat between : SeatView) → Type 0
-IsMadeUp offers took false still before counted seat between =
+IsMadeUp offers took refuses false still before counted seat between =
     (still ≡ false) × (counted ≡ before) × (between ≡ seat)
-IsMadeUp offers took true still before counted seat between =
-    MatchBool still (counted ≡ before) (IsDone offers took work.Refresh)
+IsMadeUp offers took refuses true still before counted seat between =
+    IsRefreshed offers took refuses still before counted
 
 -- ---- answers
 
--- After the programs were changed the workers were told so, those of the port are no older, and the
--- router took a refresh of its table, or one is due.
-pub record IsFollowed (offers : Offers) (took : Took) (c : Change) : Type 0 where
-  pub told : took.told c.now
-  pub learnt : IsPrefix c.now c.known
-  pub refreshed : MatchBool c.due (Unit {0}) (IsDone offers took work.Refresh)
+-- After the programs were changed the workers were told so, those of the port are no older, and a
+-- refresh of the table was tried.
+pub record IsFollowed (offers : Offers) (took : Took) (refuses : Refuses) (c : Change) : Type 0
+  where
+    pub told : took.told c.now
+    pub learnt : IsPrefix c.now c.known
+    pub refreshed : IsRefreshed offers took refuses c.due c.counted c.counts
 
 -- the program was published at its hook, with its bound; or memory was refused, and nothing was
-abbrev pub IsPublished : Offers → Took → Change → Program → Told → Type 0
-IsPublished offers took c program (told.Attached hook bound) =
-    (c.now ≡ c.before ++ Attach program ∷ []) × IsFollowed offers took c
+abbrev pub IsPublished : Offers → Took → Refuses → Change → Program → Told → Type 0
+IsPublished offers took refuses c program (told.Attached hook bound) =
+    (c.now ≡ c.before ++ Attach program ∷ []) × IsFollowed offers took refuses c
     × (program.hook ≡ hook) × (program.bound ≡ bound)
-IsPublished offers took c program told.Memory = c.now ≡ c.before
-IsPublished offers took c program other = ⊥
+IsPublished offers took refuses c program told.Memory = c.now ≡ c.before
+IsPublished offers took refuses c program other = ⊥
 
 -- a program of this hook was published, the one that the file at the path holds, which is accepted
 -- within this bound
@@ -144,7 +162,7 @@ pub record IsAttached (s : Sources) (c : Change) (path : List ℕ) (hook : Hook)
   pub held : s.holds path bytes
   pub accepted : Accepts bytes program
   pub published : c.now ≡ c.before ++ Attach program ∷ []
-  pub followed : IsFollowed s.offers s.took c
+  pub followed : IsFollowed s.offers s.took s.refuses c
   pub of_hook : program.hook ≡ hook
   pub of_bound : program.bound ≡ bound
 
@@ -157,20 +175,22 @@ IsAnswerToAttach s c path told.Memory = c.now ≡ c.before
 IsAnswerToAttach s c path other = ⊥
 
 -- that hook has no program
-abbrev pub IsAnswerToDetach : Offers → Took → Change → Hook → Told → Type 0
-IsAnswerToDetach offers took c hook (told.Detached of) =
-    (of ≡ hook) × (c.now ≡ c.before ++ Detach hook ∷ []) × IsFollowed offers took c
-IsAnswerToDetach offers took c hook told.Memory = c.now ≡ c.before
-IsAnswerToDetach offers took c hook other = ⊥
+abbrev pub IsAnswerToDetach : Offers → Took → Refuses → Change → Hook → Told → Type 0
+IsAnswerToDetach offers took refuses c hook (told.Detached of) =
+    (of ≡ hook) × (c.now ≡ c.before ++ Detach hook ∷ []) × IsFollowed offers took refuses c
+IsAnswerToDetach offers took refuses c hook told.Memory = c.now ≡ c.before
+IsAnswerToDetach offers took refuses c hook other = ⊥
 
--- the router took the announcement, and announces the destination or doesn't; or the turn was
--- refused
+-- the router took the announcement, and after that announces the destination or doesn't; or the turn
+-- was refused
 abbrev pub IsAnswerToAdd : Offers → Took → Refuses → Wanted → External → (counted counts : ℕ)
     → Told → Type 0
 IsAnswerToAdd offers took refuses wanted external counted counts told.Originated =
-    IsDone offers took (work.Add external) × wanted external.prefix true
+    IsDone offers took refuses (work.Add external) counted counts
+    × wanted counts external.prefix true
 IsAnswerToAdd offers took refuses wanted external counted counts told.Withheld =
-    IsDone offers took (work.Add external) × wanted external.prefix false
+    IsDone offers took refuses (work.Add external) counted counts
+    × wanted counts external.prefix false
 IsAnswerToAdd offers took refuses wanted external counted counts (told.Refused number) =
     IsRefusal offers refuses (work.Add external) counted counts number
 IsAnswerToAdd offers took refuses wanted external counted counts other = ⊥
@@ -179,7 +199,7 @@ IsAnswerToAdd offers took refuses wanted external counted counts other = ⊥
 abbrev pub IsAnswerToWithdraw : Offers → Took → Refuses → Network → (counted counts : ℕ) → Told
     → Type 0
 IsAnswerToWithdraw offers took refuses prefix counted counts told.Withdrawn =
-    IsDone offers took (work.Withdraw prefix)
+    IsDone offers took refuses (work.Withdraw prefix) counted counts
 IsAnswerToWithdraw offers took refuses prefix counted counts (told.Refused number) =
     IsRefusal offers refuses (work.Withdraw prefix) counted counts number
 IsAnswerToWithdraw offers took refuses prefix counted counts other = ⊥
@@ -195,7 +215,7 @@ abbrev pub IsAnswerTo : Sources → (interfaces : ℕ) → Change → Command �
 IsAnswerTo s interfaces c (commands.Attach path) answer =
     IsAnswerToAttach s c path.now answer
 IsAnswerTo s interfaces c (commands.Detach hook) answer =
-    IsAnswerToDetach s.offers s.took c hook answer
+    IsAnswerToDetach s.offers s.took s.refuses c hook answer
 IsAnswerTo s interfaces c (commands.Add external) answer =
     IsAnswerToAdd s.offers s.took s.refuses s.wanted external c.counted c.counts answer
 IsAnswerTo s interfaces c (commands.Withdraw prefix) answer =

@@ -1,5 +1,5 @@
 //! Lines in, answers out, at port 0.
-ghost use Rattle.std.specs.Prelude.{◌≡◌, ℕ, Bool, MatchBool};
+ghost use Rattle.std.specs.Prelude.{◌≡◌, ℕ, Bool};
 ghost use mathlib.Core.List.{IsPrefix};
 ghost use Rattle.maps.specs.Words.{SeatView};
 ghost use Rattle.hooks.specs.Known.{history_of, known_to, operations_of};
@@ -12,10 +12,10 @@ ghost use Rattle.operator.specs.Answers.{
   IsAnyFile,
   IsAnyPath,
   IsCarriedOut,
-  IsDone,
   IsMadeUp,
   IsObeyed,
   IsPublished,
+  IsRefreshed,
   change,
   sources,
 };
@@ -63,7 +63,7 @@ fn add<L: Site, B: Taker<L>, R: Wait, K: Link + Drop, C: Seconds + Drop>(
     let prefix = external.prefix;
     match outlet.take(rt, hub, port, &Work::Add(external)) {
         Ok(()) => {
-            if hub.wants(rt, prefix) {
+            if hub.wants(rt, port, prefix) {
                 Told::Originated
             } else {
                 Told::Withheld
@@ -92,10 +92,10 @@ fn withdraw<L: Site, B: Taker<L>, R: Wait, K: Link + Drop, C: Seconds + Drop>(
 
 impl<L: Site, Q: Wait + Drop, K: Link + Drop, C: Seconds + Drop> Desk<L, Q, K, C> {
     // The table is made anew. Where that is refused, it is tried again before the next line.
+    #[tactic(auto, using(crate::proofs::Done::refreshed))]
     fn refresh<B: Taker<L>, R: Wait>(&mut self, rt: &R, hub: &Hub<L, B>, port: &mut Port<L>)
-        ensures done { MatchBool self.new.unrefreshed
-            (port.new.share.amount ≡ port.old.share.amount)
-            (IsDone B.offers B.took Work.Refresh) }
+        ensures done { IsRefreshed B.offers B.took B.refuses self.new.unrefreshed
+            port.old.share.amount port.new.share.amount }
         ensures known { IsPrefix (known_to port.old.asker) (known_to port.new.asker) }
         ensures loader { self.new.loader ≡ self.old.loader }
         ensures interfaces { self.new.interfaces ≡ self.old.interfaces }
@@ -105,12 +105,12 @@ impl<L: Site, Q: Wait + Drop, K: Link + Drop, C: Seconds + Drop> Desk<L, Q, K, C
 
     // After the programs were changed: workers install no answer of the earlier ones any more, the
     // port's are no older, and the table is made anew.
+    #[tactic(auto, using(crate::proofs::Done::refreshed_from))]
     fn follow<B: Taker<L>, R: Wait>(&mut self, rt: &R, hub: &Hub<L, B>, port: &mut Port<L>)
         ensures told { IsTold B.took (operations_of self.old.loader) }
         ensures learnt { IsPrefix (operations_of self.old.loader) (known_to port.new.asker) }
-        ensures done { MatchBool self.new.unrefreshed
-            (port.new.share.amount ≡ port.old.share.amount)
-            (IsDone B.offers B.took Work.Refresh) }
+        ensures done { IsRefreshed B.offers B.took B.refuses self.new.unrefreshed
+            port.old.share.amount port.new.share.amount }
         ensures loader { self.new.loader ≡ self.old.loader }
         ensures interfaces { self.new.interfaces ≡ self.old.interfaces }
     {
@@ -128,7 +128,7 @@ impl<L: Site, Q: Wait + Drop, K: Link + Drop, C: Seconds + Drop> Desk<L, Q, K, C
         port: &mut Port<L>,
         program: Accepted,
     ) -> Told
-        ensures told { IsPublished B.offers B.took
+        ensures told { IsPublished B.offers B.took B.refuses
             (change (operations_of self.old.loader) (operations_of self.new.loader)
             (known_to port.new.asker) self.new.unrefreshed
             port.old.share.amount port.new.share.amount port.old.seat port.new.seat)
@@ -174,7 +174,7 @@ impl<L: Site, Q: Wait + Drop, K: Link + Drop, C: Seconds + Drop> Desk<L, Q, K, C
         port: &mut Port<L>,
         hook: Hook,
     ) -> Told
-        ensures told { IsAnswerToDetach B.offers B.took
+        ensures told { IsAnswerToDetach B.offers B.took B.refuses
             (change (operations_of self.old.loader) (operations_of self.new.loader)
             (known_to port.new.asker) self.new.unrefreshed
             port.old.share.amount port.new.share.amount port.old.seat port.new.seat)
@@ -221,7 +221,8 @@ impl<L: Site, Q: Wait + Drop, K: Link + Drop, C: Seconds + Drop> Desk<L, Q, K, C
 
     // Makes the table anew where that is due.
     fn make_up<B: Taker<L>, R: Wait>(&mut self, rt: &R, hub: &Hub<L, B>, port: &mut Port<L>)
-        ensures made_up { IsMadeUp B.offers B.took self.old.unrefreshed self.new.unrefreshed
+        ensures made_up { IsMadeUp B.offers B.took B.refuses self.old.unrefreshed
+            self.new.unrefreshed
             port.old.share.amount port.new.share.amount port.old.seat port.new.seat }
         ensures loader { self.new.loader ≡ self.old.loader }
         ensures interfaces { self.new.interfaces ≡ self.old.interfaces }
@@ -271,7 +272,7 @@ impl<L: Site, Q: Wait + Drop, K: Link + Drop, C: Seconds + Drop> Desk<L, Q, K, C
         line: &str,
     ) -> Option<Told>
         ensures told { (still : Bool) × (counted : ℕ) × (seat : SeatView)
-            × IsMadeUp B.offers B.took self.old.unrefreshed still
+            × IsMadeUp B.offers B.took B.refuses self.old.unrefreshed still
             port.old.share.amount counted port.old.seat seat
             × IsObeyed
             (sources B.offers B.took B.refuses B.wanted (IsListed B.own B.neighbor_at)
@@ -296,7 +297,7 @@ impl<L: Site, Q: Wait + Drop, K: Link + Drop, C: Seconds + Drop> Desk<L, Q, K, C
         line: &str,
     ) -> Option<Told>
         ensures told { (still : Bool) × (counted : ℕ) × (seat : SeatView)
-            × IsMadeUp B.offers B.took self.old.unrefreshed still
+            × IsMadeUp B.offers B.took B.refuses self.old.unrefreshed still
             port.old.share.amount counted port.old.seat seat
             × IsObeyed
             (sources B.offers B.took B.refuses B.wanted (IsListed B.own B.neighbor_at)

@@ -2,11 +2,12 @@
 ghost use Rattle.std.specs.Prelude.{◌≡◌, ◌<◌, ◌⊎◌, ◌↔◌, IfErr, OnErr, OnOk, IsTrue};
 ghost use mathlib.Core.List.{IsPrefix};
 ghost use Rattle.hooks.specs.Known.{known_to};
-ghost use Rattle.operator.specs.Answers.{IsDone, IsRefusedOnce};
+ghost use Rattle.worker.specs.Lives.{IsSent, senses_of};
+ghost use Rattle.operator.specs.Answers.{IsDone, IsRefusedOnce, IsServed};
 
 use links::{Link, Seconds};
 use std::sync::Wait;
-use worker::{Hub, Open, Port, Site, Taker, TurnError, Work, send_all, tried};
+use worker::{Hub, Open, Port, Site, Taker, TurnError, Turned, Work, send_all, tried};
 
 /// The link and the clock of port 0.
 #[derive(Drop)]
@@ -17,9 +18,23 @@ pub struct Outlet<K: Link + Drop, C: Seconds + Drop> {
     pub failed: bool,
 }
 
+// Sends what a turn sends. That the link failed isn't forgotten.
+#[tactic(auto, using(crate::proofs::Done::sent))]
+fn send<K: Link>(link: &mut K, failed: &mut bool, turned: &Turned)
+    ensures sent { K.faults link.new ≡ K.faults link.old
+        → IsSent K.gives link.old turned.now link.new }
+    ensures failed { IsTrue failed.new
+        ↔ (IsTrue failed.old ⊎ (K.faults link.old < K.faults link.new)) }
+{
+    if send_all(link, turned).is_err() {
+        *failed = true;
+    }
+}
+
 impl<K: Link + Drop, C: Seconds + Drop> Outlet<K, C> {
-    /// A turn at port 0, whose outs are sent. The router took the event of this work, or the turn
-    /// was refused. That the link failed isn't forgotten.
+    /// A turn at port 0, at the moment that the clock shows, whose outs are sent. The router took
+    /// the event of this work, and nothing else but the refresh that followed it; or the turn was
+    /// refused. That the link failed isn't forgotten.
     pub fn take<L: Site, B: Taker<L>, R: Wait>(
         &mut self,
         rt: &R,
@@ -27,12 +42,25 @@ impl<K: Link + Drop, C: Seconds + Drop> Outlet<K, C> {
         port: &mut Port<L>,
         work: &Work,
     ) -> Result<(), TurnError>
-        ensures taken { OnOk result (IsDone B.offers B.took work.now) }
+        ensures taken { OnOk result (IsDone B.offers B.took B.refuses work.now
+            port.old.share.amount port.new.share.amount) }
         ensures refused { IfErr result (λ error.
             IsRefusedOnce B.offers B.refuses work.now error) }
-        ensures counted { OnOk result (port.old.share.amount < port.new.share.amount) }
         ensures err { OnErr result (port.new.share.amount ≡ port.old.share.amount) }
         ensures known { IsPrefix (known_to port.old.asker) (known_to port.new.asker) }
+        ensures served { K.faults self.new.link ≡ K.faults self.old.link → IsServed
+            (senses_of K.gives K.hears C.shows B.offers B.took B.refuses
+            (known_to port.old.asker) port.old.number) work.now
+            (record {
+              link = self.old.link;
+              clock = self.old.clock;
+              events = port.old.share.amount;
+            })
+            (record {
+              link = self.new.link;
+              clock = self.new.clock;
+              events = port.new.share.amount;
+            }) }
         ensures failed { IsTrue self.new.failed
             ↔ (IsTrue self.old.failed ⊎ (K.faults self.old.link < K.faults self.new.link)) }
     {
@@ -46,9 +74,7 @@ impl<K: Link + Drop, C: Seconds + Drop> Outlet<K, C> {
             &mut moment,
             work,
         )?;
-        if send_all(&mut self.link, &turned).is_err() {
-            self.failed = true;
-        }
+        send(&mut self.link, &mut self.failed, &turned);
         Ok(())
     }
 }

@@ -1,0 +1,102 @@
+-- A turn at port 0, put together.
+use Rattle.std.proofs.Common.{◌≡◌, ℕ, ◌<◌, Bool, Result, Ok, Err, sym, subst, arith}
+use Rattle.std.specs.Prelude.{IfErr, OnErr, OnOk, is_err}
+use Rattle.words.specs.Numbers.{Moment}
+use Rattle.words.specs.declared.route.External.{External}
+use Rattle.worker.specs.Lives.{IsSent, IsTried, Senses, Standing}
+use Rattle.worker.specs.Sending.{Gives}
+use Rattle.worker.specs.Turned.{Turned}
+use Rattle.worker.specs.TurnError.{TurnError}
+use Rattle.worker.specs.Turns.{Offers, Refuses, Took}
+use Rattle.worker.specs.Work.{Work}
+use Rattle.worker.specs.Work.TheVariants as work
+use Rattle.operator.specs.Answers.{IsDone, IsRefreshed, IsRefusedOnce, IsServed, Wanted}
+
+-- ---- a refresh
+
+pub refreshed : {X : Type 0} (offers : Offers) (took : Took) (refuses : Refuses) (due : Bool)
+    (counted counts : ℕ) (outcome : Result X TurnError) → due ≡ is_err outcome
+    → OnOk outcome (IsDone offers took refuses work.Refresh counted counts)
+    → IfErr outcome (λ error. IsRefusedOnce offers refuses work.Refresh error)
+    → OnErr outcome (counts ≡ counted) → IsRefreshed offers took refuses due counted counts
+refreshed offers took refuses due counted counts (Ok x) is done why same =
+    subst (λ (b : Bool). IsRefreshed offers took refuses b counted counts) (sym is) done
+refreshed offers took refuses due counted counts (Err error) is done why same =
+    subst (λ (b : Bool). IsRefreshed offers took refuses b counted counts) (sym is)
+    (error, why, same)
+
+-- by a port whose share is as it was before
+pub refreshed_from : (offers : Offers) (took : Took) (refuses : Refuses) (due : Bool)
+    (counted between counts : ℕ) → between ≡ counted
+    → IsRefreshed offers took refuses due between counts
+    → IsRefreshed offers took refuses due counted counts
+refreshed_from offers took refuses due counted between counts same is =
+    subst (λ (n : ℕ). IsRefreshed offers took refuses due n counts) same is
+
+-- ---- an announcement
+
+-- whether a destination is announced was asked after the turn, by a port that gave no event since
+pub announced : (offers : Offers) (took : Took) (refuses : Refuses) (wanted : Wanted)
+    (external : External) (counted between counts : ℕ) (is : Bool) → counts ≡ between
+    → IsDone offers took refuses (work.Add external) counted between
+    → wanted between external.prefix is → IsDone offers took refuses (work.Add external) counted
+    counts × wanted counts external.prefix is
+announced offers took refuses wanted external counted between counts is same done answer = (
+  subst (λ (n : ℕ). IsDone offers took refuses (work.Add external) counted n) (sym same) done,
+  subst (λ (n : ℕ). wanted n external.prefix is) (sym same) answer,
+)
+
+-- ---- a turn
+
+-- what was sent by a link that didn't fail
+pub sent : {Link X E : Type 0} (gives : Gives Link) (faults : Link → ℕ) (before after : Link)
+    (turned : Turned) (outcome : Result X E) → OnOk outcome (IsSent gives before turned after)
+    → OnErr outcome (faults before < faults after) → faults after ≡ faults before
+    → IsSent gives before turned after
+sent gives faults before after turned (Ok x) is failed fine = is
+sent gives faults before after turned (Err error) is failed fine =
+    absurd (omega (arith, failed, fine))
+
+pub served : {Link Clock : Type 0} (senses : Senses Link Clock) (w : Work)
+    (before after : Standing Link Clock) (moment : Moment) (shown : Clock) (ended : Moment)
+    (outcome : Result Turned TurnError) (turned : Turned)
+    → senses.shows before.clock moment shown → outcome ≡ Ok turned
+    → IsTried senses.shows (λ m. senses.refusals m w) shown moment after.clock ended outcome
+    → senses.asks ended w → senses.turns ended w before.events after.events turned
+    → IsSent senses.gives before.link turned after.link → IsServed senses w before after
+served senses w before after moment shown ended outcome turned is_shown is tried asked turns sent = (
+  moment,
+  shown,
+  ended,
+  is_shown,
+  record {
+    outcome = Ok turned;
+    tried = subst (IsTried senses.shows (λ m. senses.refusals m w) shown moment after.clock ended)
+        is tried;
+    asked = asked;
+    given = (turns, sent);
+  },
+)
+
+pub unserved : {Link Clock : Type 0} (senses : Senses Link Clock) (w : Work)
+    (before after : Standing Link Clock) (moment : Moment) (shown : Clock) (ended : Moment)
+    (outcome : Result Turned TurnError) (error : TurnError)
+    → senses.shows before.clock moment shown → outcome ≡ Err error
+    → IsTried senses.shows (λ m. senses.refusals m w) shown moment after.clock ended outcome
+    → senses.asks ended w → senses.refusals ended w error → after.link ≡ before.link
+    → after.events ≡ before.events → IsServed senses w before after
+unserved senses w before after moment shown ended outcome error is_shown is tried asked why link
+    events = (
+      moment,
+      shown,
+      ended,
+      is_shown,
+      record {
+        outcome = Err error;
+        tried = subst (IsTried senses.shows (λ m. senses.refusals m w) shown moment after.clock
+            ended)
+            is tried;
+        asked = asked;
+        given = (why, link, events);
+      },
+    )
