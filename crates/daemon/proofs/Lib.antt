@@ -1,5 +1,6 @@
 pub mod Fresh
 pub mod Alike
 pub mod AsMany
+pub mod Ended
 mod Talked
 mod Reading

@@ -1,4 +1,5 @@
 pub mod Lines
+pub mod Refusals
 pub mod Statuses
 pub mod Sums
 pub mod Talks

@@ -1,5 +1,5 @@
 -- The status that the program ends with: where no router runs, and after one ran.
-use Rattle.std.specs.Prelude.{◌≡◌, ℕ, Bool, List, ◌||◌, if◌then◌else◌, length, map}
+use Rattle.std.specs.Prelude.{◌≡◌, ◌⊎◌, ℕ, Bool, List, ◌||◌, if◌then◌else◌, length, map}
 use Rattle.std.specs.List.{list_any}
 use Rattle.worker.specs.events.Events.{initial}
 use Rattle.worker.specs.events.Routers.{Router}
@@ -12,6 +12,7 @@ use Rattle.daemon.specs.declared.error.RouteError.{RouteError}
 use Rattle.daemon.specs.declared.error.RouteError.TheVariants.{Configuration, Bind, Socket, Hooks}
 use Rattle.daemon.specs.declared.error.RouteError.TheVariants.{Output, Memory}
 use Rattle.daemon.specs.declared.ran.Ran.{Ran}
+use Rattle.daemon.specs.Refusals.{IsWhy}
 use Rattle.daemon.specs.Talks.{is_deaf}
 
 -- 1 refused, 3 a socket or a stream, 4 memory
@@ -57,3 +58,10 @@ abbrev pub HasRanFor : (text : List ℕ) → Ran → Type 0
 HasRanFor text ran =
     (configured : Configured) × Says text configured
     × HasRanOver (length configured.interfaces) configured ran
+
+-- the program ends as such a router ran; or, where none did, as the reason says, or as a stream that
+-- failed when that was told
+abbrev pub EndsSo : (text : List ℕ) → (status : ℕ) → Type 0
+EndsSo text status =
+    ((ran : Ran) × HasRanFor text ran × (status ≡ status_of_ran ran))
+    ⊎ ((error : RouteError) × IsWhy text error × ((status ≡ status_of error) ⊎ (status ≡ 3)))

@@ -1,5 +1,5 @@
 -- What is said at the console, from its first line to its end.
-use Rattle.std.specs.Prelude.{◌≡◌, ◌⊎◌, ℕ, ◌<◌, Bool, true, false, List, [], ◌∷◌, ◌++◌}
+use Rattle.std.specs.Prelude.{◌≡◌, ◌⊎◌, ℕ, Bool, true, false, List, [], ◌∷◌, ◌++◌}
 use Rattle.std.specs.Prelude.{Option, None, Some, Result, Ok, Err, string_bytes}
 use Rattle.std.specs.Io.KnownBytes.{Appends}
 use mathlib.Core.List.{IsPrefix}
@@ -47,7 +47,7 @@ abbrev pub IsObeyedFrom : {Input : Type 0} → Sources → (interfaces : ℕ) �
     → (line : List ℕ) → Option Told → (after : Place Input) → Type 0
 IsObeyedFrom s interfaces before line answer after =
     (still : Bool) × (counted : ℕ) × (seat : SeatView)
-    × IsMadeUp s.offers s.took before.due still before.events counted before.seat seat
+    × IsMadeUp s.offers s.took s.refuses before.due still before.events counted before.seat seat
     × IsObeyed s interfaces
     (change before.operations after.operations after.known after.due counted after.events seat
     after.seat) line answer
@@ -119,10 +119,11 @@ pub record HasTalked {Input : Type 0} (gives : Gives Input) (fails : Fails Input
 
 -- ---- from the start
 
--- the router took a Tick, or a turn for one was refused, and no event counts
+-- a turn for a Tick was taken, and just what it gave the router counts; or it was refused, and
+-- nothing counts
 abbrev pub IsTicked : Offers → Took → Refuses → (counted counts : ℕ) → Type 0
 IsTicked offers took refuses counted counts =
-    ((counted < counts) × IsDone offers took Tick)
+    IsDone offers took refuses Tick counted counts
     ⊎ ((counts ≡ counted) × ((error : TurnError) × IsRefusedOnce offers refuses Tick error))
 
 -- the first is a Tick's turn, and then line follows line

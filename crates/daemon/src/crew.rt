@@ -19,7 +19,7 @@ use std::sync::atomic::Ordering;
 use std::thread;
 use std::thread::{JoinHandle, Scope, Threads};
 use std::time::Clock;
-use worker::{Book, Closed, Core, Hub, Port, Setup, Site, close_hub, open_hub};
+use worker::{Book, Closed, Core, Hub, Port, Setup, Signal, Site, close_hub, open_hub};
 
 /// Lets each worker run on a thread with a port of its own, and the operator on this thread at port
 /// 0, until the operator is done. Every thread is joined before it answers, whatever it answers.
@@ -163,7 +163,7 @@ fn started<'s, E, L: Site + Send + Sync, R: Threads + Wait + Clock + Log + Sync>
     while let Some((port, link)) = next_pair(&mut ports, &mut links) {
         let life = move || -> (Port<L>, LinkEnd)
             requires { port.number ≡ link.own }
-        { work(clock, memory, link, quit, hub, port) };
+        { work(clock, memory, link, Signal { word: quit }, hub, port) };
         let Ok(thread) = scope.spawn(life) else {
             workers.quit.store(true, Ordering::SeqCst);
             return Err(AllocError);

@@ -1,6 +1,8 @@
 //! Why a router doesn't run.
 ghost use Rattle.std.specs.Prelude.{◌≡◌};
+ghost use Rattle.daemon.specs.Refusals.{of_hooks, of_sockets, of_text};
 ghost use Rattle.daemon.specs.Statuses.{status_of};
+ghost use Rattle.daemon.specs.declared.error.RouteError.TheVariants.{Memory};
 
 use console::ConfigurationError;
 use hooks::HookError;
@@ -45,18 +47,24 @@ impl RouteError {
 }
 
 impl From<AllocError> for RouteError {
+    ghost from_gives = { λ _ error. error ≡ Memory };
+
     fn from(_error: AllocError) -> RouteError {
         RouteError::Memory
     }
 }
 
 impl<T: Drop> From<AllocFailed<T>> for RouteError {
+    ghost from_gives = { λ _ error. error ≡ Memory };
+
     fn from(_error: AllocFailed<T>) -> RouteError {
         RouteError::Memory
     }
 }
 
 impl From<ConfigurationError> for RouteError {
+    ghost from_gives = { λ why error. error ≡ of_text why };
+
     fn from(error: ConfigurationError) -> RouteError {
         match error {
             ConfigurationError::Line(line) => RouteError::Configuration(line),
@@ -66,6 +74,8 @@ impl From<ConfigurationError> for RouteError {
 }
 
 impl From<SocketError> for RouteError {
+    ghost from_gives = { λ why error. error ≡ of_sockets why };
+
     fn from(error: SocketError) -> RouteError {
         match error {
             SocketError::Bind(port) => RouteError::Bind(port),
@@ -76,6 +86,8 @@ impl From<SocketError> for RouteError {
 }
 
 impl From<HookError> for RouteError {
+    ghost from_gives = { λ why error. error ≡ of_hooks why };
+
     fn from(error: HookError) -> RouteError {
         match error {
             HookError::Memory => RouteError::Memory,

@@ -1,11 +1,14 @@
 //! A router from its configuration to its end.
-ghost use Rattle.std.specs.Prelude.{◌≡◌, ◌≤◌, ◌+◌, IfOk, false, length, map, nat_lt, vec_len};
+ghost use Rattle.std.specs.Prelude.{◌≡◌, ◌⊎◌, ◌≤◌, ◌+◌, IfErr, IfOk, false, length, map, nat_lt};
+ghost use Rattle.std.specs.Prelude.{vec_len};
 ghost use Rattle.links.specs.Descending.{CountDownTo};
 ghost use Rattle.hooks.specs.Known.{history_of};
 ghost use Rattle.sockets.specs.Ends.{has_failed};
 ghost use Rattle.worker.specs.events.Events.{initial};
 ghost use Rattle.worker.specs.Opening.{IsSetUpFor};
-ghost use Rattle.daemon.specs.Statuses.{HasRan, HasRanFor, HasRanOver, IsConfigOf};
+ghost use Rattle.daemon.specs.Refusals.{IsLaterWhy, IsWhy};
+ghost use Rattle.daemon.specs.Statuses.{EndsSo, HasRan, HasRanFor, HasRanOver, IsConfigOf};
+ghost use Rattle.daemon.specs.Statuses.{status_of, status_of_ran};
 ghost use Rattle.daemon.specs.Talks.{is_mute};
 
 use crate::crew::side_by_side;
@@ -20,7 +23,7 @@ use hooks::Loader;
 use links::Seconds;
 use log::Log;
 use operator::{Desk, Outlet};
-use sockets::{LinkEnd, Sockets, SystemSeconds, Wire, bind_each, listening};
+use sockets::{LinkEnd, SocketError, Sockets, SystemSeconds, Wire, bind_each, listening};
 use std::alloc::{AllocError, Global};
 use std::io::{BufRead, Write};
 use std::marker::{Brand, PhantomData};
@@ -56,6 +59,7 @@ fn config_of<C: Seconds>(
 ) -> Result<Config, RouteError>
     ensures start { IfOk result (λ config. C.shows clock.old config.start clock.new) }
     ensures said { IfOk result (IsConfigOf configured.now) }
+    ensures refused { IfErr result IsLaterWhy }
 {
     let interfaces = interfaces_of(alloc, configured.interfaces.as_slice())?;
     Ok(Config {
@@ -67,7 +71,8 @@ fn config_of<C: Seconds>(
 
 // The router at its start.
 fn core_of(alloc: Global, config: &Config) -> Result<Core, RouteError>
-    ensures { IfOk result (λ core. core ≡ initial config.now) }
+    ensures core { IfOk result (λ core. core ≡ initial config.now) }
+    ensures refused { IfErr result IsLaterWhy }
 {
     match Core::new(alloc, config) {
         Ok(core) => Ok(core),
@@ -101,6 +106,7 @@ fn run_crew<
     requires told { desk.old.interfaces ≡ vec_len links }
     ensures ends { IfOk result (λ r. vec_len r.0 + 1 ≡ vec_len setup.seats) }
     ensures heard { IfOk result (λ r. is_mute r.1 ≡ false) }
+    ensures refused { IfErr result IsLaterWhy }
 {
     let alloc = workers.alloc;
     let (closed, ends, parted) = side_by_side(
@@ -179,7 +185,8 @@ fn run_all<
     requires origin { core ≡ L.origin }
     requires links { vec_len setup.seats ≡ vec_len links + 1 }
     requires interfaces { CountDownTo 1 (map (λ l. l.own) links.items) }
-    ensures { IfOk result (HasRan L.origin (vec_len links.entry)) }
+    ensures ran { IfOk result (HasRan L.origin (vec_len links.entry)) }
+    ensures refused { IfErr result IsLaterWhy }
 {
     let alloc = rt.alloc();
     let interfaces = if links.len() <= 63 {
@@ -241,13 +248,31 @@ pub fn operate<
     output: &'x mut O,
 ) -> Result<Ran, RouteError>
     requires { CountDownTo 1 (map (λ l. l.own) links.items) }
-    ensures { IfOk result (HasRan (initial config.now) (vec_len links.entry)) }
+    ensures ran { IfOk result (HasRan (initial config.now) (vec_len links.entry)) }
+    ensures refused { IfErr result IsLaterWhy }
 {
     let ports = links.len().saturating_add(1);
     let (loader, setup) = Setup::new(rt.alloc(), rt, ports)?;
     let core = core_of(rt.alloc(), config)?;
     let ran = run_all::<Brand, R, &R, I, O>(rt, setup, loader, core, links, own, input, output)?;
     Ok(ran)
+}
+
+// The links of the workers at these sockets, whose ports were had.
+fn links_of<'x, R: Net>(
+    rt: &R,
+    alloc: Global,
+    wires: &'x [Wire],
+) -> Result<Vec<Sockets<'x>>, RouteError>
+    ensures each { IfOk result (λ links. vec_len links ≡ length wires.now) }
+    ensures interfaces { IfOk result (λ links. CountDownTo 1 (map (λ l. l.own) links.items)) }
+    ensures refused { IfErr result IsLaterWhy }
+{
+    match listening(rt, alloc, wires) {
+        Ok(links) => Ok(links),
+        Err(SocketError::Memory) => Err(RouteError::Memory),
+        Err(_) => Err(RouteError::Socket),
+    }
 }
 
 // Runs the router of a configuration over the sockets of its interfaces.
@@ -263,11 +288,12 @@ fn run_over<
     input: &mut I,
     output: &mut O,
 ) -> Result<Ran, RouteError>
-    ensures { IfOk result (HasRanOver (length wires.now) configured.now) }
+    ensures ran { IfOk result (HasRanOver (length wires.now) configured.now) }
+    ensures refused { IfErr result IsLaterWhy }
 {
     let mut clock = SystemSeconds::new(rt);
     let config = config_of(rt.alloc(), &mut clock, configured)?;
-    let links = listening(rt, rt.alloc(), wires)?;
+    let links = links_of(rt, rt.alloc(), wires)?;
     let own = Sockets::of_console(wires);
     let ran = operate(rt, &config, links, own, input, output)?;
     Ok(ran)
@@ -284,18 +310,35 @@ fn run_over<
 /// sockets can't be waited at, `Hooks` where the programs have no places, tried in this order;
 /// `Output` where the output can't be written, `Memory` where memory was refused or a thread
 /// couldn't be started.
+#[tactic(auto, using(crate::proofs::Ended::text_why, crate::proofs::Ended::socket_why, crate::proofs::Ended::later_why))]
 pub fn run_router<
     R: Net + Threads + Wait + Clock + Log + Files + AllocGlobal + Sync + Drop,
     I: BufRead,
     O: Write,
 >(rt: &R, text: &str, input: &mut I, output: &mut O) -> Result<Ran, RouteError>
-    ensures { IfOk result (HasRanFor text.now) }
+    ensures ran { IfOk result (HasRanFor text.now) }
+    ensures refused { IfErr result (IsWhy text.now) }
 {
     let alloc = rt.alloc();
     let configured = read_configuration(alloc, text)?;
     let wires = bind_each(rt, alloc, configured.interfaces.as_slice())?;
     let ran = run_over(rt, &configured, &wires, input, output)?;
     Ok(ran)
+}
+
+// The status after a router ran. Where none did, a line on `output` says why.
+fn told<O: Write>(outcome: Result<Ran, RouteError>, output: &mut O) -> u8
+    ensures ran { IfOk outcome (λ ran. result ≡ status_of_ran ran) }
+    ensures refused { IfErr outcome (λ error. (result ≡ status_of error) ⊎ (result ≡ 3)) }
+    ensures few { result ≤ 4 }
+{
+    match outcome {
+        Ok(ran) => ran.status(),
+        Err(error) => match writeln!(output, "{error}") {
+            Ok(()) => error.status(),
+            Err(_) => RouteError::Output.status(),
+        },
+    }
 }
 
 /// Runs a router as [`run_router`] does. Where it doesn't run, a line on `output` says why. The
@@ -306,13 +349,9 @@ pub fn route<
     I: BufRead,
     O: Write,
 >(rt: &R, text: &str, input: &mut I, output: &mut O) -> u8
-    ensures { result ≤ 4 }
+    ensures few { result ≤ 4 }
+    ensures ends { EndsSo text.now result }
 {
-    match run_router(rt, text, input, output) {
-        Ok(ran) => ran.status(),
-        Err(error) => match writeln!(output, "{error}") {
-            Ok(()) => error.status(),
-            Err(_) => RouteError::Output.status(),
-        },
-    }
+    let outcome = run_router(rt, text, input, output);
+    told(outcome, output)
 }

@@ -1,8 +1,9 @@
 //! The exact counters, once all workers are back.
-ghost use Rattle.std.specs.Prelude.{◌≡◌, ℕ, List, All, length, OnOk};
+ghost use Rattle.std.specs.Prelude.{◌≡◌, ℕ, List, All, length, IfErr, OnOk};
 ghost use Rattle.std.specs.Io.KnownBytes.{Appends};
 ghost use Rattle.console.specs.Answers.{counter_lines};
 ghost use Rattle.maps.specs.Words.{IsOf};
+ghost use Rattle.daemon.specs.Refusals.{IsLaterWhy};
 ghost use Rattle.daemon.specs.Sums.{AreTotals};
 
 use crate::error::RouteError;
@@ -29,8 +30,9 @@ fn sums_of(shared: Shared, seats: Vec<Seat>) -> Totals
 
 // Prints these sums.
 fn print_sums<O: Write>(alloc: Global, totals: &Totals, output: &mut O) -> Result<(), RouteError>
-    ensures { OnOk result (Appends (O.contents output.old) (O.contents output.new)
+    ensures printed { OnOk result (Appends (O.contents output.old) (O.contents output.new)
         (counter_lines 0 totals.now.sums)) }
+    ensures refused { IfErr result IsLaterWhy }
 {
     let text = totals_text(alloc, &totals.sums)?;
     match output.write_all(text.as_bytes()) {
@@ -49,8 +51,9 @@ pub fn print_totals<O: Write>(
 ) -> Result<Printed, RouteError>
     requires all { length seats.items ≡ shared.seats }
     requires table { All (IsOf shared) seats.items }
-    ensures { OnOk result ((sums : List ℕ) × AreTotals seats.items sums
+    ensures printed { OnOk result ((sums : List ℕ) × AreTotals seats.items sums
         × Appends (O.contents output.old) (O.contents output.new) (counter_lines 0 sums)) }
+    ensures refused { IfErr result IsLaterWhy }
 {
     let totals = sums_of(shared, seats);
     print_sums(alloc, &totals, output)?;

@@ -1,9 +1,9 @@
 use Rattle.daemon.proofs.AsMany.{ran_for}
 use Rattle.daemon.proofs.running.run_router.Goals as goal
 
-pub returns : goal.returns
-returns g c =
+pub returns-clause-ran : goal.returns-clause-ran
+returns-clause-ran g c =
     ran_for c.args.text.now _ c.in_ok-configured.configured c.as_slice.result.now
     c.in_ok-wires.wires.items c.deref.result.now c.in_ok-ran.ran
     c.in_ok-configured.ensures.said c.as_slice.ensures c.in_ok-wires.ensures.bound
-    c.deref.ensures.value c.in_ok-ran.ensures
+    c.deref.ensures.value c.in_ok-ran.ensures.ran
