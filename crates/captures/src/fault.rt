@@ -5,7 +5,7 @@ use std::alloc::AllocFailed;
 use thiserror::Error;
 
 /// Why bytes are no capture that can be read.
-#[derive(Clone, Copy, Debug, PartialEq, Eq, Error)]
+#[derive(Clone, Copy, Debug, Error)]
 pub enum CaptureError {
     /// Fewer than 24 bytes, another magic number in front, or another version than 2.
     #[error("it is no pcap file of version 2")]

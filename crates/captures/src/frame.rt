@@ -7,7 +7,7 @@ ghost use Rattle.captures.specs.declared.frame.Link.{Link};
 use crate::number::{Order, half};
 
 /// What a frame begins with.
-#[derive(Clone, Copy, Debug, PartialEq, Eq)]
+#[derive(Clone, Copy)]
 pub enum Link {
     /// The IP packet itself.
     Raw,

@@ -7,7 +7,7 @@ use object_runs::RunError;
 use std::alloc::AllocFailed;
 
 /// Why there is no run.
-#[derive(Clone, Copy, Debug)]
+#[derive(Clone, Copy)]
 pub enum TrialError {
     /// The bytes have no program: they are no object file, or its code doesn't decode.
     Program(RunError),

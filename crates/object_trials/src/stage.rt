@@ -2,7 +2,7 @@
 use isa::Hook;
 
 /// How the last run of a program ended.
-#[derive(Clone, Copy, Debug)]
+#[derive(Clone, Copy)]
 pub enum Last {
     /// None was asked yet.
     Nothing,
@@ -13,7 +13,7 @@ pub enum Last {
 }
 
 /// What was found.
-#[derive(Clone, Copy, Debug)]
+#[derive(Clone, Copy)]
 pub enum Found {
     /// How the last run ended.
     Run(Last),
@@ -24,7 +24,7 @@ pub enum Found {
 }
 
 /// Whether a line is ok, and what was found.
-#[derive(Clone, Copy, Debug)]
+#[derive(Clone, Copy)]
 pub struct Verdict {
     pub is_ok: bool,
     pub found: Found,

@@ -1,10 +1,11 @@
 //! Why a test isn't played to its end.
 use crate::error::TrialError;
 use captures::CaptureError;
+use std::fmt;
 use thiserror::Error;
 
 /// Why a test isn't played to its end. The text is what is told behind the line's number.
-#[derive(Clone, Copy, Debug, Error)]
+#[derive(Clone, Copy, Error)]
 pub enum PlayError {
     /// A question comes before any `program` that could be asked.
     #[error("no line before it names a program OBJECT")]
@@ -24,6 +25,12 @@ pub enum PlayError {
     /// An allocation was refused.
     #[error("out of memory")]
     Memory,
+}
+
+impl fmt::Debug for PlayError {
+    fn fmt<W: fmt::Write>(&self, f: &mut fmt::Formatter<W>) -> fmt::Result {
+        fmt::Display::fmt(self, f)
+    }
 }
 
 /// The line that can't be played, by its number, and why.
