@@ -7,8 +7,9 @@ ghost use Rattle.hooktool_commands.specs.Tests.{IsTested};
 use crate::fault::HooktoolFault;
 use crate::files;
 use crate::report::Report;
+use crate::tap::protocol;
 use hooktool_line::{Line, LineError, WrongLine, read_lines, words_of_lines};
-use object_trials::{PlayError, Point, Stopped, play, protocol};
+use object_trials::{PlayError, Point, Stopped, play};
 use std::alloc::{AllocError, Global};
 use std::rt::Files;
 
@@ -22,27 +23,23 @@ pub(crate) enum Tested {
 }
 
 /// Why a line says nothing that is done in a test, behind its place.
-fn wrong_text(
-    alloc: Global,
-    path: &str,
-    number: u64,
-    error: &LineError,
-) -> Result<String, AllocError> {
-    match error {
+fn wrong_text(alloc: Global, path: &str, wrong: &WrongLine) -> Result<String, AllocError> {
+    let number = wrong.number;
+    match &wrong.error {
         LineError::Options(error) => format!(in alloc; "{path}, line {number}: {error}{UNPLAYED}"),
         LineError::Words(why) => format!(in alloc; "{path}, line {number}: {why}\n{UNPLAYED}"),
         LineError::Memory => Err(AllocError),
     }
 }
 
-/// What is told of a line that is wrong.
-fn wrong<'a>(alloc: Global, path: &str, wrong: &WrongLine) -> Result<Tested, HooktoolFault<'a>>
+/// A line that can't be read or played, by what is told of it.
+fn unread<'a>(text: Result<String, AllocError>) -> Result<Tested, HooktoolFault<'a>>
     ensures played { IfOk result IsTested }
     ensures fault { IfErr result (λ fault. fault ≡ HooktoolFault.Memory) }
 {
-    match wrong_text(alloc, path, wrong.number, &wrong.error) {
+    match text {
         Ok(text) => Ok(Tested::Unread(text)),
-        Err(_) => Err(HooktoolFault::Memory),
+        Err(error) => Err(HooktoolFault::from(error)),
     }
 }
 
@@ -53,17 +50,6 @@ fn stopped_text(alloc: Global, path: &str, stopped: Stopped) -> Result<String, A
     match error {
         PlayError::Memory => Err(AllocError),
         _ => format!(in alloc; "{path}, line {number}: {error}\n{UNPLAYED}"),
-    }
-}
-
-/// What is told of a line that can't be played.
-fn unplayed<'a>(alloc: Global, path: &str, stopped: Stopped) -> Result<Tested, HooktoolFault<'a>>
-    ensures played { IfOk result IsTested }
-    ensures fault { IfErr result (λ fault. fault ≡ HooktoolFault.Memory) }
-{
-    match stopped_text(alloc, path, stopped) {
-        Ok(text) => Ok(Tested::Unread(text)),
-        Err(_) => Err(HooktoolFault::Memory),
     }
 }
 
@@ -103,7 +89,7 @@ fn played<'a, R: Files + AllocGlobal>(
             Ok(report) => Ok(Tested::Played(report)),
             Err(fault) => Err(fault),
         },
-        Err(stopped) => unplayed(rt.alloc(), path, stopped),
+        Err(stopped) => unread(stopped_text(rt.alloc(), path, stopped)),
     }
 }
 
@@ -118,7 +104,7 @@ fn test_words<'a, R: Files + AllocGlobal>(
 {
     match read_lines(rt.alloc(), words) {
         Ok(lines) => played(rt, path, &lines),
-        Err(line) => wrong(rt.alloc(), path, &line),
+        Err(line) => unread(wrong_text(rt.alloc(), path, &line)),
     }
 }
 
@@ -131,9 +117,10 @@ fn test_text<'a, R: Files + AllocGlobal>(
     ensures played { IfOk result IsTested }
     ensures fault { IfErr result (λ fault. fault ≡ HooktoolFault.Memory) }
 {
-    let words = words_of_lines(rt.alloc(), text)?;
-    let tested = test_words(rt, path, &words)?;
-    Ok(tested)
+    match words_of_lines(rt.alloc(), text) {
+        Ok(words) => test_words(rt, path, &words),
+        Err(error) => Err(HooktoolFault::from(error)),
+    }
 }
 
 /// Plays the test in the file at `path`: the text of its points, or of the first line that can't be

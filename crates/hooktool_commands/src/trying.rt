@@ -17,7 +17,7 @@ use explanations::{Text, instruction_lines};
 use hooktool_line::{Packet, Question};
 use isa::{Code, Hook, decode};
 use object::Object;
-use object_trials::{Ending, Trial, try_object};
+use object_trials::{Ending, Trial, is_any_stuck, try_object};
 use std::alloc::{AllocError, Global};
 use std::rt::Files;
 use verifier::BUDGET;
@@ -107,12 +107,6 @@ fn text_of(alloc: Global, program: &Program, trial: &Trial) -> Result<String, Al
     push_numbers(&mut text, "counter {} {}\n", &trial.counters);
     push_numbers(&mut text, "cell {} {}\n", &trial.cells);
     text.finish()
-}
-
-fn is_any_stuck(endings: &[Ending]) -> bool
-    ensures { result ≡ list_any (λ ending. is_err ending.outcome) endings.now }
-{
-    endings.iter().any(|ending| ending.outcome.is_err())
 }
 
 /// What is told of the program's runs.

@@ -68,7 +68,7 @@ fn last_of(hook: Hook, ending: &Ending) -> Last
 }
 
 /// Tells whether one of these runs gave no answer.
-pub(crate) fn is_any_stuck(endings: &[Ending]) -> bool
+pub fn is_any_stuck(endings: &[Ending]) -> bool
     ensures { result ≡ list_any (λ ending. is_err ending.outcome) endings.now }
 {
     endings.iter().any(|ending| ending.outcome.is_err())

@@ -11,13 +11,12 @@ mod runs;
 mod settings;
 mod stage;
 mod stopped;
-mod tap;
 mod trial;
 
+pub use answers::is_any_stuck;
 pub use error::TrialError;
 pub use playing::play;
 pub use runs::Ending;
 pub use stage::{Found, Last, Point, Verdict};
 pub use stopped::{PlayError, Stopped};
-pub use tap::protocol;
 pub use trial::{Trial, try_object};
