@@ -273,15 +273,18 @@ pub struct WrongLine {
     pub error: LineError,
 }
 
-/// The words of each line of a text: what stands between spaces.
+/// The words of a line: what stands between spaces.
+fn words_of_line<'a>(alloc: Global, line: &'a str) -> Result<Vec<&'a str>, AllocError> {
+    line.split(' ')
+        .filter(|word| !word.is_empty())
+        .collect(alloc)
+}
+
+/// The words of each line of a text.
 pub fn words_of_lines<'a>(alloc: Global, text: &'a str) -> Result<Vec<Vec<&'a str>>, AllocError> {
     let mut lines = Vec::new(alloc);
     for line in text.split('\n') {
-        let words = line
-            .split(' ')
-            .filter(|word| !word.is_empty())
-            .collect(alloc)?;
-        lines.push(words)?;
+        lines.push(words_of_line(alloc, line)?)?;
     }
     Ok(lines)
 }

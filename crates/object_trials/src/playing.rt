@@ -135,6 +135,25 @@ fn ask_packets(
     })
 }
 
+/// The same of the capture that these bytes are.
+fn ask_bytes(
+    alloc: Global,
+    stage: &mut Stage,
+    bytes: &[u8],
+    interface: u16,
+    shared: &Shared,
+    seat: &mut Seat,
+) -> Result<Verdict, PlayError>
+    requires { IsOf shared.now seat.old }
+    ensures { IsOf shared.now seat.new }
+{
+    match captures::read(alloc, bytes) {
+        Ok(capture) => ask_packets(alloc, stage, &capture, interface, shared, seat),
+        Err(CaptureError::Memory) => Err(PlayError::Memory),
+        Err(error) => Err(PlayError::Capture(error)),
+    }
+}
+
 /// The same of the capture in a file.
 fn ask_capture<R: Files + AllocGlobal>(
     rt: &R,
@@ -148,11 +167,7 @@ fn ask_capture<R: Files + AllocGlobal>(
     ensures { IsOf shared.now seat.new }
 {
     let bytes = whole_files::read(rt, path)?;
-    match captures::read(rt.alloc(), &bytes) {
-        Ok(capture) => ask_packets(rt.alloc(), stage, &capture, interface, shared, seat),
-        Err(CaptureError::Memory) => Err(PlayError::Memory),
-        Err(error) => Err(PlayError::Capture(error)),
-    }
+    ask_bytes(rt.alloc(), stage, &bytes, interface, shared, seat)
 }
 
 /// From here on the program of the object file at this path is asked.
