@@ -2,7 +2,8 @@
 use Rattle.std.proofs.Common.{◌≡◌, ◌∙◌, ◌+◌, ◌||◌, ◌++◌, ap, subst, sym, refl, ℕ, List, [], Bool}
 use Rattle.std.proofs.Common.{true, false, Option, Some, None, Ok, Err, codes, inl, inr, length}
 use Rattle.std.proofs.Common.{add-one}
-use Rattle.std.specs.Prelude.{◌⊎◌, IfOk, IfSome, IsSome, Result, is_err, slice_get, string_bytes}
+use Rattle.std.specs.Prelude.{◌⊎◌, IfErr, IfOk, IfSome, IsSome, Result, is_err, slice_get}
+use Rattle.std.specs.Prelude.{string_bytes}
 use Rattle.annotations.specs.Annotated.{IsAnnotation, with_found}
 use Rattle.annotations.specs.declared.fuel.Fuel.{Fuel}
 use Rattle.elf.specs.Files.{IsObjectFile, section_count, section_name}
@@ -20,10 +21,38 @@ use Rattle.hooktool_commands.specs.Annotations.{fuel_for}
 use Rattle.hooktool_commands.specs.Builds.{AreBuiltFunctions, AreBuiltSections, HasProgram}
 use Rattle.hooktool_commands.specs.Builds.{IsBuilt, IsBuiltAt}
 use Rattle.hooktool_commands.specs.Builds.{IsBuiltFunction, IsBuiltSection, IsHookOf, TellsFunction}
-use Rattle.hooktool_commands.specs.Builds.{Wanted, built_text, is_file_name}
+use Rattle.hooktool_commands.specs.Builds.{Wanted, built_text, is_file_name, is_program_section}
 use Rattle.hooktool_commands.specs.Explanations.{IsExplained}
-use Rattle.hooktool_commands.specs.Orders.{IsBuiltCode}
+use Rattle.hooktool_commands.specs.Orders.{IsBuiltCode, IsHandedOut, folder_of}
+use Rattle.hooktool_commands.specs.declared.building.Purpose.{Purpose}
+use Rattle.hooktool_commands.specs.declared.building.Purpose.TheVariants as purposes
+use Rattle.hooktool_commands.specs.Faults.{IsBuildFault}
+use Rattle.hooktool_commands.specs.declared.fault.HooktoolFault.{HooktoolFault}
+use Rattle.hooktool_commands.specs.declared.fault.HooktoolFault.TheVariants as faults
 use Rattle.hooktool_commands.specs.declared.report.Report.{Report}
+
+-- ---- of what a function hands on
+
+-- what follows of each report
+pub told_more : {E : Type 0} (P Q : Report → Type 0) (r : Result Report E)
+    → ((report : Report) → P report → Q report) → IfOk r P → IfOk r Q
+told_more {E} P Q (Ok report) more is = more report is
+told_more {E} P Q (Err e) more is = tt
+
+-- a refusal, whatever else may be told
+pub refused_or : {E : Type 0} (A : Report → Type 0) (r : Result Report E)
+    → IfOk r (λ report. report.is_refused ≡ true)
+    → IfOk r (λ report. (report.is_refused ≡ true) ⊎ A report)
+refused_or {E} A (Ok report) is = inl is
+refused_or {E} A (Err e) is = tt
+
+-- want of memory, whatever is made
+pub memory_built : {T : Type 0} (purpose : Purpose) (r : Result T HooktoolFault)
+    → IfErr r (λ fault. fault ≡ faults.Memory) → IfErr r (IsBuildFault purpose)
+memory_built {T} purpose (Ok value) is = tt
+memory_built {T} purpose (Err fault) is = inl is
+
+-- ---- functions
 
 -- what is told of a function's code is told of the function
 pub function_built : (file : List ℕ) (wanted : Wanted) (hook : Hook) (function : LinkedSymbol)
@@ -51,6 +80,9 @@ function_built file wanted hook function name code report named name_is has code
             found.found (string_bytes report.text)) name_is found.told;
       })
     ]
+
+true≢false : true ≡ false → ⊥
+true≢false e = cc
 
 first_true : (a b : Bool) → a ≡ true → (a || b) ≡ true
 first_true true b h = refl
@@ -138,21 +170,60 @@ section_built file wanted i hook functions report hook_is none are built = elim 
   })
 ]
 
+-- what is told of a file that has a program
+pub program_built : (file : List ℕ) (wanted : Wanted) (report : Report) → HasProgram file
+    → (report.is_refused ≡ true)
+    ⊎ AreBuiltSections file wanted (section_count file) (string_bytes report.text)
+    → (report.is_refused ≡ true)
+    ⊎ (HasProgram file
+    × AreBuiltSections file wanted (section_count file) (string_bytes report.text))
+program_built file wanted report has built = elim built [
+  | inl refused ↦ inl refused
+  | inr sections ↦ inr (has, sections)
+]
+
 -- what is told of a whole file
 pub file_built : (file bytes : List ℕ) (wanted : Wanted) (report : Report) → file ≡ bytes
-    → IsObjectFile bytes → HasProgram file → (report.is_refused ≡ true)
-    ⊎ AreBuiltSections file wanted (section_count file) (string_bytes report.text)
+    → IsObjectFile bytes → (report.is_refused ≡ true)
+    ⊎ (HasProgram file
+    × AreBuiltSections file wanted (section_count file) (string_bytes report.text))
     → IsBuilt bytes wanted report
-file_built file bytes wanted report is object has built = elim built [
+file_built file bytes wanted report is object built = elim built [
   | inl refused ↦ inl refused
-  | inr sections ↦ inr (
+  | inr both ↦ inr (
     object,
-    subst (λ (f : List ℕ). HasProgram f) is has,
+    subst (λ (f : List ℕ). HasProgram f) is both.0,
     subst
         (λ (f : List ℕ). AreBuiltSections f wanted (section_count f) (string_bytes report.text)) is
-        sections,
+        both.1,
   )
 ]
+
+-- of some bytes
+pub some_built : {E : Type 0} (bytes : List ℕ) (wanted : Wanted) (r : Result Report E)
+    → IfOk r (IsBuilt bytes wanted)
+    → IfOk r (λ report. (b : List ℕ) × IsBuilt b wanted report)
+some_built {E} bytes wanted (Ok report) is = (bytes, is)
+some_built {E} bytes wanted (Err e) is = tt
+
+pub some_fault : {T : Type 0} (purpose : Purpose) (unread : HooktoolFault)
+    (r : Result T HooktoolFault) → IfErr r (IsBuildFault purpose)
+    → IfErr r (λ fault. (fault ≡ unread) ⊎ IsBuildFault purpose fault)
+some_fault {T} purpose unread (Ok value) is = tt
+some_fault {T} purpose unread (Err fault) is = inr is
+
+-- a section with instructions, and nothing of another one
+pub built_at : {E : Type 0} (file : List ℕ) (wanted : Wanted) (i : ℕ) (r : Result Report E)
+    → is_program_section file i ≡ true
+    → IfOk r (λ report. (report.is_refused ≡ true)
+    ⊎ IsBuiltSection file wanted i (string_bytes report.text))
+    → IfOk r (λ report. (report.is_refused ≡ true)
+    ⊎ IsBuiltAt file wanted i (string_bytes report.text))
+built_at {E} file wanted i (Ok report) has built = elim built [
+  | inl refused ↦ inl refused
+  | inr section ↦ inr ((λ _. section), (λ none. absurd (true≢false (sym has ∙ none))))
+]
+built_at {E} file wanted i (Err e) has built = tt
 
 -- the hook of .text is the asked one
 pub asked_hook : (asked : Option Hook) (section : List ℕ) → section ≡ codes ".text"
@@ -270,3 +341,21 @@ code_explained wanted hook name code object bytes accepted fuel turns report non
     (subst (λ (f : Fuel). IsAnnotation hook (with_found f turns) code object bytes accepted) fuel_is
     annotation) is.accepts is.tells is.text_is is.refused plain
     (subst (λ (f : Fuel). IsSome f.turns → turns ≡ None) fuel_is untold)
+
+-- the code of a function whose object was handed out
+pub code_handed_out : (wanted : Wanted) (purpose : Purpose) (hook : Hook)
+    (shown name code : List ℕ) (object : ObjectParts) (bytes : List ℕ) (accepted : Program)
+    (fuel : Fuel) (turns : Option ℕ) (report : Report) → wanted.folder ≡ folder_of purpose
+    → fuel ≡ fuel_for hook wanted.fuel
+    → IsAnnotation hook (with_found fuel turns) code object bytes accepted → shown ≡ name
+    → IsHandedOut purpose shown (hook_name hook) bytes accepted turns report
+    → is_file_name name ≡ true → (IsSome fuel.turns → turns ≡ None)
+    → IsBuiltCode wanted hook name code report
+code_handed_out wanted (purposes.Object folder) hook shown name code object bytes accepted fuel
+    turns report folder_is fuel_is annotation is made plain untold =
+    code_built wanted hook folder.now shown name code object bytes accepted fuel turns report
+    folder_is fuel_is annotation is made plain untold
+code_handed_out wanted purposes.Explanation hook shown name code object bytes accepted fuel turns
+    report folder_is fuel_is annotation is made plain untold =
+    code_explained wanted hook name code object bytes accepted fuel turns report folder_is fuel_is
+    annotation made plain untold

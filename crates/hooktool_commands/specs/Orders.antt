@@ -11,7 +11,8 @@ use Rattle.hooktool_commands.specs.declared.building.Purpose.{Purpose}
 use Rattle.hooktool_commands.specs.declared.building.Purpose.TheVariants as purposes
 use Rattle.hooktool_commands.specs.declared.report.Report.{Report}
 use Rattle.hooktool_commands.specs.Annotations.{fuel_for}
-use Rattle.hooktool_commands.specs.Builds.{TellsFunction, Wanted, is_file_name}
+use Rattle.hooktool_commands.specs.Builds.{TellsFunction, Wanted, built_text, is_file_name}
+use Rattle.hooktool_commands.specs.Explanations.{IsExplained}
 
 abbrev pub folder_of : Purpose → Option (List ℕ)
 folder_of (purposes.Object folder) = Some folder.now
@@ -21,8 +22,8 @@ abbrev pub wanted_of : Order → Wanted
 wanted_of order = record { folder = folder_of order.purpose; hook = order.hook; fuel = order.fuel }
 
 -- An object was found of this code that the verifier accepts, and its bound is told.
-pub record IsFoundCode (wanted : Wanted) (hook : Hook) (function code : List ℕ) (report : Report)
-    : Type 0 where
+pub record IsFoundCode (wanted : Wanted) (hook : Hook) (function code : List ℕ)
+    (report : Report) : Type 0 where
   pub plain : is_file_name function ≡ true
   pub object : ObjectParts
   pub bytes : List ℕ
@@ -38,3 +39,10 @@ pub record IsFoundCode (wanted : Wanted) (hook : Hook) (function code : List ℕ
 abbrev pub IsBuiltCode : Wanted → Hook → (function code : List ℕ) → Report → Type 0
 IsBuiltCode wanted hook function code report = (report.is_refused ≡ true)
     ⊎ IsFoundCode wanted hook function code report
+
+-- The object that was found for a function is written, and its bound told; or it is explained.
+abbrev pub IsHandedOut : Purpose → (function hook bytes : List ℕ) → Program → (found : Option ℕ)
+    → Report → Type 0
+IsHandedOut (purposes.Object folder) function hook bytes program found report =
+    string_bytes report.text ≡ built_text folder.now function hook program found
+IsHandedOut purposes.Explanation function hook bytes program found report = IsExplained bytes report

@@ -7,7 +7,7 @@ ghost use Rattle.std.specs.List.{All};
 ghost use Rattle.isa.specs.Hooks.{hook_name};
 ghost use Rattle.object_verdicts.specs.Verdicts.{Accepts};
 ghost use Rattle.elf.specs.Files.{section_count, section_name};
-ghost use Rattle.elf.specs.Lists.{relocations_of, symbol_bytes, symbol_name};
+ghost use Rattle.elf.specs.Lists.{functions_of, relocations_of, symbol_bytes, symbol_name};
 ghost use Rattle.hooktool_commands.specs.Builds.{AreBuiltFunctions, AreBuiltSections, IsBuilt};
 ghost use Rattle.hooktool_commands.specs.Builds.{IsBuiltAt, IsBuiltFunction, IsBuiltSection};
 ghost use Rattle.hooktool_commands.specs.Builds.{HasNoProgram, HasProgram, IsHookOf, built_text};
@@ -15,7 +15,7 @@ ghost use Rattle.hooktool_commands.specs.Builds.{is_file_name, is_program_sectio
 ghost use Rattle.hooktool_commands.specs.Explanations.{IsExplained};
 ghost use Rattle.hooktool_commands.specs.Faults.{IsBuildFault};
 ghost use Rattle.hooktool_commands.specs.Linked.{is_changed};
-ghost use Rattle.hooktool_commands.specs.Orders.{IsBuiltCode, wanted_of};
+ghost use Rattle.hooktool_commands.specs.Orders.{IsBuiltCode, IsHandedOut, wanted_of};
 
 use crate::annotating::{Telling, accepted_text, fuel_for, shortfall};
 use crate::explaining::explanation_of;
@@ -24,8 +24,8 @@ use crate::files;
 use crate::names::{as_file_name, shown};
 use crate::relocated::{Section, relocation_report, unchanged};
 use crate::report::Report;
-use annotations::{AnnotatedObject, annotate_file};
-use elf::{LinkedSymbol, ObjectFile};
+use annotations::{AnnotatedObject, Shortfall, annotate_file};
+use elf::{LinkedRelocation, LinkedSymbol, ObjectFile};
 use explanations::Text;
 use hooktool_line::FuelAsked;
 use isa::Hook;
@@ -78,13 +78,18 @@ fn join(report: &mut Report, more: &Report) -> Result<(), AllocError>
     Ok(())
 }
 
-/// The beginning of a line about a function.
-pub(crate) fn about(alloc: Global, section: &[u8], function: &[u8]) -> Text {
-    let mut text = Text::new(alloc);
+/// Adds the beginning of a line about a function.
+pub(crate) fn push_about(text: &mut Text, section: &[u8], function: &[u8]) {
     text.push("section ");
     text.push(shown(section));
     text.push(", function ");
     text.push(shown(function));
+}
+
+/// The beginning of a line about a function.
+fn about(alloc: Global, section: &[u8], function: &[u8]) -> Text {
+    let mut text = Text::new(alloc);
+    push_about(&mut text, section, function);
     text
 }
 
@@ -123,6 +128,43 @@ fn code_words(number: u8) -> &'static str {
     }
 }
 
+/// What is told of a function for which no object is made.
+fn function_told<'a>(
+    alloc: Global,
+    section: &[u8],
+    function: &[u8],
+    why: &str,
+) -> Result<Report, HooktoolFault<'a>>
+    ensures refused { IfOk result (λ report. report.is_refused ≡ true) }
+    ensures fault { IfErr result (λ fault. fault ≡ HooktoolFault.Memory) }
+{
+    let mut text = about(alloc, section, function);
+    text.push(why);
+    Ok(refusal(text)?)
+}
+
+/// Adds why a function's bytes are no code, or no code whose turns can be counted.
+fn push_fault(text: &mut Text, fault: HooktoolFault<'_>) {
+    match fault {
+        HooktoolFault::Code { number, slot } => {
+            text.numbered(", slot ", slot, code_words(number));
+        }
+        HooktoolFault::Uncounted { reason } => text.line(": ", reason),
+        _ => text.push(": it is no code\n"),
+    }
+}
+
+/// Adds why nothing was accepted.
+fn push_why(text: &mut Text, why: &Result<Report, HooktoolFault<'_>>) {
+    match why {
+        Ok(told) => {
+            text.push(": not accepted\n");
+            text.push(told.text.as_str());
+        }
+        Err(fault) => push_fault(text, *fault),
+    }
+}
+
 /// What is told of a function for which nothing was accepted.
 fn function_refusal<'a>(
     alloc: Global,
@@ -132,19 +174,11 @@ fn function_refusal<'a>(
     ensures refused { IfOk result (λ report. report.is_refused ≡ true) }
     ensures fault { IfErr result (λ fault. fault ≡ HooktoolFault.Memory) }
 {
-    let mut text = about(alloc, names.section, names.function);
-    match why {
-        Ok(told) => {
-            text.push(": not accepted\n");
-            text.push(told.text.as_str());
-        }
-        Err(HooktoolFault::Memory) => return Err(HooktoolFault::Memory),
-        Err(HooktoolFault::Code { number, slot }) => {
-            text.numbered(", slot ", slot, code_words(number));
-        }
-        Err(HooktoolFault::Uncounted { reason }) => text.line(": ", reason),
-        Err(_) => text.push(": it is no code\n"),
+    if matches!(why, Err(HooktoolFault::Memory)) {
+        return Err(HooktoolFault::Memory);
     }
+    let mut text = about(alloc, names.section, names.function);
+    push_why(&mut text, &why);
     Ok(refusal(text)?)
 }
 
@@ -219,6 +253,46 @@ fn explain_function<'a>(
     Ok(report)
 }
 
+/// What is told of a function with so many bytes of code for which no object was found.
+fn shortfall_refusal<'a>(
+    alloc: Global,
+    order: &Order<'_>,
+    names: Names<'_>,
+    size: usize,
+    error: Shortfall,
+) -> Result<Report, HooktoolFault<'a>>
+    ensures refused { IfOk result (λ report. report.is_refused ≡ true) }
+    ensures fault { IfErr result (λ fault. fault ≡ HooktoolFault.Memory) }
+{
+    let telling = Telling {
+        is_whole: matches!(order.purpose, Purpose::Explanation),
+        turns: order.fuel.turns,
+        slots: Some(size / 8),
+    };
+    function_refusal(alloc, names, shortfall(alloc, error, telling))
+}
+
+/// Writes the object that was found for a function, or explains it.
+fn hand_out<'a, R: Files + AllocGlobal>(
+    rt: &R,
+    purpose: Purpose<'a>,
+    hook: Hook,
+    names: Names<'_>,
+    name: &str,
+    found: &AnnotatedObject,
+) -> Result<Report, HooktoolFault<'a>>
+    requires accepted { Accepts found.now.annotated.bytes.items found.now.annotated.accepted }
+    requires plain { is_file_name name.now ≡ true }
+    ensures made { IfOk result (IsHandedOut purpose.entry name.now (hook_name hook)
+        found.now.annotated.bytes.items found.now.annotated.accepted found.now.turns) }
+    ensures fault { IfErr result (IsBuildFault purpose.entry) }
+{
+    match purpose {
+        Purpose::Object { folder } => Ok(write_function(rt, folder, hook, name, found)?),
+        Purpose::Explanation => Ok(explain_function(rt.alloc(), names, found)?),
+    }
+}
+
 /// Makes the object of a function with this code, or tells why there is none.
 fn build_code<'a, R: Files + AllocGlobal>(
     rt: &R,
@@ -232,24 +306,12 @@ fn build_code<'a, R: Files + AllocGlobal>(
     ensures fault { IfErr result (IsBuildFault order.now.purpose) }
 {
     let Some(name) = as_file_name(names.function) else {
-        let mut text = about(rt.alloc(), names.section, names.function);
-        text.push(": its name can't be a file's\n");
-        return Ok(refusal(text)?);
+        let why = ": its name can't be a file's\n";
+        return function_told(rt.alloc(), names.section, names.function, why);
     };
     match annotate_file(rt.alloc(), hook, code, fuel_for(hook, order.fuel)) {
-        Ok(found) => match order.purpose {
-            Purpose::Object { folder } => Ok(write_function(rt, folder, hook, name, &found)?),
-            Purpose::Explanation => Ok(explain_function(rt.alloc(), names, &found)?),
-        },
-        Err(error) => {
-            let telling = Telling {
-                is_whole: matches!(order.purpose, Purpose::Explanation),
-                turns: order.fuel.turns,
-                slots: Some(code.len() / 8),
-            };
-            let why = shortfall(rt.alloc(), error, telling);
-            Ok(function_refusal(rt.alloc(), names, why)?)
-        }
+        Ok(found) => hand_out(rt, order.purpose, hook, names, name, &found),
+        Err(error) => shortfall_refusal(rt.alloc(), order, names, code.len(), error),
     }
 }
 
@@ -272,28 +334,27 @@ fn build_function<'a, R: Files + AllocGlobal>(
 {
     let section = file.section_name(index);
     let Some(name) = file.symbol_name(function.table, function.index) else {
-        return Ok(refusal(about(rt.alloc(), section, b""))?);
+        return function_told(rt.alloc(), section, b"", "");
     };
     let Some(code) = file.symbol_bytes(function.symbol) else {
-        let mut text = about(rt.alloc(), section, name);
-        text.push(": its code isn't in the section\n");
-        return Ok(refusal(text)?);
+        let why = ": its code isn't in the section\n";
+        return function_told(rt.alloc(), section, name, why);
     };
     let names = Names {
         section,
         function: name,
     };
-    let report = build_code(rt, order, hook, names, code)?;
-    Ok(report)
+    build_code(rt, order, hook, names, code)
 }
 
 /// What is told of a section with instructions that is for no hook.
-fn section_refusal(
+fn section_refusal<'a>(
     alloc: Global,
     purpose: Purpose<'_>,
     section: &[u8],
-) -> Result<Report, AllocError>
-    ensures { IfOk result (λ report. report.is_refused ≡ true) }
+) -> Result<Report, HooktoolFault<'a>>
+    ensures refused { IfOk result (λ report. report.is_refused ≡ true) }
+    ensures fault { IfErr result (λ fault. fault ≡ HooktoolFault.Memory) }
 {
     let mut text = Text::new(alloc);
     text.push("section ");
@@ -306,18 +367,19 @@ fn section_refusal(
         (b".text", Purpose::Object { .. }) => text.push("; or --hook\n"),
         _ => text.push("\n"),
     }
-    refusal(text)
+    Ok(refusal(text)?)
 }
 
 /// What is told of a section whose instructions are no function's.
-fn nothing_refusal(alloc: Global, section: &[u8]) -> Result<Report, AllocError>
-    ensures { IfOk result (λ report. report.is_refused ≡ true) }
+fn nothing_refusal<'a>(alloc: Global, section: &[u8]) -> Result<Report, HooktoolFault<'a>>
+    ensures refused { IfOk result (λ report. report.is_refused ≡ true) }
+    ensures fault { IfErr result (λ fault. fault ≡ HooktoolFault.Memory) }
 {
     let mut text = Text::new(alloc);
     text.push("section ");
     text.push(shown(section));
     text.push(": it has instructions and no function\n");
-    refusal(text)
+    Ok(refusal(text)?)
 }
 
 /// Makes the objects of these functions of a section.
@@ -348,6 +410,74 @@ fn build_functions<'a, R: Files + AllocGlobal>(
     Ok(report)
 }
 
+/// Makes the objects of those functions of a section that no linker would change.
+fn build_unchanged<'a, R: Files + AllocGlobal>(
+    rt: &R,
+    order: &Order<'a>,
+    hook: Hook,
+    file: &ObjectFile<'_>,
+    index: usize,
+    functions: &[LinkedSymbol],
+    relocations: &[LinkedRelocation],
+) -> Result<Report, HooktoolFault<'a>>
+    requires section { index < section_count file.now }
+    requires relocations { relocations.now ≡ relocations_of file.now index }
+    ensures { IfErr result (IsBuildFault order.now.purpose) }
+{
+    let others = unchanged(rt.alloc(), functions, relocations)?;
+    let built = build_functions(rt, order, hook, file, index, &others)?;
+    Ok(built)
+}
+
+/// Tells of the functions of a section that a linker would change, and makes the objects of the
+/// others.
+fn build_others<'a, R: Files + AllocGlobal>(
+    rt: &R,
+    order: &Order<'a>,
+    hook: Hook,
+    file: &ObjectFile<'_>,
+    index: usize,
+    functions: &[LinkedSymbol],
+    relocations: &[LinkedRelocation],
+) -> Result<Report, HooktoolFault<'a>>
+    requires section { index < section_count file.now }
+    requires relocations { relocations.now ≡ relocations_of file.now index }
+    ensures refused { IfOk result (λ report. report.is_refused ≡ true) }
+    ensures fault { IfErr result (IsBuildFault order.now.purpose) }
+{
+    let section = Section {
+        name: file.section_name(index),
+        contents: file.contents(index),
+    };
+    let mut told = relocation_report(rt.alloc(), file, section, functions, relocations)?;
+    let built = build_unchanged(rt, order, hook, file, index, functions, relocations)?;
+    join(&mut told, &built)?;
+    Ok(told)
+}
+
+/// Makes the objects of a section for this hook with these functions.
+fn build_for<'a, R: Files + AllocGlobal>(
+    rt: &R,
+    order: &Order<'a>,
+    hook: Hook,
+    file: &ObjectFile<'_>,
+    index: usize,
+    functions: &[LinkedSymbol],
+) -> Result<Report, HooktoolFault<'a>>
+    requires section { index < section_count file.now }
+    requires hook { IsHookOf order.now.hook (section_name file.now index) hook }
+    requires functions { functions.now ≡ functions_of file.now index }
+    ensures built { IfOk result (λ report. (report.is_refused ≡ true)
+        ⊎ IsBuiltSection file.now (wanted_of order.now) index (string_bytes report.text)) }
+    ensures fault { IfErr result (IsBuildFault order.now.purpose) }
+{
+    let relocations = file.relocations(rt.alloc(), index)?;
+    if !relocations.is_empty() {
+        return build_others(rt, order, hook, file, index, functions, &relocations);
+    }
+    build_functions(rt, order, hook, file, index, functions)
+}
+
 /// Makes the objects of the functions of a section with instructions, or tells why there are none.
 fn build_section<'a, R: Files + AllocGlobal>(
     rt: &R,
@@ -362,24 +492,13 @@ fn build_section<'a, R: Files + AllocGlobal>(
 {
     let name = file.section_name(index);
     let Some(hook) = hook_in(order.hook, name) else {
-        return Ok(section_refusal(rt.alloc(), order.purpose, name)?);
+        return section_refusal(rt.alloc(), order.purpose, name);
     };
     let functions = file.functions(rt.alloc(), index)?;
     if functions.is_empty() {
-        return Ok(nothing_refusal(rt.alloc(), name)?);
+        return nothing_refusal(rt.alloc(), name);
     }
-    let relocations = file.relocations(rt.alloc(), index)?;
-    if !relocations.is_empty() {
-        let contents = file.contents(index);
-        let section = Section { name, contents };
-        let mut told = relocation_report(rt.alloc(), file, section, &functions, &relocations)?;
-        let others = unchanged(rt.alloc(), &functions, &relocations)?;
-        let built = build_functions(rt, order, hook, file, index, &others)?;
-        join(&mut told, &built)?;
-        return Ok(told);
-    }
-    let report = build_functions(rt, order, hook, file, index, &functions)?;
-    Ok(report)
+    build_for(rt, order, hook, file, index, &functions)
 }
 
 /// Tells whether a section has instructions.
@@ -403,8 +522,7 @@ fn build_at<'a, R: Files + AllocGlobal>(
     ensures fault { IfErr result (IsBuildFault order.now.purpose) }
 {
     if is_program_section(file, index) {
-        let report = build_section(rt, order, file, index)?;
-        return Ok(report);
+        return build_section(rt, order, file, index);
     }
     Ok(Report {
         text: String::new(rt.alloc()),
@@ -480,6 +598,24 @@ fn no_program<'a>(
     })
 }
 
+/// Makes an object of each function of the file that is in the section of a hook.
+fn build_file<'a, R: Files + AllocGlobal>(
+    rt: &R,
+    order: &Order<'a>,
+    path: &str,
+    file: &ObjectFile<'_>,
+) -> Result<Report, HooktoolFault<'a>>
+    ensures built { IfOk result (λ report. (report.is_refused ≡ true)
+        ⊎ (HasProgram file.now × AreBuiltSections file.now (wanted_of order.now)
+        (section_count file.now) (string_bytes report.text))) }
+    ensures fault { IfErr result (IsBuildFault order.now.purpose) }
+{
+    if has_program(file) {
+        return build_sections(rt, order, file);
+    }
+    no_program(rt.alloc(), path, file)
+}
+
 /// Makes an object of each function in these bytes of a file that is in the section of a hook.
 pub(crate) fn build_bytes<'a, R: Files + AllocGlobal>(
     rt: &R,
@@ -491,14 +627,8 @@ pub(crate) fn build_bytes<'a, R: Files + AllocGlobal>(
     ensures fault { IfErr result (IsBuildFault order.now.purpose) }
 {
     match elf::read(bytes) {
-        Ok(file) => {
-            if !has_program(&file) {
-                return Ok(no_program(rt.alloc(), path, &file)?);
-            }
-            let report = build_sections(rt, order, &file)?;
-            Ok(report)
-        }
-        Err(fault) => Ok(no_elf(rt.alloc(), path, fault)?),
+        Ok(file) => build_file(rt, order, path, &file),
+        Err(fault) => no_elf(rt.alloc(), path, fault),
     }
 }
 
@@ -517,7 +647,7 @@ pub(crate) fn build<'a, R: Files + AllocGlobal>(
         ⊎ IsBuildFault order.entry.purpose fault) }
 {
     match files::read(rt, path) {
-        Ok(bytes) => Ok(build_bytes(rt, &order, path, bytes.as_slice())?),
+        Ok(bytes) => build_bytes(rt, &order, path, bytes.as_slice()),
         Err(fault) => Err(fault),
     }
 }

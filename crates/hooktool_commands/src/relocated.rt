@@ -4,7 +4,7 @@ ghost use Rattle.std.specs.Prelude.{◌≡◌, false, true, IfOk};
 ghost use Rattle.std.specs.List.{All};
 ghost use Rattle.hooktool_commands.specs.Linked.{has_place, is_changed};
 
-use crate::building::{about, refusal};
+use crate::building::{push_about, refusal};
 use crate::names::shown;
 use crate::report::Report;
 use elf::{LinkedRelocation, LinkedSymbol, ObjectFile, SymbolKind};
@@ -134,28 +134,25 @@ fn target_name<'a>(
     name_of(file, relocation.table, index)
 }
 
-/// The beginning of the line about a place: its function and slot, or its offset in the section.
-fn place(
-    alloc: Global,
+/// Adds the beginning of the line about a place: its function and slot, or its offset in the
+/// section.
+fn push_place(
+    out: &mut Text,
     file: &ObjectFile<'_>,
     section: &[u8],
     functions: &[LinkedSymbol],
     offset: u64,
-) -> Text {
+) {
     match function_at(functions, offset) {
         Some(function) => {
-            let name = name_of(file, function.table, function.index);
-            let mut text = about(alloc, section, name);
+            push_about(out, section, name_of(file, function.table, function.index));
             let slot = offset.saturating_sub(function.symbol.value) / 8;
-            text.numbered(", slot ", slot, ": ");
-            text
+            out.numbered(", slot ", slot, ": ")
         }
         None => {
-            let mut text = Text::new(alloc);
-            text.push("section ");
-            text.push(shown(section));
-            text.numbered(", offset ", offset, ": ");
-            text
+            out.push("section ");
+            out.push(shown(section));
+            out.numbered(", offset ", offset, ": ")
         }
     }
 }
@@ -174,29 +171,16 @@ fn target_section<'a>(file: &ObjectFile<'a>, relocation: &LinkedRelocation) -> &
 
 /// What an author can do about data of this section.
 fn data_advice(section: &[u8]) -> &'static str {
-    match section {
-        [
-            b'.',
-            b'r',
-            b'o',
-            b'd',
-            b'a',
-            b't',
-            b'a',
-            b'.',
-            b's',
-            b't',
-            b'r',
-            ..
-        ] => ", a text: a program has no data of its own, and nobody to tell it to\n",
-        [b'.', b'r', b'o', b'd', b'a', b't', b'a', ..] =>
-            ", a table: a program has no data of its own, write it as a switch or as tests \
-                (tools/hooktool-build does so where no other address meets it), or keep it in \
-                cells\n",
-        [b'.', b'd', b'a', b't', b'a', ..] | [b'.', b'b', b's', b's', ..] =>
-            ", a variable: a program has no data of its own, keep it in a counter or, at count, in \
-                a cell\n",
-        _ => ": a program has no data of its own, keep it in counters or cells\n",
+    if section.starts_with(b".rodata.str") {
+        ", a text: a program has no data of its own, and nobody to tell it to\n"
+    } else if section.starts_with(b".rodata") {
+        ", a table: a program has no data of its own, write it as a switch or as tests \
+            (tools/hooktool-build does so where no other address meets it), or keep it in cells\n"
+    } else if section.starts_with(b".data") || section.starts_with(b".bss") {
+        ", a variable: a program has no data of its own, keep it in a counter or, at count, in a \
+            cell\n"
+    } else {
+        ": a program has no data of its own, keep it in counters or cells\n"
     }
 }
 
@@ -213,6 +197,31 @@ fn push_use(text: &mut Text, kind: u32, target: &str, section: &[u8]) {
     }
 }
 
+/// Adds the line of a place of the section that a linker would change.
+fn push_relocation(
+    out: &mut Text,
+    file: &ObjectFile<'_>,
+    section: Section<'_>,
+    functions: &[LinkedSymbol],
+    relocation: &LinkedRelocation,
+) {
+    let it = relocation.relocation;
+    push_place(out, file, section.name, functions, it.offset);
+    let target = shown(target_name(file, section.contents, relocation));
+    push_use(out, it.kind, target, target_section(file, relocation))
+}
+
+/// Adds how many more places of the section a linker would change.
+fn push_others(out: &mut Text, section: &[u8], others: usize) {
+    out.push("section ");
+    out.push(shown(section));
+    out.numbered(
+        ": and ",
+        others as u64,
+        " places more that are like these\n",
+    )
+}
+
 /// What is told of the places of a section that a linker would change: what code uses and calls
 /// there. Of more than sixteen the number of the others.
 pub(crate) fn relocation_report(
@@ -226,22 +235,10 @@ pub(crate) fn relocation_report(
 {
     let mut text = Text::new(alloc);
     for relocation in relocations.iter().take(MOST_TOLD) {
-        let offset = relocation.relocation.offset;
-        let mut line = place(alloc, file, section.name, functions, offset);
-        let target = shown(target_name(file, section.contents, relocation));
-        let data = target_section(file, relocation);
-        push_use(&mut line, relocation.relocation.kind, target, data);
-        text.take(&mut line);
+        push_relocation(&mut text, file, section, functions, relocation)
     }
     if relocations.len() > MOST_TOLD {
-        text.push("section ");
-        text.push(shown(section.name));
-        let others = relocations.len() - MOST_TOLD;
-        text.numbered(
-            ": and ",
-            others as u64,
-            " places more that are like these\n",
-        );
+        push_others(&mut text, section.name, relocations.len() - MOST_TOLD)
     }
     refusal(text)
 }

@@ -1,25 +1,29 @@
-use Rattle.std.proofs.Common.{◌≡◌, List, true, ap, subst, ℕ}
-use Rattle.hooktool_commands.proofs.Built.{code_built, code_explained}
+use Rattle.std.proofs.Common.{◌≡◌, List, refl, subst, true, ℕ}
+use Rattle.hooktool_commands.proofs.Built.{code_handed_out, memory_built, refused_or, told_more}
 use Rattle.hooktool_commands.specs.Builds.{is_file_name}
-use Rattle.hooktool_commands.specs.Orders.{folder_of, wanted_of}
-use Rattle.hooktool_commands.specs.declared.building.Purpose.{Purpose}
+use Rattle.hooktool_commands.specs.Orders.{wanted_of}
 use Rattle.hooktool_commands.proofs.building.build_code.Goals as goal
 
 pub returns-in-Ok-clause-built : goal.returns-in-Ok-clause-built
-returns-in-Ok-clause-built g c =
-    code_explained (wanted_of c.args.order.now) c.args.hook c.args.names.function.now
-    c.args.code.now _ _ _ _ c.in-Ok.found.turns c.in_ok-explain_function-in-Explanation.field-0
-    (ap (λ (purpose : Purpose). folder_of purpose) c.in-Explanation.is) c.fuel_for.ensures
-    c.in-Ok.ensures.accepted c.in_ok-explain_function-in-Explanation.ensures.explained
+returns-in-Ok-clause-built g c = told_more _ _ c.hand_out.result (λ report made.
+    code_handed_out (wanted_of c.args.order.now) c.args.order.now.purpose c.args.hook
+    c.in-Some.name.now c.args.names.function.now c.args.code.now _ _ _ _ c.in-Ok.found.turns
+    report refl c.fuel_for.ensures c.in-Ok.ensures.accepted c.in-Some.ensures.text made
     (subst (λ (n : List ℕ). is_file_name n ≡ true) c.in-Some.ensures.text c.in-Some.ensures.plain)
-    c.in-Ok.ensures.found
+    c.in-Ok.ensures.found) c.hand_out.ensures.made
 
-pub returns-in-Object-clause-built : goal.returns-in-Object-clause-built
-returns-in-Object-clause-built g c =
-    code_built (wanted_of c.args.order.now) c.args.hook c.in-Object.folder.now c.in-Some.name.now
-    c.args.names.function.now c.args.code.now _ _ _ _ c.in-Ok.found.turns
-    c.in_ok-write_function-in-Object.field-0
-    (ap (λ (purpose : Purpose). folder_of purpose) c.in-Object.is) c.fuel_for.ensures
-    c.in-Ok.ensures.accepted c.in-Some.ensures.text c.in_ok-write_function-in-Object.ensures.told
-    (subst (λ (n : List ℕ). is_file_name n ≡ true) c.in-Some.ensures.text c.in-Some.ensures.plain)
-    c.in-Ok.ensures.found
+pub returns-in-Err-clause-built : goal.returns-in-Err-clause-built
+returns-in-Err-clause-built g c = refused_or _ c.shortfall_refusal.result
+    c.shortfall_refusal.ensures.refused
+
+pub returns-in-Err-clause-fault : goal.returns-in-Err-clause-fault
+returns-in-Err-clause-fault g c = memory_built _ c.shortfall_refusal.result
+    c.shortfall_refusal.ensures.fault
+
+pub returns-in_default-clause-built : goal.returns-in_default-clause-built
+returns-in_default-clause-built g c = refused_or _ c.function_told.result
+    c.function_told.ensures.refused
+
+pub returns-in_default-clause-fault : goal.returns-in_default-clause-fault
+returns-in_default-clause-fault g c = memory_built _ c.function_told.result
+    c.function_told.ensures.fault
