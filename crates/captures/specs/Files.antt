@@ -6,7 +6,7 @@ use Rattle.captures.specs.declared.fault.CaptureError.{CaptureError}
 use Rattle.captures.specs.declared.fault.CaptureError.TheVariants as errors
 use Rattle.captures.specs.declared.file.Capture.{Capture}
 use Rattle.captures.specs.declared.file.Record.{Record}
-use Rattle.captures.specs.declared.frame.Link.{Link}
+use Rattle.captures.specs.declared.frame.LinkType.{LinkType}
 use Rattle.captures.specs.declared.number.Order.{Order}
 
 -- A header of 24 bytes: the magic number, of microseconds or nanoseconds, in this order of bytes,
@@ -63,6 +63,6 @@ pub record IsShort (bytes : List ℕ) (index : ℕ) : Type 0 where
 abbrev pub Refuses : List ℕ → CaptureError → Type 0
 Refuses bytes errors.NotCapture = (order : Order) → IsHeader order bytes → ⊥
 Refuses bytes (errors.Link number) = (order : Order) × IsHeader order bytes
-    × (link_number order bytes ≡ number) × ((link : Link) → HasNumber link number → ⊥)
+    × (link_number order bytes ≡ number) × ((link : LinkType) → HasNumber link number → ⊥)
 Refuses bytes (errors.Short number) = (index : ℕ) × (number ≡ index + 1) × IsShort bytes index
 Refuses bytes errors.Memory = Unit {0}

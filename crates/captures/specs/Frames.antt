@@ -2,40 +2,40 @@
 use Rattle.std.specs.Prelude.{◌≡◌, ◌⊎◌, ℕ, ◌*◌, ◌/◌, ◌%◌, ◌<◌, ◌≤◌, List, drop, length, slice_index}
 use Rattle.std.specs.Prelude.{slice_range}
 use Rattle.captures.specs.Numbers.{half}
-use Rattle.captures.specs.declared.frame.Content.{Content}
-use Rattle.captures.specs.declared.frame.Content.TheVariants as contents
-use Rattle.captures.specs.declared.frame.Link.{Link}
-use Rattle.captures.specs.declared.frame.Link.TheVariants as links
+use Rattle.captures.specs.declared.frame.FrameContent.{FrameContent}
+use Rattle.captures.specs.declared.frame.FrameContent.TheVariants as contents
+use Rattle.captures.specs.declared.frame.LinkType.{LinkType}
+use Rattle.captures.specs.declared.frame.LinkType.TheVariants as links
 use Rattle.captures.specs.declared.number.Order.TheVariants.{Big}
 
 -- the numbers of a link: LINKTYPE_RAW and _IPV4, _ETHERNET, _LINUX_SLL, _LINUX_SLL2
-abbrev pub HasNumber : Link → ℕ → Type 0
+abbrev pub HasNumber : LinkType → ℕ → Type 0
 HasNumber links.Raw n = (n ≡ 101) ⊎ (n ≡ 228)
 HasNumber links.Ethernet n = n ≡ 1
 HasNumber links.LinuxCooked n = n ≡ 113
 HasNumber links.LinuxCooked2 n = n ≡ 276
 
 -- how many bytes stand in front of what a frame carries
-abbrev pub header_length : Link → ℕ
+abbrev pub header_length : LinkType → ℕ
 header_length links.Raw = 0
 header_length links.Ethernet = 14
 header_length links.LinuxCooked = 16
 header_length links.LinuxCooked2 = 20
 
 -- where two of them name the protocol
-abbrev pub protocol_place : Link → ℕ
+abbrev pub protocol_place : LinkType → ℕ
 protocol_place links.Raw = 0
 protocol_place links.Ethernet = 12
 protocol_place links.LinuxCooked = 14
 protocol_place links.LinuxCooked2 = 0
 
 -- The frame carries an IP packet: it is one, or names 0x0800.
-abbrev pub CarriesIp : Link → List ℕ → Type 0
+abbrev pub CarriesIp : LinkType → List ℕ → Type 0
 CarriesIp links.Raw frame = Unit {0}
 CarriesIp link frame =
     (header_length link ≤ length frame) × (half Big frame (protocol_place link) ≡ 0x0800)
 
-abbrev pub datagram_of : Link → List ℕ → List ℕ
+abbrev pub datagram_of : LinkType → List ℕ → List ℕ
 datagram_of link frame = drop (header_length link) frame
 
 -- Of an IP packet (RFC 791, 3.1): the header's length in bytes, and that of the whole packet.
@@ -55,19 +55,19 @@ pub record IsOspf (datagram : List ℕ) : Type 0 where
   pub protocol : slice_index datagram 9 ≡ 89
 
 -- The frame has an OSPF packet in it.
-abbrev pub HasOspf : Link → List ℕ → Type 0
+abbrev pub HasOspf : LinkType → List ℕ → Type 0
 HasOspf link frame = CarriesIp link frame × IsOspf (datagram_of link frame)
 
 -- What an IP packet of OSPF's protocol has in it: what lies behind the header, up to the whole
 -- packet's length, if that was captured.
-abbrev pub IsPacketOf : List ℕ → Content → Type 0
+abbrev pub IsPacketOf : List ℕ → FrameContent → Type 0
 IsPacketOf datagram contents.Other = ⊥
 IsPacketOf datagram contents.Cut = length datagram < total_of datagram
 IsPacketOf datagram (contents.Packet packet) = (total_of datagram ≤ length datagram)
     × (packet.now ≡ slice_range datagram (header_of datagram) (total_of datagram))
 
 -- What is in the frame.
-abbrev pub Holds : Link → List ℕ → Content → Type 0
+abbrev pub Holds : LinkType → List ℕ → FrameContent → Type 0
 Holds link frame contents.Other = HasOspf link frame → ⊥
 Holds link frame contents.Cut =
     HasOspf link frame × IsPacketOf (datagram_of link frame) contents.Cut

@@ -5,7 +5,7 @@ ghost use Rattle.captures.specs.Files.{Refuses};
 ghost use Rattle.captures.specs.declared.number.Order.{Order};
 
 use crate::fault::CaptureError;
-use crate::frame::{Link, link_of};
+use crate::frame::{LinkType, link_of};
 use crate::number::{Order, half, word};
 use std::alloc::Global;
 
@@ -19,7 +19,7 @@ pub struct Record<'a> {
 /// What frames begin with, and the frames in their order.
 #[derive(Drop)]
 pub struct Capture<'a> {
-    pub link: Link,
+    pub link: LinkType,
     pub records: Vec<Record<'a>>,
 }
 

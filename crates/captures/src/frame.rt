@@ -2,13 +2,13 @@
 ghost use Rattle.std.specs.Prelude.{◌≡◌, ◌↔◌, ◌≤◌, length, IsTrue, MatchOption};
 ghost use Rattle.captures.specs.Frames.{CarriesIp, HasNumber, HasOspf, Holds, IsOspf};
 ghost use Rattle.captures.specs.Frames.{IsPacketOf, header_length, header_of};
-ghost use Rattle.captures.specs.declared.frame.Link.{Link};
+ghost use Rattle.captures.specs.declared.frame.LinkType.{LinkType};
 
 use crate::number::{Order, half};
 
 /// What a frame begins with.
 #[derive(Clone, Copy)]
-pub enum Link {
+pub enum LinkType {
     /// The IP packet itself.
     Raw,
     Ethernet,
@@ -20,7 +20,7 @@ pub enum Link {
 
 /// What is in a frame.
 #[derive(Clone, Copy)]
-pub enum Content<'a> {
+pub enum FrameContent<'a> {
     /// No OSPF packet, or a fragment of one.
     Other,
     /// An OSPF packet of which the capture has only the beginning.
@@ -30,40 +30,40 @@ pub enum Content<'a> {
 }
 
 /// The link of this number.
-pub(crate) fn link_of(number: u32) -> Option<Link>
-    ensures { MatchOption result ((link : Link) → HasNumber link number → ⊥)
+pub(crate) fn link_of(number: u32) -> Option<LinkType>
+    ensures { MatchOption result ((link : LinkType) → HasNumber link number → ⊥)
         (λ link. HasNumber link number) }
 {
     match number {
-        1 => Some(Link::Ethernet),
-        101 | 228 => Some(Link::Raw),
-        113 => Some(Link::LinuxCooked),
-        276 => Some(Link::LinuxCooked2),
+        1 => Some(LinkType::Ethernet),
+        101 | 228 => Some(LinkType::Raw),
+        113 => Some(LinkType::LinuxCooked),
+        276 => Some(LinkType::LinuxCooked2),
         _ => None,
     }
 }
 
 /// How many bytes stand in front of what a frame carries.
-fn header_length(link: Link) -> usize
+fn header_length(link: LinkType) -> usize
     ensures { result ≡ header_length link }
 {
     match link {
-        Link::Raw => 0,
-        Link::Ethernet => 14,
-        Link::LinuxCooked => 16,
-        Link::LinuxCooked2 => 20,
+        LinkType::Raw => 0,
+        LinkType::Ethernet => 14,
+        LinkType::LinuxCooked => 16,
+        LinkType::LinuxCooked2 => 20,
     }
 }
 
 /// Tells whether the frame carries an IP packet.
-fn carries_ip(link: Link, frame: &[u8]) -> bool
+fn carries_ip(link: LinkType, frame: &[u8]) -> bool
     ensures { IsTrue result ↔ CarriesIp link frame.now }
 {
     match link {
-        Link::Raw => true,
-        Link::Ethernet => frame.len() >= 14 && half(Order::Big, frame, 12) == 0x0800,
-        Link::LinuxCooked => frame.len() >= 16 && half(Order::Big, frame, 14) == 0x0800,
-        Link::LinuxCooked2 => frame.len() >= 20 && half(Order::Big, frame, 0) == 0x0800,
+        LinkType::Raw => true,
+        LinkType::Ethernet => frame.len() >= 14 && half(Order::Big, frame, 12) == 0x0800,
+        LinkType::LinuxCooked => frame.len() >= 16 && half(Order::Big, frame, 14) == 0x0800,
+        LinkType::LinuxCooked2 => frame.len() >= 20 && half(Order::Big, frame, 0) == 0x0800,
     }
 }
 
@@ -88,31 +88,31 @@ fn is_ospf(datagram: &[u8]) -> bool
 }
 
 /// What an IP packet of OSPF's protocol has in it.
-fn packet_of(datagram: &[u8]) -> Content<'_>
+fn packet_of(datagram: &[u8]) -> FrameContent<'_>
     requires { IsOspf datagram.now }
     ensures { IsPacketOf datagram.now result }
 {
     let total = usize::from(half(Order::Big, datagram, 2));
     if total > datagram.len() {
-        return Content::Cut;
+        return FrameContent::Cut;
     }
-    Content::Packet(&datagram[header_of(datagram)..total])
+    FrameContent::Packet(&datagram[header_of(datagram)..total])
 }
 
 /// What is in a frame of this link.
-pub fn content_of(link: Link, frame: &[u8]) -> Content<'_>
+pub fn content_of(link: LinkType, frame: &[u8]) -> FrameContent<'_>
     ensures { Holds link frame.now result }
 {
     if !carries_ip(link, frame) {
-        return Content::Other;
+        return FrameContent::Other;
     }
     let start = header_length(link);
     if start > frame.len() {
-        return Content::Other;
+        return FrameContent::Other;
     }
     let datagram = &frame[start..];
     if !is_ospf(datagram) {
-        return Content::Other;
+        return FrameContent::Other;
     }
     packet_of(datagram)
 }

@@ -8,4 +8,4 @@ mod number;
 
 pub use fault::CaptureError;
 pub use file::{Capture, Record, read};
-pub use frame::{Content, Link, content_of};
+pub use frame::{FrameContent, LinkType, content_of};

@@ -29,18 +29,18 @@ use Rattle.hooktool_commands.specs.declared.building.Purpose.TheVariants as purp
 use Rattle.hooktool_commands.specs.Faults.{IsBuildFault}
 use Rattle.hooktool_commands.specs.declared.fault.HooktoolFault.{HooktoolFault}
 use Rattle.hooktool_commands.specs.declared.fault.HooktoolFault.TheVariants as faults
-use Rattle.hooktool_commands.specs.declared.report.Report.{Report}
+use Rattle.hooktool_commands.specs.declared.report.CommandReport.{CommandReport}
 
 -- ---- of what a function hands on
 
 -- what follows of each report
-pub told_more : {E : Type 0} (P Q : Report → Type 0) (r : Result Report E)
-    → ((report : Report) → P report → Q report) → IfOk r P → IfOk r Q
+pub told_more : {E : Type 0} (P Q : CommandReport → Type 0) (r : Result CommandReport E)
+    → ((report : CommandReport) → P report → Q report) → IfOk r P → IfOk r Q
 told_more {E} P Q (Ok report) more is = more report is
 told_more {E} P Q (Err e) more is = tt
 
 -- a refusal, whatever else may be told
-pub refused_or : {E : Type 0} (A : Report → Type 0) (r : Result Report E)
+pub refused_or : {E : Type 0} (A : CommandReport → Type 0) (r : Result CommandReport E)
     → IfOk r (λ report. report.is_refused ≡ true)
     → IfOk r (λ report. (report.is_refused ≡ true) ⊎ A report)
 refused_or {E} A (Ok report) is = inl is
@@ -56,7 +56,7 @@ memory_built {T} purpose (Err fault) is = inl is
 
 -- what is told of a function's code is told of the function
 pub function_built : (file : List ℕ) (wanted : Wanted) (hook : Hook) (function : LinkedSymbol)
-    (name code : List ℕ) (report : Report) → HasSymbol file function.table function.index
+    (name code : List ℕ) (report : CommandReport) → HasSymbol file function.table function.index
     → name ≡ symbol_name file function.table function.index → HasBytes file function.symbol
     → code ≡ symbol_bytes file function.symbol → IsBuiltCode wanted hook name code report
     → (report.is_refused ≡ true) ⊎ IsBuiltFunction file wanted hook function
@@ -93,14 +93,14 @@ second_true true b h = refl
 second_true false b h = h
 
 -- what was refused stays so with more
-pub still_refused : (before more after : Report) → before.is_refused ≡ true
+pub still_refused : (before more after : CommandReport) → before.is_refused ≡ true
     → after.is_refused ≡ (before.is_refused || more.is_refused) → after.is_refused ≡ true
 still_refused before more after was refused =
     refused ∙ first_true before.is_refused more.is_refused was
 
 -- a line more
 pub functions_more : (file : List ℕ) (wanted : Wanted) (hook : Hook) (functions : List LinkedSymbol)
-    (function : LinkedSymbol) (n : ℕ) (before more after : Report)
+    (function : LinkedSymbol) (n : ℕ) (before more after : CommandReport)
     → (before.is_refused ≡ true) ⊎ AreBuiltFunctions file wanted hook functions n
     (string_bytes before.text) → (more.is_refused ≡ true)
     ⊎ IsBuiltFunction file wanted hook function (string_bytes more.text)
@@ -129,7 +129,7 @@ functions_more file wanted hook functions function n before more after so_far bu
     ]
 
 -- the lines of a section more
-pub sections_more : (file : List ℕ) (wanted : Wanted) (i : ℕ) (before more after : Report)
+pub sections_more : (file : List ℕ) (wanted : Wanted) (i : ℕ) (before more after : CommandReport)
     → (before.is_refused ≡ true) ⊎ AreBuiltSections file wanted i (string_bytes before.text)
     → (more.is_refused ≡ true) ⊎ IsBuiltAt file wanted i (string_bytes more.text)
     → string_bytes after.text ≡ string_bytes before.text ++ string_bytes more.text
@@ -152,7 +152,7 @@ sections_more file wanted i before more after so_far built text refused = elim s
 
 -- a section whose functions were built
 pub section_built : (file : List ℕ) (wanted : Wanted) (i : ℕ) (hook : Hook)
-    (functions : List LinkedSymbol) (report : Report)
+    (functions : List LinkedSymbol) (report : CommandReport)
     → IsHookOf wanted.hook (section_name file i) hook → relocations_of file i ≡ []
     → functions ≡ functions_of file i
     → (report.is_refused ≡ true) ⊎ AreBuiltFunctions file wanted hook functions
@@ -171,7 +171,7 @@ section_built file wanted i hook functions report hook_is none are built = elim 
 ]
 
 -- what is told of a file that has a program
-pub program_built : (file : List ℕ) (wanted : Wanted) (report : Report) → HasProgram file
+pub program_built : (file : List ℕ) (wanted : Wanted) (report : CommandReport) → HasProgram file
     → (report.is_refused ≡ true)
     ⊎ AreBuiltSections file wanted (section_count file) (string_bytes report.text)
     → (report.is_refused ≡ true)
@@ -183,7 +183,7 @@ program_built file wanted report has built = elim built [
 ]
 
 -- what is told of a whole file
-pub file_built : (file bytes : List ℕ) (wanted : Wanted) (report : Report) → file ≡ bytes
+pub file_built : (file bytes : List ℕ) (wanted : Wanted) (report : CommandReport) → file ≡ bytes
     → IsObjectFile bytes → (report.is_refused ≡ true)
     ⊎ (HasProgram file
     × AreBuiltSections file wanted (section_count file) (string_bytes report.text))
@@ -200,7 +200,7 @@ file_built file bytes wanted report is object built = elim built [
 ]
 
 -- of some bytes
-pub some_built : {E : Type 0} (bytes : List ℕ) (wanted : Wanted) (r : Result Report E)
+pub some_built : {E : Type 0} (bytes : List ℕ) (wanted : Wanted) (r : Result CommandReport E)
     → IfOk r (IsBuilt bytes wanted)
     → IfOk r (λ report. (b : List ℕ) × IsBuilt b wanted report)
 some_built {E} bytes wanted (Ok report) is = (bytes, is)
@@ -213,7 +213,7 @@ some_fault {T} purpose unread (Ok value) is = tt
 some_fault {T} purpose unread (Err fault) is = inr is
 
 -- a section with instructions, and nothing of another one
-pub built_at : {E : Type 0} (file : List ℕ) (wanted : Wanted) (i : ℕ) (r : Result Report E)
+pub built_at : {E : Type 0} (file : List ℕ) (wanted : Wanted) (i : ℕ) (r : Result CommandReport E)
     → is_program_section file i ≡ true
     → IfOk r (λ report. (report.is_refused ≡ true)
     ⊎ IsBuiltSection file wanted i (string_bytes report.text))
@@ -244,7 +244,7 @@ hook_found asked found name section is has =
 
 -- behind the last function
 pub functions_all : (file : List ℕ) (wanted : Wanted) (hook : Hook) (functions : List LinkedSymbol)
-    (n : ℕ) (report : Report) → n ≡ length functions
+    (n : ℕ) (report : CommandReport) → n ≡ length functions
     → (report.is_refused ≡ true) ⊎ AreBuiltFunctions file wanted hook functions n
     (string_bytes report.text) → (report.is_refused ≡ true)
     ⊎ AreBuiltFunctions file wanted hook functions (length functions)
@@ -254,7 +254,7 @@ functions_all file wanted hook functions n report all so_far =
     ⊎ AreBuiltFunctions file wanted hook functions m (string_bytes report.text)) all so_far
 
 -- behind the last section
-pub sections_all : (file : List ℕ) (wanted : Wanted) (n : ℕ) (report : Report)
+pub sections_all : (file : List ℕ) (wanted : Wanted) (n : ℕ) (report : CommandReport)
     → n ≡ section_count file → (report.is_refused ≡ true)
     ⊎ AreBuiltSections file wanted n (string_bytes report.text)
     → (report.is_refused ≡ true) ⊎ AreBuiltSections file wanted (section_count file)
@@ -266,7 +266,7 @@ sections_all file wanted n report all so_far =
 -- the code of a function whose object was written
 pub code_built : (wanted : Wanted) (hook : Hook) (folder shown name code : List ℕ)
     (object : ObjectParts) (bytes : List ℕ) (accepted : Program) (fuel : Fuel) (turns : Option ℕ)
-    (report : Report) → wanted.folder ≡ Some folder → fuel ≡ fuel_for hook wanted.fuel
+    (report : CommandReport) → wanted.folder ≡ Some folder → fuel ≡ fuel_for hook wanted.fuel
     → IsAnnotation hook (with_found fuel turns) code object bytes accepted → shown ≡ name
     → string_bytes report.text ≡ built_text folder shown (hook_name hook) accepted turns
     → is_file_name name ≡ true → (IsSome fuel.turns → turns ≡ None)
@@ -303,7 +303,7 @@ accepted_too hook fuel code object bytes one other is accepts = record {
 
 -- the code of a function that is explained, whose verdict is told at the end
 verdict_told : (wanted : Wanted) (hook : Hook) (name code : List ℕ) (object : ObjectParts)
-    (bytes : List ℕ) (accepted : Program) (turns : Option ℕ) (report : Report)
+    (bytes : List ℕ) (accepted : Program) (turns : Option ℕ) (report : CommandReport)
     (verdict : Result Program VerifyError) (before told : List ℕ) → wanted.folder ≡ None
     → IsAnnotation hook (with_found (fuel_for hook wanted.fuel) turns) code object bytes
     accepted → IfOk verdict (Accepts bytes) → TellsVerdict verdict told
@@ -329,7 +329,7 @@ verdict_told wanted hook name code object bytes accepted turns report (Err error
     annotation accepts tells text refused plain untold = inl refused
 
 pub code_explained : (wanted : Wanted) (hook : Hook) (name code : List ℕ) (object : ObjectParts)
-    (bytes : List ℕ) (accepted : Program) (fuel : Fuel) (turns : Option ℕ) (report : Report)
+    (bytes : List ℕ) (accepted : Program) (fuel : Fuel) (turns : Option ℕ) (report : CommandReport)
     → wanted.folder ≡ None → fuel ≡ fuel_for hook wanted.fuel
     → IsAnnotation hook (with_found fuel turns) code object bytes accepted
     → IsExplained bytes report → is_file_name name ≡ true
@@ -345,7 +345,7 @@ code_explained wanted hook name code object bytes accepted fuel turns report non
 -- the code of a function whose object was handed out
 pub code_handed_out : (wanted : Wanted) (purpose : Purpose) (hook : Hook)
     (shown name code : List ℕ) (object : ObjectParts) (bytes : List ℕ) (accepted : Program)
-    (fuel : Fuel) (turns : Option ℕ) (report : Report) → wanted.folder ≡ folder_of purpose
+    (fuel : Fuel) (turns : Option ℕ) (report : CommandReport) → wanted.folder ≡ folder_of purpose
     → fuel ≡ fuel_for hook wanted.fuel
     → IsAnnotation hook (with_found fuel turns) code object bytes accepted → shown ≡ name
     → IsHandedOut purpose shown (hook_name hook) bytes accepted turns report

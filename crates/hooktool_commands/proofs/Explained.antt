@@ -6,10 +6,10 @@ use Rattle.object_verdicts.specs.Verdicts.{Accepts, Refuses}
 use Rattle.object_verdicts.specs.declared.error.VerifyError.{VerifyError}
 use Rattle.verifier.specs.Programs.{Program}
 use Rattle.hooktool_commands.specs.Explanations.{IsExplained}
-use Rattle.hooktool_commands.specs.declared.report.Report.{Report}
+use Rattle.hooktool_commands.specs.declared.report.CommandReport.{CommandReport}
 
 pub explained : {E : Type 0} (bytes : List ℕ) (verdict : Result Program VerifyError)
-    (before last told : List ℕ) (r : Result Report E) → IfOk verdict (Accepts bytes)
+    (before last told : List ℕ) (r : Result CommandReport E) → IfOk verdict (Accepts bytes)
     → IfErr verdict (Refuses bytes) → TellsVerdict verdict told
     → IfOk r (λ report. string_bytes report.text ≡ before ++ (last ++ told))
     → IfOk r (λ report. report.is_refused ≡ is_err verdict) → IfOk r (IsExplained bytes)
@@ -27,7 +27,7 @@ explained {E} bytes verdict before last told (Ok report) accepts refuses tells t
 explained {E} bytes verdict before last told (Err e) accepts refuses tells text refused = tt
 
 -- with more in front of it
-pub explained_behind : (bytes head : List ℕ) (one other : Report) → IsExplained bytes one
+pub explained_behind : (bytes head : List ℕ) (one other : CommandReport) → IsExplained bytes one
     → string_bytes other.text ≡ head ++ string_bytes one.text → other.is_refused ≡ one.is_refused
     → IsExplained bytes other
 explained_behind bytes head one other is text same = record {

@@ -6,7 +6,7 @@ use Rattle.annotations.specs.declared.shortfall.Shortfall.{Shortfall}
 use Rattle.annotations.specs.declared.shortfall.Shortfall.TheVariants as shortfalls
 use Rattle.isa.specs.declared.hook.Hook.{Hook}
 use Rattle.hooktool_line.specs.declared.requests.FuelAsked.{FuelAsked}
-use Rattle.hooktool_line.specs.declared.requests.Packet.{Packet}
+use Rattle.hooktool_line.specs.declared.requests.PacketSource.{PacketSource}
 use Rattle.hooktool_commands.specs.Annotations.{IsAnnotated, IsRefusedFile, elf_magic, fuel_for}
 use Rattle.hooktool_commands.specs.Endings.{IsPacketFault}
 use Rattle.hooktool_commands.specs.Faults.{IsAnnotationFault, IsBuildFault, IsByVerifier}
@@ -15,7 +15,7 @@ use Rattle.hooktool_commands.specs.declared.building.Purpose.{Purpose}
 use Rattle.hooktool_commands.specs.declared.building.Purpose.TheVariants as purposes
 use Rattle.hooktool_commands.specs.declared.fault.HooktoolFault.{HooktoolFault}
 use Rattle.hooktool_commands.specs.declared.fault.HooktoolFault.TheVariants as faults
-use Rattle.hooktool_commands.specs.declared.report.Report.{Report}
+use Rattle.hooktool_commands.specs.declared.report.CommandReport.{CommandReport}
 
 -- want of memory, whatever the bytes are
 pub memory_at_object : {T : Type 0} (bytes : List ℕ) (r : Result T HooktoolFault)
@@ -64,7 +64,7 @@ refused_file hook fuel file shortfalls.Statements is_so by_verifier = absurd by_
 refused_file hook fuel file shortfalls.Memory is_so by_verifier = absurd by_verifier
 
 pub refused : {E : Type 0} (hook : Hook) (fuel : FuelAsked) (file : List ℕ) (shortfall : Shortfall)
-    (r : Result Report E) → IsFileShortfall hook (fuel_for hook fuel) file shortfall
+    (r : Result CommandReport E) → IsFileShortfall hook (fuel_for hook fuel) file shortfall
     → IfOk r (λ report. (report.is_refused ≡ true) × IsByVerifier shortfall)
     → IfOk r (IsAnnotated hook fuel file)
 refused {E} hook fuel file shortfall (Ok report) is_so told =
@@ -72,7 +72,8 @@ refused {E} hook fuel file shortfall (Ok report) is_so told =
 refused {E} hook fuel file shortfall (Err e) is_so told = tt
 
 -- an ELF file in the place of code
-pub elf_told : {E : Type 0} (hook : Hook) (fuel : FuelAsked) (file : List ℕ) (r : Result Report E)
+pub elf_told : {E : Type 0} (hook : Hook) (fuel : FuelAsked) (file : List ℕ)
+    (r : Result CommandReport E)
     → take 4 file ≡ elf_magic → IfOk r (λ report. report.is_refused ≡ true)
     → IfOk r (IsAnnotated hook fuel file)
 elf_told {E} hook fuel file (Ok report) elf is = inr (is, inr elf)
@@ -86,7 +87,8 @@ elf_fault {T} hook fuel file written (Ok value) memory = tt
 elf_fault {T} hook fuel file written (Err fault) memory = inr (inl memory)
 
 -- of code in some file
-pub some_file : {E : Type 0} (hook : Hook) (fuel : FuelAsked) (file : List ℕ) (r : Result Report E)
+pub some_file : {E : Type 0} (hook : Hook) (fuel : FuelAsked) (file : List ℕ)
+    (r : Result CommandReport E)
     → IfOk r (IsAnnotated hook fuel file)
     → IfOk r (λ report. (f : List ℕ) × IsAnnotated hook fuel f report)
 some_file {E} hook fuel file (Ok report) is = (file, is)
@@ -110,14 +112,14 @@ unread_code hook fuel unread written fault is =
     elim is [ inl path ↦ inl path | inr memory ↦ inr (inr ([], inl memory)) ]
 
 -- a fault that isn't of the packet's file
-pub fault_at_packet : {T : Type 0} (packet : Packet) (bytes : List ℕ)
+pub fault_at_packet : {T : Type 0} (packet : PacketSource) (bytes : List ℕ)
     (r : Result T HooktoolFault) → IfErr r (IsObjectFault bytes)
     → IfErr r (λ fault. IsPacketFault packet fault ⊎ ((b : List ℕ) × IsObjectFault b fault))
 fault_at_packet {T} packet bytes (Ok value) is = tt
 fault_at_packet {T} packet bytes (Err fault) is = inr (bytes, is)
 
 -- a fault that isn't of the object's file
-pub fault_at_question : {T : Type 0} (packet : Packet) (unread : HooktoolFault)
+pub fault_at_question : {T : Type 0} (packet : PacketSource) (unread : HooktoolFault)
     (r : Result T HooktoolFault) → IfErr r
     (λ fault. IsPacketFault packet fault ⊎ ((b : List ℕ) × IsObjectFault b fault))
     → IfErr r (λ fault. (fault ≡ unread) ⊎ IsPacketFault packet fault
@@ -127,7 +129,7 @@ fault_at_question {T} packet unread (Err fault) is =
     elim is [ inl path ↦ inr (inl path) | inr object ↦ inr (inr object) ]
 
 -- an object's file that can't be read
-pub unread_object : (packet : Packet) (unread fault : HooktoolFault)
+pub unread_object : (packet : PacketSource) (unread fault : HooktoolFault)
     → (fault ≡ unread) ⊎ (fault ≡ faults.Memory)
     → (fault ≡ unread) ⊎ IsPacketFault packet fault ⊎ ((b : List ℕ) × IsObjectFault b fault)
 unread_object packet unread fault is =

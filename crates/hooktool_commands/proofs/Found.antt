@@ -7,10 +7,10 @@ use Rattle.object.specs.Objects.{ObjectParts}
 use Rattle.verifier.specs.Programs.{Program}
 use Rattle.hooktool_line.specs.declared.requests.FuelAsked.{FuelAsked}
 use Rattle.hooktool_commands.specs.Annotations.{IsAnnotated, accepted_text, fuel_for}
-use Rattle.hooktool_commands.specs.declared.report.Report.{Report}
+use Rattle.hooktool_commands.specs.declared.report.CommandReport.{CommandReport}
 
 pub found : {E : Type 0} (hook : Hook) (fuel : FuelAsked) (file : List ℕ) (object : ObjectParts)
-    (bytes : List ℕ) (accepted : Program) (turns : Option ℕ) (r : Result Report E)
+    (bytes : List ℕ) (accepted : Program) (turns : Option ℕ) (r : Result CommandReport E)
     → IsAnnotation hook (with_found (fuel_for hook fuel) turns) file object bytes accepted
     → IfOk r (λ report. string_bytes report.text ≡ accepted_text accepted turns)
     → IfOk r (λ report. report.is_refused ≡ false) → (IsSome fuel.turns → turns ≡ None)

@@ -11,7 +11,7 @@ use Rattle.annotations.specs.CountedCode.{answer_without_turns}
 use Rattle.annotations.specs.declared.fuel.Fuel.{Fuel}
 use Rattle.hooktool_line.specs.declared.requests.FuelAsked.{FuelAsked}
 use Rattle.hooktool_commands.specs.Cells.{cells_note}
-use Rattle.hooktool_commands.specs.declared.report.Report.{Report}
+use Rattle.hooktool_commands.specs.declared.report.CommandReport.{CommandReport}
 
 -- How many turns may be counted at the hook, and what is answered once they are used up.
 abbrev pub fuel_for : Hook → FuelAsked → Fuel
@@ -33,7 +33,8 @@ accepted_text program found = codes "accepted bound "
 -- An object was found of the file's code (with --fuel, or where that is told, of that code with its
 -- turns counted) that the verifier accepts, and its bound is told. Turns that --fuel asked for
 -- aren't told as found.
-pub record IsFound (hook : Hook) (fuel : FuelAsked) (file : List ℕ) (report : Report) : Type 0 where
+pub record IsFound (hook : Hook) (fuel : FuelAsked) (file : List ℕ) (report : CommandReport)
+    : Type 0 where
   pub object : ObjectParts
   pub bytes : List ℕ
   pub accepted : Program
@@ -56,6 +57,6 @@ abbrev pub elf_magic : List ℕ
 elf_magic = 127 ∷ codes "ELF"
 
 -- Or none was, since the verifier refuses it, or the file is an ELF file; and that is told.
-abbrev pub IsAnnotated : Hook → FuelAsked → List ℕ → Report → Type 0
+abbrev pub IsAnnotated : Hook → FuelAsked → List ℕ → CommandReport → Type 0
 IsAnnotated hook fuel file report = IsFound hook fuel file report
     ⊎ ((report.is_refused ≡ true) × (IsRefusedFile hook fuel file ⊎ (take 4 file ≡ elf_magic)))

@@ -19,7 +19,7 @@ use Rattle.elf.specs.Lists.{symbol_name}
 use Rattle.hooktool_commands.specs.Annotations.{accepted_text, fuel_for}
 use Rattle.hooktool_commands.specs.Explanations.{IsExplained}
 use Rattle.hooktool_line.specs.declared.requests.FuelAsked.{FuelAsked}
-use Rattle.hooktool_commands.specs.declared.report.Report.{Report}
+use Rattle.hooktool_commands.specs.declared.report.CommandReport.{CommandReport}
 
 -- what was asked for: the folder for objects (without one each is explained), the hook of functions
 -- in .text, the turns of loops
@@ -114,7 +114,7 @@ AreBuiltSections file wanted (suc i) lines = (before more : List ℕ)
 -- Each function of each section with instructions was built, of which there is one, and nothing
 -- else is told. Or something
 -- is told that wasn't.
-abbrev pub IsBuilt : List ℕ → Wanted → Report → Type 0
+abbrev pub IsBuilt : List ℕ → Wanted → CommandReport → Type 0
 IsBuilt file wanted report = (report.is_refused ≡ true)
     ⊎ (IsObjectFile file × HasProgram file × AreBuiltSections file wanted (section_count file)
     (string_bytes report.text))
@@ -128,5 +128,5 @@ explanations_wanted = record {
 }
 
 -- An object file is explained, or each function of an ELF file.
-abbrev pub IsExplainedFile : List ℕ → Report → Type 0
+abbrev pub IsExplainedFile : List ℕ → CommandReport → Type 0
 IsExplainedFile bytes report = IsExplained bytes report ⊎ IsBuilt bytes explanations_wanted report

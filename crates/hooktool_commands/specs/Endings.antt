@@ -8,8 +8,8 @@ use Rattle.clap.specs.declared.error.Error.{Error}
 use Rattle.clap.specs.declared.error.ErrorKind.{ErrorKind}
 use Rattle.clap.specs.declared.error.ErrorKind.TheVariants as kinds
 use Rattle.hooktool_line.specs.Requests.{Asks, IsRefusal}
-use Rattle.hooktool_line.specs.declared.requests.Request.{Request}
-use Rattle.hooktool_line.specs.declared.requests.Request.TheVariants as requests
+use Rattle.hooktool_line.specs.declared.requests.HooktoolRequest.{HooktoolRequest}
+use Rattle.hooktool_line.specs.declared.requests.HooktoolRequest.TheVariants as requests
 use Rattle.hooktool_commands.specs.Annotations.{IsAnnotated}
 use Rattle.hooktool_commands.specs.Builds.{IsBuilt, IsExplainedFile}
 use Rattle.hooktool_commands.specs.Faults.{IsAnnotationFault, IsObjectFault}
@@ -19,15 +19,15 @@ use Rattle.hooktool_commands.specs.Trials.{IsTried}
 use Rattle.hooktool_commands.specs.declared.testing.Tested.{Tested}
 use Rattle.hooktool_commands.specs.declared.testing.Tested.TheVariants as tests
 use Rattle.object_trials.specs.Plays.{PacketIs}
-use Rattle.hooktool_line.specs.declared.requests.Packet.{Packet}
-use Rattle.hooktool_line.specs.declared.requests.Packet.TheVariants as packets
+use Rattle.hooktool_line.specs.declared.requests.PacketSource.{PacketSource}
+use Rattle.hooktool_line.specs.declared.requests.PacketSource.TheVariants as packets
 use Rattle.hooktool_commands.specs.declared.fault.HooktoolFault.{HooktoolFault}
 use Rattle.hooktool_commands.specs.declared.fault.HooktoolFault.TheVariants as faults
-use Rattle.hooktool_commands.specs.declared.report.Report.{Report}
+use Rattle.hooktool_commands.specs.declared.report.CommandReport.{CommandReport}
 
 -- The request was carried out, and this is told: of some file, since no contract says what a file
 -- gives. Of a test more is told than a report.
-abbrev pub IsMadeOf : Request → Report → Type 0
+abbrev pub IsMadeOf : HooktoolRequest → CommandReport → Type 0
 IsMadeOf (requests.Annotate hook code object fuel) report =
     (file : List ℕ) × IsAnnotated hook fuel file report
 IsMadeOf (requests.Build file folder hook fuel) report = (bytes : List ℕ)
@@ -38,12 +38,12 @@ IsMadeOf (requests.Try object question) report =
 IsMadeOf (requests.Test file) report = ⊥
 
 -- The file of a packet can't be read.
-abbrev pub IsPacketFault : Packet → HooktoolFault → Type 0
+abbrev pub IsPacketFault : PacketSource → HooktoolFault → Type 0
 IsPacketFault (packets.File path) fault = fault ≡ faults.Read path
 IsPacketFault other fault = ⊥
 
 -- The request can't be carried out, for this fault.
-abbrev pub IsFaultOf : Request → HooktoolFault → Type 0
+abbrev pub IsFaultOf : HooktoolRequest → HooktoolFault → Type 0
 IsFaultOf (requests.Annotate hook code object fuel) fault =
     (fault ≡ faults.Read code) ⊎ (fault ≡ faults.Write object)
     ⊎ ((file : List ℕ) × IsAnnotationFault hook fuel file fault)
@@ -56,7 +56,7 @@ IsFaultOf (requests.Try object question) fault =
     ⊎ ((bytes : List ℕ) × IsObjectFault bytes fault)
 IsFaultOf (requests.Test file) fault = ⊥
 
-abbrev pub IsOutcomeOf : Request → Result Report HooktoolFault → Type 0
+abbrev pub IsOutcomeOf : HooktoolRequest → Result CommandReport HooktoolFault → Type 0
 IsOutcomeOf request outcome = IfOk outcome (IsMadeOf request) × IfErr outcome (IsFaultOf request)
 
 -- a program that is refused and a run that gave no answer have status 1
@@ -69,7 +69,7 @@ abbrev pub Fails : StreamState → ℕ → Type 0
 Fails after status = (status ≡ 3) × (after.has_failed ≡ true)
 
 -- The report was printed, and the status is its own. Else the output failed.
-abbrev pub Prints : Report → (output output_after : StreamState) → ℕ → Type 0
+abbrev pub Prints : CommandReport → (output output_after : StreamState) → ℕ → Type 0
 Prints report output output_after status = Fails output_after status
     ⊎ ((status ≡ status_of_refused report.is_refused)
     × Appends output.contents output_after.contents (string_bytes report.text))
@@ -79,7 +79,8 @@ abbrev pub IsTold : HooktoolFault → (output_after : StreamState) → ℕ → T
 IsTold fault output_after status = Fails output_after status ⊎ (status ≡ status_of fault)
 
 -- What a command made is printed, or its fault is told. The status says which it was.
-abbrev pub Ends : Result Report HooktoolFault → (output output_after : StreamState) → ℕ → Type 0
+abbrev pub Ends : Result CommandReport HooktoolFault → (output output_after : StreamState) → ℕ
+    → Type 0
 Ends (Ok report) output output_after status = Prints report output output_after status
 Ends (Err fault) output output_after status = IsTold fault output_after status
 
@@ -93,7 +94,7 @@ EndsPlayed (Ok (tests.Unread text)) output output_after status =
 EndsPlayed (Err fault) output output_after status = IsTold fault output_after status
 
 -- A test was asked for, and played; or its file can't be read, or memory was refused.
-abbrev pub EndsTest : Request → (output output_after : StreamState) → ℕ → Type 0
+abbrev pub EndsTest : HooktoolRequest → (output output_after : StreamState) → ℕ → Type 0
 EndsTest (requests.Test file) output output_after status =
     (outcome : Result Tested HooktoolFault) × IfOk outcome IsTested
     × IfErr outcome (λ fault. (fault ≡ faults.Read file) ⊎ (fault ≡ faults.Memory))
@@ -101,9 +102,9 @@ EndsTest (requests.Test file) output output_after status =
 EndsTest other output output_after status = ⊥
 
 -- What the request made is printed, or why it can't be carried out.
-abbrev pub EndsRequest : Request → (output output_after : StreamState) → ℕ → Type 0
+abbrev pub EndsRequest : HooktoolRequest → (output output_after : StreamState) → ℕ → Type 0
 EndsRequest request output output_after status =
-    ((outcome : Result Report HooktoolFault) × IsOutcomeOf request outcome
+    ((outcome : Result CommandReport HooktoolFault) × IsOutcomeOf request outcome
     × Ends outcome output output_after status)
     ⊎ EndsTest request output output_after status
 
@@ -126,7 +127,7 @@ pub record TellsWords (error : Error) (output output_after errors errors_after :
 abbrev pub EndsWords : List (List ℕ) → (output output_after errors errors_after : StreamState) → ℕ
     → Type 0
 EndsWords words output output_after errors errors_after status =
-    ((request : Request) × Asks words request
+    ((request : HooktoolRequest) × Asks words request
     × EndsRequest request output output_after status
     × (errors_after ≡ errors))
     ⊎ ((error : Error) × IsRefusal words error

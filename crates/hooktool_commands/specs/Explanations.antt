@@ -4,11 +4,11 @@ use Rattle.explanations.specs.Told.{TellsVerdict}
 use Rattle.object_verdicts.specs.Verdicts.{Accepts, Refuses}
 use Rattle.object_verdicts.specs.declared.error.VerifyError.{VerifyError}
 use Rattle.verifier.specs.Programs.{Program}
-use Rattle.hooktool_commands.specs.declared.report.Report.{Report}
+use Rattle.hooktool_commands.specs.declared.report.CommandReport.{CommandReport}
 
 -- The verdict is the verifier's on the object file that the bytes are. The text ends with its
 -- words, and the report is a refusal where it is one.
-pub record IsExplained (bytes : List ℕ) (report : Report) : Type 0 where
+pub record IsExplained (bytes : List ℕ) (report : CommandReport) : Type 0 where
   pub verdict : Result Program VerifyError
   pub accepts : IfOk verdict (Accepts bytes)
   pub refuses : IfErr verdict (Refuses bytes)

@@ -9,7 +9,7 @@ use Rattle.annotations.specs.Annotated.{IsAnnotation, with_found}
 use Rattle.hooktool_commands.specs.declared.building.Order.{Order}
 use Rattle.hooktool_commands.specs.declared.building.Purpose.{Purpose}
 use Rattle.hooktool_commands.specs.declared.building.Purpose.TheVariants as purposes
-use Rattle.hooktool_commands.specs.declared.report.Report.{Report}
+use Rattle.hooktool_commands.specs.declared.report.CommandReport.{CommandReport}
 use Rattle.hooktool_commands.specs.Annotations.{fuel_for}
 use Rattle.hooktool_commands.specs.Builds.{TellsFunction, Wanted, built_text, is_file_name}
 use Rattle.hooktool_commands.specs.Explanations.{IsExplained}
@@ -23,7 +23,7 @@ wanted_of order = record { folder = folder_of order.purpose; hook = order.hook; 
 
 -- An object was found of this code that the verifier accepts, and its bound is told.
 pub record IsFoundCode (wanted : Wanted) (hook : Hook) (function code : List ℕ)
-    (report : Report) : Type 0 where
+    (report : CommandReport) : Type 0 where
   pub plain : is_file_name function ≡ true
   pub object : ObjectParts
   pub bytes : List ℕ
@@ -36,13 +36,13 @@ pub record IsFoundCode (wanted : Wanted) (hook : Hook) (function code : List ℕ
       (string_bytes report.text)
 
 -- Or none was, and that is told.
-abbrev pub IsBuiltCode : Wanted → Hook → (function code : List ℕ) → Report → Type 0
+abbrev pub IsBuiltCode : Wanted → Hook → (function code : List ℕ) → CommandReport → Type 0
 IsBuiltCode wanted hook function code report = (report.is_refused ≡ true)
     ⊎ IsFoundCode wanted hook function code report
 
 -- The object that was found for a function is written, and its bound told; or it is explained.
 abbrev pub IsHandedOut : Purpose → (function hook bytes : List ℕ) → Program → (found : Option ℕ)
-    → Report → Type 0
+    → CommandReport → Type 0
 IsHandedOut (purposes.Object folder) function hook bytes program found report =
     string_bytes report.text ≡ built_text folder.now function hook program found
 IsHandedOut purposes.Explanation function hook bytes program found report = IsExplained bytes report

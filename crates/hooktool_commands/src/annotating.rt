@@ -12,7 +12,7 @@ use crate::cells::cells_note;
 use crate::explaining::lacks_memory;
 use crate::fault::HooktoolFault;
 use crate::files;
-use crate::report::Report;
+use crate::report::CommandReport;
 use annotations::{
     AnnotatedObject, CountError, EndlessLoop, Fuel, Rejected, Shortfall, Trouble, annotate_file,
     answer_without_turns,
@@ -183,12 +183,12 @@ fn rejection<'a>(
     rejected: &Rejected,
     endless: &Option<EndlessLoop>,
     telling: Telling,
-) -> Result<Report, HooktoolFault<'a>>
+) -> Result<CommandReport, HooktoolFault<'a>>
     ensures refused { IfOk result (λ report. report.is_refused ≡ true) }
     ensures fault { IfErr result (λ fault. fault ≡ HooktoolFault.Memory) }
 {
     match rejection_text(alloc, rejected, endless, telling) {
-        Ok(text) => Ok(Report {
+        Ok(text) => Ok(CommandReport {
             text,
             is_refused: true,
         }),
@@ -217,7 +217,7 @@ pub(crate) fn shortfall<'a>(
     alloc: Global,
     shortfall: Shortfall,
     telling: Telling,
-) -> Result<Report, HooktoolFault<'a>>
+) -> Result<CommandReport, HooktoolFault<'a>>
     ensures refused { IfOk result (λ report. (report.is_refused ≡ true) × IsByVerifier shortfall) }
     ensures fault { IfErr result (IsFaultOfShortfall shortfall) }
 {
@@ -254,14 +254,14 @@ pub(crate) fn accepted_text(alloc: Global, found: &AnnotatedObject) -> Result<St
 }
 
 /// What is told of a program that is accepted.
-fn accepted<'a>(alloc: Global, found: &AnnotatedObject) -> Result<Report, HooktoolFault<'a>>
+fn accepted<'a>(alloc: Global, found: &AnnotatedObject) -> Result<CommandReport, HooktoolFault<'a>>
     ensures told { IfOk result (λ report. string_bytes report.text
         ≡ accepted_text found.now.annotated.accepted found.now.turns) }
     ensures done { IfOk result (λ report. report.is_refused ≡ false) }
     ensures fault { IfErr result (λ fault. fault ≡ HooktoolFault.Memory) }
 {
     match accepted_text(alloc, found) {
-        Ok(text) => Ok(Report {
+        Ok(text) => Ok(CommandReport {
             text,
             is_refused: false,
         }),
@@ -274,7 +274,7 @@ fn written<'a, R: Files + AllocGlobal>(
     rt: &R,
     path: &'a str,
     found: &AnnotatedObject,
-) -> Result<Report, HooktoolFault<'a>>
+) -> Result<CommandReport, HooktoolFault<'a>>
     requires { Accepts found.now.annotated.bytes.items found.now.annotated.accepted }
     ensures told { IfOk result (λ report. string_bytes report.text
         ≡ accepted_text found.now.annotated.accepted found.now.turns) }
@@ -317,11 +317,11 @@ fn given_slots(file: &[u8]) -> Option<usize> {
 }
 
 /// What is told of an ELF file in the place of code.
-fn elf_refusal<'a>(alloc: Global) -> Result<Report, HooktoolFault<'a>>
+fn elf_refusal<'a>(alloc: Global) -> Result<CommandReport, HooktoolFault<'a>>
     ensures refused { IfOk result (λ report. report.is_refused ≡ true) }
     ensures fault { IfErr result (λ fault. fault ≡ HooktoolFault.Memory) }
 {
-    Ok(Report {
+    Ok(CommandReport {
         text: format!(in alloc;
             "CODE is an ELF file: hooktool build FILE FOLDER makes an object of each of its functions, and hooktool explain FILE explains each\n"
         )?,
@@ -337,7 +337,7 @@ fn annotate_code<'a, R: Files + AllocGlobal>(
     file: &[u8],
     object: &'a str,
     fuel: FuelAsked,
-) -> Result<Report, HooktoolFault<'a>>
+) -> Result<CommandReport, HooktoolFault<'a>>
     ensures made { IfOk result (IsAnnotated hook fuel file.now) }
     ensures fault { IfErr result (λ fault. (fault ≡ HooktoolFault.Write object.entry)
         ⊎ IsAnnotationFault hook fuel file.now fault) }
@@ -362,7 +362,7 @@ fn annotate_bytes<'a, R: Files + AllocGlobal>(
     file: &[u8],
     object: &'a str,
     fuel: FuelAsked,
-) -> Result<Report, HooktoolFault<'a>>
+) -> Result<CommandReport, HooktoolFault<'a>>
     ensures made { IfOk result (IsAnnotated hook fuel file.now) }
     ensures fault { IfErr result (λ fault. (fault ≡ HooktoolFault.Write object.entry)
         ⊎ IsAnnotationFault hook fuel file.now fault) }
@@ -385,7 +385,7 @@ pub(crate) fn annotate<'a, R: Files + AllocGlobal>(
     code: &'a str,
     object: &'a str,
     fuel: FuelAsked,
-) -> Result<Report, HooktoolFault<'a>>
+) -> Result<CommandReport, HooktoolFault<'a>>
     ensures made { IfOk result (λ report. (file : List ℕ) × IsAnnotated hook fuel file report) }
     ensures fault { IfErr result (λ fault. (fault ≡ HooktoolFault.Read code.entry)
         ⊎ (fault ≡ HooktoolFault.Write object.entry)

@@ -23,7 +23,7 @@ use crate::fault::HooktoolFault;
 use crate::files;
 use crate::names::{as_file_name, shown};
 use crate::relocated::{Section, relocation_report, unchanged};
-use crate::report::Report;
+use crate::report::CommandReport;
 use annotations::{AnnotatedObject, Shortfall, annotate_file};
 use elf::{LinkedRelocation, LinkedSymbol, ObjectFile};
 use explanations::Text;
@@ -57,17 +57,17 @@ struct Names<'f> {
 }
 
 /// What a text tells as a refusal.
-pub(crate) fn refusal(text: Text) -> Result<Report, AllocError>
+pub(crate) fn refusal(text: Text) -> Result<CommandReport, AllocError>
     ensures { IfOk result (λ report. report.is_refused ≡ true) }
 {
-    Ok(Report {
+    Ok(CommandReport {
         text: text.finish()?,
         is_refused: true,
     })
 }
 
 /// Adds what else is told.
-fn join(report: &mut Report, more: &Report) -> Result<(), AllocError>
+fn join(report: &mut CommandReport, more: &CommandReport) -> Result<(), AllocError>
     ensures text { OnOk result (string_bytes report.new.text
         ≡ string_bytes report.old.text ++ string_bytes more.now.text) }
     ensures refused { OnOk result (report.new.is_refused
@@ -134,7 +134,7 @@ fn function_told<'a>(
     section: &[u8],
     function: &[u8],
     why: &str,
-) -> Result<Report, HooktoolFault<'a>>
+) -> Result<CommandReport, HooktoolFault<'a>>
     ensures refused { IfOk result (λ report. report.is_refused ≡ true) }
     ensures fault { IfErr result (λ fault. fault ≡ HooktoolFault.Memory) }
 {
@@ -155,7 +155,7 @@ fn push_fault(text: &mut Text, fault: HooktoolFault<'_>) {
 }
 
 /// Adds why nothing was accepted.
-fn push_why(text: &mut Text, why: &Result<Report, HooktoolFault<'_>>) {
+fn push_why(text: &mut Text, why: &Result<CommandReport, HooktoolFault<'_>>) {
     match why {
         Ok(told) => {
             text.push(": not accepted\n");
@@ -169,8 +169,8 @@ fn push_why(text: &mut Text, why: &Result<Report, HooktoolFault<'_>>) {
 fn function_refusal<'a>(
     alloc: Global,
     names: Names<'_>,
-    why: Result<Report, HooktoolFault<'a>>,
-) -> Result<Report, HooktoolFault<'a>>
+    why: Result<CommandReport, HooktoolFault<'a>>,
+) -> Result<CommandReport, HooktoolFault<'a>>
     ensures refused { IfOk result (λ report. report.is_refused ≡ true) }
     ensures fault { IfErr result (λ fault. fault ≡ HooktoolFault.Memory) }
 {
@@ -205,7 +205,7 @@ fn write_function<'a, R: Files + AllocGlobal>(
     hook: Hook,
     function: &str,
     found: &AnnotatedObject,
-) -> Result<Report, HooktoolFault<'a>>
+) -> Result<CommandReport, HooktoolFault<'a>>
     requires accepted { Accepts found.now.annotated.bytes.items found.now.annotated.accepted }
     // The object is in the folder itself.
     requires plain { is_file_name function.now ≡ true }
@@ -218,7 +218,7 @@ fn write_function<'a, R: Files + AllocGlobal>(
     let path = format!(in rt.alloc(); "{folder}/{function}.o")?;
     let text = line_of(rt.alloc(), folder, function, hook.name(), found)?;
     match files::write_accepted(rt, path.as_str(), &found.annotated.bytes) {
-        Ok(()) => Ok(Report {
+        Ok(()) => Ok(CommandReport {
             text,
             is_refused: false,
         }),
@@ -232,7 +232,7 @@ fn explain_function<'a>(
     alloc: Global,
     names: Names<'_>,
     found: &AnnotatedObject,
-) -> Result<Report, HooktoolFault<'a>>
+) -> Result<CommandReport, HooktoolFault<'a>>
     ensures explained { IfOk result (IsExplained found.now.annotated.bytes.items) }
     ensures fault { IfErr result (λ fault. fault ≡ HooktoolFault.Memory) }
 {
@@ -245,7 +245,7 @@ fn explain_function<'a>(
         Some(_) => ": its turns are counted, so each slot is one later\n",
         None => ":\n",
     });
-    let mut report = Report {
+    let mut report = CommandReport {
         text: head.finish()?,
         is_refused: false,
     };
@@ -260,7 +260,7 @@ fn shortfall_refusal<'a>(
     names: Names<'_>,
     size: usize,
     error: Shortfall,
-) -> Result<Report, HooktoolFault<'a>>
+) -> Result<CommandReport, HooktoolFault<'a>>
     ensures refused { IfOk result (λ report. report.is_refused ≡ true) }
     ensures fault { IfErr result (λ fault. fault ≡ HooktoolFault.Memory) }
 {
@@ -280,7 +280,7 @@ fn hand_out<'a, R: Files + AllocGlobal>(
     names: Names<'_>,
     name: &str,
     found: &AnnotatedObject,
-) -> Result<Report, HooktoolFault<'a>>
+) -> Result<CommandReport, HooktoolFault<'a>>
     requires accepted { Accepts found.now.annotated.bytes.items found.now.annotated.accepted }
     requires plain { is_file_name name.now ≡ true }
     ensures made { IfOk result (IsHandedOut purpose.entry name.now (hook_name hook)
@@ -300,7 +300,7 @@ fn build_code<'a, R: Files + AllocGlobal>(
     hook: Hook,
     names: Names<'_>,
     code: &[u8],
-) -> Result<Report, HooktoolFault<'a>>
+) -> Result<CommandReport, HooktoolFault<'a>>
     ensures built { IfOk result (IsBuiltCode (wanted_of order.now) hook names.entry.function.now
         code.now) }
     ensures fault { IfErr result (IsBuildFault order.now.purpose) }
@@ -323,7 +323,7 @@ fn build_function<'a, R: Files + AllocGlobal>(
     file: &ObjectFile<'_>,
     index: usize,
     function: &LinkedSymbol,
-) -> Result<Report, HooktoolFault<'a>>
+) -> Result<CommandReport, HooktoolFault<'a>>
     requires section { index < section_count file.now }
     // Beside a refusal, too, no object is made of a function that a linker would change.
     requires unchanged { is_changed (relocations_of file.now index) function.now ≡ false }
@@ -352,7 +352,7 @@ fn section_refusal<'a>(
     alloc: Global,
     purpose: Purpose<'_>,
     section: &[u8],
-) -> Result<Report, HooktoolFault<'a>>
+) -> Result<CommandReport, HooktoolFault<'a>>
     ensures refused { IfOk result (λ report. report.is_refused ≡ true) }
     ensures fault { IfErr result (λ fault. fault ≡ HooktoolFault.Memory) }
 {
@@ -371,7 +371,7 @@ fn section_refusal<'a>(
 }
 
 /// What is told of a section whose instructions are no function's.
-fn nothing_refusal<'a>(alloc: Global, section: &[u8]) -> Result<Report, HooktoolFault<'a>>
+fn nothing_refusal<'a>(alloc: Global, section: &[u8]) -> Result<CommandReport, HooktoolFault<'a>>
     ensures refused { IfOk result (λ report. report.is_refused ≡ true) }
     ensures fault { IfErr result (λ fault. fault ≡ HooktoolFault.Memory) }
 {
@@ -390,7 +390,7 @@ fn build_functions<'a, R: Files + AllocGlobal>(
     file: &ObjectFile<'_>,
     index: usize,
     functions: &[LinkedSymbol],
-) -> Result<Report, HooktoolFault<'a>>
+) -> Result<CommandReport, HooktoolFault<'a>>
     requires section { index < section_count file.now }
     requires unchanged { All (λ function. is_changed (relocations_of file.now index) function
         ≡ false) functions.now }
@@ -399,7 +399,7 @@ fn build_functions<'a, R: Files + AllocGlobal>(
         (string_bytes report.text)) }
     ensures fault { IfErr result (IsBuildFault order.now.purpose) }
 {
-    let mut report = Report {
+    let mut report = CommandReport {
         text: String::new(rt.alloc()),
         is_refused: false,
     };
@@ -419,7 +419,7 @@ fn build_unchanged<'a, R: Files + AllocGlobal>(
     index: usize,
     functions: &[LinkedSymbol],
     relocations: &[LinkedRelocation],
-) -> Result<Report, HooktoolFault<'a>>
+) -> Result<CommandReport, HooktoolFault<'a>>
     requires section { index < section_count file.now }
     requires relocations { relocations.now ≡ relocations_of file.now index }
     ensures { IfErr result (IsBuildFault order.now.purpose) }
@@ -439,7 +439,7 @@ fn build_others<'a, R: Files + AllocGlobal>(
     index: usize,
     functions: &[LinkedSymbol],
     relocations: &[LinkedRelocation],
-) -> Result<Report, HooktoolFault<'a>>
+) -> Result<CommandReport, HooktoolFault<'a>>
     requires section { index < section_count file.now }
     requires relocations { relocations.now ≡ relocations_of file.now index }
     ensures refused { IfOk result (λ report. report.is_refused ≡ true) }
@@ -463,7 +463,7 @@ fn build_for<'a, R: Files + AllocGlobal>(
     file: &ObjectFile<'_>,
     index: usize,
     functions: &[LinkedSymbol],
-) -> Result<Report, HooktoolFault<'a>>
+) -> Result<CommandReport, HooktoolFault<'a>>
     requires section { index < section_count file.now }
     requires hook { IsHookOf order.now.hook (section_name file.now index) hook }
     requires functions { functions.now ≡ functions_of file.now index }
@@ -484,7 +484,7 @@ fn build_section<'a, R: Files + AllocGlobal>(
     order: &Order<'a>,
     file: &ObjectFile<'_>,
     index: usize,
-) -> Result<Report, HooktoolFault<'a>>
+) -> Result<CommandReport, HooktoolFault<'a>>
     requires { index < section_count file.now }
     ensures built { IfOk result (λ report. (report.is_refused ≡ true)
         ⊎ IsBuiltSection file.now (wanted_of order.now) index (string_bytes report.text)) }
@@ -515,7 +515,7 @@ fn build_at<'a, R: Files + AllocGlobal>(
     order: &Order<'a>,
     file: &ObjectFile<'_>,
     index: usize,
-) -> Result<Report, HooktoolFault<'a>>
+) -> Result<CommandReport, HooktoolFault<'a>>
     requires { index < section_count file.now }
     ensures built { IfOk result (λ report. (report.is_refused ≡ true)
         ⊎ IsBuiltAt file.now (wanted_of order.now) index (string_bytes report.text)) }
@@ -524,7 +524,7 @@ fn build_at<'a, R: Files + AllocGlobal>(
     if is_program_section(file, index) {
         return build_section(rt, order, file, index);
     }
-    Ok(Report {
+    Ok(CommandReport {
         text: String::new(rt.alloc()),
         is_refused: false,
     })
@@ -535,13 +535,13 @@ fn build_sections<'a, R: Files + AllocGlobal>(
     rt: &R,
     order: &Order<'a>,
     file: &ObjectFile<'_>,
-) -> Result<Report, HooktoolFault<'a>>
+) -> Result<CommandReport, HooktoolFault<'a>>
     ensures built { IfOk result (λ report. (report.is_refused ≡ true)
         ⊎ AreBuiltSections file.now (wanted_of order.now) (section_count file.now)
         (string_bytes report.text)) }
     ensures fault { IfErr result (IsBuildFault order.now.purpose) }
 {
-    let mut report = Report {
+    let mut report = CommandReport {
         text: String::new(rt.alloc()),
         is_refused: false,
     };
@@ -553,7 +553,11 @@ fn build_sections<'a, R: Files + AllocGlobal>(
 }
 
 /// What is told of a file that isn't what clang writes.
-fn no_elf<'a>(alloc: Global, path: &str, fault: elf::ElfFault) -> Result<Report, HooktoolFault<'a>>
+fn no_elf<'a>(
+    alloc: Global,
+    path: &str,
+    fault: elf::ElfFault,
+) -> Result<CommandReport, HooktoolFault<'a>>
     ensures refused { IfOk result (λ report. report.is_refused ≡ true) }
     ensures fault { IfErr result (λ fault. fault ≡ HooktoolFault.Memory) }
 {
@@ -563,7 +567,7 @@ fn no_elf<'a>(alloc: Global, path: &str, fault: elf::ElfFault) -> Result<Report,
                 package clang), or tools/hooktool-build PROGRAM.c\n",
         _ => "",
     };
-    Ok(Report {
+    Ok(CommandReport {
         text: format!(in alloc; "{path}: {fault}\n{hint}")?,
         is_refused: true,
     })
@@ -587,12 +591,12 @@ fn no_program<'a>(
     alloc: Global,
     path: &str,
     _file: &ObjectFile<'_>,
-) -> Result<Report, HooktoolFault<'a>>
+) -> Result<CommandReport, HooktoolFault<'a>>
     requires { HasNoProgram _file.now }
     ensures refused { IfOk result (λ report. report.is_refused ≡ true) }
     ensures fault { IfErr result (λ fault. fault ≡ HooktoolFault.Memory) }
 {
-    Ok(Report {
+    Ok(CommandReport {
         text: format!(in alloc; "{path}: it has no function\n")?,
         is_refused: true,
     })
@@ -604,7 +608,7 @@ fn build_file<'a, R: Files + AllocGlobal>(
     order: &Order<'a>,
     path: &str,
     file: &ObjectFile<'_>,
-) -> Result<Report, HooktoolFault<'a>>
+) -> Result<CommandReport, HooktoolFault<'a>>
     ensures built { IfOk result (λ report. (report.is_refused ≡ true)
         ⊎ (HasProgram file.now × AreBuiltSections file.now (wanted_of order.now)
         (section_count file.now) (string_bytes report.text))) }
@@ -622,7 +626,7 @@ pub(crate) fn build_bytes<'a, R: Files + AllocGlobal>(
     order: &Order<'a>,
     path: &str,
     bytes: &[u8],
-) -> Result<Report, HooktoolFault<'a>>
+) -> Result<CommandReport, HooktoolFault<'a>>
     ensures built { IfOk result (IsBuilt bytes.now (wanted_of order.now)) }
     ensures fault { IfErr result (IsBuildFault order.now.purpose) }
 {
@@ -640,7 +644,7 @@ pub(crate) fn build<'a, R: Files + AllocGlobal>(
     rt: &R,
     path: &'a str,
     order: Order<'a>,
-) -> Result<Report, HooktoolFault<'a>>
+) -> Result<CommandReport, HooktoolFault<'a>>
     ensures built { IfOk result (λ report. (bytes : List ℕ)
         × IsBuilt bytes (wanted_of order.entry) report) }
     ensures fault { IfErr result (λ fault. (fault ≡ HooktoolFault.Read path.entry)

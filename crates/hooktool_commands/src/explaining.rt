@@ -10,7 +10,7 @@ use crate::annotating::is_elf;
 use crate::building::{Order, Purpose, build_bytes};
 use crate::fault::HooktoolFault;
 use crate::files;
-use crate::report::Report;
+use crate::report::CommandReport;
 use explanations::{Explanation, explain as explained};
 use hooktool_line::FuelAsked;
 use isa::decode;
@@ -43,7 +43,10 @@ pub(crate) fn lacks_memory(verdict: &Result<Accepted, VerifyError>) -> bool {
 }
 
 /// What is told of an explanation whose verdict was reached: its three texts, one behind the other.
-fn report_of<'a>(alloc: Global, explanation: &Explanation) -> Result<Report, HooktoolFault<'a>>
+fn report_of<'a>(
+    alloc: Global,
+    explanation: &Explanation,
+) -> Result<CommandReport, HooktoolFault<'a>>
     ensures text { IfOk result (λ report. string_bytes report.text
         ≡ string_bytes explanation.now.before ++ (string_bytes explanation.now.last
         ++ string_bytes explanation.now.told)) }
@@ -55,7 +58,7 @@ fn report_of<'a>(alloc: Global, explanation: &Explanation) -> Result<Report, Hoo
     let last = explanation.last.as_str();
     let told = explanation.told.as_str();
     match format!(in alloc; "{before}{last}{told}") {
-        Ok(text) => Ok(Report {
+        Ok(text) => Ok(CommandReport {
             text,
             is_refused: explanation.verdict.is_err(),
         }),
@@ -64,7 +67,7 @@ fn report_of<'a>(alloc: Global, explanation: &Explanation) -> Result<Report, Hoo
 }
 
 /// What is told of an explanation. A fault where no verdict was reached for want of memory.
-fn told_of<'a>(alloc: Global, explanation: &Explanation) -> Result<Report, HooktoolFault<'a>>
+fn told_of<'a>(alloc: Global, explanation: &Explanation) -> Result<CommandReport, HooktoolFault<'a>>
     ensures text { IfOk result (λ report. string_bytes report.text
         ≡ string_bytes explanation.now.before ++ (string_bytes explanation.now.last
         ++ string_bytes explanation.now.told)) }
@@ -80,7 +83,10 @@ fn told_of<'a>(alloc: Global, explanation: &Explanation) -> Result<Report, Hookt
 }
 
 /// What is told of the object file that these bytes are.
-pub(crate) fn explanation_of<'a>(alloc: Global, bytes: &[u8]) -> Result<Report, HooktoolFault<'a>>
+pub(crate) fn explanation_of<'a>(
+    alloc: Global,
+    bytes: &[u8],
+) -> Result<CommandReport, HooktoolFault<'a>>
     ensures explained { IfOk result (IsExplained bytes.now) }
     ensures fault { IfErr result (IsObjectFault bytes.now) }
 {
@@ -111,7 +117,7 @@ fn explain_bytes<'a, R: Files + AllocGlobal>(
     rt: &R,
     path: &str,
     bytes: &[u8],
-) -> Result<Report, HooktoolFault<'a>>
+) -> Result<CommandReport, HooktoolFault<'a>>
     ensures explained { IfOk result (IsExplainedFile bytes.now) }
     ensures fault { IfErr result (IsObjectFault bytes.now) }
 {
@@ -130,7 +136,7 @@ fn explain_bytes<'a, R: Files + AllocGlobal>(
 pub(crate) fn explain<'a, R: Files + AllocGlobal>(
     rt: &R,
     path: &'a str,
-) -> Result<Report, HooktoolFault<'a>>
+) -> Result<CommandReport, HooktoolFault<'a>>
     ensures explained { IfOk result (λ report. (bytes : List ℕ) × IsExplainedFile bytes report) }
     ensures fault { IfErr result (λ fault. (fault ≡ HooktoolFault.Read path.entry)
         ⊎ ((bytes : List ℕ) × IsObjectFault bytes fault)) }

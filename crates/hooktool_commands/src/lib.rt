@@ -18,4 +18,4 @@ mod traps;
 mod trying;
 
 pub use fault::HooktoolFault;
-pub use report::Report;
+pub use report::CommandReport;

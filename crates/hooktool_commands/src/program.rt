@@ -9,12 +9,12 @@ use crate::annotating::annotate;
 use crate::building::{Order, Purpose, build};
 use crate::explaining::explain;
 use crate::fault::{DONE, HooktoolFault, OUTSIDE, REFUSED, USAGE};
-use crate::report::Report;
+use crate::report::CommandReport;
 use crate::testing::{Tested, test};
 use crate::trying::try_question;
 use clap::Error;
 use clap::error::ErrorKind;
-use hooktool_line::{FuelAsked, Request};
+use hooktool_line::{FuelAsked, HooktoolRequest};
 use isa::Hook;
 use std::alloc::Global;
 use std::io::{self, ErrorKind as IoKind};
@@ -22,7 +22,7 @@ use std::rt::Files;
 use streams::Stream;
 
 // Prints what a command made, and answers the status.
-fn print<O: Stream>(report: &Report, output: &mut O) -> u8
+fn print<O: Stream>(report: &CommandReport, output: &mut O) -> u8
     ensures { Prints report.now (O.state output.old) (O.state output.new) result }
 {
     match output.print(report.text.as_str()) {
@@ -43,7 +43,7 @@ fn tell<O: Stream>(fault: HooktoolFault<'_>, output: &mut O) -> u8
 }
 
 // Prints what a command made or what its fault is, and answers the status.
-fn end<O: Stream>(outcome: Result<Report, HooktoolFault<'_>>, output: &mut O) -> u8
+fn end<O: Stream>(outcome: Result<CommandReport, HooktoolFault<'_>>, output: &mut O) -> u8
     ensures { Ends outcome.entry (O.state output.old) (O.state output.new) result }
 {
     match outcome {
@@ -120,11 +120,11 @@ fn built<'a, R: Files + AllocGlobal>(
     folder: &'a str,
     hook: Option<Hook>,
     fuel: FuelAsked,
-) -> Result<Report, HooktoolFault<'a>>
+) -> Result<CommandReport, HooktoolFault<'a>>
     ensures made { IfOk result
-        (IsMadeOf (Request.Build file.entry folder.entry hook fuel)) }
+        (IsMadeOf (HooktoolRequest.Build file.entry folder.entry hook fuel)) }
     ensures fault { IfErr result
-        (IsFaultOf (Request.Build file.entry folder.entry hook fuel)) }
+        (IsFaultOf (HooktoolRequest.Build file.entry folder.entry hook fuel)) }
 {
     let purpose = Purpose::Object { folder };
     let order = Order {
@@ -136,25 +136,31 @@ fn built<'a, R: Files + AllocGlobal>(
 }
 
 // Carries out a request, and answers the status.
-fn carry_out<R: Files + AllocGlobal, O: Stream>(rt: &R, request: Request<'_>, output: &mut O) -> u8
+fn carry_out<R: Files + AllocGlobal, O: Stream>(
+    rt: &R,
+    request: HooktoolRequest<'_>,
+    output: &mut O,
+) -> u8
     ensures { EndsRequest request.entry (O.state output.old) (O.state output.new) result }
 {
     match request {
-        Request::Annotate {
+        HooktoolRequest::Annotate {
             hook,
             code,
             object,
             fuel,
         } => end(annotate(rt, hook, code, object, fuel), output),
-        Request::Build {
+        HooktoolRequest::Build {
             file,
             folder,
             hook,
             fuel,
         } => end(built(rt, file, folder, hook, fuel), output),
-        Request::Explain { object } => end(explain(rt, object), output),
-        Request::Try { object, question } => end(try_question(rt, object, &question), output),
-        Request::Test { file } => end_test(test(rt, file), output),
+        HooktoolRequest::Explain { object } => end(explain(rt, object), output),
+        HooktoolRequest::Try { object, question } => {
+            end(try_question(rt, object, &question), output)
+        }
+        HooktoolRequest::Test { file } => end_test(test(rt, file), output),
     }
 }
 

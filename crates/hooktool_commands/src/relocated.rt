@@ -6,7 +6,7 @@ ghost use Rattle.hooktool_commands.specs.Linked.{has_place, is_changed};
 
 use crate::building::{push_about, refusal};
 use crate::names::shown;
-use crate::report::Report;
+use crate::report::CommandReport;
 use elf::{LinkedRelocation, LinkedSymbol, ObjectFile, SymbolKind};
 use explanations::Text;
 use std::alloc::{AllocError, Global};
@@ -230,7 +230,7 @@ pub(crate) fn relocation_report(
     section: Section<'_>,
     functions: &[LinkedSymbol],
     relocations: &[LinkedRelocation],
-) -> Result<Report, AllocError>
+) -> Result<CommandReport, AllocError>
     ensures { IfOk result (λ report. report.is_refused ≡ true) }
 {
     let mut text = Text::new(alloc);

@@ -6,9 +6,9 @@ ghost use Rattle.hooktool_commands.specs.Tests.{IsTested};
 
 use crate::fault::HooktoolFault;
 use crate::files;
-use crate::report::Report;
+use crate::report::CommandReport;
 use crate::tap::protocol;
-use hooktool_line::{Line, LineError, WrongLine, read_lines, words_of_lines};
+use hooktool_line::{LineError, TestLine, WrongLine, read_lines, words_of_lines};
 use object_trials::{PlayError, Point, Stopped, play};
 use std::alloc::{AllocError, Global};
 use std::rt::Files;
@@ -18,7 +18,7 @@ const UNPLAYED: &str = "the tests aren't played to their end\n";
 /// What a test came to: its points were played, or a line can't be, and this is told.
 #[derive(Drop)]
 pub(crate) enum Tested {
-    Played(Report),
+    Played(CommandReport),
     Unread(String),
 }
 
@@ -61,13 +61,13 @@ fn is_any_wrong(points: &[Point<'_>]) -> bool
 }
 
 /// What is told of the points.
-fn report_of<'a>(alloc: Global, points: &[Point<'_>]) -> Result<Report, HooktoolFault<'a>>
+fn report_of<'a>(alloc: Global, points: &[Point<'_>]) -> Result<CommandReport, HooktoolFault<'a>>
     ensures refused { IfOk result (λ report. report.is_refused
         ≡ list_any (λ point. not point.verdict.is_ok) points.now) }
     ensures fault { IfErr result (λ fault. fault ≡ HooktoolFault.Memory) }
 {
     match protocol(alloc, points) {
-        Ok(text) => Ok(Report {
+        Ok(text) => Ok(CommandReport {
             text,
             is_refused: is_any_wrong(points),
         }),
@@ -79,7 +79,7 @@ fn report_of<'a>(alloc: Global, points: &[Point<'_>]) -> Result<Report, Hooktool
 fn played<'a, R: Files + AllocGlobal>(
     rt: &R,
     path: &'a str,
-    lines: &[Line<'_>],
+    lines: &[TestLine<'_>],
 ) -> Result<Tested, HooktoolFault<'a>>
     ensures played { IfOk result IsTested }
     ensures fault { IfErr result (λ fault. fault ≡ HooktoolFault.Memory) }

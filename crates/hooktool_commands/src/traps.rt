@@ -4,7 +4,7 @@ use explanations::{Text, line_at};
 use interp::Trap;
 use isa::Code;
 use machine::{Content, Pointer};
-use object_trials::Ending;
+use object_trials::RunEnding;
 
 // The traps in the order of their numbers, which begin with 1: the faults' names are those of
 // docs/reference/MACHINE.md.
@@ -55,7 +55,7 @@ fn push_registers(out: &mut Text, registers: &[Content]) {
 }
 
 /// The trap, the slot and the instruction at which it is, and the registers there.
-pub(crate) fn push_trap(out: &mut Text, trap: Trap, ending: &Ending, code: &Code, lines: &str) {
+pub(crate) fn push_trap(out: &mut Text, trap: Trap, ending: &RunEnding, code: &Code, lines: &str) {
     push_name(out, trap, ending.slot);
     out.push(line_at(lines, code, ending.slot).unwrap_or("no instruction begins there"));
     out.push("\n");

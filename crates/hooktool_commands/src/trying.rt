@@ -11,13 +11,13 @@ use crate::answers::push_answer;
 use crate::explaining::fault_in;
 use crate::fault::HooktoolFault;
 use crate::files;
-use crate::report::Report;
+use crate::report::CommandReport;
 use crate::traps::push_trap;
 use explanations::{Text, instruction_lines};
-use hooktool_line::{Packet, Question};
+use hooktool_line::{PacketSource, Question};
 use isa::{Code, Hook, decode};
 use object::Object;
-use object_trials::{Ending, Trial, is_any_stuck, try_object};
+use object_trials::{ObjectTrial, RunEnding, is_any_stuck, try_object};
 use std::alloc::{AllocError, Global};
 use std::rt::Files;
 use verifier::BUDGET;
@@ -68,7 +68,7 @@ fn bound_of(object: &Object) -> u64 {
 }
 
 /// How a run ended: its answer and how many instructions it took, or its trap.
-fn push_ending(out: &mut Text, program: &Program, ending: &Ending) {
+fn push_ending(out: &mut Text, program: &Program, ending: &RunEnding) {
     match ending.outcome {
         Ok(run) => {
             push_answer(out, program.hook, run.answer);
@@ -82,7 +82,7 @@ fn push_ending(out: &mut Text, program: &Program, ending: &Ending) {
 }
 
 /// The same of each run, with its number where there are several.
-fn push_endings(out: &mut Text, program: &Program, endings: &[Ending]) {
+fn push_endings(out: &mut Text, program: &Program, endings: &[RunEnding]) {
     for (index, ending) in endings.iter().enumerate() {
         if endings.len() > 1 {
             out.numbered("run ", index as u64 + 1, ": ");
@@ -101,7 +101,7 @@ fn push_numbers(out: &mut Text, sentence: &str, numbers: &[u64]) {
 }
 
 /// Each run's end, and what was left in counters and cells.
-fn text_of(alloc: Global, program: &Program, trial: &Trial) -> Result<String, AllocError> {
+fn text_of(alloc: Global, program: &Program, trial: &ObjectTrial) -> Result<String, AllocError> {
     let mut text = Text::new(alloc);
     push_endings(&mut text, program, &trial.endings);
     push_numbers(&mut text, "counter {} {}\n", &trial.counters);
@@ -113,14 +113,14 @@ fn text_of(alloc: Global, program: &Program, trial: &Trial) -> Result<String, Al
 fn report_of<'a>(
     alloc: Global,
     program: &Program,
-    trial: &Trial,
-) -> Result<Report, HooktoolFault<'a>>
+    trial: &ObjectTrial,
+) -> Result<CommandReport, HooktoolFault<'a>>
     ensures stuck { IfOk result (λ report. report.is_refused
         ≡ list_any (λ ending. is_err ending.outcome) trial.now.endings.items) }
     ensures fault { IfErr result (λ fault. fault ≡ HooktoolFault.Memory) }
 {
     match text_of(alloc, program, trial) {
-        Ok(text) => Ok(Report {
+        Ok(text) => Ok(CommandReport {
             text,
             is_refused: is_any_stuck(&trial.endings),
         }),
@@ -136,7 +136,7 @@ fn told_of<'a>(
     packet: &[u8],
     question: &Question<'_>,
     program: &Program,
-) -> Result<Report, HooktoolFault<'a>>
+) -> Result<CommandReport, HooktoolFault<'a>>
     ensures tried { IfOk result (IsTried bytes.now packet.now question.now) }
     ensures fault { IfErr result (IsObjectFault bytes.now) }
 {
@@ -152,7 +152,7 @@ fn trial_of<'a>(
     bytes: &[u8],
     packet: &[u8],
     question: &Question<'_>,
-) -> Result<Report, HooktoolFault<'a>>
+) -> Result<CommandReport, HooktoolFault<'a>>
     ensures tried { IfOk result (IsTried bytes.now packet.now question.now) }
     ensures fault { IfErr result (IsObjectFault bytes.now) }
 {
@@ -167,15 +167,15 @@ fn try_bytes<'a, R: Files + AllocGlobal>(
     rt: &R,
     bytes: &[u8],
     question: &Question<'a>,
-) -> Result<Report, HooktoolFault<'a>>
+) -> Result<CommandReport, HooktoolFault<'a>>
     ensures tried { IfOk result (λ report. (bytes packet : List ℕ)
         × PacketIs question.now.packet packet × IsTried bytes packet question.now report) }
     ensures fault { IfErr result (λ fault. IsPacketFault question.now.packet fault
         ⊎ ((bytes : List ℕ) × IsObjectFault bytes fault)) }
 {
     match &question.packet {
-        Packet::Bytes(packet) => trial_of(rt.alloc(), bytes, packet.as_slice(), question),
-        Packet::File(path) => match files::read(rt, path) {
+        PacketSource::Bytes(packet) => trial_of(rt.alloc(), bytes, packet.as_slice(), question),
+        PacketSource::File(path) => match files::read(rt, path) {
             Ok(packet) => trial_of(rt.alloc(), bytes, packet.as_slice(), question),
             Err(fault) => Err(fault),
         },
@@ -190,7 +190,7 @@ pub(crate) fn try_question<'a, R: Files + AllocGlobal>(
     rt: &R,
     path: &'a str,
     question: &Question<'a>,
-) -> Result<Report, HooktoolFault<'a>>
+) -> Result<CommandReport, HooktoolFault<'a>>
     ensures tried { IfOk result (λ report. (bytes packet : List ℕ)
         × PacketIs question.now.packet packet × IsTried bytes packet question.now report) }
     ensures fault { IfErr result (λ fault. (fault ≡ HooktoolFault.Read path.entry)

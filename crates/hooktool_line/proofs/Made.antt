@@ -23,8 +23,8 @@ use Rattle.hooktool_line.specs.declared.requests.FuelAsked.{FuelAsked}
 use Rattle.hooktool_line.specs.declared.requests.Question.{Question}
 use Rattle.hooktool_line.specs.declared.values.NotRead.{NotRead}
 use Rattle.hooktool_line.specs.declared.values.NotRead.TheVariants as not_read
-use Rattle.hooktool_line.specs.declared.requests.Request.{Request}
-use Rattle.hooktool_line.specs.declared.requests.Request.TheVariants as requests
+use Rattle.hooktool_line.specs.declared.requests.HooktoolRequest.{HooktoolRequest}
+use Rattle.hooktool_line.specs.declared.requests.HooktoolRequest.TheVariants as requests
 
 pub some≢none : {X : Type 0} (x : X) → Some x ≡ None → ⊥
 some≢none x e = cc
@@ -147,7 +147,7 @@ no_other rows name annotate build explain try test (requests.Try object question
 no_other rows name annotate build explain try test (requests.Test file) named has = test (sym named)
 
 -- what the command makes that was named
-pub named_makes : (name : Text) (rows : List Row) (request : Request)
+pub named_makes : (name : Text) (rows : List Row) (request : HooktoolRequest)
     → MadeBy name rows (Some request) → Makes (Some (name, rows)) request
 named_makes name rows request made = (rows, ap (λ (t : Text). Some (t, rows)) (sym made.0), made.1)
 
@@ -176,7 +176,7 @@ named_rows {Z} (Some b) (Some q) p is name rows =
 
 -- what is made of the words of the command that was named
 pub all_made : (named : Option (Text × List Row)) (name : Text) (rows : List Row)
-    (r : Result Request Error) → named ≡ Some (name, rows)
+    (r : Result HooktoolRequest Error) → named ≡ Some (name, rows)
     → IfOk r (λ request. MadeBy name rows (Some request)) → IfOk r (Makes named)
 all_made named name rows (Ok request) is made =
     subst (λ (n : Option (Text × List Row)). Makes n request) (sym is)
@@ -184,7 +184,7 @@ all_made named name rows (Ok request) is made =
 all_made named name rows (Err e) is made = tt
 
 pub all_wrong : (named : Option (Text × List Row)) (name : Text) (rows : List Row)
-    (r : Result Request Error) → named ≡ Some (name, rows) → IfErr r (IsWrong name rows)
+    (r : Result HooktoolRequest Error) → named ≡ Some (name, rows) → IfErr r (IsWrong name rows)
     → IfErr r (λ e. (kind_of e ≡ kinds.OutOfMemory) ⊎ IsWrongWord named e)
 all_wrong named name rows (Ok request) is wrong = tt
 all_wrong named name rows (Err e) is wrong = elim wrong [

@@ -8,8 +8,8 @@ use Rattle.hex.specs.Hex.{decode_of}
 use Rattle.hex.specs.declared.error.FromHexError.{FromHexError}
 use Rattle.hex.specs.declared.error.FromHexError.TheVariants.{OutOfMemory}
 use Rattle.hooktool_line.specs.Words.{IsPacket, ReadsOrLacks}
-use Rattle.hooktool_line.specs.declared.requests.Packet.{Packet}
-use Rattle.hooktool_line.specs.declared.requests.Packet.TheVariants as packets
+use Rattle.hooktool_line.specs.declared.requests.PacketSource.{PacketSource}
+use Rattle.hooktool_line.specs.declared.requests.PacketSource.TheVariants as packets
 use Rattle.hooktool_line.specs.declared.values.NotRead.{NotRead}
 use Rattle.hooktool_line.specs.declared.values.NotRead.TheVariants as not_read
 use denote.Ref.{Bor}
@@ -35,7 +35,7 @@ err≢ok : {X E : Type 0} (x : X) (e : E) → ◌≡◌ {A = Result X E} (Err e)
 err≢ok x e h = cc
 
 pub no_packet : (w : List ℕ) (e : FromHexError) → ((rest : List ℕ) → w ≢ 64 ∷ rest)
-    → decode_of w ≡ Err e → (packet : Packet) → IsPacket w packet → ⊥
+    → decode_of w ≡ Err e → (packet : PacketSource) → IsPacket w packet → ⊥
 no_packet w e plain bad (packets.Bytes bytes) has = err≢ok bytes.items e (sym bad ∙ has.1)
 no_packet w e plain bad (packets.File path) has = plain path.now has
 

@@ -4,14 +4,14 @@ use Rattle.clap.specs.Walk.{Row, Text, all_of, first_of}
 use Rattle.hooktool_line.specs.Lists.{HasLists}
 use Rattle.hooktool_line.specs.Questions.{HasQuestion, HasRows, HasSettings}
 use Rattle.hooktool_line.specs.Words.{IsNoPacket, IsPacket, OrElse, ReadsOrLacks}
-use Rattle.hooktool_line.specs.declared.requests.Packet.{Packet}
+use Rattle.hooktool_line.specs.declared.requests.PacketSource.{PacketSource}
 use Rattle.hooktool_line.specs.declared.settings.Setting.{Setting}
 use Rattle.hooktool_line.specs.declared.values.NotRead.{NotRead}
 use Rattle.hooktool_line.specs.declared.values.NotRead.TheVariants as not_read
 use Rattle.words.specs.declared.route.TableRow.{TableRow}
 use Rattle.std.specs.Global.{Vec}
 
-abbrev pub HasPacket : Option Text → Packet → Type 0
+abbrev pub HasPacket : Option Text → PacketSource → Type 0
 HasPacket word packet = OrElse word (IsNoPacket packet) (λ w. IsPacket w packet)
 
 -- without a packet there is no question

@@ -12,9 +12,9 @@ use Rattle.clap.specs.declared.error.kind.ErrorKind.TheVariants as kinds
 use Rattle.clap.specs.declared.parser.matches.ArgMatches.{ArgMatches}
 use Rattle.hooktool_line.specs.CommandLine.{line}
 use Rattle.hooktool_line.specs.Requests.{Asks, IsRefusal, IsTaken, IsWrongWord, Makes}
-use Rattle.hooktool_line.specs.declared.requests.Request.{Request}
+use Rattle.hooktool_line.specs.declared.requests.HooktoolRequest.{HooktoolRequest}
 
-abbrev pub Answers : List Text → Result Request Error → Type 0
+abbrev pub Answers : List Text → Result HooktoolRequest Error → Type 0
 Answers words result = MatchResult result (Asks words) (IsRefusal words)
 
 -- ---- of a command that is the line
@@ -61,7 +61,7 @@ wrong_word words m e has taken given = elim given [
 ]
 
 -- what is made of the words that were taken, or what is wrong with them
-pub read : (words : List Text) (m : ArgMatches) (r : Result Request Error)
+pub read : (words : List Text) (m : ArgMatches) (r : Result HooktoolRequest Error)
     → HasMatchesOf line words m → fault_of line words ≡ [] → IfOk r (Makes (subcommand_rows_of m))
     → IfErr r (λ e. (kind_of e ≡ kinds.OutOfMemory) ⊎ IsWrongWord (subcommand_rows_of m) e)
     → Answers words r

@@ -16,7 +16,7 @@ use Rattle.hooktool_line.specs.Questions.{HasNumber}
 use Rattle.hooktool_line.specs.Steps.{AddsLine, AreLines, IsLine, IsTakenAs, is_blank, views}
 use Rattle.hooktool_line.specs.Steps.{words_of}
 use Rattle.hooktool_line.specs.Words.{IsNumber, OrElse}
-use Rattle.hooktool_line.specs.declared.steps.Line.{Line}
+use Rattle.hooktool_line.specs.declared.steps.TestLine.{TestLine}
 
 -- ---- what the line ask takes
 
@@ -45,7 +45,7 @@ same_number rows name usual least most n m small is also =
 
 -- ---- lines
 
-one_blank : (number : ℕ) (before : List (List Text)) (words : List Text) (lines : List Line)
+one_blank : (number : ℕ) (before : List (List Text)) (words : List Text) (lines : List TestLine)
     → is_blank words ≡ true → AreLines number before lines
     → AreLines number (before ++ words ∷ []) lines
 one_blank number [] words lines blank are = inl (blank, are)
@@ -54,15 +54,15 @@ one_blank number (first ∷ others) words lines blank (inl skipped) =
 one_blank number (first ∷ others) words lines blank (inr (line, rest, is, said, more)) =
     inr (line, rest, is, said, one_blank (number + 1) others words rest blank more)
 
-one_line : (number : ℕ) (before : List (List Text)) (words : List Text) (lines : List Line)
-    (line : Line) → IsLine (number + length before) words line → AreLines number before lines
+one_line : (number : ℕ) (before : List (List Text)) (words : List Text) (lines : List TestLine)
+    (line : TestLine) → IsLine (number + length before) words line → AreLines number before lines
     → AreLines number (before ++ words ∷ []) (lines ++ line ∷ [])
 one_line number [] words lines line is are =
     let here : number + length {A = List Text} [] ≡ number = omega arith in
     inr (
       line,
       [],
-      ap (λ (xs : List Line). xs ++ line ∷ []) are,
+      ap (λ (xs : List TestLine). xs ++ line ∷ []) are,
       subst (λ n. IsLine n words line) here is,
       refl,
     )
@@ -78,19 +78,19 @@ one_line number (first ∷ others) words lines line is (inr (head, rest, are, sa
     inr (
       head,
       rest ++ line ∷ [],
-      ap (λ (xs : List Line). xs ++ line ∷ []) are,
+      ap (λ (xs : List TestLine). xs ++ line ∷ []) are,
       said,
       one_line (number + 1) others words rest line (subst (λ n. IsLine n words line) later is) more,
     )
 
-one_more : (number : ℕ) (before : List (List Text)) (words : List Text) (old new : List Line)
+one_more : (number : ℕ) (before : List (List Text)) (words : List Text) (old new : List TestLine)
     → AddsLine (number + length before) words old new → AreLines number before old
     → AreLines number (before ++ words ∷ []) new
 one_more number before words old new (inl (blank, same)) are =
-    subst (λ (xs : List Line). AreLines number (before ++ words ∷ []) xs) (sym same)
+    subst (λ (xs : List TestLine). AreLines number (before ++ words ∷ []) xs) (sym same)
     (one_blank number before words old blank are)
 one_more number before words old new (inr (line, is, added)) are =
-    subst (λ (xs : List Line). AreLines number (before ++ words ∷ []) xs) (sym added)
+    subst (λ (xs : List TestLine). AreLines number (before ++ words ∷ []) xs) (sym added)
     (one_line number before words old line is are)
 
 words_append : (lines : List (Vec (Bor Text))) (line : Vec (Bor Text))
@@ -104,8 +104,8 @@ words_length : (lines : List (Vec (Bor Text))) (i : ℕ) → i ≤ length lines
 words_length lines i le = length-map (take i lines) (λ (line : Vec (Bor Text)). views line.items)
     ∙ length-take-le i lines le
 
-pub lines_more : (lines : List (Vec (Bor Text))) (i : ℕ) (d : Vec (Bor Text)) (old new : List Line)
-    → i < length lines → AreLines 1 (words_of (take i lines)) old
+pub lines_more : (lines : List (Vec (Bor Text))) (i : ℕ) (d : Vec (Bor Text))
+    (old new : List TestLine) → i < length lines → AreLines 1 (words_of (take i lines)) old
     → AddsLine (i + 1) (views (get_or lines i d).items) old new
     → AreLines 1 (words_of (take (i + 1) lines)) new
 lines_more lines i d old new lt are adds =
@@ -117,7 +117,7 @@ lines_more lines i d old new lt are adds =
     (sym (ap words_of (take_more lines i d lt)
     ∙ words_append (take i lines) (get_or lines i d))) more
 
-pub lines_all : (lines : List (Vec (Bor Text))) (i : ℕ) (read : List Line) → length lines ≤ i
+pub lines_all : (lines : List (Vec (Bor Text))) (i : ℕ) (read : List TestLine) → length lines ≤ i
     → AreLines 1 (words_of (take i lines)) read → AreLines 1 (words_of lines) read
 lines_all lines i read le are = subst
     (λ (xs : List (Vec (Bor Text))). AreLines 1 (words_of xs) read) (take_all i lines le) are

@@ -14,13 +14,13 @@ use Rattle.hooktool_line.specs.CommandLine.{line}
 use Rattle.hooktool_line.specs.Questions.{HasQuestion}
 use Rattle.hooktool_line.specs.Words.{IsNumber, OrElse}
 use Rattle.hooktool_line.specs.declared.requests.FuelAsked.{FuelAsked}
-use Rattle.hooktool_line.specs.declared.requests.Request.{Request}
-use Rattle.hooktool_line.specs.declared.requests.Request.TheVariants as requests
+use Rattle.hooktool_line.specs.declared.requests.HooktoolRequest.{HooktoolRequest}
+use Rattle.hooktool_line.specs.declared.requests.HooktoolRequest.TheVariants as requests
 use Rattle.hooktool_line.specs.declared.values.NotRead.{NotRead}
 use Rattle.hooktool_line.specs.declared.values.NotRead.TheVariants as not_read
 
 -- the command that makes the request
-abbrev pub command_of : Request → Text
+abbrev pub command_of : HooktoolRequest → Text
 command_of (requests.Annotate hook code object fuel) = codes "annotate"
 command_of (requests.Build file folder hook fuel) = codes "build"
 command_of (requests.Explain object) = codes "explain"
@@ -61,7 +61,7 @@ abbrev pub HasHook : List Row → Option Hook → Type 0
 HasHook rows hook = OrElse (first_of (codes "hook") rows) (hook ≡ None) (λ word. IsHook word hook)
 
 -- The words of the request's command are those of the request.
-abbrev pub HasWordsOf : List Row → Request → Type 0
+abbrev pub HasWordsOf : List Row → HooktoolRequest → Type 0
 HasWordsOf rows (requests.Annotate hook code object fuel) =
     HasWord rows (codes "HOOK") (hook_name hook) × HasWord rows (codes "CODE") code.now
     × HasWord rows (codes "OBJECT") object.now × HasFuel rows fuel
@@ -74,13 +74,13 @@ HasWordsOf rows (requests.Try object question) =
 HasWordsOf rows (requests.Test file) = HasWord rows (codes "FILE") file.now
 
 -- what the command of this name makes of its words, if it makes a request of them
-abbrev pub MadeBy : Text → List Row → Option Request → Type 0
+abbrev pub MadeBy : Text → List Row → Option HooktoolRequest → Type 0
 MadeBy name rows (Some request) = (command_of request ≡ name) × HasWordsOf rows request
-MadeBy name rows None = (request : Request) → command_of request ≡ name → HasWordsOf rows request
-    → ⊥
+MadeBy name rows None = (request : HooktoolRequest) → command_of request ≡ name
+    → HasWordsOf rows request → ⊥
 
 -- The same, where nothing may be made for want of memory too.
-abbrev pub IsMade : Text → List Row → Result Request NotRead → Type 0
+abbrev pub IsMade : Text → List Row → Result HooktoolRequest NotRead → Type 0
 IsMade name rows (Ok request) = MadeBy name rows (Some request)
 IsMade name rows (Err not_read.Meaningless) = MadeBy name rows None
 IsMade name rows (Err not_read.OutOfMemory) = Unit {0}
@@ -91,12 +91,12 @@ IsWrong name rows error = (kind_of error ≡ kinds.OutOfMemory)
     ⊎ ((kind_of error ≡ kinds.InvalidValue) × MadeBy name rows None)
 
 -- A command that was named, with its words, makes the request.
-abbrev pub Makes : Option (Text × List Row) → Request → Type 0
+abbrev pub Makes : Option (Text × List Row) → HooktoolRequest → Type 0
 Makes named request = (rows : List Row) × (named ≡ Some (command_of request, rows))
     × HasWordsOf rows request
 
 abbrev pub MakesNone : Option (Text × List Row) → Type 0
-MakesNone named = (request : Request) → Makes named request → ⊥
+MakesNone named = (request : HooktoolRequest) → Makes named request → ⊥
 
 -- The command line takes the words, and finds this in them.
 abbrev pub IsTaken : List Text → ArgMatches → Type 0
@@ -104,7 +104,7 @@ IsTaken words matches = (fault_of line words ≡ []) × HasMatchesOf line words 
 
 -- The command line takes the words, and the command that they name makes the request of the words
 -- under its names.
-abbrev pub Asks : List Text → Request → Type 0
+abbrev pub Asks : List Text → HooktoolRequest → Type 0
 Asks words request = (fault_of line words ≡ []) × Makes (subcommand_of line words) request
 
 -- What is wrong with words that the command line takes: that no command is named, or a value where

@@ -12,9 +12,9 @@ use Rattle.clap.specs.declared.parser.matches.ArgMatches.{ArgMatches}
 use Rattle.hooktool_line.specs.CommandLine.{ask}
 use Rattle.hooktool_line.specs.Questions.{HasQuestion}
 use Rattle.hooktool_line.specs.declared.requests.Question.{Question}
-use Rattle.hooktool_line.specs.declared.steps.Answer.{Answer}
-use Rattle.hooktool_line.specs.declared.steps.Answer.TheVariants as answers
-use Rattle.hooktool_line.specs.declared.steps.Line.{Line}
+use Rattle.hooktool_line.specs.declared.steps.ExpectedAnswer.{ExpectedAnswer}
+use Rattle.hooktool_line.specs.declared.steps.ExpectedAnswer.TheVariants as answers
+use Rattle.hooktool_line.specs.declared.steps.TestLine.{TestLine}
 use Rattle.hooktool_line.specs.declared.steps.Step.{Step}
 use Rattle.hooktool_line.specs.declared.steps.Step.TheVariants as steps
 
@@ -32,7 +32,7 @@ IsTakenAs app words matches =
     (fault_of app words ≡ []) × (rows_of (found_of matches) ≡ matches_of app words)
 
 -- The words are what try prints of the answer.
-abbrev pub SaysAnswer : List Text → Answer → Type 0
+abbrev pub SaysAnswer : List Text → ExpectedAnswer → Type 0
 SaysAnswer words (answers.Number n) = (words ≡ codes "answer" ∷ decimal n ∷ []) × (n < 2 ^ 64)
 SaysAnswer words (answers.Metric n) =
     (words ≡ codes "metric" ∷ decimal n ∷ []) × (n ≤ 16777214)
@@ -76,21 +76,21 @@ is_blank [] = true
 is_blank (first ∷ others) = is_mark first
 
 -- The line of this number and these words says its step.
-pub record IsLine (number : ℕ) (words : List Text) (line : Line) : Type 0 where
+pub record IsLine (number : ℕ) (words : List Text) (line : TestLine) : Type 0 where
   pub filled : is_blank words ≡ false
   pub number_is : line.number ≡ number
   pub words_are : views line.words.now ≡ words
   pub step : Says words line.step
 
 -- The line is added that the words say, if they aren't blank.
-abbrev pub AddsLine : (number : ℕ) → List Text → List Line → List Line → Type 0
+abbrev pub AddsLine : (number : ℕ) → List Text → List TestLine → List TestLine → Type 0
 AddsLine number words old new = ((is_blank words ≡ true) × (new ≡ old))
-    ⊎ ((line : Line) × IsLine number words line × (new ≡ old ++ line ∷ []))
+    ⊎ ((line : TestLine) × IsLine number words line × (new ≡ old ++ line ∷ []))
 
 -- The lines are those of a text that aren't blank, in their order, by their numbers from this on.
-abbrev pub AreLines : (number : ℕ) → List (List Text) → List Line → Type 0
+abbrev pub AreLines : (number : ℕ) → List (List Text) → List TestLine → Type 0
 AreLines number [] lines = lines ≡ []
 AreLines number (words ∷ others) lines =
     ((is_blank words ≡ true) × AreLines (number + 1) others lines)
-    ⊎ ((first : Line) × (rest : List Line) × (lines ≡ first ∷ rest) × IsLine number words first
-    × AreLines (number + 1) others rest)
+    ⊎ ((first : TestLine) × (rest : List TestLine) × (lines ≡ first ∷ rest)
+    × IsLine number words first × AreLines (number + 1) others rest)

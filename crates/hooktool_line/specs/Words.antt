@@ -11,10 +11,10 @@ use Rattle.words.specs.declared.route.ExternalType.TheVariants.{Type1, Type2}
 use Rattle.words.specs.declared.route.RouteKind.{RouteKind}
 use Rattle.words.specs.declared.route.RouteKind.TheVariants.{Intra, Inter, External1, External2}
 use Rattle.words.specs.declared.route.TableRow.{TableRow}
-use Rattle.hooktool_line.specs.declared.requests.Packet.{Packet}
+use Rattle.hooktool_line.specs.declared.requests.PacketSource.{PacketSource}
 use Rattle.hooktool_line.specs.declared.values.NotRead.{NotRead}
 use Rattle.hooktool_line.specs.declared.values.NotRead.TheVariants as not_read
-use Rattle.hooktool_line.specs.declared.requests.Packet.TheVariants as packets
+use Rattle.hooktool_line.specs.declared.requests.PacketSource.TheVariants as packets
 use Rattle.hooktool_line.specs.declared.settings.Setting.{Setting}
 
 -- What is read has this meaning; where nothing is, nothing has it.
@@ -79,12 +79,12 @@ abbrev pub AreSettings : (places most : ℕ) → List Text → List Setting → 
 AreSettings places most = Each (IsSetting places most)
 
 -- no packet
-abbrev pub IsNoPacket : Packet → Type 0
+abbrev pub IsNoPacket : PacketSource → Type 0
 IsNoPacket (packets.Bytes bytes) = bytes.items ≡ []
 IsNoPacket (packets.File path) = ⊥
 
 -- the bytes of a file, which is named behind an at sign (64), or bytes in hex
-abbrev pub IsPacket : Text → Packet → Type 0
+abbrev pub IsPacket : Text → PacketSource → Type 0
 IsPacket word (packets.Bytes bytes) =
     ((rest : Text) → word ≢ 64 ∷ rest) × (decode_of word ≡ Ok bytes.items)
 IsPacket word (packets.File path) = word ≡ 64 ∷ path.now

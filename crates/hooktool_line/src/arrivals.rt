@@ -2,7 +2,7 @@
 ghost use Rattle.std.specs.Prelude.{◌≡◌, []};
 
 use crate::asked::Asked;
-use crate::requests::{Packet, Question};
+use crate::requests::{PacketSource, Question};
 use std::alloc::Global;
 use words::{Address, ExternalType, Hops, Prefix, RouteKind, Second};
 
@@ -33,7 +33,7 @@ pub fn packet_question<'a>(alloc: Global, interface: u16, moment: Second) -> Que
     };
     Question {
         asked,
-        packet: Packet::Bytes(Vec::new(alloc)),
+        packet: PacketSource::Bytes(Vec::new(alloc)),
         rows: Vec::new(alloc),
         counters: Vec::new(alloc),
         cells: Vec::new(alloc),

@@ -18,6 +18,6 @@ mod values;
 pub use arrivals::packet_question;
 pub use asked::{Asked, context_of};
 pub use reading::{parse, unread};
-pub use requests::{FuelAsked, Packet, Question, Request};
+pub use requests::{FuelAsked, HooktoolRequest, PacketSource, Question};
 pub use settings::Setting;
-pub use steps::{Answer, Line, LineError, Step, WrongLine, read_lines, words_of_lines};
+pub use steps::{ExpectedAnswer, LineError, Step, TestLine, WrongLine, read_lines, words_of_lines};

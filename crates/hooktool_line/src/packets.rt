@@ -4,7 +4,7 @@ ghost use Rattle.std.specs.Prelude.{◌≡◌, ◌≢◌, option_map};
 ghost use Rattle.hex.specs.declared.error.FromHexError.TheVariants.{OutOfMemory};
 ghost use Rattle.hooktool_line.specs.Words.{IsNoPacket, IsPacket, OrElse, ReadsOrLacks};
 
-use crate::requests::Packet;
+use crate::requests::PacketSource;
 use crate::values::NotRead;
 use hex::FromHexError;
 use std::alloc::Global;
@@ -20,25 +20,28 @@ fn without_packet(error: FromHexError) -> NotRead
 }
 
 /// The packet that a word is: a file's, or bytes in hex.
-fn packet_of<'a>(alloc: Global, word: &'a str) -> Result<Packet<'a>, NotRead>
+fn packet_of<'a>(alloc: Global, word: &'a str) -> Result<PacketSource<'a>, NotRead>
     ensures { ReadsOrLacks (IsPacket word.entry.now) result }
 {
     if let Some(path) = word.strip_prefix('@') {
-        return Ok(Packet::File(path));
+        return Ok(PacketSource::File(path));
     }
     match hex::decode(alloc, word) {
-        Ok(bytes) => Ok(Packet::Bytes(bytes)),
+        Ok(bytes) => Ok(PacketSource::Bytes(bytes)),
         Err(error) => Err(without_packet(error)),
     }
 }
 
 /// The same of an option's word, if it is given.
-pub(crate) fn packet_in<'a>(alloc: Global, word: Option<&'a str>) -> Result<Packet<'a>, NotRead>
+pub(crate) fn packet_in<'a>(
+    alloc: Global,
+    word: Option<&'a str>,
+) -> Result<PacketSource<'a>, NotRead>
     ensures { ReadsOrLacks (λ packet. OrElse (option_map (λ w. w.now) word.entry)
         (IsNoPacket packet) (λ w. IsPacket w packet)) result }
 {
     match word {
         Some(word) => packet_of(alloc, word),
-        None => Ok(Packet::Bytes(Vec::new(alloc))),
+        None => Ok(PacketSource::Bytes(Vec::new(alloc))),
     }
 }

@@ -6,7 +6,7 @@ ghost use Rattle.clap.specs.Values.{kind_of};
 ghost use Rattle.hooktool_line.specs.Requests.{Asks, IsRefusal, IsTaken};
 
 use crate::arguments;
-use crate::requests::{self, Request};
+use crate::requests::{self, HooktoolRequest};
 use clap::error::ErrorKind;
 use clap::{ArgMatches, Error};
 use std::alloc::{AllocError, Global};
@@ -41,7 +41,7 @@ fn matches_of<'a>(alloc: Global, words: &'a [&'a str]) -> Result<ArgMatches<'a>,
 /// `Ok` is just what the words ask for. `Err` has the text for the user: a mistake in the words,
 /// where they ask for nothing, or the help that they ask for; its kind is `OutOfMemory` where an
 /// allocation was refused.
-pub fn parse<'a>(alloc: Global, words: &'a [&'a str]) -> Result<Request<'a>, Error>
+pub fn parse<'a>(alloc: Global, words: &'a [&'a str]) -> Result<HooktoolRequest<'a>, Error>
     ensures { MatchResult result (Asks (map (λ w. w.now) words.entry.now))
         (IsRefusal (map (λ w. w.now) words.entry.now)) }
 {

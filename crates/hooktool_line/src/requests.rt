@@ -29,7 +29,7 @@ use words::{Hops, Second, TableRow};
 
 /// The packet of a question: its bytes, or the path of the file that has them.
 #[derive(Drop)]
-pub enum Packet<'a> {
+pub enum PacketSource<'a> {
     Bytes(Vec<u8>),
     File(&'a str),
 }
@@ -39,7 +39,7 @@ pub enum Packet<'a> {
 #[derive(Drop)]
 pub struct Question<'a> {
     pub asked: Asked,
-    pub packet: Packet<'a>,
+    pub packet: PacketSource<'a>,
     pub rows: Vec<TableRow>,
     pub counters: Vec<Setting>,
     pub cells: Vec<Setting>,
@@ -64,7 +64,7 @@ pub struct FuelAsked {
 
 /// What the words of a command line ask for.
 #[derive(Drop)]
-pub enum Request<'a> {
+pub enum HooktoolRequest<'a> {
     /// Find statements for code at a hook, and write the object.
     Annotate {
         hook: Hook,
@@ -250,7 +250,7 @@ fn fuel_of(matches: &ArgMatches<'_>) -> Option<FuelAsked>
     }
 }
 
-fn annotate_request<'a>(matches: &ArgMatches<'a>) -> Result<Request<'a>, NotRead>
+fn annotate_request<'a>(matches: &ArgMatches<'a>) -> Result<HooktoolRequest<'a>, NotRead>
     ensures { IsMade (codes "annotate") (rows_of (found_of matches.now)) result }
 {
     let Some(hook) = word_of(matches, "HOOK") else {
@@ -266,7 +266,7 @@ fn annotate_request<'a>(matches: &ArgMatches<'a>) -> Result<Request<'a>, NotRead
         return Err(NotRead::Meaningless);
     };
     match fuel_of(matches) {
-        Some(fuel) => Ok(Request::Annotate {
+        Some(fuel) => Ok(HooktoolRequest::Annotate {
             hook,
             code,
             object,
@@ -296,7 +296,7 @@ fn hook_of(matches: &ArgMatches<'_>) -> Option<Option<Hook>>
     }
 }
 
-fn build_request<'a>(matches: &ArgMatches<'a>) -> Result<Request<'a>, NotRead>
+fn build_request<'a>(matches: &ArgMatches<'a>) -> Result<HooktoolRequest<'a>, NotRead>
     ensures { IsMade (codes "build") (rows_of (found_of matches.now)) result }
 {
     let Some(file) = word_of(matches, "FILE") else {
@@ -309,7 +309,7 @@ fn build_request<'a>(matches: &ArgMatches<'a>) -> Result<Request<'a>, NotRead>
         return Err(NotRead::Meaningless);
     };
     match fuel_of(matches) {
-        Some(fuel) => Ok(Request::Build {
+        Some(fuel) => Ok(HooktoolRequest::Build {
             file,
             folder,
             hook,
@@ -319,38 +319,42 @@ fn build_request<'a>(matches: &ArgMatches<'a>) -> Result<Request<'a>, NotRead>
     }
 }
 
-fn explain_request<'a>(matches: &ArgMatches<'a>) -> Result<Request<'a>, NotRead>
+fn explain_request<'a>(matches: &ArgMatches<'a>) -> Result<HooktoolRequest<'a>, NotRead>
     ensures { IsMade (codes "explain") (rows_of (found_of matches.now)) result }
 {
     match word_of(matches, "OBJECT") {
-        Some(object) => Ok(Request::Explain { object }),
+        Some(object) => Ok(HooktoolRequest::Explain { object }),
         None => Err(NotRead::Meaningless),
     }
 }
 
-fn try_request<'a>(alloc: Global, matches: &ArgMatches<'a>) -> Result<Request<'a>, NotRead>
+fn try_request<'a>(alloc: Global, matches: &ArgMatches<'a>) -> Result<HooktoolRequest<'a>, NotRead>
     ensures { IsMade (codes "try") (rows_of (found_of matches.now)) result }
 {
     let Some(object) = word_of(matches, "OBJECT") else {
         return Err(NotRead::Meaningless);
     };
     match question_of(alloc, matches) {
-        Ok(question) => Ok(Request::Try { object, question }),
+        Ok(question) => Ok(HooktoolRequest::Try { object, question }),
         Err(lack) => Err(lack),
     }
 }
 
-fn test_request<'a>(matches: &ArgMatches<'a>) -> Result<Request<'a>, NotRead>
+fn test_request<'a>(matches: &ArgMatches<'a>) -> Result<HooktoolRequest<'a>, NotRead>
     ensures { IsMade (codes "test") (rows_of (found_of matches.now)) result }
 {
     match word_of(matches, "FILE") {
-        Some(file) => Ok(Request::Test { file }),
+        Some(file) => Ok(HooktoolRequest::Test { file }),
         None => Err(NotRead::Meaningless),
     }
 }
 
 // What a command makes of its words. It makes nothing where there is no such command.
-fn made_by<'a>(alloc: Global, name: &str, matches: &ArgMatches<'a>) -> Result<Request<'a>, NotRead>
+fn made_by<'a>(
+    alloc: Global,
+    name: &str,
+    matches: &ArgMatches<'a>,
+) -> Result<HooktoolRequest<'a>, NotRead>
     ensures { IsMade name.now (rows_of (found_of matches.now)) result }
 {
     match name {
@@ -406,7 +410,11 @@ fn wrong_word(name: &str, matches: &ArgMatches<'_>) -> &'static str {
 }
 
 // The request that a command makes of its words. A wrong value where it makes none.
-fn request_by<'a>(alloc: Global, name: &str, matches: &ArgMatches<'a>) -> Result<Request<'a>, Error>
+fn request_by<'a>(
+    alloc: Global,
+    name: &str,
+    matches: &ArgMatches<'a>,
+) -> Result<HooktoolRequest<'a>, Error>
     ensures ok { IfOk result (λ request. MadeBy name.now (rows_of (found_of matches.now))
         (Some request)) }
     ensures err { IfErr result (IsWrong name.now (rows_of (found_of matches.now))) }
@@ -419,7 +427,10 @@ fn request_by<'a>(alloc: Global, name: &str, matches: &ArgMatches<'a>) -> Result
 }
 
 /// What the command that the words name makes of its words.
-pub(crate) fn request_of<'a>(alloc: Global, matches: &ArgMatches<'a>) -> Result<Request<'a>, Error>
+pub(crate) fn request_of<'a>(
+    alloc: Global,
+    matches: &ArgMatches<'a>,
+) -> Result<HooktoolRequest<'a>, Error>
     ensures ok { IfOk result (Makes (subcommand_rows_of matches.now)) }
     ensures err { IfErr result (λ e. (kind_of e ≡ kinds.OutOfMemory)
         ⊎ IsWrongWord (subcommand_rows_of matches.now) e) }

@@ -19,7 +19,7 @@ use std::alloc::{AllocError, Global};
 
 /// An answer as a hook means it.
 #[derive(Clone, Copy)]
-pub enum Answer {
+pub enum ExpectedAnswer {
     /// `answer N`: the number, at any hook.
     Number(u64),
     /// `metric N`
@@ -41,7 +41,7 @@ pub enum Step<'a> {
     /// `packets CAPTURE interface I`: each OSPF packet of the capture comes in there.
     Packets { path: &'a str, interface: u16 },
     /// The last run is to have answered this.
-    Answers(Answer),
+    Answers(ExpectedAnswer),
     /// `counter K N`: this is to be in the counter.
     Counter { index: u8, number: u64 },
     /// `cell J N`: this is to be in the cell.
@@ -50,7 +50,7 @@ pub enum Step<'a> {
 
 /// A line of a test, by its number, from 1 on, and its words.
 #[derive(Drop)]
-pub struct Line<'a> {
+pub struct TestLine<'a> {
     pub number: u64,
     pub words: &'a [&'a str],
     pub step: Step<'a>,
@@ -71,20 +71,20 @@ const KNOWN: &str = "a line is empty, a comment behind #, program OBJECT, ask OP
     N, installed, not installed, answer N, counter K N (K up to 255), cell J N (J up to 63)";
 
 /// What a name and a number say that is answered.
-fn answer_of(name: &str, number: &str) -> Option<Answer>
+fn answer_of(name: &str, number: &str) -> Option<ExpectedAnswer>
     ensures { IfSome result (SaysAnswer (name.now ∷ number.now ∷ [])) }
 {
     match name {
         "metric" => match read_within(number, 0, 16_777_214) {
-            Some(number) => Some(Answer::Metric(number as u32)),
+            Some(number) => Some(ExpectedAnswer::Metric(number as u32)),
             None => None,
         },
         "tag" => match read_within(number, 0, 4_294_967_295) {
-            Some(number) => Some(Answer::Tag(number as u32)),
+            Some(number) => Some(ExpectedAnswer::Tag(number as u32)),
             None => None,
         },
         "answer" => match read_within(number, 0, u64::MAX) {
-            Some(number) => Some(Answer::Number(number)),
+            Some(number) => Some(ExpectedAnswer::Number(number)),
             None => None,
         },
         _ => None,
@@ -96,8 +96,8 @@ fn of_one<'a>(name: &'a str) -> Option<Step<'a>>
     ensures { IfSome result (Says (name.entry.now ∷ [])) }
 {
     match name {
-        "withheld" => Some(Step::Answers(Answer::Withheld)),
-        "installed" => Some(Step::Answers(Answer::Installed)),
+        "withheld" => Some(Step::Answers(ExpectedAnswer::Withheld)),
+        "installed" => Some(Step::Answers(ExpectedAnswer::Installed)),
         _ => None,
     }
 }
@@ -109,7 +109,7 @@ fn of_two<'a>(name: &'a str, word: &'a str) -> Option<Step<'a>>
     match name {
         "program" => Some(Step::Program(word)),
         "not" => match word {
-            "installed" => Some(Step::Answers(Answer::NotInstalled)),
+            "installed" => Some(Step::Answers(ExpectedAnswer::NotInstalled)),
             _ => None,
         },
         _ => match answer_of(name, word) {
@@ -292,7 +292,7 @@ pub fn words_of_lines<'a>(alloc: Global, text: &'a str) -> Result<Vec<Vec<&'a st
 /// Adds the line of this number that the words say, if they aren't blank.
 fn push_line<'a>(
     alloc: Global,
-    read: &mut Vec<Line<'a>>,
+    read: &mut Vec<TestLine<'a>>,
     number: u64,
     words: &'a [&'a str],
 ) -> Result<(), WrongLine>
@@ -305,7 +305,7 @@ fn push_line<'a>(
         Ok(step) => step,
         Err(error) => return Err(WrongLine { number, error }),
     };
-    let line = Line {
+    let line = TestLine {
         number,
         words,
         step,
@@ -324,7 +324,7 @@ fn push_line<'a>(
 pub fn read_lines<'w, 't>(
     alloc: Global,
     lines: &'w [Vec<&'t str>],
-) -> Result<Vec<Line<'w>>, WrongLine>
+) -> Result<Vec<TestLine<'w>>, WrongLine>
     ensures { IfOk result (λ read. AreLines 1 (words_of lines.entry.now) read.items) }
 {
     let mut read = Vec::new(alloc);

@@ -3,10 +3,10 @@ use Rattle.std.proofs.Common.{◌≡◌, ℕ, List, [], ◌∷◌, ◌++◌, ref
 use Rattle.machine.specs.Given.{Given}
 use Rattle.maps.specs.Words.{SeatView}
 use Rattle.object_trials.specs.Runs.{RunsInARow, RunsOnce}
-use Rattle.object_trials.specs.declared.runs.Ending.{Ending}
+use Rattle.object_trials.specs.declared.runs.RunEnding.{RunEnding}
 
-pub one_more : (bytes : List ℕ) (input : Given) (seat next last : SeatView) (endings : List Ending)
-    (ending : Ending) → RunsInARow bytes input seat endings next
+pub one_more : (bytes : List ℕ) (input : Given) (seat next last : SeatView)
+    (endings : List RunEnding) (ending : RunEnding) → RunsInARow bytes input seat endings next
     → RunsOnce bytes input next ending last
     → RunsInARow bytes input seat (endings ++ ending ∷ []) last
 one_more bytes input seat next last [] ending same once =

@@ -6,16 +6,16 @@ use Rattle.interp.specs.Outcome.{trap_number}
 use Rattle.interp.specs.Run.{Run}
 use Rattle.interp.specs.declared.trap.Trap.{Trap}
 use Rattle.std.specs.Prelude.{Result}
-use Rattle.hooktool_line.specs.declared.steps.Answer.{Answer}
-use Rattle.hooktool_line.specs.declared.steps.Answer.TheVariants as answers
-use Rattle.object_trials.specs.declared.runs.Ending.{Ending}
+use Rattle.hooktool_line.specs.declared.steps.ExpectedAnswer.{ExpectedAnswer}
+use Rattle.hooktool_line.specs.declared.steps.ExpectedAnswer.TheVariants as answers
+use Rattle.object_trials.specs.declared.runs.RunEnding.{RunEnding}
 use Rattle.object_trials.specs.declared.stage.Last.{Last}
 use Rattle.object_trials.specs.declared.stage.Last.TheVariants as lasts
 
 -- The number that a program answered at its hook is what was expected: a metric below LSInfinity,
 -- 16777215, or that a destination is withheld, by any from there on; a tag, by its low 32 bits;
 -- that a route is installed, by 0, or isn't, by any other.
-abbrev pub is_met : Answer → Hook → (answer : ℕ) → Bool
+abbrev pub is_met : ExpectedAnswer → Hook → (answer : ℕ) → Bool
 is_met (answers.Number n) hook answer = answer == n
 is_met (answers.Metric n) hooks.Price answer = answer == n
 is_met (answers.Metric n) _ answer = false
@@ -28,7 +28,7 @@ is_met answers.Installed _ answer = false
 is_met answers.NotInstalled hooks.Veto answer = not (answer == 0)
 is_met answers.NotInstalled _ answer = false
 
-abbrev pub meets : Answer → Last → Bool
+abbrev pub meets : ExpectedAnswer → Last → Bool
 meets expected (lasts.Answered hook answer) = is_met expected hook answer
 meets expected lasts.Nothing = false
 meets expected (lasts.Stuck trap slot) = false
@@ -38,5 +38,5 @@ abbrev pub last_by : Hook → Result Run Trap → (slot : ℕ) → Last
 last_by hook (Ok run) slot = lasts.Answered hook run.answer
 last_by hook (Err trap) slot = lasts.Stuck (trap_number trap) slot
 
-abbrev pub last_of : Hook → Ending → Last
+abbrev pub last_of : Hook → RunEnding → Last
 last_of hook ending = last_by hook ending.outcome ending.slot

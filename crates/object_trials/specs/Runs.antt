@@ -13,13 +13,13 @@ use Rattle.hooktool_line.specs.declared.requests.Question.{Question}
 use Rattle.object_trials.specs.Settings.{IsSetUp}
 use Rattle.object_trials.specs.declared.error.TrialError.{TrialError}
 use Rattle.object_trials.specs.declared.error.TrialError.TheVariants as errors
-use Rattle.object_trials.specs.declared.runs.Ending.{Ending}
-use Rattle.object_trials.specs.declared.trial.Trial.{Trial}
+use Rattle.object_trials.specs.declared.runs.RunEnding.{RunEnding}
+use Rattle.object_trials.specs.declared.trial.ObjectTrial.{ObjectTrial}
 
 -- The seat ran the program of the object file that the bytes are once on the input, with this end,
 -- for as many instructions as its object allows; and the slot and the registers are those where the
 -- machine then stood.
-pub record RunsOnce (bytes : List ℕ) (input : Given) (seat : SeatView) (ending : Ending)
+pub record RunsOnce (bytes : List ℕ) (input : Given) (seat : SeatView) (ending : RunEnding)
     (next : SeatView) : Type 0 where
   pub runs : RunsObject bytes Own input seat ending.outcome next
   pub state : State
@@ -28,7 +28,7 @@ pub record RunsOnce (bytes : List ℕ) (input : Given) (seat : SeatView) (ending
   pub registers : ending.registers ≡ state.registers
 
 -- and so several times, one after the other
-abbrev pub RunsInARow : List ℕ → Given → SeatView → List Ending → SeatView → Type 0
+abbrev pub RunsInARow : List ℕ → Given → SeatView → List RunEnding → SeatView → Type 0
 RunsInARow bytes input seat [] last = seat ≡ last
 RunsInARow bytes input seat (ending ∷ rest) last =
     (next : SeatView) × RunsOnce bytes input seat ending next
@@ -37,7 +37,7 @@ RunsInARow bytes input seat (ending ∷ rest) last =
 -- A seat ran the program on the question, as its object's hook is asked it, with this packet: after
 -- the counters and cells were set that it names, and as many times as it says.
 pub record IsAsked (bytes packet : List ℕ) (question : Question) (old : SeatView)
-    (endings : List Ending) (new : SeatView) : Type 0 where
+    (endings : List RunEnding) (new : SeatView) : Type 0 where
   pub object : ObjectParts
   pub spells : Spells bytes object
   pub input : Given
@@ -51,7 +51,8 @@ pub record IsAsked (bytes packet : List ℕ) (question : Question) (old : SeatVi
 
 -- A seat of a new table, that had done nothing, was asked. The counters have what it added, and the
 -- cells what it last stored there.
-pub record IsTrial (bytes packet : List ℕ) (question : Question) (trial : Trial) : Type 0 where
+pub record IsTrial (bytes packet : List ℕ) (question : Question) (trial : ObjectTrial)
+    : Type 0 where
   pub seat : SeatView
   pub unused : seat ≡ fresh seat.table 0
   pub seat_after : SeatView

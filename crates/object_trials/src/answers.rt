@@ -4,37 +4,37 @@ ghost use Rattle.std.specs.List.{list_any};
 ghost use Rattle.std.specs.Prelude.{is_err};
 ghost use Rattle.object_trials.specs.Answers.{is_met, last_of, meets};
 
-use crate::runs::Ending;
+use crate::runs::RunEnding;
 use crate::stage::Last;
-use hooktool_line::Answer;
+use hooktool_line::ExpectedAnswer;
 use isa::Hook;
 
 // LSInfinity (RFC 2328, appendix B), from which on a destination is withheld.
 const LS_INFINITY: u64 = 16_777_215;
 
 /// Tells whether the number that a program answered at its hook is what was expected.
-fn is_met(expected: Answer, hook: Hook, answer: u64) -> bool
+fn is_met(expected: ExpectedAnswer, hook: Hook, answer: u64) -> bool
     ensures { result ≡ is_met expected hook answer }
 {
     match expected {
-        Answer::Number(number) => answer == number,
-        Answer::Metric(metric) => match hook {
+        ExpectedAnswer::Number(number) => answer == number,
+        ExpectedAnswer::Metric(metric) => match hook {
             Hook::Price => answer == u64::from(metric),
             _ => false,
         },
-        Answer::Withheld => match hook {
+        ExpectedAnswer::Withheld => match hook {
             Hook::Price => answer >= LS_INFINITY,
             _ => false,
         },
-        Answer::Tag(tag) => match hook {
+        ExpectedAnswer::Tag(tag) => match hook {
             Hook::Tag => answer % 0x1_0000_0000 == u64::from(tag),
             _ => false,
         },
-        Answer::Installed => match hook {
+        ExpectedAnswer::Installed => match hook {
             Hook::Veto => answer == 0,
             _ => false,
         },
-        Answer::NotInstalled => match hook {
+        ExpectedAnswer::NotInstalled => match hook {
             Hook::Veto => answer != 0,
             _ => false,
         },
@@ -42,7 +42,7 @@ fn is_met(expected: Answer, hook: Hook, answer: u64) -> bool
 }
 
 /// Tells whether the last run answered what was expected.
-pub(crate) fn meets(expected: Answer, last: Last) -> bool
+pub(crate) fn meets(expected: ExpectedAnswer, last: Last) -> bool
     ensures { result ≡ meets expected last }
 {
     match last {
@@ -52,7 +52,7 @@ pub(crate) fn meets(expected: Answer, last: Last) -> bool
 }
 
 /// How a run ended.
-fn last_of(hook: Hook, ending: &Ending) -> Last
+fn last_of(hook: Hook, ending: &RunEnding) -> Last
     ensures { result ≡ last_of hook ending.now }
 {
     match ending.outcome {
@@ -68,14 +68,14 @@ fn last_of(hook: Hook, ending: &Ending) -> Last
 }
 
 /// Tells whether one of these runs gave no answer.
-pub fn is_any_stuck(endings: &[Ending]) -> bool
+pub fn is_any_stuck(endings: &[RunEnding]) -> bool
     ensures { result ≡ list_any (λ ending. is_err ending.outcome) endings.now }
 {
     endings.iter().any(|ending| ending.outcome.is_err())
 }
 
 /// How the last of these runs ended.
-pub(crate) fn last_among(hook: Hook, endings: &[Ending]) -> Last {
+pub(crate) fn last_among(hook: Hook, endings: &[RunEnding]) -> Last {
     match endings.last() {
         Some(ending) => last_of(hook, ending),
         None => Last::Nothing,

@@ -4,7 +4,7 @@ ghost use Rattle.maps.specs.Words.{IsOf};
 ghost use Rattle.object_trials.specs.Runs.{IsAsked, IsRefusal};
 
 use crate::error::TrialError;
-use crate::runs::{Ending, run_in_a_row};
+use crate::runs::{RunEnding, run_in_a_row};
 use crate::settings::set_up;
 use hooktool_line::{Question, context_of};
 use isa::Hook;
@@ -29,7 +29,7 @@ pub(crate) fn ask(
     question: &Question<'_>,
     shared: &Shared,
     seat: &mut Seat,
-) -> Result<Vec<Ending>, TrialError>
+) -> Result<Vec<RunEnding>, TrialError>
     requires { IsOf shared.now seat.old }
     ensures asked { IfOk result (λ endings. IsAsked bytes.now packet.now question.now seat.old
         endings.items seat.new) }

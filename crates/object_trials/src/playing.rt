@@ -8,10 +8,10 @@ ghost use Rattle.object_trials.specs.Plays.{compared, judged, points_of};
 use crate::answers::{is_any_stuck, last_among, meets};
 use crate::asking::{ask, hook_of};
 use crate::error::TrialError;
-use crate::stage::{Found, Last, Point, Stage, Verdict};
+use crate::stage::{Found, Last, Point, PointResult, Stage};
 use crate::stopped::{PlayError, Stopped};
-use captures::{Capture, CaptureError, Content, Link, Record, content_of};
-use hooktool_line::{Answer, Line, Packet, Question, Step, packet_question};
+use captures::{Capture, CaptureError, FrameContent, LinkType, Record, content_of};
+use hooktool_line::{ExpectedAnswer, PacketSource, Question, Step, TestLine, packet_question};
 use maps::{Seat, Shared};
 use std::alloc::{AllocError, Global};
 use std::rt::Files;
@@ -44,7 +44,7 @@ fn ask_once(
     question: &Question<'_>,
     shared: &Shared,
     seat: &mut Seat,
-) -> Result<Verdict, PlayError>
+) -> Result<PointResult, PlayError>
     requires { IsOf shared.now seat.old }
     ensures { IsOf shared.now seat.new }
 {
@@ -55,7 +55,7 @@ fn ask_once(
     let endings = ask(alloc, &stage.bytes, packet, question, shared, seat)?;
     let last = last_among(hook, &endings);
     stage.last = last;
-    Ok(Verdict {
+    Ok(PointResult {
         is_ok: !is_any_stuck(&endings),
         found: Found::Run(last),
     })
@@ -68,13 +68,13 @@ fn ask_question<R: Files + AllocGlobal>(
     question: &Question<'_>,
     shared: &Shared,
     seat: &mut Seat,
-) -> Result<Verdict, PlayError>
+) -> Result<PointResult, PlayError>
     requires { IsOf shared.now seat.old }
     ensures { IsOf shared.now seat.new }
 {
     match &question.packet {
-        Packet::Bytes(packet) => ask_once(rt.alloc(), stage, packet, question, shared, seat),
-        Packet::File(path) => {
+        PacketSource::Bytes(packet) => ask_once(rt.alloc(), stage, packet, question, shared, seat),
+        PacketSource::File(path) => {
             let packet = whole_files::read(rt, path)?;
             ask_once(rt.alloc(), stage, &packet, question, shared, seat)
         }
@@ -86,19 +86,19 @@ fn ask_question<R: Files + AllocGlobal>(
 fn ask_frame(
     alloc: Global,
     stage: &mut Stage,
-    link: Link,
+    link: LinkType,
     record: Record<'_>,
     interface: u16,
     shared: &Shared,
     seat: &mut Seat,
-) -> Result<Option<Verdict>, PlayError>
+) -> Result<Option<PointResult>, PlayError>
     requires { IsOf shared.now seat.old }
     ensures { IsOf shared.now seat.new }
 {
     match content_of(link, record.frame) {
-        Content::Other => Ok(None),
-        Content::Cut => Err(PlayError::CutPacket),
-        Content::Packet(packet) => {
+        FrameContent::Other => Ok(None),
+        FrameContent::Cut => Err(PlayError::CutPacket),
+        FrameContent::Packet(packet) => {
             let moment = Second::new(u64::from(record.seconds));
             let question = packet_question(alloc, interface, moment);
             let verdict = ask_once(alloc, stage, packet, &question, shared, seat)?;
@@ -115,7 +115,7 @@ fn ask_packets(
     interface: u16,
     shared: &Shared,
     seat: &mut Seat,
-) -> Result<Verdict, PlayError>
+) -> Result<PointResult, PlayError>
     requires { IsOf shared.now seat.old }
     ensures { IsOf shared.now seat.new }
 {
@@ -129,7 +129,7 @@ fn ask_packets(
             asked = asked.saturating_add(1);
         }
     }
-    Ok(Verdict {
+    Ok(PointResult {
         is_ok: true,
         found: Found::Packets(asked),
     })
@@ -143,7 +143,7 @@ fn ask_bytes(
     interface: u16,
     shared: &Shared,
     seat: &mut Seat,
-) -> Result<Verdict, PlayError>
+) -> Result<PointResult, PlayError>
     requires { IsOf shared.now seat.old }
     ensures { IsOf shared.now seat.new }
 {
@@ -162,7 +162,7 @@ fn ask_capture<R: Files + AllocGlobal>(
     interface: u16,
     shared: &Shared,
     seat: &mut Seat,
-) -> Result<Verdict, PlayError>
+) -> Result<PointResult, PlayError>
     requires { IsOf shared.now seat.old }
     ensures { IsOf shared.now seat.new }
 {
@@ -184,10 +184,10 @@ fn take_program<R: Files + AllocGlobal>(
 }
 
 /// Compares a number with the one that is expected.
-fn compare(found: u64, expected: u64) -> Verdict
+fn compare(found: u64, expected: u64) -> PointResult
     ensures { result ≡ compared found expected }
 {
-    Verdict {
+    PointResult {
         is_ok: found == expected,
         found: Found::Number(found),
     }
@@ -204,10 +204,10 @@ fn cell_at(shared: &Shared, seat: &mut Seat, index: u8) -> u64
 }
 
 /// Compares the last run's end with the answer that is expected.
-fn compare_answer(last: Last, expected: Answer) -> Verdict
+fn compare_answer(last: Last, expected: ExpectedAnswer) -> PointResult
     ensures { result ≡ judged last expected }
 {
-    Verdict {
+    PointResult {
         is_ok: meets(expected, last),
         found: Found::Run(last),
     }
@@ -220,7 +220,7 @@ fn play_step<R: Files + AllocGlobal>(
     step: &Step<'_>,
     shared: &Shared,
     seat: &mut Seat,
-) -> Result<Option<Verdict>, PlayError>
+) -> Result<Option<PointResult>, PlayError>
     requires { IsOf shared.now seat.old }
     ensures { IsOf shared.now seat.new }
 {
@@ -245,8 +245,8 @@ fn play_step<R: Files + AllocGlobal>(
 /// Adds the point of a line, if it has a verdict.
 fn push_point<'a>(
     points: &mut Vec<Point<'a>>,
-    line: &Line<'a>,
-    verdict: Option<Verdict>,
+    line: &TestLine<'a>,
+    verdict: Option<PointResult>,
 ) -> Result<(), AllocError>
     ensures { OnOk result (points.new.items ≡ points.old.items ++ points_of line.now verdict) }
 {
@@ -263,7 +263,7 @@ fn push_point<'a>(
 /// What is found at the lines, on these counters and cells.
 fn play_lines<'a, R: Files + AllocGlobal>(
     rt: &R,
-    lines: &[Line<'a>],
+    lines: &[TestLine<'a>],
     stage: &mut Stage,
     shared: &Shared,
     seat: &mut Seat,
@@ -294,7 +294,7 @@ fn play_lines<'a, R: Files + AllocGlobal>(
 /// found at each that asks or expects something. Or the first one that can't be played, and why.
 pub fn play<'a, R: Files + AllocGlobal>(
     rt: &R,
-    lines: &[Line<'a>],
+    lines: &[TestLine<'a>],
 ) -> Result<Vec<Point<'a>>, Stopped> {
     let Ok((shared, mut seats)) = Shared::new(rt.alloc(), 1) else {
         return Err(Stopped {

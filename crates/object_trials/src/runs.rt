@@ -14,7 +14,7 @@ use std::alloc::Global;
 /// How a run ended, and where the machine then stood: at EXIT, at the instruction by which it is
 /// stuck, or where it was when its instructions were used up.
 #[derive(Clone, Copy)]
-pub struct Ending {
+pub struct RunEnding {
     pub outcome: Result<Run, Trap>,
     /// The slot of that instruction, or of the one that would have come next.
     pub slot: u64,
@@ -29,7 +29,7 @@ fn run_once(
     input: &Input,
     shared: &Shared,
     seat: &mut Seat,
-) -> Result<Ending, TrialError>
+) -> Result<RunEnding, TrialError>
     requires { IsOf shared.now seat.old }
     ensures ran { IfOk result (λ ending. RunsOnce bytes.now (given_by input.now) seat.old ending
         seat.new) }
@@ -38,7 +38,7 @@ fn run_once(
 {
     let halt = run_object_to_halt(alloc, bytes, Limit::Own, input, shared, seat)?;
     let registers = halt.state.registers;
-    Ok(Ending {
+    Ok(RunEnding {
         outcome: halt.outcome,
         slot: halt.state.slot,
         registers,
@@ -53,7 +53,7 @@ pub(crate) fn run_in_a_row(
     input: &Input,
     shared: &Shared,
     seat: &mut Seat,
-) -> Result<Vec<Ending>, TrialError>
+) -> Result<Vec<RunEnding>, TrialError>
     requires { IsOf shared.now seat.old }
     ensures ran { IfOk result (λ endings. RunsInARow bytes.now (given_by input.now) seat.old
         endings.items seat.new) }

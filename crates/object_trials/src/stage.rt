@@ -25,7 +25,7 @@ pub enum Found {
 
 /// Whether a line is ok, and what was found.
 #[derive(Clone, Copy)]
-pub struct Verdict {
+pub struct PointResult {
     pub is_ok: bool,
     pub found: Found,
 }
@@ -42,5 +42,5 @@ pub(crate) struct Stage {
 pub struct Point<'a> {
     pub number: u64,
     pub words: &'a [&'a str],
-    pub verdict: Verdict,
+    pub verdict: PointResult,
 }

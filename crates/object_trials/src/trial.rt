@@ -5,15 +5,15 @@ ghost use Rattle.object_trials.specs.Runs.{IsRefusal, IsTrial};
 use crate::asking::ask;
 use crate::error::TrialError;
 use crate::left::cells_of;
-use crate::runs::Ending;
+use crate::runs::RunEnding;
 use hooktool_line::Question;
 use maps::Shared;
 use std::alloc::Global;
 
 /// A program's runs in a row, and what they left in the counters and the cells, which were 0.
 #[derive(Drop)]
-pub struct Trial {
-    pub endings: Vec<Ending>,
+pub struct ObjectTrial {
+    pub endings: Vec<RunEnding>,
     pub counters: [u64; 256],
     pub cells: [u64; 64],
 }
@@ -31,7 +31,7 @@ pub fn try_object(
     bytes: &[u8],
     packet: &[u8],
     question: &Question<'_>,
-) -> Result<Trial, TrialError>
+) -> Result<ObjectTrial, TrialError>
     ensures trial { IfOk result (IsTrial bytes.now packet.now question.now) }
     ensures refuses { IfErr result (IsRefusal bytes.now) }
 {
@@ -43,7 +43,7 @@ pub fn try_object(
     last.push(seat)?;
     let totals = shared.close(last);
     let counters = totals.sums;
-    Ok(Trial {
+    Ok(ObjectTrial {
         endings,
         counters,
         cells,

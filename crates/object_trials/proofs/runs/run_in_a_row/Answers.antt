@@ -3,7 +3,7 @@ use Rattle.machine.specs.Given.{given_by}
 use Rattle.object_trials.proofs.InARow.{one_more}
 use Rattle.object_trials.proofs.runs.run_in_a_row.Goals as goal
 use Rattle.object_trials.specs.Runs.{RunsInARow}
-use Rattle.object_trials.specs.declared.runs.Ending.{Ending}
+use Rattle.object_trials.specs.declared.runs.RunEnding.{RunEnding}
 
 pub loop-turn-preserved : goal.loop-turn-preserved
 loop-turn-preserved c =
@@ -21,6 +21,6 @@ loop-turn-preserved c =
             (c.in_ok-ending.ending ∷ []),
         held.1,
       ),
-      subst (λ (xs : List Ending). RunsInARow bytes input c.args.seat.now xs c.run_once.new.seat)
+      subst (λ (xs : List RunEnding). RunsInARow bytes input c.args.seat.now xs c.run_once.new.seat)
           (sym items) ran,
     )
