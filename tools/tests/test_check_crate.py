@@ -30,8 +30,8 @@ def check_crate():
 
 
 class TestFunctionAt(unittest.TestCase):
-    def test_a_function_begins_at_its_first_attribute(self) -> None:
-        self.assertEqual(check_crate().function_at(SOURCE, 8), ("one", 3, 9))
+    def test_attributes_and_comments_before_a_function_are_its_own(self) -> None:
+        self.assertEqual(check_crate().function_at(SOURCE, 8), ("one", 2, 9))
 
     def test_a_function_without_attributes_begins_at_its_line(self) -> None:
         self.assertEqual(check_crate().function_at(SOURCE, 12), ("two", 11, 13))
