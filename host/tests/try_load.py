@@ -3,6 +3,7 @@ a link fails, beside BIRD. See `try-network`."""
 from __future__ import annotations
 
 import math
+import random
 import statistics
 import struct
 import subprocess
@@ -36,6 +37,9 @@ from tests.test_topology import lsa
 COUNT, TIMES = 10_000, 3
 MOST_TIMES = 9
 """Outages of each router that are compared, at most."""
+BIRDS_TICK = 1.0
+"""Seconds: BIRD calculates its table so often at most, so an outage takes up to so much longer by
+when in its second the link fails."""
 PROBE = """
 import socket, sys, time
 away, targets, lost, told = {}, sys.argv[2:], 0.0, 0.0
@@ -158,7 +162,8 @@ class Two:
         """Seconds from the kernel's word that the first link has lost its carrier (PROBE) until
         packets go by the second, the median of first, middle and last destination; without what
         the router's programs waited for a processor, of which the two that are compared don't get
-        the same."""
+        the same. It fails at any moment of BIRD's second: what is done between two outages waits
+        for BIRD, and so keeps in step with it."""
         targets = [self.target(at) for at in (0, COUNT // 2, -1)]
         words = ["ip", "netns", "exec", self.own, sys.executable, "-c", PROBE]
         words += [f"{time.monotonic() + 20}", *targets]
@@ -168,7 +173,7 @@ class Two:
         cut = subprocess.Popen(words, stdin=subprocess.PIPE, text=True)
         assert probe.stdout
         probe.stdout.readline()
-        time.sleep(1)
+        time.sleep(1 + random.uniform(0, BIRDS_TICK))
         waiting = Waiting(self.tried.programs())
         cut.communicate("link set eth1 down\n")
         lost, *away = (float(each) for each in probe.communicate()[0].split())
