@@ -155,6 +155,9 @@ class Helper:
 
     def _act(self, number: int, ends: Ends) -> None:
         session, now = ends.session, self._clock()
+        if session.is_over(now):
+            # (the machine may have stood still since the look at the sockets, above all in a flood)
+            self._take(ends, ends.hears, AT_ONCE)
         sent = session.act(now)
         # (first: a sequence number may be left out, and none may be used twice)
         self._keep(number, kept(session.variables))

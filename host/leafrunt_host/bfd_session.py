@@ -200,6 +200,10 @@ class Session:
         times = 1 if self.variables.remote_discr else 2
         return self._heard + times * self.detection_time / MICROSECONDS
 
+    def is_over(self, now: float) -> bool:
+        """Whether a detection time has ended by then, as far as packets were taken."""
+        return now >= self._expiry()
+
     @property
     def due(self) -> float:
         """The next moment at which there is something to do."""
@@ -292,7 +296,7 @@ class Session:
 
     def act(self, now: float) -> list[bytes]:
         """Does what is due, and says what is to be sent."""
-        if now >= self._expiry():
+        if self.is_over(now):
             self._expired(now)
         if now < self._next_packet():
             return []
@@ -309,7 +313,7 @@ class Session:
         if them.session_state in (State.INIT, State.UP):
             self._become(State.DOWN, Diagnostic.TIME_EXPIRED)
         them.remote_discr, them.remote_min_rx_interval = 0, 1
-        if now >= self._expiry():
+        if self.is_over(now):
             them.auth_seq_known, self._heard = False, None
 
     # -- what is sent

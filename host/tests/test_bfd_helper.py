@@ -112,9 +112,14 @@ class OneHelper:
             pass
         return found
 
-    def come_up(self) -> None:
+    def hear(self, state: State, multiplier: int = PATIENT) -> None:
+        """The neighbor's packet comes."""
+        said = said_by_neighbor(state, self.discriminator, multiplier)
+        self.neighbor.sendto(said, (HERE, CONTROL_PORT))
+
+    def come_up(self, multiplier: int = PATIENT) -> None:
         for state in (State.DOWN, State.INIT):
-            self.neighbor.sendto(said_by_neighbor(state, self.discriminator), (HERE, CONTROL_PORT))
+            self.hear(state, multiplier)
             self.helper.turn()
 
     @property
@@ -129,6 +134,18 @@ class InThisProcess(unittest.TestCase):
                 each.close()
         except PermissionError as error:
             self.skipTest(f"no socket of one interface: {error}")
+
+    def test_a_machine_that_stands_still(self) -> None:
+        """After the look at the sockets: what has come since counts as come before the time that
+        has ended meanwhile, and nothing else does."""
+        it = OneHelper(self)
+        it.come_up(multiplier=3)
+        for later, is_heard, state in ((5, True, State.UP), (10, False, State.DOWN)):
+            if is_heard:
+                it.hear(State.UP, multiplier=3)
+            with mock.patch.object(it.helper, "_clock", lambda: time.monotonic() + later):
+                it.helper._act(1, it.helper._ends[1])
+            self.assertIs(it.state, state)
 
     def test_up_and_told(self) -> None:
         it = OneHelper(self)
