@@ -11,6 +11,7 @@ import subprocess
 import tempfile
 import unittest
 from collections.abc import Callable
+from datetime import datetime
 from pathlib import Path
 from unittest import mock
 
@@ -48,6 +49,43 @@ class Routerd(unittest.TestCase):
         why = try_network.why_not_routerd(self.program) or ""
         self.assertIn(str(self.program), why)
         self.assertIn("let others pass each folder on the way", why)
+
+
+class Falls(unittest.TestCase):
+    """Whose fault it is that a session of BFD fell, by its packets."""
+
+    def setUp(self) -> None:
+        room = tempfile.TemporaryDirectory()
+        self.addCleanup(room.cleanup)
+        self.file = Path(room.name, "heard")
+        self.heard = try_bfd.Heard.__new__(try_bfd.Heard)
+        self.heard._file = self.file
+
+    def fell_by(self, others: list[tuple[float, str]], why: str) -> tuple[int, int]:
+        """How many falls are the box's fault, and how many the other end's, where the box's session
+        falls after a second of such packets of the other end's."""
+        own = [(at / 4, "Up") for at in range(-4, 4)] + [(1.0, "Down")]
+        sent = [(at, "10.0.1.1", state) for at, state in own]
+        sent += [(at, "10.0.1.2", state) for at, state in others]
+        line = "{:.3f} IP {}.49152 > 10.0.1.9.3784: BFDv1, Control, State {}, Flags: [none]\n"
+        began = 1_700_000_000
+        self.file.write_text("".join(line.format(began + at, *said) for at, *said in sorted(sent)))
+        moment = datetime.fromtimestamp(began + 1)
+        fall = f"eth1: BFD with 10.0.1.2: Up -> Down: {why}"
+        with mock.patch("time.sleep"):
+            found = try_bfd.falls_of([f"{moment} info: {fall}"], {"eth1": self.heard})
+        return len(found[0]), len(found[1])
+
+    def test_whose_fault(self) -> None:
+        before, expired = [(at / 4, "Up") for at in range(-4, 0)], "control detection time expired"
+        for others, why, expected in (
+            ([*before, (0.09, "Up")], expired, (0, 1)),
+            ([*before, (0.09, "Up"), (0.9, "Up")], expired, (1, 0)),
+            ([*before, (0.09, "Up"), (0.9, "Init")], expired, (1, 0)),
+            ([*before, (0.09, "Up"), (0.15, "Down"), (0.95, "Down")], expired, (0, 1)),
+            ([*before, (0.09, "Up"), (0.99, "Down")], "neighbor signaled session down", (0, 1)),
+        ):
+            self.assertEqual(self.fell_by(others, why), expected, others)
 
 
 class Parts(unittest.TestCase):

@@ -148,9 +148,12 @@ class Heard:
         found = (at for at, said in self._of(source) if at > second - 0.5 and "State Up" not in said)
         return next(found, math.inf)
 
-    def silence(self, source: str, until: float, seconds: float) -> float:
-        """The longest time without a packet of that address in the seconds before a moment."""
-        moments = [at for at, _ in self._of(source) if until - seconds < at < until]
+    def silence(self, source: str, until: float, seconds: float, is_up: bool = False) -> float:
+        """The longest time without a packet of that address in the seconds before a moment; with
+        `is_up` those that say that its session is Down don't count."""
+        since, but = until - seconds, "State Down"
+        said = [(at, text) for at, text in self._of(source) if since < at < until]
+        moments = [at for at, text in said if not (is_up and but in text)]
         pairs = zip([until - seconds, *moments], [*moments, until])
         return max(to - at for at, to in pairs)
 
@@ -166,7 +169,10 @@ def falls_of(lines: list[str], heards: dict[str, Heard]) -> tuple[list[str], lis
         own = "10.0.1.1" if each[2] == "eth1" else "10.0.2.1"
         is_expired = "expired" in each[4]
         until = min(heard.fell(own if is_expired else each[3], second), time.time())
-        theirs, ours = (heard.silence(who, until, 2 * DETECTION) for who in (each[3], own))
+        # (A session that the other end has begun anew says Down, with sequence numbers of its own:
+        # where there is a key that keeps no session Up: RFC 5880, 6.7.4.)
+        theirs = heard.silence(each[3], until, 2 * DETECTION, is_up=True)
+        ours = heard.silence(own, until, 2 * DETECTION)
         is_others = theirs >= DETECTION if is_expired else ours < DETECTION
         said = f"{theirs:.2f} s without the neighbor's packets, {ours:.2f} s without its own"
         (of_other if is_others else of_box).append(f"{each[0]} ({said})")
