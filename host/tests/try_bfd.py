@@ -41,8 +41,9 @@ NETWORK, TARGET = "172.16.1.0/24", "172.16.1.9"
 TIMES = 3
 MOST = 1.2
 """Seconds from a silent loss to the kernel's table."""
-BETWEEN_ROUTER_LSAS = 6
-"""Seconds: two of one router are five apart (RFC 2328, MinLSInterval)."""
+SETTLED = 11
+"""Seconds without a change after which a router-LSA need not wait: that of the last change may itself
+have waited five, and two of one router are five apart (RFC 2328, MinLSInterval)."""
 MOST_DISTURBED = 4
 """How often an outage is tried once more, since another session fell by the other end's silence."""
 TOLD = 0.2
@@ -262,10 +263,10 @@ class Watched:
         """Waits until no adjacency of a box's has come or gone for so long that its next router-LSA
         need not wait; which line of its log comes next then. (On a busy machine FRR may begin an
         adjacency anew some seconds after it was Full.)"""
-        until, since = time.monotonic() + COMES_UP, 0
+        until, since = time.monotonic() + 2 * COMES_UP, 0
         while time.monotonic() < until:
             since = len(self.box_log()) if self.heard else 0
-            time.sleep(BETWEEN_ROUTER_LSAS)
+            time.sleep(SETTLED)
             if not self.heard or not any(map(MOVED.search, self.box_log()[since:])):
                 break
         return since
