@@ -89,6 +89,7 @@ default_routes_are_no_end = record {
     id = 0;
     lsa = default_lsa;
     its = says with_default_lsa (external_key 0 middle_id) (body.External default_lsa) refl;
+    reachable = omega arith;
     is_prefix = (omega arith, refl, refl);
     under = refl;
   };

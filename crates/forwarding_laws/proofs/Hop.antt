@@ -74,6 +74,7 @@ tells_of said root o x router address e under =
       id = x.id;
       lsa = x.lsa;
       its = subst S e x.its;
+      reachable = x.reachable;
       is_prefix = subst P (sym (prefix_of said root o x)) x.is_prefix;
       under = under;
     }

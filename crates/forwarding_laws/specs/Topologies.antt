@@ -121,12 +121,13 @@ pub record HandsTo (topology : Topology) (address : ℕ) (from to : ℕ) : Type 
   pub is_across : topology.across from interface ≡ Some to
 
 -- a self-originated AS-external-LSA of the router advertises this destination, which contains the
--- address
+-- address, with a metric below LSInfinity
 pub record TellsOf (said : Said) (router : RouterNumber) (address : ℕ) (prefix : Network) : Type 0
   where
     pub id : ℕ
     pub lsa : ExternalLsa
     pub its : Says said (external_key id router) (body.External lsa)
+    pub reachable : lsa.metric < 16777215
     pub is_prefix : IsPrefix id lsa.mask prefix
     pub under : IsUnder address prefix
 
