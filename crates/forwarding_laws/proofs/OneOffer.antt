@@ -3,6 +3,8 @@
 use Rattle.std.proofs.Common.{◌≡◌, ℕ, zero, suc, inl, inr, Bool, true, false, IsTrue, List, [], ◌∷◌}
 use Rattle.std.proofs.Common.{length, map, filter, arith, refl, sym, ◌∙◌, ap, subst}
 use Rattle.std.specs.List.{AllPairs, Contains, list_all}
+use Rattle.std.proofs.lemmas.List.Elements.{All-cons, All-nil}
+use Rattle.std.proofs.lemmas.List.Kept.{AllPairs-cons}
 use Rattle.words.specs.Interfaces.{has_interface}
 use Rattle.words.specs.Prefixes.{Network, network_address}
 use Rattle.words.specs.declared.key.Key.{Key}
@@ -41,6 +43,12 @@ module _ {X : Type 0} (prefix : X → Network) where
   abbrev pub InOrder : List X → Type 0
   InOrder xs = AllPairs (λ (a : X) (b : X). IsBefore (prefix a) (prefix b)) xs
 
+  abbrev Before : X → X → Type 0
+  Before a b = IsBefore (prefix a) (prefix b)
+
+  pub alone_in_order : (a : X) → InOrder (a ∷ [])
+  alone_in_order a i j d before low = absurd (omega (arith, before, low))
+
   pub two_in_order : (a b : X) → IsBefore (prefix a) (prefix b) → InOrder (a ∷ b ∷ [])
   two_in_order a b p zero zero d before low = absurd (omega (arith, before))
   two_in_order a b p zero (suc zero) d before low = p
@@ -58,6 +66,15 @@ module _ {X : Type 0} (prefix : X → Network) where
   three_in_order a b c p q r (suc i) zero d before low = absurd (omega (arith, before))
   three_in_order a b c p q r (suc i) (suc j) d before low =
       two_in_order b c r i j d (omega (arith, before)) (omega (arith, low))
+
+  pub four_in_order : (a b c d : X) → Before a b → Before a c → Before a d → Before b c
+      → Before b d → Before c d → InOrder (a ∷ b ∷ c ∷ d ∷ [])
+  four_in_order a b c d ab ac ad bc bd cd =
+      AllPairs-cons Before a (b ∷ c ∷ d ∷ [])
+      (All-cons (Before a) b (c ∷ d ∷ []) ab
+      (All-cons (Before a) c (d ∷ []) ac
+      (All-cons (Before a) d [] ad (All-nil (Before a)))))
+      (three_in_order b c d bc bd cd)
 
   -- two with the same prefix are the same
   pub one_of : (xs : List X) → InOrder xs → (a b : X) → Contains xs a → Contains xs b → prefix a

@@ -1,5 +1,6 @@
 -- The worked topologies: candidates of each router, premises, and packets.
-use Rattle.std.proofs.Common.{◌≡◌, ℕ, zero, suc, ◌+◌, ◌≤◌, inl, inr, cond, true, IsTrue, nat_eq}
+use Rattle.std.proofs.Common.{◌≡◌, ℕ, zero, suc, ◌+◌, ◌<◌, ◌≤◌, inl, inr, cond, true, IsTrue}
+use Rattle.std.proofs.Common.{nat_eq}
 use Rattle.std.proofs.Common.{List, [], ◌∷◌, filter, Option, None, Some, slice_get, arith, refl}
 use Rattle.std.proofs.Common.{sym, ◌∙◌, ap, subst}
 use Rattle.std.specs.Int.{bit_at}
@@ -17,7 +18,7 @@ use Rattle.events.specs.Originations.{links_of as links_made, router_body, route
 use Rattle.candidates.specs.Borders.{IsLongest}
 use Rattle.received.specs.Links.{Link, neighbor_at}
 use Rattle.routes.proofs.Determined.{bit_of_member}
-use Rattle.routes.proofs.Lists.{of_cons, of_empty}
+use Rattle.routes.proofs.Lists.{later_is, of_cons, of_empty}
 use Rattle.routes.specs.Candidates.{AreCandidates, Offers, OffersExternal}
 use Rattle.routes.specs.Candidates.Offers.{Between, External, Within}
 use Rattle.routes.specs.Links.{IsRouterLsa, Leads, LeadsTo, Says}
@@ -30,7 +31,7 @@ use Rattle.routes.specs.declared.node.Node.TheVariants.{ARouter}
 use Rattle.routes.specs.declared.offer.Offer.{Offer}
 use Rattle.routes.specs.declared.root.Root.{Root}
 use Rattle.route_laws.specs.Worked.{Entries, database, ipv4, network_24, router_lsa}
-use Rattle.route_laws.proofs.Alone.{Known, StubOffer, each_within, is_stub}
+use Rattle.route_laws.proofs.Alone.{Known, StubOffer, each_within, is_stub, route_of}
 use Rattle.route_laws.proofs.Entries.{is_no_network, links_of, mapped, sayings}
 use Rattle.route_laws.proofs.Labels.{AreChecked}
 use Rattle.route_laws.proofs.Made.{back, from_other, from_root, linked, only_one, says}
@@ -38,17 +39,18 @@ use Rattle.route_laws.proofs.NoSummaries.{is_no_summary, nothing_between}
 use Rattle.forwarding_laws.specs.Premises.{HaveCosts, HaveOwnAddresses}
 use Rattle.forwarding_laws.specs.Networks.IsAttached.{ToNetwork}
 use Rattle.forwarding_laws.specs.Networks.IsThere.{Attached}
-use Rattle.forwarding_laws.specs.Topologies.{AreJoined, Forwarder, HandsTo, IsAcross, IsAnnouncedAt}
-use Rattle.forwarding_laws.specs.Topologies.{IsCurrentForwarder, IsUpToDate, Topology, says_of}
-use Rattle.forwarding_laws.specs.WorkedTopologies.{CrossedLinksMayLoop, WorkedTopology, address}
-use Rattle.forwarding_laws.specs.WorkedTopologies.{between, crossed_row, forwarder, full, in_a_row}
-use Rattle.forwarding_laws.specs.WorkedTopologies.{interface_at, left, left_id, left_links}
-use Rattle.forwarding_laws.specs.WorkedTopologies.{left_routes, link_with, middle, middle_id}
-use Rattle.forwarding_laws.specs.WorkedTopologies.{middle_links, middle_routes, narrow, right}
-use Rattle.forwarding_laws.specs.WorkedTopologies.{right_id, right_links, right_routes, row, wide}
-use Rattle.forwarding_laws.specs.WorkedTopologies.{wide_network}
-use Rattle.forwarding_laws.proofs.OneOffer.{candidates_of, no_external, stub_offered}
-use Rattle.forwarding_laws.proofs.OneOffer.{three_in_order, way_to}
+use Rattle.forwarding_laws.specs.Topologies.{AreJoined, Forwarder, HandsTo, HasConverged, IsAcross}
+use Rattle.forwarding_laws.specs.Topologies.{IsAnnouncedAt, IsCurrentForwarder, IsUpToDate}
+use Rattle.forwarding_laws.specs.Topologies.{Topology, says_of}
+use Rattle.forwarding_laws.specs.WorkedTopologies.{CrossedLinksMayLoop, WorkedTopology, across_row}
+use Rattle.forwarding_laws.specs.WorkedTopologies.{address, between, crossed_row, forwarder, full}
+use Rattle.forwarding_laws.specs.WorkedTopologies.{in_a_row, interface_at, left, left_id}
+use Rattle.forwarding_laws.specs.WorkedTopologies.{left_links, left_routes, link_with, middle}
+use Rattle.forwarding_laws.specs.WorkedTopologies.{middle_id, middle_links, middle_routes, narrow}
+use Rattle.forwarding_laws.specs.WorkedTopologies.{right, right_id, right_links, right_routes, row}
+use Rattle.forwarding_laws.specs.WorkedTopologies.{wide, wide_network}
+use Rattle.forwarding_laws.proofs.OneOffer.{candidates_of, four_in_order, no_external}
+use Rattle.forwarding_laws.proofs.OneOffer.{stub_offered, three_in_order, way_to}
 
 -- ---- lists of three
 
@@ -86,10 +88,7 @@ two_places P a b at_a at_b zero x e = let same : a ≡ x = cc in subst (P 0) sam
 two_places P a b at_a at_b (suc zero) x e = let same : b ≡ x = cc in subst (P 1) same at_b
 two_places P a b at_a at_b (suc (suc k)) x e = absurd (cc)
 
--- ---- the routers' LSAs and roots
-
-abbrev pub row_says : Said
-row_says = said_at 0 (database row)
+-- ---- the routers
 
 abbrev pub lsa_of : List Link → List RouterLink
 lsa_of links = flat_map links_made links
@@ -97,20 +96,30 @@ lsa_of links = flat_map links_made links
 abbrev pub at_left : Root
 at_left = root_by left_id left_links
 
-abbrev at_middle : Root
+abbrev pub at_middle : Root
 at_middle = root_by middle_id middle_links
 
 abbrev pub at_right : Root
 at_right = root_by right_id right_links
 
-left_says : IsRouterLsa row_says left_id (router_lsa (lsa_of left_links))
-left_says = says row (router_key left_id) (router_body left_links) refl
+-- ---- their stub links
 
-middle_says : IsRouterLsa row_says middle_id (router_lsa (lsa_of middle_links))
-middle_says = says row (router_key middle_id) (router_body middle_links) refl
+abbrev pub wide_stub : ℕ → RouterLink
+wide_stub cost = stub (record (interface_at (ipv4 192 0 3 1) 23) { cost = cost })
 
-right_says : IsRouterLsa row_says right_id (router_lsa (lsa_of right_links))
-right_says = says row (router_key right_id) (router_body right_links) refl
+abbrev pub first_stub : RouterLink
+first_stub = stub (interface_at (ipv4 10 0 0 1) 24)
+
+abbrev pub second_stub : RouterLink
+second_stub = stub (interface_at (ipv4 10 0 0 2) 24)
+
+abbrev pub narrow_stub : RouterLink
+narrow_stub = stub (interface_at (ipv4 192 0 2 1) 24)
+
+-- of all three, with this cost of the left one's interface
+abbrev pub row_stubs : ℕ → List (ℕ × RouterLink)
+row_stubs cost = (left_id, wide_stub cost) ∷ (middle_id, first_stub) ∷ (middle_id, second_stub)
+    ∷ (right_id, narrow_stub) ∷ []
 
 -- ---- ways
 
@@ -135,122 +144,132 @@ only_two (suc (suc (suc i))) t = absurd
 abbrev pub to : ℕ → ℕ → Step Node
 to router exit = record { target = ARouter router; price = 5; exit = exit }
 
-abbrev Walk : Root → List (Step Node) → ℕ → Type 0
-Walk root walk router = IsWalk (Leads row_says root) (ARouter root.router) walk (ARouter router)
+abbrev pub said_in : Entries → Said
+said_in es = said_at 0 (database es)
 
-abbrev IsWayFrom : Root → ℕ → Way → Type 0
-IsWayFrom root router w = IsWay (Leads row_says root) (ARouter root.router) (ARouter router) w
+-- The router-LSAs of the three. There may be others, but no network-LSA or summary-LSA, and no
+-- further stub link.
+pub record HasRow (es : Entries) : Type 0 where
+  pub left : IsRouterLsa (said_in es) left_id (router_lsa (lsa_of left_links))
+  pub middle : IsRouterLsa (said_in es) middle_id (router_lsa (lsa_of middle_links))
+  pub right : IsRouterLsa (said_in es) right_id (router_lsa (lsa_of right_links))
+  pub stubs : filter is_stub (links_of (sayings es)) ≡ row_stubs 5
+  pub networks : list_all is_no_network (sayings es) ≡ true
+  pub summaries : list_all is_no_summary (sayings es) ≡ true
+  pub from_left : AreChecked at_left (sayings es) (by_router 0 5 10) (by_router 0 2 2)
+  pub from_middle : AreChecked at_middle (sayings es) (by_router 5 0 5) (by_router 2 0 4)
+  pub from_right : AreChecked at_right (sayings es) (by_router 10 5 0) (by_router 2 2 0)
 
-left_to_middle : LeadsTo row_says at_left (ARouter left_id) (ARouter middle_id) 5 1
-left_to_middle = (
-  from_root row at_left (lsa_of left_links) left_says middle_id (ipv4 192 0 3 1) 5 0
-      (0, omega arith, refl) (omega arith) refl,
-  back row middle_id (lsa_of middle_links) middle_says left_id (ipv4 10 0 0 1) 5
-      (0, omega arith, refl),
-)
+module _ (es : Entries) (has : HasRow es) where
+  abbrev Walk : Root → List (Step Node) → ℕ → Type 0
+  Walk root walk router =
+      IsWalk (Leads (said_in es) root) (ARouter root.router) walk (ARouter router)
 
-right_to_middle : LeadsTo row_says at_right (ARouter right_id) (ARouter middle_id) 5 1
-right_to_middle = (
-  from_root row at_right (lsa_of right_links) right_says middle_id (ipv4 192 0 2 1)
-      5 0 (0, omega arith, refl) (omega arith) refl,
-  back row middle_id (lsa_of middle_links) middle_says right_id (ipv4 10 0 0 2) 5
-      (2, omega arith, refl),
-)
+  abbrev IsWayFrom : Root → ℕ → Way → Type 0
+  IsWayFrom root router w =
+      IsWay (Leads (said_in es) root) (ARouter root.router) (ARouter router) w
 
-middle_to_left : LeadsTo row_says at_middle (ARouter middle_id) (ARouter left_id) 5 1
-middle_to_left = (
-  from_root row at_middle (lsa_of middle_links) middle_says left_id (ipv4 10 0 0 1)
-      5 0 (0, omega arith, refl) (omega arith) refl,
-  back row left_id (lsa_of left_links) left_says middle_id (ipv4 192 0 3 1) 5
-      (0, omega arith, refl),
-)
+  left_to_middle : LeadsTo (said_in es) at_left (ARouter left_id) (ARouter middle_id) 5 1
+  left_to_middle = (
+    from_root es at_left (lsa_of left_links) has.left middle_id (ipv4 192 0 3 1) 5 0
+        (0, omega arith, refl) (omega arith) refl,
+    back es middle_id (lsa_of middle_links) has.middle left_id (ipv4 10 0 0 1) 5
+        (0, omega arith, refl),
+  )
 
-middle_to_right : LeadsTo row_says at_middle (ARouter middle_id) (ARouter right_id) 5 2
-middle_to_right = (
-  from_root row at_middle (lsa_of middle_links) middle_says right_id
-      (ipv4 10 0 0 2) 5 1 (2, omega arith, refl) (omega arith) refl,
-  back row right_id (lsa_of right_links) right_says middle_id (ipv4 192 0 2 1) 5
-      (0, omega arith, refl),
-)
+  right_to_middle : LeadsTo (said_in es) at_right (ARouter right_id) (ARouter middle_id) 5 1
+  right_to_middle = (
+    from_root es at_right (lsa_of right_links) has.right middle_id (ipv4 192 0 2 1)
+        5 0 (0, omega arith, refl) (omega arith) refl,
+    back es middle_id (lsa_of middle_links) has.middle right_id (ipv4 10 0 0 2) 5
+        (2, omega arith, refl),
+  )
 
-left_over_middle : Walk at_left (to middle_id 1 ∷ to right_id 0 ∷ []) right_id
-left_over_middle = (
-  left_to_middle,
-  (
+  middle_to_left : LeadsTo (said_in es) at_middle (ARouter middle_id) (ARouter left_id) 5 1
+  middle_to_left = (
+    from_root es at_middle (lsa_of middle_links) has.middle left_id (ipv4 10 0 0 1)
+        5 0 (0, omega arith, refl) (omega arith) refl,
+    back es left_id (lsa_of left_links) has.left middle_id (ipv4 192 0 3 1) 5
+        (0, omega arith, refl),
+  )
+
+  middle_to_right : LeadsTo (said_in es) at_middle (ARouter middle_id) (ARouter right_id) 5 2
+  middle_to_right = (
+    from_root es at_middle (lsa_of middle_links) has.middle right_id
+        (ipv4 10 0 0 2) 5 1 (2, omega arith, refl) (omega arith) refl,
+    back es right_id (lsa_of right_links) has.right middle_id (ipv4 192 0 2 1) 5
+        (0, omega arith, refl),
+  )
+
+  left_over_middle : Walk at_left (to middle_id 1 ∷ to right_id 0 ∷ []) right_id
+  left_over_middle = (
+    left_to_middle,
     (
-      from_other row at_left middle_id (lsa_of middle_links) middle_says (λ e. omega (arith, e))
-          right_id (ipv4 10 0 0 2) 5 (2, omega arith, refl) (omega arith),
-      back row right_id (lsa_of right_links) right_says middle_id (ipv4 192 0 2 1) 5
-          (0, omega arith, refl),
+      (
+        from_other es at_left middle_id (lsa_of middle_links) has.middle (λ e. omega (arith, e))
+            right_id (ipv4 10 0 0 2) 5 (2, omega arith, refl) (omega arith),
+        back es right_id (lsa_of right_links) has.right middle_id (ipv4 192 0 2 1) 5
+            (0, omega arith, refl),
+      ),
+      refl,
     ),
-    refl,
-  ),
-)
+  )
 
-right_over_middle : Walk at_right (to middle_id 1 ∷ to left_id 0 ∷ []) left_id
-right_over_middle = (
-  right_to_middle,
-  (
+  right_over_middle : Walk at_right (to middle_id 1 ∷ to left_id 0 ∷ []) left_id
+  right_over_middle = (
+    right_to_middle,
     (
-      from_other row at_right middle_id (lsa_of middle_links) middle_says (λ e. omega (arith, e))
-          left_id (ipv4 10 0 0 1) 5 (0, omega arith, refl) (omega arith),
-      back row left_id (lsa_of left_links) left_says middle_id (ipv4 192 0 3 1) 5
-          (0, omega arith, refl),
+      (
+        from_other es at_right middle_id (lsa_of middle_links) has.middle (λ e. omega (arith, e))
+            left_id (ipv4 10 0 0 1) 5 (0, omega arith, refl) (omega arith),
+        back es left_id (lsa_of left_links) has.left middle_id (ipv4 192 0 3 1) 5
+            (0, omega arith, refl),
+      ),
+      refl,
     ),
-    refl,
-  ),
-)
+  )
 
-left_checked : AreChecked at_left (sayings row) (by_router 0 5 10) (by_router 0 2 2)
-left_checked = record { start = refl; routers = refl; links = refl }
+  left_left : IsWayFrom at_left left_id (way 0 0)
+  left_left = way_to es at_left (by_router 0 5 10) (by_router 0 2 2) has.from_left left_id [] refl
+      refl (λ i t. absurd (no_hop i t))
 
-middle_checked : AreChecked at_middle (sayings row) (by_router 5 0 5) (by_router 2 0 4)
-middle_checked = record { start = refl; routers = refl; links = refl }
+  pub left_middle : IsWayFrom at_left middle_id (way 5 2)
+  left_middle = way_to es at_left (by_router 0 5 10) (by_router 0 2 2) has.from_left middle_id
+      (to middle_id 1 ∷ []) (left_to_middle, refl) refl
+      (λ i t. (to middle_id 1, [], (left_to_middle, refl), refl, sym (only_one i t)))
 
-right_checked : AreChecked at_right (sayings row) (by_router 10 5 0) (by_router 2 2 0)
-right_checked = record { start = refl; routers = refl; links = refl }
+  left_right : IsWayFrom at_left right_id (way 10 2)
+  left_right = way_to es at_left (by_router 0 5 10) (by_router 0 2 2) has.from_left right_id
+      (to middle_id 1 ∷ to right_id 0 ∷ []) left_over_middle refl
+      (λ i t. (to middle_id 1, to right_id 0 ∷ [], left_over_middle, refl, sym (only_one i t)))
 
-left_left : IsWayFrom at_left left_id (way 0 0)
-left_left = way_to row at_left (by_router 0 5 10) (by_router 0 2 2) left_checked left_id [] refl
-    refl (λ i t. absurd (no_hop i t))
+  middle_left : IsWayFrom at_middle left_id (way 5 2)
+  middle_left = way_to es at_middle (by_router 5 0 5) (by_router 2 0 4) has.from_middle left_id
+      (to left_id 1 ∷ []) (middle_to_left, refl) refl
+      (λ i t. (to left_id 1, [], (middle_to_left, refl), refl, sym (only_one i t)))
 
-left_middle : IsWayFrom at_left middle_id (way 5 2)
-left_middle = way_to row at_left (by_router 0 5 10) (by_router 0 2 2) left_checked middle_id
-    (to middle_id 1 ∷ []) (left_to_middle, refl) refl
-    (λ i t. (to middle_id 1, [], (left_to_middle, refl), refl, sym (only_one i t)))
+  middle_middle : IsWayFrom at_middle middle_id (way 0 0)
+  middle_middle = way_to es at_middle (by_router 5 0 5) (by_router 2 0 4) has.from_middle middle_id
+      [] refl refl (λ i t. absurd (no_hop i t))
 
-left_right : IsWayFrom at_left right_id (way 10 2)
-left_right = way_to row at_left (by_router 0 5 10) (by_router 0 2 2) left_checked right_id
-    (to middle_id 1 ∷ to right_id 0 ∷ []) left_over_middle refl
-    (λ i t. (to middle_id 1, to right_id 0 ∷ [], left_over_middle, refl, sym (only_one i t)))
+  middle_right : IsWayFrom at_middle right_id (way 5 4)
+  middle_right = way_to es at_middle (by_router 5 0 5) (by_router 2 0 4) has.from_middle right_id
+      (to right_id 2 ∷ []) (middle_to_right, refl) refl
+      (λ i t. (to right_id 2, [], (middle_to_right, refl), refl, sym (only_two i t)))
 
-middle_left : IsWayFrom at_middle left_id (way 5 2)
-middle_left = way_to row at_middle (by_router 5 0 5) (by_router 2 0 4) middle_checked left_id
-    (to left_id 1 ∷ []) (middle_to_left, refl) refl
-    (λ i t. (to left_id 1, [], (middle_to_left, refl), refl, sym (only_one i t)))
+  right_left : IsWayFrom at_right left_id (way 10 2)
+  right_left = way_to es at_right (by_router 10 5 0) (by_router 2 2 0) has.from_right left_id
+      (to middle_id 1 ∷ to left_id 0 ∷ []) right_over_middle refl
+      (λ i t. (to middle_id 1, to left_id 0 ∷ [], right_over_middle, refl, sym (only_one i t)))
 
-middle_middle : IsWayFrom at_middle middle_id (way 0 0)
-middle_middle = way_to row at_middle (by_router 5 0 5) (by_router 2 0 4) middle_checked middle_id []
-    refl refl (λ i t. absurd (no_hop i t))
+  pub right_middle : IsWayFrom at_right middle_id (way 5 2)
+  right_middle = way_to es at_right (by_router 10 5 0) (by_router 2 2 0) has.from_right middle_id
+      (to middle_id 1 ∷ []) (right_to_middle, refl) refl
+      (λ i t. (to middle_id 1, [], (right_to_middle, refl), refl, sym (only_one i t)))
 
-middle_right : IsWayFrom at_middle right_id (way 5 4)
-middle_right = way_to row at_middle (by_router 5 0 5) (by_router 2 0 4) middle_checked right_id
-    (to right_id 2 ∷ []) (middle_to_right, refl) refl
-    (λ i t. (to right_id 2, [], (middle_to_right, refl), refl, sym (only_two i t)))
-
-right_left : IsWayFrom at_right left_id (way 10 2)
-right_left = way_to row at_right (by_router 10 5 0) (by_router 2 2 0) right_checked left_id
-    (to middle_id 1 ∷ to left_id 0 ∷ []) right_over_middle refl
-    (λ i t. (to middle_id 1, to left_id 0 ∷ [], right_over_middle, refl, sym (only_one i t)))
-
-right_middle : IsWayFrom at_right middle_id (way 5 2)
-right_middle = way_to row at_right (by_router 10 5 0) (by_router 2 2 0) right_checked middle_id
-    (to middle_id 1 ∷ []) (right_to_middle, refl) refl
-    (λ i t. (to middle_id 1, [], (right_to_middle, refl), refl, sym (only_one i t)))
-
-right_right : IsWayFrom at_right right_id (way 0 0)
-right_right = way_to row at_right (by_router 10 5 0) (by_router 2 2 0) right_checked right_id []
-    refl refl (λ i t. absurd (no_hop i t))
+  right_right : IsWayFrom at_right right_id (way 0 0)
+  right_right = way_to es at_right (by_router 10 5 0) (by_router 2 2 0) has.from_right right_id []
+      refl refl (λ i t. absurd (no_hop i t))
 
 -- ---- candidates
 
@@ -276,24 +295,8 @@ wide_offer cost hops = intra wide_network cost hops
 abbrev pub narrow_offer : ℕ → ℕ → Offer
 narrow_offer cost hops = intra (network_24 192 0 2) cost hops
 
-abbrev pub wide_stub : ℕ → RouterLink
-wide_stub cost = stub (record (interface_at (ipv4 192 0 3 1) 23) { cost = cost })
-
-abbrev pub first_stub : RouterLink
-first_stub = stub (interface_at (ipv4 10 0 0 1) 24)
-
-abbrev pub second_stub : RouterLink
-second_stub = stub (interface_at (ipv4 10 0 0 2) 24)
-
-abbrev pub narrow_stub : RouterLink
-narrow_stub = stub (interface_at (ipv4 192 0 2 1) 24)
-
 -- databases of the three routers' LSAs, with this cost of the left one's interface, and these links
 -- of the middle one
-abbrev pub row_stubs : ℕ → List (ℕ × RouterLink)
-row_stubs cost = (left_id, wide_stub cost) ∷ (middle_id, first_stub) ∷ (middle_id, second_stub)
-    ∷ (right_id, narrow_stub) ∷ []
-
 pub record IsRow (es : Entries) (cost : ℕ) (links : List RouterLink) : Type 0 where
   pub stubs : filter is_stub (links_of (sayings es)) ≡ row_stubs cost
   pub networks : list_all is_no_network (sayings es) ≡ true
@@ -462,44 +465,94 @@ module _ (es : Entries) (cost : ℕ) (links : List RouterLink) (its : IsRow es c
         (wide (l.distance + cost) hl) (narrow (r.distance + 5) hr) (ByAddress (omega arith))
         (ByAddress (omega arith)) (ByLength refl (omega arith)))
 
-silent_offers : (root : Root) (o : Offer) → OffersExternal row_says root o → ⊥
-silent_offers root o x = no_external row refl _ x.lsa x.its
+    -- the same with one external destination, whose prefix comes before these
+    with_one : (o : Offer) → Offers said root o → (x : Offer) → Contains (o ∷ offers) x
+        → Offers said root x
+    with_one o is_offered x t =
+        let P : Offer → Type 0 = λ y. Offers said root y in
+        elim (of_cons o offers x t) [
+          | inl e ↦ subst P e is_offered
+          | inr later ↦ offered x later
+        ]
 
-is_row : IsRow row 5 (lsa_of middle_links)
-is_row = record {
-  stubs = refl;
-  networks = refl;
-  summaries = refl;
-  left_links = lsa_of left_links;
-  left = left_says;
-  has_wide = (1, omega arith, refl);
-  middle = middle_says;
-  has_stub = (1, omega arith, refl);
-  right = right_says;
-}
+    only_with_one : (o : Offer) → ((x : Offer) → OffersExternal said root x → o ≡ x) → (x : Offer)
+        → Offers said root x → Contains (o ∷ offers) x
+    only_with_one o only x (Within y) = later_is o offers x (inner x y)
+    only_with_one o only x (Between y) = absurd (nothing_between 0 es its.summaries root x y)
+    only_with_one o only x (External y) = (0, omega arith, only x y)
 
-left_candidates : AreCandidates row_says at_left left_routes
-left_candidates = candidates_are row 5 (lsa_of middle_links) is_row at_left (way 0 0) (way 5 2)
-    (way 10 2) left_left left_middle left_right 1 2 2 (hops_at at_left left_id refl 0)
-    (hops_from at_left middle_id (λ e. omega (arith, e)) 2)
-    (hops_from at_left right_id (λ e. omega (arith, e)) 2) (silent_offers at_left)
+    pub candidates_with : (o : Offer) → Offers said root o
+        → ((x : Offer) → OffersExternal said root x → o ≡ x) → o.prefix.address < ipv4 10 0 0 0
+        → AreCandidates said root (route_of o ∷ between (m.distance + 5) hm
+        ∷ wide (l.distance + cost) hl ∷ narrow (r.distance + 5) hr ∷ [])
+    candidates_with o is_offered only first =
+        candidates_of said root (o ∷ offers)
+        (four_in_order (λ (x : Offer). x.prefix) o (between_offer (m.distance + 5) hm)
+        (wide_offer (l.distance + cost) hl) (narrow_offer (r.distance + 5) hr) (ByAddress first)
+        (ByAddress (omega (arith, first))) (ByAddress (omega (arith, first)))
+        (ByAddress (omega arith)) (ByAddress (omega arith)) (ByLength refl (omega arith)))
+        (with_one o is_offered) (only_with_one o only)
+        (four_in_order (λ (x : Route). x.prefix) (route_of o) (between (m.distance + 5) hm)
+        (wide (l.distance + cost) hl) (narrow (r.distance + 5) hr) (ByAddress first)
+        (ByAddress (omega (arith, first))) (ByAddress (omega (arith, first)))
+        (ByAddress (omega arith)) (ByAddress (omega arith)) (ByLength refl (omega arith)))
 
-middle_candidates : AreCandidates row_says at_middle middle_routes
-middle_candidates =
-    candidates_are row 5 (lsa_of middle_links) is_row at_middle (way 5 2) (way 0 0) (way 5 4)
-    middle_left middle_middle middle_right 2 1 4
-    (hops_from at_middle left_id (λ e. omega (arith, e)) 2)
-    (hops_at at_middle middle_id refl 0)
-    (hops_from at_middle right_id (λ e. omega (arith, e)) 4)
-    (silent_offers at_middle)
+module _ (es : Entries) (has : HasRow es) where
+  is_row : IsRow es 5 (lsa_of middle_links)
+  is_row = record {
+    stubs = has.stubs;
+    networks = has.networks;
+    summaries = has.summaries;
+    left_links = lsa_of left_links;
+    left = has.left;
+    has_wide = (1, omega arith, refl);
+    middle = has.middle;
+    has_stub = (1, omega arith, refl);
+    right = has.right;
+  }
 
-right_candidates : AreCandidates row_says at_right right_routes
-right_candidates =
-    candidates_are row 5 (lsa_of middle_links) is_row at_right (way 10 2) (way 5 2) (way 0 0)
-    right_left right_middle right_right 2 2 1
-    (hops_from at_right left_id (λ e. omega (arith, e)) 2)
-    (hops_from at_right middle_id (λ e. omega (arith, e)) 2)
-    (hops_at at_right right_id refl 0) (silent_offers at_right)
+  pub left_candidates : ((o : Offer) → OffersExternal (said_in es) at_left o → ⊥)
+      → AreCandidates (said_in es) at_left left_routes
+  left_candidates = candidates_are es 5 (lsa_of middle_links) is_row at_left (way 0 0) (way 5 2)
+      (way 10 2) (left_left es has) (left_middle es has) (left_right es has) 1 2 2
+      (hops_at at_left left_id refl 0) (hops_from at_left middle_id (λ e. omega (arith, e)) 2)
+      (hops_from at_left right_id (λ e. omega (arith, e)) 2)
+
+  pub middle_candidates : ((o : Offer) → OffersExternal (said_in es) at_middle o → ⊥)
+      → AreCandidates (said_in es) at_middle middle_routes
+  middle_candidates = candidates_are es 5 (lsa_of middle_links) is_row at_middle (way 5 2)
+      (way 0 0) (way 5 4) (middle_left es has) (middle_middle es has) (middle_right es has) 2 1 4
+      (hops_from at_middle left_id (λ e. omega (arith, e)) 2)
+      (hops_at at_middle middle_id refl 0)
+      (hops_from at_middle right_id (λ e. omega (arith, e)) 4)
+
+  pub right_candidates : ((o : Offer) → OffersExternal (said_in es) at_right o → ⊥)
+      → AreCandidates (said_in es) at_right right_routes
+  right_candidates = candidates_are es 5 (lsa_of middle_links) is_row at_right (way 10 2)
+      (way 5 2) (way 0 0) (right_left es has) (right_middle es has) (right_right es has) 2 2 1
+      (hops_from at_right left_id (λ e. omega (arith, e)) 2)
+      (hops_from at_right middle_id (λ e. omega (arith, e)) 2)
+      (hops_at at_right right_id refl 0)
+
+  module _ (o : Offer) (first : o.prefix.address < ipv4 10 0 0 0) where
+    pub left_candidates_with : Offers (said_in es) at_left o
+        → ((x : Offer) → OffersExternal (said_in es) at_left x → o ≡ x)
+        → AreCandidates (said_in es) at_left (route_of o ∷ left_routes)
+    left_candidates_with offers only =
+        candidates_with es 5 (lsa_of middle_links) is_row at_left (way 0 0) (way 5 2) (way 10 2)
+        (left_left es has) (left_middle es has) (left_right es has) 1 2 2
+        (hops_at at_left left_id refl 0) (hops_from at_left middle_id (λ e. omega (arith, e)) 2)
+        (hops_from at_left right_id (λ e. omega (arith, e)) 2) o offers only first
+
+    pub right_candidates_with : Offers (said_in es) at_right o
+        → ((x : Offer) → OffersExternal (said_in es) at_right x → o ≡ x)
+        → AreCandidates (said_in es) at_right (route_of o ∷ right_routes)
+    right_candidates_with offers only =
+        candidates_with es 5 (lsa_of middle_links) is_row at_right (way 10 2) (way 5 2) (way 0 0)
+        (right_left es has) (right_middle es has) (right_right es has) 2 2 1
+        (hops_from at_right left_id (λ e. omega (arith, e)) 2)
+        (hops_from at_right middle_id (λ e. omega (arith, e)) 2)
+        (hops_at at_right right_id refl 0) o offers only first
 
 -- ---- each router by itself
 
@@ -528,24 +581,6 @@ up_to_date es id links routes current apart costs are = record {
   addresses = apart;
   costs = costs;
 }
-
-pub left_is : IsUpToDate left
-left_is = up_to_date row left_id left_links left_routes left_says refl refl left_candidates
-
-middle_is : IsUpToDate middle
-middle_is = up_to_date row middle_id middle_links middle_routes middle_says refl refl
-    middle_candidates
-
-right_is : IsUpToDate right
-right_is = up_to_date row right_id right_links right_routes right_says refl refl right_candidates
-
-row_is : (place : ℕ) (f : Forwarder) → slice_get (left ∷ middle ∷ right ∷ []) place ≡ Some f
-    → IsUpToDate f
-row_is = three_places (λ place f. IsUpToDate f) left middle right left_is middle_is right_is
-
-says_row : (place : ℕ) (f : Forwarder) → slice_get (left ∷ middle ∷ right ∷ []) place ≡ Some f
-    → says_of f.router ≡ row_says
-says_row = three_places (λ place f. says_of f.router ≡ row_says) left middle right refl refl refl
 
 -- ---- links
 
@@ -580,32 +615,102 @@ module _ (topology : Topology) (place : ℕ) where
   first_joined i j n first (suc (suc zero)) neighbor e t = absurd (cc)
   first_joined i j n first (suc (suc (suc k))) neighbor e t = absurd (cc)
 
-row_joined : AreJoined in_a_row
-row_joined =
-    three_places (λ place f. EachJoined in_a_row place f.router.area.links) left middle right
-    (one_joined in_a_row 0 (interface_at (ipv4 192 0 3 1) 23) (full middle_id) (record {
-      other = 1;
-      is_across = refl;
-      forwarder = middle;
-      stands = refl;
-      is = refl;
-    }))
-    (two_joined in_a_row 1 (interface_at (ipv4 10 0 0 1) 24) (interface_at (ipv4 10 0 0 2) 24)
-    (full left_id) (full right_id) (record {
-      other = 0;
-      is_across = refl;
-      forwarder = left;
-      stands = refl;
-      is = refl;
-    })
-    (record { other = 2; is_across = refl; forwarder = right; stands = refl; is = refl }))
-    (one_joined in_a_row 2 (interface_at (ipv4 192 0 2 1) 24) (full middle_id) (record {
-      other = 1;
-      is_across = refl;
-      forwarder = middle;
-      stands = refl;
-      is = refl;
-    }))
+-- ---- three routers with such a database, and with tables of all their candidates
+
+module _ (es : Entries) (has : HasRow es) (of_left of_middle of_right : List Route) where
+  abbrev the_left : Forwarder
+  the_left = forwarder left_id left_links es of_left
+
+  abbrev the_middle : Forwarder
+  the_middle = forwarder middle_id middle_links es of_middle
+
+  abbrev the_right : Forwarder
+  the_right = forwarder right_id right_links es of_right
+
+  abbrev the_three : List Forwarder
+  the_three = the_left ∷ the_middle ∷ the_right ∷ []
+
+  abbrev the_row : Topology
+  the_row = record { routers = the_three; across = across_row 2 }
+
+  all_say : (place : ℕ) (f : Forwarder) → slice_get the_three place ≡ Some f
+      → says_of f.router ≡ said_in es
+  all_say = three_places (λ place f. says_of f.router ≡ said_in es) the_left the_middle the_right
+      refl refl refl
+
+  all_joined : AreJoined the_row
+  all_joined =
+      three_places (λ place f. EachJoined the_row place f.router.area.links) the_left the_middle
+      the_right
+      (one_joined the_row 0 (interface_at (ipv4 192 0 3 1) 23) (full middle_id) (record {
+        other = 1;
+        is_across = refl;
+        forwarder = the_middle;
+        stands = refl;
+        is = refl;
+      }))
+      (two_joined the_row 1 (interface_at (ipv4 10 0 0 1) 24) (interface_at (ipv4 10 0 0 2) 24)
+      (full left_id) (full right_id) (record {
+        other = 0;
+        is_across = refl;
+        forwarder = the_left;
+        stands = refl;
+        is = refl;
+      })
+      (record { other = 2; is_across = refl; forwarder = the_right; stands = refl; is = refl }))
+      (one_joined the_row 2 (interface_at (ipv4 192 0 2 1) 24) (full middle_id) (record {
+        other = 1;
+        is_across = refl;
+        forwarder = the_middle;
+        stands = refl;
+        is = refl;
+      }))
+
+  module _ (all_left : AreCandidates (said_in es) at_left of_left)
+      (all_middle : AreCandidates (said_in es) at_middle of_middle)
+      (all_right : AreCandidates (said_in es) at_right of_right) where
+    all_up_to_date : (place : ℕ) (f : Forwarder) → slice_get the_three place ≡ Some f
+        → IsUpToDate f
+    all_up_to_date =
+        three_places (λ place f. IsUpToDate f) the_left the_middle the_right
+        (up_to_date es left_id left_links of_left has.left refl refl all_left)
+        (up_to_date es middle_id middle_links of_middle has.middle refl refl all_middle)
+        (up_to_date es right_id right_links of_right has.right refl refl all_right)
+
+    pub converged : HasConverged the_row
+    converged = record {
+      up_to_date = all_up_to_date;
+      agree = λ place other a b p q key. ap (λ (s : Said). s key)
+          (all_say place a p ∙ sym (all_say other b q));
+      joined = all_joined;
+    }
+
+-- ---- the row
+
+row_has : HasRow row
+row_has = record {
+  left = says row (router_key left_id) (router_body left_links) refl;
+  middle = says row (router_key middle_id) (router_body middle_links) refl;
+  right = says row (router_key right_id) (router_body right_links) refl;
+  stubs = refl;
+  networks = refl;
+  summaries = refl;
+  from_left = record { start = refl; routers = refl; links = refl };
+  from_middle = record { start = refl; routers = refl; links = refl };
+  from_right = record { start = refl; routers = refl; links = refl };
+}
+
+silent_offers : (root : Root) (o : Offer) → OffersExternal (said_in row) root o → ⊥
+silent_offers root o x = no_external row refl _ x.lsa x.its
+
+row_converged : HasConverged in_a_row
+row_converged = converged row row_has left_routes middle_routes right_routes
+    (left_candidates row row_has (silent_offers at_left))
+    (middle_candidates row row_has (silent_offers at_middle))
+    (right_candidates row row_has (silent_offers at_right))
+
+pub left_is : IsUpToDate left
+left_is = row_converged.up_to_date 0 left refl
 
 -- ---- packets
 
@@ -630,7 +735,8 @@ silent_row across place x =
       advertising_router = x.forwarder.router.id;
     }) (body.External x.announces.tells.lsa) in
     no_external row refl _ x.announces.tells.lsa
-    (subst P (says_row place x.forwarder x.stands) x.announces.tells.its)
+    (subst P (all_say row row_has left_routes middle_routes right_routes place x.forwarder x.stands)
+    x.announces.tells.its)
 
 left_to_1 : (across : ℕ → ℕ → Option ℕ) → across 0 1 ≡ Some 1 → HandsTo (record {
   routers = left ∷ middle ∷ right ∷ [];
@@ -664,12 +770,7 @@ middle_to across second e = record {
 
 pub worked : WorkedTopology
 worked = record {
-  converged = record {
-    up_to_date = row_is;
-    agree = λ place other a b p q key. ap (λ (s : Said). s key)
-        (says_row place a p ∙ sym (says_row other b q));
-    joined = row_joined;
-  };
+  converged = row_converged;
   handed_along = (
     left_to_1 in_a_row.across refl,
     silent_row in_a_row.across 0,
@@ -678,7 +779,7 @@ worked = record {
   is_there = Attached right refl (narrow 5 1) (narrow_longest 10 2 15 2 5 1)
       (ToNetwork (
         narrow_stub,
-        linked row right_id (lsa_of right_links) right_says narrow_stub
+        linked row right_id (lsa_of right_links) row_has.right narrow_stub
             (1, omega arith, refl),
         refl,
         (omega arith, refl, refl),
@@ -688,9 +789,8 @@ worked = record {
 
 pub crossed_links : CrossedLinksMayLoop
 crossed_links = record {
-  up_to_date = row_is;
-  agree = λ place other a b p q key. ap (λ (s : Said). s key)
-      (says_row place a p ∙ sym (says_row other b q));
+  up_to_date = row_converged.up_to_date;
+  agree = row_converged.agree;
   comes_back = (
     left_to_1 crossed_row.across refl,
     silent_row crossed_row.across 0,

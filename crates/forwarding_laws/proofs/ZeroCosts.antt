@@ -4,8 +4,6 @@ use Rattle.std.proofs.Common.{◌≡◌, ◌≢◌, ℕ, ◌+◌, ◌≤◌, ◌
 use Rattle.std.proofs.Common.{nat_eq, eqb-true, eq-eqb, List, [], ◌∷◌, filter, Some, slice_get}
 use Rattle.std.proofs.Common.{arith, refl, sym, ◌∙◌, ap, subst}
 use Rattle.std.specs.List.{AllByRecursion, AllPairs, Contains}
-use Rattle.std.proofs.lemmas.List.Elements.{All-cons, All-nil}
-use Rattle.std.proofs.lemmas.List.Kept.{AllPairs-cons}
 use Rattle.words.specs.Prefixes.{IsUnder, Network, network_address}
 use Rattle.words.specs.declared.key.Key.{Key}
 use Rattle.words.specs.declared.route.ExternalType.TheVariants.{Type1}
@@ -52,8 +50,8 @@ use Rattle.forwarding_laws.specs.WorkedTopologies.{left_id, middle_id, middle_li
 use Rattle.forwarding_laws.specs.WorkedTopologies.{right_id, right_links, wide, wide_network}
 use Rattle.forwarding_laws.specs.WorkedTopologies.{with_zero_cost, zero_cost, zero_left, zero_links}
 use Rattle.forwarding_laws.specs.WorkedTopologies.{zero_middle, zero_right}
-use Rattle.forwarding_laws.proofs.OneOffer.{candidates_of, one_of, stub_offered, three_in_order}
-use Rattle.forwarding_laws.proofs.OneOffer.{way_to}
+use Rattle.forwarding_laws.proofs.OneOffer.{alone_in_order, candidates_of, four_in_order, one_of}
+use Rattle.forwarding_laws.proofs.OneOffer.{stub_offered, three_in_order, way_to}
 use Rattle.forwarding_laws.proofs.ThreeRouters.{EachJoined, IsRow, at_left, at_right, between_offer}
 use Rattle.forwarding_laws.proofs.ThreeRouters.{candidates_are, hops_at, hops_from, inner}
 use Rattle.forwarding_laws.proofs.ThreeRouters.{is_current, lsa_of, narrow_offer, no_hop, offered}
@@ -104,22 +102,6 @@ each_of P (y ∷ ys) all x t =
       | inl e ↦ subst P e all.0
       | inr later ↦ each_of P ys all.1 x later
     ]
-
-module _ {X : Type 0} (prefix : X → Network) where
-  abbrev Before : X → X → Type 0
-  Before a b = IsBefore (prefix a) (prefix b)
-
-  alone_in_order : (a : X) → AllPairs Before (a ∷ [])
-  alone_in_order a i j d before low = absurd (omega (arith, before, low))
-
-  four_in_order : (a b c d : X) → Before a b → Before a c → Before a d → Before b c → Before b d
-      → Before c d → AllPairs Before (a ∷ b ∷ c ∷ d ∷ [])
-  four_in_order a b c d ab ac ad bc bd cd =
-      AllPairs-cons Before a (b ∷ c ∷ d ∷ [])
-      (All-cons (Before a) b (c ∷ d ∷ []) ab
-      (All-cons (Before a) c (d ∷ []) ac
-      (All-cons (Before a) d [] ad (All-nil (Before a)))))
-      (three_in_order prefix b c d bc bd cd)
 
 outside : (address : ℕ) (n : Network) → not (nat_eq (network_address n.length address) n.address)
     ≡ true → IsUnder address n → ⊥

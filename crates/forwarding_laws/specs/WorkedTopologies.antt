@@ -202,10 +202,12 @@ around_a_default = record {
 }
 
 -- The middle router advertises a destination that contains each address, but forwards the packet by
--- its longer route: so the laws cover what happens to it after that router.
+-- its longer route, and it arrives: so the laws cover what happens to it after that router.
 pub record DefaultRoutesAreNoEnd : Type 0 where
+  pub converged : HasConverged around_a_default
   pub tells : TellsOf (says_of default_middle.router) middle_id address default_prefix
   pub handed_along : IsHandedAlong around_a_default address (0 ∷ 1 ∷ 2 ∷ [])
+  pub is_there : IsThere around_a_default address 2
 
 -- ---- the same routers; the second interface of the middle one is connected to the left one
 
