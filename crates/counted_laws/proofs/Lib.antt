@@ -2,3 +2,4 @@ pub mod Codes
 pub mod Frames
 pub mod Turning
 pub mod Simulation
+pub mod Inside

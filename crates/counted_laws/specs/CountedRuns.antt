@@ -11,7 +11,8 @@ use Rattle.machine.specs.State.{Setting, setting_of, start}
 use Rattle.machine.specs.Steps.{Step, Exits}
 use Rattle.machine.specs.Faults.{Stuck}
 use Rattle.machine.specs.Runs.{Ends}
-use Rattle.annotations.specs.CountedCode.{IsCounted, place_of}
+use Rattle.annotations.specs.Annotated.{CountsLoops}
+use Rattle.annotations.specs.CountedCode.{IsCounted, StaysInside, place_of}
 
 -- the labels of accesses to counters and cells
 abbrev pub accesses : List Label → List Label
@@ -90,3 +91,27 @@ CountedRunsAreRuns = (answer turns : ℕ) (heads : List ℕ) (code counted : Lis
     → (hook : Hook) (input : Given) (n : ℕ) (labels : List Label) (word : ℕ)
     → Ends (setting_of counted hook input) n labels word
     → IsRun (setting_of code hook input) heads start answer turns labels word
+
+-- ---- code that stays inside of itself
+
+-- the outcome without the last case
+abbrev pub IsRunInside : Setting → List ℕ → State → (answer most : ℕ) → List Label → (word : ℕ)
+    → Type 0
+IsRunInside setting heads s answer most labels word =
+    Answers setting heads s most (accesses labels) word
+    ⊎ ((word ≡ answer) × Turns setting heads s (most + 1) (accesses labels))
+
+pub record CodeThatStaysInsideIsNeverLeft : Type 0 where
+  -- if each instruction of the code leads to others of it, the code never leaves its instructions
+  pub of_code : (answer turns : ℕ) (heads : List ℕ) (code counted : List Slot)
+      → IsCode code → StaysInside code → IsCode counted
+      → IsCounted answer turns heads code counted
+      → (hook : Hook) (input : Given) (n : ℕ) (labels : List Label) (word : ℕ)
+      → Ends (setting_of counted hook input) n labels word
+      → IsRunInside (setting_of code hook input) heads start answer turns labels word
+  -- so it is where `annotate` counts turns
+  pub of_texts : (answer turns : ℕ) (text counted : List ℕ)
+      → (counts : CountsLoops answer turns text counted)
+      → (hook : Hook) (input : Given) (n : ℕ) (labels : List Label) (word : ℕ)
+      → Ends (setting_of counts.counted_slots hook input) n labels word
+      → IsRunInside (setting_of counts.slots hook input) counts.heads start answer turns labels word
