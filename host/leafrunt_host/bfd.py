@@ -39,7 +39,8 @@ CODE = (
 )
 MOST_ENDS, ENDS_WITHIN = 3, 60.0
 """A process that ends is followed at once by the next, which goes on with its sessions, unless it's
-the third that ends within so many seconds."""
+the third that ends within so many seconds. The next one stands by, since on a busy machine it takes
+longer to start a process than a neighbor waits."""
 FIRST_WAIT, LONGEST_WAIT = 1.0, 60.0
 """Seconds until the next is started then, doubled with each more that ends."""
 OPENED_AGAIN = 10.0
@@ -162,6 +163,8 @@ class Helper:
             # (it does so itself, and says what keeps it from that: so its start isn't kept waiting)
             os.sched_setscheduler(self._ran.pid, os.SCHED_RR, os.sched_param(PRIORITY))
         self.own.setblocking(False)
+        self.started: Json | None = None
+        """What it said as it started, where it stood by then."""
 
     def say(self, said: Json, files: Iterable[socket.socket] = ()) -> None:
         """`OSError` where it's gone."""
@@ -220,9 +223,11 @@ class Sessions:
         self._held: dict[int, Held] = {}
         self._cut: dict[int, float] = {}
         self._helper: Helper | None = None
+        self._standby: Helper | None = None
         self._memory = os.memfd_create("bfd")
         """What each session's variables are, in case the process ends."""
         self._again, self._ends = 0.0, list[float]()
+        self._stands_by_again = 0.0
         self._limiter = Limiter()
         self.error: str | None = None
 
@@ -330,6 +335,8 @@ class Sessions:
         now = self._clock()
         if self._helper is None and self.settings and now >= self._again:
             self._start(now)
+        elif self._helper and self._standby is None and now >= self._stands_by_again:
+            self._have_standby(now)
         for number, held in self._held.items():
             if held.error and now - held.tried >= OPENED_AGAIN:
                 self._add(number)
@@ -344,8 +351,11 @@ class Sessions:
                 log.error("BFD: %s", each)
 
     def _start(self, now: float) -> None:
+        helper, self._standby = self._standby, None
+        if helper:
+            self._bridge.leave(helper.own)
         try:
-            self._helper = Helper(self._box, self._memory)
+            self._helper = helper or Helper(self._box, self._memory)
         except (CannotHold, OSError) as why:
             self.error, self._again = str(why), now + LONGEST_WAIT
             log.error("BFD: its process can't be started: %s", why)
@@ -354,6 +364,36 @@ class Sessions:
         self._bridge.follow(self._helper.own, self._read)
         for number in self._held:
             self._add(number)
+        if self._helper.started:
+            self._tell_class(self._helper.started)
+
+    def _have_standby(self, now: float) -> None:
+        """Starts a process that holds no session, and waits for the other one's end."""
+        try:
+            self._standby = Helper(self._box, self._memory)
+        except (CannotHold, OSError) as why:
+            self._stands_by_again = now + LONGEST_WAIT
+            log.warning("BFD: no second process can be started: %s", why)
+            return
+        self._bridge.follow(self._standby.own, self._read_standby)
+
+    def _read_standby(self) -> None:
+        """Takes what the process that stands by has to say: that it started, and that it's gone."""
+        with self._lock:
+            self._guarded(self._heard_standby)
+
+    def _heard_standby(self) -> None:
+        standby = self._standby
+        try:
+            while standby and (said := standby.heard()) is not None:
+                if "started" in said:
+                    standby.started = said
+        except CannotHold as why:
+            if standby:
+                self._bridge.leave(standby.own)
+                standby.own.close()
+                self._standby, self._stands_by_again = None, self._clock() + LONGEST_WAIT
+                log.warning("BFD: the process that stands by has ended (%s)", why)
 
     def _read(self) -> None:
         """Takes what the process has to say."""
@@ -467,9 +507,11 @@ class Sessions:
     def close(self) -> None:
         """Ends all sessions in order; no bridge waits for them any more."""
         with self._lock:
-            helper, self._helper = self._helper, None
-            if helper:
-                helper.quit()
+            helpers = (self._helper, self._standby)
+            self._helper = self._standby = None
+            for each in helpers:
+                if each:
+                    each.quit()
             for held in self._held.values():
                 held.close()
             self._held.clear()

@@ -377,6 +377,36 @@ class AsAProcess(unittest.TestCase):
         self.assertEqual(self.lost, [])
         self.until(lambda: self.state() == "Down")
 
+    def standing_by(self) -> bfd.Helper:
+        """The process that stands by, once it has said that it started."""
+        self.until(lambda: self.sessions._standby and self.sessions._standby.started)
+        assert self.sessions._standby
+        return self.sessions._standby
+
+    def test_one_stands_by(self) -> None:
+        """A process that ends is followed by the one that stood by then, and that by another."""
+        self.come_up()
+        helper, standby = self.sessions._helper, self.standing_by()
+        assert helper
+        os.kill(helper._ran.pid, signal.SIGKILL)
+        self.until(lambda: self.sessions._helper is not helper)
+        self.assertIs(self.sessions._helper, standby)
+        self.assertIsNot(self.standing_by(), standby)
+        self.assertEqual((self.state(), self.lost), ("Up", []))
+
+    def test_one_that_stands_by_is_killed(self) -> None:
+        """That changes nothing, and after a while another stands by."""
+        self.come_up()
+        helper, standby = self.sessions._helper, self.standing_by()
+        os.kill(standby._ran.pid, signal.SIGKILL)
+        self.until(lambda: self.sessions._standby is None)
+        self.sessions.tick()
+        self.assertIsNone(self.sessions._standby)
+        self.sessions._stands_by_again = 0.0
+        self.assertIsNot(self.standing_by(), standby)
+        self.assertIs(self.sessions._helper, helper)
+        self.assertEqual((self.state(), self.lost), ("Up", []))
+
     def test_a_process_without_privileges(self) -> None:
         helper = self.sessions._helper
         assert helper
