@@ -6,7 +6,8 @@ ghost use Rattle.clap.specs.Walk.{rows_of};
 ghost use Rattle.hooktool_line.specs.Questions.{HasNumbers};
 ghost use Rattle.hooktool_line.specs.Words.{Reads};
 
-use crate::values::number_of;
+use crate::values::{number_of, word_of};
+use address_texts::read_within;
 use clap::ArgMatches;
 
 /// The numbers of a question: moments below 2^62, interfaces below 64, of which there are so many
@@ -66,25 +67,32 @@ pub(crate) fn numbers_of(matches: &ArgMatches<'_>) -> Option<Numbers>
     })
 }
 
+/// The numbers but that of next hops: the name, the most that it may be, and what is told of another
+/// word.
+const WRONG: [(&str, u64, &str); 6] = [
+    ("metric", MOST, "--metric is no number up to 4294967295"),
+    ("tag", MOST, "--tag is no number up to 4294967295"),
+    ("cost", MOST, "--cost is no number up to 4294967295"),
+    ("distance", MOST, "--distance is no number up to 4294967295"),
+    ("moment", LATEST, "--moment is no number below 2^62"),
+    ("interface", 63, "--interface is no number up to 63"),
+];
+
+/// Whether the word under the name is no number up to the most.
+fn is_wrong(matches: &ArgMatches<'_>, name: &str, most: u64) -> bool {
+    match word_of(matches, name) {
+        Some(word) => read_within(word, 0, most).is_none(),
+        None => false,
+    }
+}
+
 /// Which of the numbers has no meaning, where one has none.
 pub(crate) fn wrong_number(matches: &ArgMatches<'_>) -> &'static str {
-    let Some(_) = number_of(matches, "metric", 0, 0, MOST) else {
-        return "--metric is no number up to 4294967295";
-    };
-    let Some(_) = number_of(matches, "tag", 0, 0, MOST) else {
-        return "--tag is no number up to 4294967295";
-    };
-    let Some(_) = number_of(matches, "cost", 0, 0, MOST) else {
-        return "--cost is no number up to 4294967295";
-    };
-    let Some(_) = number_of(matches, "distance", 0, 0, MOST) else {
-        return "--distance is no number up to 4294967295";
-    };
-    let Some(_) = number_of(matches, "moment", 0, 0, LATEST) else {
-        return "--moment is no number below 2^62";
-    };
-    let Some(_) = number_of(matches, "interface", 0, 0, 63) else {
-        return "--interface is no number up to 63";
-    };
+    for row in &WRONG {
+        let (name, most, why) = *row;
+        if is_wrong(matches, name, most) {
+            return why;
+        }
+    }
     "--next-hops is no number from 1 to 64, or with --interface above 64"
 }
