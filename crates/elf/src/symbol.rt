@@ -5,7 +5,7 @@ ghost use Rattle.elf.specs.Entries.{symbol_kind, symbol_at};
 use crate::number::{half, word, xword};
 
 /// What a symbol stands for (the lower half of st_info).
-#[derive(Clone, Copy, PartialEq, Eq)]
+#[derive(Clone, Copy)]
 pub enum SymbolKind {
     NoType,
     /// Data.

@@ -3,10 +3,10 @@
 #![tactic(auto)]
 
 use hooktool_commands::program;
+use hooktool_commands::streams::{Stream, Written};
 use std::alloc::{AllocError, Global};
 use std::process::ExitCode;
 use std::{env, io};
-use streams::{Stream, Written};
 
 /// Hands the arguments and the standard streams to the program, and ends with its status.
 fn main(rt: HostRuntime) -> ExitCode {

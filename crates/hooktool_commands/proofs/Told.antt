@@ -5,7 +5,7 @@ use Rattle.clap.specs.Values.{kind_of}
 use Rattle.clap.specs.declared.error.Error.{Error}
 use Rattle.clap.specs.declared.error.ErrorKind.{ErrorKind}
 use Rattle.clap.specs.declared.error.ErrorKind.TheVariants as kinds
-use Rattle.streams.specs.Streams.{StreamState}
+use Rattle.hooktool_commands.specs.Streams.{StreamState}
 use Rattle.hooktool_commands.specs.Endings.{Fails, LeavesOne, TellsWords}
 use Rattle.hooktool_commands.specs.Statuses.{status_of_words}
 

@@ -8,5 +8,6 @@ pub mod Explanations
 pub mod Faults
 pub mod Linked
 pub mod Statuses
+pub mod Streams
 pub mod Tests
 pub mod Trials

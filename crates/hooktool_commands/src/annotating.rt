@@ -12,7 +12,7 @@ use crate::cells::cells_note;
 use crate::explaining::lacks_memory;
 use crate::fault::HooktoolFault;
 use crate::files;
-use crate::report::CommandReport;
+use crate::report::{CommandReport, told};
 use annotations::{
     AnnotatedObject, CountError, EndlessLoop, Fuel, Rejected, Shortfall, Trouble, annotate_file,
     answer_without_turns,
@@ -187,13 +187,7 @@ fn rejection<'a>(
     ensures refused { IfOk result (λ report. report.is_refused ≡ true) }
     ensures fault { IfErr result (λ fault. fault ≡ HooktoolFault.Memory) }
 {
-    match rejection_text(alloc, rejected, endless, telling) {
-        Ok(text) => Ok(CommandReport {
-            text,
-            is_refused: true,
-        }),
-        Err(error) => Err(HooktoolFault::from(error)),
-    }
+    told(rejection_text(alloc, rejected, endless, telling), true)
 }
 
 /// Why turns can't be counted.
@@ -321,12 +315,10 @@ fn elf_refusal<'a>(alloc: Global) -> Result<CommandReport, HooktoolFault<'a>>
     ensures refused { IfOk result (λ report. report.is_refused ≡ true) }
     ensures fault { IfErr result (λ fault. fault ≡ HooktoolFault.Memory) }
 {
-    Ok(CommandReport {
-        text: format!(in alloc;
-            "CODE is an ELF file: hooktool build FILE FOLDER makes an object of each of its functions, and hooktool explain FILE explains each\n"
-        )?,
-        is_refused: true,
-    })
+    let text = format!(in alloc;
+        "CODE is an ELF file: hooktool build FILE FOLDER makes an object of each of its functions, and hooktool explain FILE explains each\n"
+    );
+    told(text, true)
 }
 
 /// Finds statements for the code in these bytes of a file, and writes the object file `object`, if

@@ -6,6 +6,7 @@ ghost use Rattle.std.specs.Prelude.{IfOk, IfSome, OnOk, length, string_bytes};
 ghost use Rattle.std.specs.List.{All};
 ghost use Rattle.isa.specs.Hooks.{hook_name};
 ghost use Rattle.object_verdicts.specs.Verdicts.{Accepts};
+ghost use Rattle.verifier.specs.Programs.{Program};
 ghost use Rattle.elf.specs.Files.{section_count, section_name};
 ghost use Rattle.elf.specs.Lists.{functions_of, relocations_of, symbol_bytes, symbol_name};
 ghost use Rattle.hooktool_commands.specs.Builds.{AreBuiltFunctions, AreBuiltSections, IsBuilt};
@@ -23,7 +24,7 @@ use crate::fault::HooktoolFault;
 use crate::files;
 use crate::names::{as_file_name, shown};
 use crate::relocated::{Section, relocation_report, unchanged};
-use crate::report::CommandReport;
+use crate::report::{CommandReport, refusal, told};
 use annotations::{AnnotatedObject, Shortfall, annotate_file};
 use elf::{LinkedRelocation, LinkedSymbol, ObjectFile};
 use explanations::Text;
@@ -54,16 +55,6 @@ pub(crate) struct Order<'a> {
 struct Names<'f> {
     section: &'f [u8],
     function: &'f [u8],
-}
-
-/// What a text tells as a refusal.
-pub(crate) fn refusal(text: Text) -> Result<CommandReport, AllocError>
-    ensures { IfOk result (λ report. report.is_refused ≡ true) }
-{
-    Ok(CommandReport {
-        text: text.finish()?,
-        is_refused: true,
-    })
 }
 
 /// Adds what else is told.
@@ -140,7 +131,7 @@ fn function_told<'a>(
 {
     let mut text = about(alloc, section, function);
     text.push(why);
-    Ok(refusal(text)?)
+    refusal(text)
 }
 
 /// Adds why a function's bytes are no code, or no code whose turns can be counted.
@@ -179,7 +170,7 @@ fn function_refusal<'a>(
     }
     let mut text = about(alloc, names.section, names.function);
     push_why(&mut text, &why);
-    Ok(refusal(text)?)
+    refusal(text)
 }
 
 /// What is told of an object that is written.
@@ -198,6 +189,27 @@ fn line_of(
     Ok(line)
 }
 
+/// Writes these bytes as the object of a function.
+fn write_object<'a, R: Files + AllocGlobal>(
+    rt: &R,
+    folder: &'a str,
+    function: &str,
+    bytes: &[u8],
+) -> Result<(), HooktoolFault<'a>>
+    requires accepted { (program : Program) × Accepts bytes.now program }
+    // The object is in the folder itself.
+    requires plain { is_file_name function.now ≡ true }
+    ensures { IfErr result (λ fault. (fault ≡ HooktoolFault.Write folder.entry)
+        ⊎ (fault ≡ HooktoolFault.Memory)) }
+{
+    let path = format!(in rt.alloc(); "{folder}/{function}.o")?;
+    match files::write_accepted(rt, path.as_str(), bytes) {
+        Ok(()) => Ok(()),
+        Err(HooktoolFault::Memory) => Err(HooktoolFault::Memory),
+        Err(_) => Err(HooktoolFault::Write { path: folder }),
+    }
+}
+
 /// Writes the object of a function, which the verifier accepted, and tells its bound.
 fn write_function<'a, R: Files + AllocGlobal>(
     rt: &R,
@@ -207,7 +219,6 @@ fn write_function<'a, R: Files + AllocGlobal>(
     found: &AnnotatedObject,
 ) -> Result<CommandReport, HooktoolFault<'a>>
     requires accepted { Accepts found.now.annotated.bytes.items found.now.annotated.accepted }
-    // The object is in the folder itself.
     requires plain { is_file_name function.now ≡ true }
     ensures told { IfOk result (λ report. string_bytes report.text
         ≡ built_text folder.now function.now (hook_name hook)
@@ -215,15 +226,13 @@ fn write_function<'a, R: Files + AllocGlobal>(
     ensures fault { IfErr result (λ fault. (fault ≡ HooktoolFault.Write folder.entry)
         ⊎ (fault ≡ HooktoolFault.Memory)) }
 {
-    let path = format!(in rt.alloc(); "{folder}/{function}.o")?;
     let text = line_of(rt.alloc(), folder, function, hook.name(), found)?;
-    match files::write_accepted(rt, path.as_str(), &found.annotated.bytes) {
+    match write_object(rt, folder, function, &found.annotated.bytes) {
         Ok(()) => Ok(CommandReport {
             text,
             is_refused: false,
         }),
-        Err(HooktoolFault::Memory) => Err(HooktoolFault::Memory),
-        Err(_) => Err(HooktoolFault::Write { path: folder }),
+        Err(fault) => Err(fault),
     }
 }
 
@@ -367,7 +376,7 @@ fn section_refusal<'a>(
         (b".text", Purpose::Object { .. }) => text.push("; or --hook\n"),
         _ => text.push("\n"),
     }
-    Ok(refusal(text)?)
+    refusal(text)
 }
 
 /// What is told of a section whose instructions are no function's.
@@ -379,7 +388,7 @@ fn nothing_refusal<'a>(alloc: Global, section: &[u8]) -> Result<CommandReport, H
     text.push("section ");
     text.push(shown(section));
     text.push(": it has instructions and no function\n");
-    Ok(refusal(text)?)
+    refusal(text)
 }
 
 /// Makes the objects of these functions of a section.
@@ -425,8 +434,7 @@ fn build_unchanged<'a, R: Files + AllocGlobal>(
     ensures { IfErr result (IsBuildFault order.now.purpose) }
 {
     let others = unchanged(rt.alloc(), functions, relocations)?;
-    let built = build_functions(rt, order, hook, file, index, &others)?;
-    Ok(built)
+    build_functions(rt, order, hook, file, index, &others)
 }
 
 /// Tells of the functions of a section that a linker would change, and makes the objects of the
@@ -563,14 +571,17 @@ fn no_elf<'a>(
 {
     let hint = match fault {
         elf::ElfFault::NotElf =>
-            "  compile C first: clang -O2 -target bpf -mcpu=v3 -c PROGRAM.c -o FILE (Debian's \
+            "\n  compile C first: clang -O2 -target bpf -mcpu=v3 -c PROGRAM.c -o FILE (Debian's \
                 package clang), or tools/hooktool-build PROGRAM.c\n",
-        _ => "",
+        _ => "\n",
     };
-    Ok(CommandReport {
-        text: format!(in alloc; "{path}: {fault}\n{hint}")?,
-        is_refused: true,
-    })
+    let (first, second) = fault.numbers();
+    let mut text = Text::new(alloc);
+    text.push(path);
+    text.push(": ");
+    text.fill(fault.words(), &[first as u128, second as u128]);
+    text.push(hint);
+    refusal(text)
 }
 
 /// Tells whether a section has instructions.
@@ -596,10 +607,7 @@ fn no_program<'a>(
     ensures refused { IfOk result (λ report. report.is_refused ≡ true) }
     ensures fault { IfErr result (λ fault. fault ≡ HooktoolFault.Memory) }
 {
-    Ok(CommandReport {
-        text: format!(in alloc; "{path}: it has no function\n")?,
-        is_refused: true,
-    })
+    told(format!(in alloc; "{path}: it has no function\n"), true)
 }
 
 /// Makes an object of each function of the file that is in the section of a hook.

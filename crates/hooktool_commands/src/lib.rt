@@ -12,6 +12,7 @@ mod names;
 pub mod program;
 mod relocated;
 mod report;
+pub mod streams;
 mod tap;
 mod testing;
 mod traps;

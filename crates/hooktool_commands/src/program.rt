@@ -10,6 +10,7 @@ use crate::building::{Order, Purpose, build};
 use crate::explaining::explain;
 use crate::fault::{DONE, HooktoolFault, OUTSIDE, REFUSED, USAGE};
 use crate::report::CommandReport;
+use crate::streams::Stream;
 use crate::testing::{Tested, test};
 use crate::trying::try_question;
 use clap::Error;
@@ -19,7 +20,6 @@ use isa::Hook;
 use std::alloc::Global;
 use std::io::{self, ErrorKind as IoKind};
 use std::rt::Files;
-use streams::Stream;
 
 // Prints what a command made, and answers the status.
 fn print<O: Stream>(report: &CommandReport, output: &mut O) -> u8

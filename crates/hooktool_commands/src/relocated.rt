@@ -1,12 +1,13 @@
 //! What is told of code that a linker would change: it uses data, or calls a function.
 
-ghost use Rattle.std.specs.Prelude.{◌≡◌, false, true, IfOk};
+ghost use Rattle.std.specs.Prelude.{◌≡◌, false, true, IfErr, IfOk};
 ghost use Rattle.std.specs.List.{All};
 ghost use Rattle.hooktool_commands.specs.Linked.{has_place, is_changed};
 
-use crate::building::{push_about, refusal};
+use crate::building::push_about;
+use crate::fault::HooktoolFault;
 use crate::names::shown;
-use crate::report::CommandReport;
+use crate::report::{CommandReport, refusal};
 use elf::{LinkedRelocation, LinkedSymbol, ObjectFile, SymbolKind};
 use explanations::Text;
 use std::alloc::{AllocError, Global};
@@ -122,7 +123,8 @@ fn target_name<'a>(
     let index = it.symbol as usize;
     if let Some(symbol) = file.symbol(relocation.table, index) {
         let section = symbol.section as usize;
-        if symbol.kind == SymbolKind::Section && section < file.section_count() {
+        let is_section = matches!(symbol.kind, SymbolKind::Section);
+        if is_section && section < file.section_count() {
             let number = number_at(contents, it.offset).unwrap_or(0);
             let place = named_place(it.kind, number);
             return match name_at(file, relocation.table, symbol.section, place) {
@@ -224,14 +226,15 @@ fn push_others(out: &mut Text, section: &[u8], others: usize) {
 
 /// What is told of the places of a section that a linker would change: what code uses and calls
 /// there. Of more than sixteen the number of the others.
-pub(crate) fn relocation_report(
+pub(crate) fn relocation_report<'a>(
     alloc: Global,
     file: &ObjectFile<'_>,
     section: Section<'_>,
     functions: &[LinkedSymbol],
     relocations: &[LinkedRelocation],
-) -> Result<CommandReport, AllocError>
-    ensures { IfOk result (λ report. report.is_refused ≡ true) }
+) -> Result<CommandReport, HooktoolFault<'a>>
+    ensures refused { IfOk result (λ report. report.is_refused ≡ true) }
+    ensures fault { IfErr result (λ fault. fault ≡ HooktoolFault.Memory) }
 {
     let mut text = Text::new(alloc);
     for relocation in relocations.iter().take(MOST_TOLD) {

@@ -6,8 +6,9 @@ ghost use Rattle.hooktool_commands.specs.Tests.{IsTested};
 
 use crate::fault::HooktoolFault;
 use crate::files;
-use crate::report::CommandReport;
+use crate::report::{CommandReport, told};
 use crate::tap::protocol;
+use explanations::Text;
 use hooktool_line::{LineError, TestLine, WrongLine, read_lines, words_of_lines};
 use object_trials::{PlayError, Point, Stopped, play};
 use std::alloc::{AllocError, Global};
@@ -45,12 +46,17 @@ fn unread<'a>(text: Result<String, AllocError>) -> Result<Tested, HooktoolFault<
 
 /// Why a line can't be played, behind its place.
 fn stopped_text(alloc: Global, path: &str, stopped: Stopped) -> Result<String, AllocError> {
-    let number = stopped.number;
     let error = stopped.error;
-    match error {
-        PlayError::Memory => Err(AllocError),
-        _ => format!(in alloc; "{path}, line {number}: {error}\n{UNPLAYED}"),
+    if matches!(error, PlayError::Memory) {
+        return Err(AllocError);
     }
+    let mut text = Text::new(alloc);
+    text.push(path);
+    text.numbered(", line ", stopped.number, ": ");
+    text.fill(error.words(), &[u128::from(error.number())]);
+    text.push("\n");
+    text.push(UNPLAYED);
+    text.finish()
 }
 
 /// Tells whether one of the points isn't ok.
@@ -66,13 +72,7 @@ fn report_of<'a>(alloc: Global, points: &[Point<'_>]) -> Result<CommandReport, H
         ≡ list_any (λ point. not point.verdict.is_ok) points.now) }
     ensures fault { IfErr result (λ fault. fault ≡ HooktoolFault.Memory) }
 {
-    match protocol(alloc, points) {
-        Ok(text) => Ok(CommandReport {
-            text,
-            is_refused: is_any_wrong(points),
-        }),
-        Err(error) => Err(HooktoolFault::from(error)),
-    }
+    told(protocol(alloc, points), is_any_wrong(points))
 }
 
 /// Plays these lines, and says what is to be told.

@@ -11,7 +11,7 @@ use crate::answers::push_answer;
 use crate::explaining::fault_in;
 use crate::fault::HooktoolFault;
 use crate::files;
-use crate::report::CommandReport;
+use crate::report::{CommandReport, told};
 use crate::traps::push_trap;
 use explanations::{Text, instruction_lines};
 use hooktool_line::{PacketSource, Question};
@@ -119,13 +119,7 @@ fn report_of<'a>(
         ≡ list_any (λ ending. is_err ending.outcome) trial.now.endings.items) }
     ensures fault { IfErr result (λ fault. fault ≡ HooktoolFault.Memory) }
 {
-    match text_of(alloc, program, trial) {
-        Ok(text) => Ok(CommandReport {
-            text,
-            is_refused: is_any_stuck(&trial.endings),
-        }),
-        Err(error) => Err(HooktoolFault::from(error)),
-    }
+    told(text_of(alloc, program, trial), is_any_stuck(&trial.endings))
 }
 
 /// Runs the program of the object file that these bytes are on the question, with this packet, and

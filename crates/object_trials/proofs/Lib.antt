@@ -1,3 +1,4 @@
+pub mod Behind
 pub mod Chained
 pub mod InARow
 pub mod Same

@@ -4,6 +4,7 @@
 
 mod answers;
 mod asking;
+mod captures;
 mod error;
 mod left;
 mod playing;
@@ -14,6 +15,7 @@ mod stopped;
 mod trial;
 
 pub use answers::is_any_stuck;
+pub use captures::CaptureError;
 pub use error::TrialError;
 pub use playing::play;
 pub use runs::RunEnding;

@@ -7,10 +7,10 @@ ghost use Rattle.object_trials.specs.Plays.{compared, judged, points_of};
 
 use crate::answers::{is_any_stuck, last_among, meets};
 use crate::asking::{ask, hook_of};
+use crate::captures::{self, Capture, CaptureError, FrameContent, LinkType, Record, content_of};
 use crate::error::TrialError;
 use crate::stage::{Found, Last, Point, PointResult, Stage};
 use crate::stopped::{PlayError, Stopped};
-use captures::{Capture, CaptureError, FrameContent, LinkType, Record, content_of};
 use hooktool_line::{ExpectedAnswer, PacketSource, Question, Step, TestLine, packet_question};
 use maps::{Seat, Shared};
 use std::alloc::{AllocError, Global};
@@ -213,6 +213,14 @@ fn compare_answer(last: Last, expected: ExpectedAnswer) -> PointResult
     }
 }
 
+/// What a step came to that asks.
+fn with_verdict(asked: Result<PointResult, PlayError>) -> Result<Option<PointResult>, PlayError> {
+    match asked {
+        Ok(verdict) => Ok(Some(verdict)),
+        Err(error) => Err(error),
+    }
+}
+
 /// Plays a step: whether it is ok, where it asks or expects something.
 fn play_step<R: Files + AllocGlobal>(
     rt: &R,
@@ -224,22 +232,23 @@ fn play_step<R: Files + AllocGlobal>(
     requires { IsOf shared.now seat.old }
     ensures { IsOf shared.now seat.new }
 {
-    let verdict = match step {
-        Step::Program(path) => {
-            take_program(rt, stage, path)?;
-            return Ok(None);
-        }
-        Step::Ask(question) => ask_question(rt, stage, question, shared, seat)?,
+    match step {
+        Step::Program(path) => match take_program(rt, stage, path) {
+            Ok(()) => Ok(None),
+            Err(error) => Err(error),
+        },
+        Step::Ask(question) => with_verdict(ask_question(rt, stage, question, shared, seat)),
         Step::Packets { path, interface } => {
-            ask_capture(rt, stage, path, *interface, shared, seat)?
+            with_verdict(ask_capture(rt, stage, path, *interface, shared, seat))
         }
-        Step::Answers(expected) => compare_answer(stage.last, *expected),
+        Step::Answers(expected) => Ok(Some(compare_answer(stage.last, *expected))),
         Step::Counter { index, number } => {
-            compare(shared.read(seat, usize::from(*index)), *number)
+            Ok(Some(compare(shared.read(seat, usize::from(*index)), *number)))
         }
-        Step::Cell { index, number } => compare(cell_at(shared, seat, *index), *number),
-    };
-    Ok(Some(verdict))
+        Step::Cell { index, number } => {
+            Ok(Some(compare(cell_at(shared, seat, *index), *number)))
+        }
+    }
 }
 
 /// Adds the point of a line, if it has a verdict.
@@ -260,6 +269,27 @@ fn push_point<'a>(
     Ok(())
 }
 
+/// Plays a line, and adds its point, if it has a verdict.
+fn play_line<'a, R: Files + AllocGlobal>(
+    rt: &R,
+    line: &TestLine<'a>,
+    stage: &mut Stage,
+    shared: &Shared,
+    seat: &mut Seat,
+    points: &mut Vec<Point<'a>>,
+) -> Result<(), PlayError>
+    requires { IsOf shared.now seat.old }
+    ensures { IsOf shared.now seat.new }
+{
+    match play_step(rt, stage, &line.step, shared, seat) {
+        Ok(verdict) => match push_point(points, line, verdict) {
+            Ok(()) => Ok(()),
+            Err(_) => Err(PlayError::Memory),
+        },
+        Err(error) => Err(error),
+    }
+}
+
 /// What is found at the lines, on these counters and cells.
 fn play_lines<'a, R: Files + AllocGlobal>(
     rt: &R,
@@ -272,17 +302,12 @@ fn play_lines<'a, R: Files + AllocGlobal>(
 {
     let mut points = Vec::new(rt.alloc());
     for line in lines {
-        let number = line.number;
-        let verdict = match play_step(rt, stage, &line.step, shared, seat) {
-            Ok(verdict) => verdict,
-            Err(error) => return Err(Stopped { number, error }),
-        };
-        match push_point(&mut points, line, verdict) {
+        match play_line(rt, line, stage, shared, seat, &mut points) {
             Ok(()) => (),
-            Err(_) => {
+            Err(error) => {
                 return Err(Stopped {
-                    number,
-                    error: PlayError::Memory,
+                    number: line.number,
+                    error,
                 });
             }
         }

@@ -1,9 +1,8 @@
 //! Streams that texts are written to, and that know whether a write failed.
-#![tactic(auto)]
 
 ghost use Rattle.std.specs.Prelude.{◌≡◌, false, true, IfSome, OnErr, OnOk};
 ghost use Rattle.std.specs.Io.KnownBytes.{Appends};
-ghost use Rattle.streams.specs.Streams.{StreamState};
+ghost use Rattle.hooktool_commands.specs.Streams.{StreamState};
 
 use std::fmt::Display;
 use std::io::Write;

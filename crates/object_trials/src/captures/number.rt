@@ -1,6 +1,6 @@
 //! Numbers of a capture.
 ghost use Rattle.std.specs.Prelude.{◌≡◌, ◌+◌, ◌≤◌, length};
-ghost use Rattle.captures.specs.Numbers.{half, word};
+ghost use Rattle.object_trials.specs.CaptureNumbers.{half, word};
 
 /// Which byte of a number comes first: the least significant one, or the most.
 #[derive(Clone, Copy)]
@@ -9,7 +9,7 @@ pub enum Order {
     Big,
 }
 
-#[tactic(auto, unfolding(crate::specs::Numbers::half))]
+#[tactic(auto, unfolding(crate::specs::CaptureNumbers::half))]
 pub(crate) fn half(order: Order, bytes: &[u8], at: usize) -> u16
     requires { at + 2 ≤ length bytes.now }
     ensures { result ≡ half order bytes.now at }
@@ -20,7 +20,7 @@ pub(crate) fn half(order: Order, bytes: &[u8], at: usize) -> u16
     }
 }
 
-#[tactic(auto, unfolding(crate::specs::Numbers::word))]
+#[tactic(auto, unfolding(crate::specs::CaptureNumbers::word))]
 pub(crate) fn word(order: Order, bytes: &[u8], at: usize) -> u32
     requires { at + 4 ≤ length bytes.now }
     ensures { result ≡ word order bytes.now at }

@@ -1,10 +1,10 @@
 //! Frames of a link, and the OSPF packets in them.
 ghost use Rattle.std.specs.Prelude.{◌≡◌, ◌↔◌, ◌≤◌, length, IsTrue, MatchOption};
-ghost use Rattle.captures.specs.Frames.{CarriesIp, HasNumber, HasOspf, Holds, IsOspf};
-ghost use Rattle.captures.specs.Frames.{IsPacketOf, header_length, header_of};
-ghost use Rattle.captures.specs.declared.frame.LinkType.{LinkType};
+ghost use Rattle.object_trials.specs.Frames.{CarriesIp, HasNumber, HasOspf, Holds, IsOspf};
+ghost use Rattle.object_trials.specs.Frames.{IsPacketOf, header_length, header_of};
+ghost use Rattle.object_trials.specs.declared.captures.frame.LinkType.{LinkType};
 
-use crate::number::{Order, half};
+use crate::captures::number::{Order, half};
 
 /// What a frame begins with.
 #[derive(Clone, Copy)]

@@ -1,12 +1,12 @@
 //! The file: a header, and records.
 ghost use Rattle.std.specs.Prelude.{◌≡◌, ◌≤◌, ◌↔◌, length, IfErr, IfOk, IsTrue, MatchOption};
-ghost use Rattle.captures.specs.Files.{AreRecords, IsCapture, IsCutAt, IsHeader, IsRecordAt};
-ghost use Rattle.captures.specs.Files.{Refuses};
-ghost use Rattle.captures.specs.declared.number.Order.{Order};
+ghost use Rattle.object_trials.specs.Captures.{AreRecords, IsCapture, IsCutAt, IsHeader, IsRecordAt};
+ghost use Rattle.object_trials.specs.Captures.{Refuses};
+ghost use Rattle.object_trials.specs.declared.captures.number.Order.{Order};
 
-use crate::fault::CaptureError;
-use crate::frame::{LinkType, link_of};
-use crate::number::{Order, half, word};
+use crate::captures::fault::CaptureError;
+use crate::captures::frame::{LinkType, link_of};
+use crate::captures::number::{Order, half, word};
 use std::alloc::Global;
 
 /// A frame, and the second in which it was captured, since 1970.

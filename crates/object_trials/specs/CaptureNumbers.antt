@@ -1,7 +1,7 @@
 -- Numbers of a capture, in either order of bytes.
 use Rattle.std.specs.Prelude.{ℕ, ◌+◌, ◌*◌, List, slice_index}
-use Rattle.captures.specs.declared.number.Order.{Order}
-use Rattle.captures.specs.declared.number.Order.TheVariants.{Little, Big}
+use Rattle.object_trials.specs.declared.captures.number.Order.{Order}
+use Rattle.object_trials.specs.declared.captures.number.Order.TheVariants.{Little, Big}
 
 -- two bytes
 unfoldable pub half : Order → List ℕ → ℕ → ℕ

@@ -1,12 +1,12 @@
 -- Frames, and the OSPF packets in them. Kinds of links are those of the list of LINKTYPE values.
 use Rattle.std.specs.Prelude.{◌≡◌, ◌⊎◌, ℕ, ◌*◌, ◌/◌, ◌%◌, ◌<◌, ◌≤◌, List, drop, length, slice_index}
 use Rattle.std.specs.Prelude.{slice_range}
-use Rattle.captures.specs.Numbers.{half}
-use Rattle.captures.specs.declared.frame.FrameContent.{FrameContent}
-use Rattle.captures.specs.declared.frame.FrameContent.TheVariants as contents
-use Rattle.captures.specs.declared.frame.LinkType.{LinkType}
-use Rattle.captures.specs.declared.frame.LinkType.TheVariants as links
-use Rattle.captures.specs.declared.number.Order.TheVariants.{Big}
+use Rattle.object_trials.specs.CaptureNumbers.{half}
+use Rattle.object_trials.specs.declared.captures.frame.FrameContent.{FrameContent}
+use Rattle.object_trials.specs.declared.captures.frame.FrameContent.TheVariants as contents
+use Rattle.object_trials.specs.declared.captures.frame.LinkType.{LinkType}
+use Rattle.object_trials.specs.declared.captures.frame.LinkType.TheVariants as links
+use Rattle.object_trials.specs.declared.captures.number.Order.TheVariants.{Big}
 
 -- the numbers of a link: LINKTYPE_RAW and _IPV4, _ETHERNET, _LINUX_SLL, _LINUX_SLL2
 abbrev pub HasNumber : LinkType → ℕ → Type 0

@@ -1,6 +1,6 @@
 use Rattle.std.proofs.Common.{◌≤◌, ◌-◌, length}
-use Rattle.captures.specs.Files.{AreRecords}
-use Rattle.captures.proofs.file.records_of.Given as goal
+use Rattle.object_trials.specs.Captures.{AreRecords}
+use Rattle.object_trials.proofs.captures.file.records_of.Given as goal
 
 abbrev pub invariant-loop-at : goal.invariant-loop-at
 invariant-loop-at l = (l.at ≤ length l.bytes) × AreRecords l.order l.bytes 24 l.records.items l.at

@@ -1,8 +1,8 @@
 use Rattle.std.proofs.Common.{◌+◌, ◌∷◌, ◌++◌, [], List, length, subst, sym}
-use Rattle.captures.specs.Files.{AreRecords}
-use Rattle.captures.specs.declared.file.Record.{Record}
-use Rattle.captures.proofs.Behind.{ends_inside, one_more}
-use Rattle.captures.proofs.file.records_of.Goals as goal
+use Rattle.object_trials.specs.Captures.{AreRecords}
+use Rattle.object_trials.specs.declared.captures.file.Record.{Record}
+use Rattle.object_trials.proofs.Behind.{ends_inside, one_more}
+use Rattle.object_trials.proofs.captures.file.records_of.Goals as goal
 
 pub loop-at-preserved : goal.loop-at-preserved
 loop-at-preserved c =

@@ -1,13 +1,13 @@
 -- Files of packets in the classic form of libpcap, as pcap-savefile(5) has it.
 use Rattle.std.specs.Prelude.{◌≡◌, ◌⊎◌, ℕ, ◌+◌, ◌-◌, ◌<◌, ◌≤◌, List, [], ◌∷◌, length, slice_range}
-use Rattle.captures.specs.Frames.{HasNumber}
-use Rattle.captures.specs.Numbers.{half, word}
-use Rattle.captures.specs.declared.fault.CaptureError.{CaptureError}
-use Rattle.captures.specs.declared.fault.CaptureError.TheVariants as errors
-use Rattle.captures.specs.declared.file.Capture.{Capture}
-use Rattle.captures.specs.declared.file.Record.{Record}
-use Rattle.captures.specs.declared.frame.LinkType.{LinkType}
-use Rattle.captures.specs.declared.number.Order.{Order}
+use Rattle.object_trials.specs.Frames.{HasNumber}
+use Rattle.object_trials.specs.CaptureNumbers.{half, word}
+use Rattle.object_trials.specs.declared.captures.fault.CaptureError.{CaptureError}
+use Rattle.object_trials.specs.declared.captures.fault.CaptureError.TheVariants as errors
+use Rattle.object_trials.specs.declared.captures.file.Capture.{Capture}
+use Rattle.object_trials.specs.declared.captures.file.Record.{Record}
+use Rattle.object_trials.specs.declared.captures.frame.LinkType.{LinkType}
+use Rattle.object_trials.specs.declared.captures.number.Order.{Order}
 
 -- A header of 24 bytes: the magic number, of microseconds or nanoseconds, in this order of bytes,
 -- and the major version 2.

@@ -2,9 +2,9 @@
 use Rattle.std.proofs.Common.{◌≡◌, ◌≤◌, ℕ, ◌+◌, arith, List, [], ◌∷◌, ◌++◌, length, refl, subst}
 use Rattle.std.proofs.Common.{sym}
 use Rattle.std.proofs.lemmas.Grind.{common_steps}
-use Rattle.captures.specs.Files.{AreRecords, IsRecordAt}
-use Rattle.captures.specs.declared.file.Record.{Record}
-use Rattle.captures.specs.declared.number.Order.{Order}
+use Rattle.object_trials.specs.Captures.{AreRecords, IsRecordAt}
+use Rattle.object_trials.specs.declared.captures.file.Record.{Record}
+use Rattle.object_trials.specs.declared.captures.number.Order.{Order}
 
 pub one_more : (order : Order) (bytes : List ℕ) (from to : ℕ) (records : List Record) (it : Record)
     → AreRecords order bytes from records to → IsRecordAt order bytes to it

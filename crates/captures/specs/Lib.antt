@@ -1,3 +1,0 @@
-pub mod Files
-pub mod Frames
-pub mod Numbers
