@@ -164,7 +164,7 @@ class Helper:
             os.sched_setscheduler(self._ran.pid, os.SCHED_RR, os.sched_param(PRIORITY))
         self.own.setblocking(False)
         self.started: Json | None = None
-        """What it said as it started, where it stood by then."""
+        """What it said once it had given up its privileges."""
 
     def say(self, said: Json, files: Iterable[socket.socket] = ()) -> None:
         """`OSError` where it's gone."""
@@ -335,8 +335,10 @@ class Sessions:
         now = self._clock()
         if self._helper is None and self.settings and now >= self._again:
             self._start(now)
-        elif self._helper and self._standby is None and now >= self._stands_by_again:
-            self._have_standby(now)
+        elif self._helper and self._helper.started and not self._standby:
+            # (once it's a user of its own, which the second one isn't to be)
+            if now >= self._stands_by_again:
+                self._have_standby(now)
         for number, held in self._held.items():
             if held.error and now - held.tried >= OPENED_AGAIN:
                 self._add(number)
@@ -388,6 +390,8 @@ class Sessions:
             while standby and (said := standby.heard()) is not None:
                 if "started" in said:
                     standby.started = said
+                else:
+                    self._take(said)
         except CannotHold as why:
             if standby:
                 self._bridge.leave(standby.own)
@@ -445,6 +449,8 @@ class Sessions:
     def _take(self, said: Json) -> None:
         if "started" in said:
             self._tell_class(said)
+            if self._helper:
+                self._helper.started = said
             return
         if "failed" in said:
             log.error("BFD: %s", str(said["failed"])[:200])

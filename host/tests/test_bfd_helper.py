@@ -394,6 +394,31 @@ class AsAProcess(unittest.TestCase):
         self.assertIsNot(self.standing_by(), standby)
         self.assertEqual((self.state(), self.lost), ("Up", []))
 
+    def test_both_are_killed(self) -> None:
+        """Then a third goes on with the sessions."""
+        self.come_up()
+        both = (self.sessions._helper, self.standing_by())
+        for each in both:
+            assert each
+            os.kill(each._ran.pid, signal.SIGKILL)
+        self.until(lambda: self.sessions._helper not in (*both, None))
+        self.assertIsNot(self.standing_by(), both[1])
+        said = self.sessions.report(1)
+        assert said
+        self.assertEqual((said["state"], said["error"], self.lost), ("Up", None, []))
+
+    @unittest.skipIf(os.geteuid(), "this needs root")
+    def test_each_process_is_a_user_of_its_own(self) -> None:
+        helper, standby = self.sessions._helper, self.standing_by()
+        assert helper
+        users = [self.user_of(each._ran.pid) for each in (helper, standby)]
+        self.assertEqual(len({*users, "0"}), 3, users)
+
+    def user_of(self, process: int) -> str:
+        return next(
+            line.split()[1] for line in self.status_of(process).splitlines() if line.startswith("Uid:")
+        )
+
     def test_one_that_stands_by_is_killed(self) -> None:
         """That changes nothing, and after a while another stands by."""
         self.come_up()
