@@ -336,10 +336,14 @@ def with_pair(
 
 def bfd(given: Try) -> None:
     """A link falls silent: how soon the kernel's table has it, at a box and beside it at BIRD and
-    FRR; then what must cut no adjacency: wrong keys, forged packets, a process that is killed,
-    AdminDown."""
+    FRR; then a link that is silent in one direction."""
     outages(given)
     with_pair(given, lambda it: one_way(given, it), "BIRD")
+
+
+def bfd_holds(given: Try) -> None:
+    """What must cut no adjacency: wrong keys, a neighbor without BFD, forged packets, a process that
+    is killed, AdminDown."""
     other = Bfd(key=Secret(7, METICULOUS.algorithm, "another secret"))
     with_pair(given, lambda it: wrong_key(given, it), "BIRD", METICULOUS, other)
     with_pair(given, lambda it: without(given, it), "FRR", None, None)
