@@ -124,7 +124,8 @@ pub record HasTalked {Input : Type 0} (gives : Gives Input) (fails : Fails Input
 abbrev pub IsTicked : Offers → Took → Refuses → (counted counts : ℕ) → Type 0
 IsTicked offers took refuses counted counts =
     IsDone offers took refuses Tick counted counts
-    ⊎ ((counts ≡ counted) × ((error : TurnError) × IsRefusedOnce offers refuses Tick error))
+    ⊎ ((counts ≡ counted)
+    × ((error : TurnError) × IsRefusedOnce offers refuses counted Tick error))
 
 -- the first is a Tick's turn, and then line follows line
 pub record Converses {Input : Type 0} (gives : Gives Input) (fails : Fails Input) (s : Sources)

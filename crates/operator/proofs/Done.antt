@@ -17,7 +17,7 @@ use Rattle.operator.specs.Answers.{IsDone, IsRefreshed, IsRefusedOnce, IsServed,
 pub refreshed : {X : Type 0} (offers : Offers) (took : Took) (refuses : Refuses) (due : Bool)
     (counted counts : ℕ) (outcome : Result X TurnError) → due ≡ is_err outcome
     → OnOk outcome (IsDone offers took refuses work.Refresh counted counts)
-    → IfErr outcome (λ error. IsRefusedOnce offers refuses work.Refresh error)
+    → IfErr outcome (λ error. IsRefusedOnce offers refuses counted work.Refresh error)
     → OnErr outcome (counts ≡ counted) → IsRefreshed offers took refuses due counted counts
 refreshed offers took refuses due counted counts (Ok x) is done why same =
     subst (λ (b : Bool). IsRefreshed offers took refuses b counted counts) (sym is) done
@@ -61,8 +61,8 @@ pub served : {Link Clock : Type 0} (senses : Senses Link Clock) (w : Work)
     (before after : Standing Link Clock) (moment : Moment) (shown : Clock) (ended : Moment)
     (outcome : Result Turned TurnError) (turned : Turned)
     → senses.shows before.clock moment shown → outcome ≡ Ok turned
-    → IsTried senses.shows (λ m. senses.refusals m w) shown moment after.clock ended outcome
-    → senses.asks ended w → senses.turns ended w before.events after.events turned
+    → IsTried senses.shows (λ m. senses.refusals before.events m w) shown moment after.clock ended
+    outcome → senses.asks ended w → senses.turns ended w before.events after.events turned
     → IsSent senses.gives before.link turned after.link → IsServed senses w before after
 served senses w before after moment shown ended outcome turned is_shown is tried asked turns sent = (
   moment,
@@ -71,8 +71,8 @@ served senses w before after moment shown ended outcome turned is_shown is tried
   is_shown,
   record {
     outcome = Ok turned;
-    tried = subst (IsTried senses.shows (λ m. senses.refusals m w) shown moment after.clock ended)
-        is tried;
+    tried = subst (IsTried senses.shows (λ m. senses.refusals before.events m w) shown moment
+        after.clock ended) is tried;
     asked = asked;
     given = (turns, sent);
   },
@@ -82,9 +82,10 @@ pub unserved : {Link Clock : Type 0} (senses : Senses Link Clock) (w : Work)
     (before after : Standing Link Clock) (moment : Moment) (shown : Clock) (ended : Moment)
     (outcome : Result Turned TurnError) (error : TurnError)
     → senses.shows before.clock moment shown → outcome ≡ Err error
-    → IsTried senses.shows (λ m. senses.refusals m w) shown moment after.clock ended outcome
-    → senses.asks ended w → senses.refusals ended w error → after.link ≡ before.link
-    → after.events ≡ before.events → IsServed senses w before after
+    → IsTried senses.shows (λ m. senses.refusals before.events m w) shown moment after.clock ended
+    outcome → senses.asks ended w → senses.refusals before.events ended w error
+    → after.link ≡ before.link → after.events ≡ before.events
+    → IsServed senses w before after
 unserved senses w before after moment shown ended outcome error is_shown is tried asked why link
     events = (
       moment,
@@ -93,9 +94,8 @@ unserved senses w before after moment shown ended outcome error is_shown is trie
       is_shown,
       record {
         outcome = Err error;
-        tried = subst (IsTried senses.shows (λ m. senses.refusals m w) shown moment after.clock
-            ended)
-            is tried;
+        tried = subst (IsTried senses.shows (λ m. senses.refusals before.events m w) shown moment
+            after.clock ended) is tried;
         asked = asked;
         given = (why, link, events);
       },

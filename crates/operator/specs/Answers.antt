@@ -109,15 +109,16 @@ IsServed {Clock = Clock} senses w before after =
     × Serves senses moment w (record before { clock = shown }) ended after
 
 -- the event of this work was refused for this, or its questions were, at some moment, whatever was
--- known of the programs
-abbrev pub IsRefusedOnce : Offers → Refuses → Work → TurnError → Type 0
-IsRefusedOnce offers refuses w error =
-    (known : List Operation) × (moment : Moment) × RefusesFor offers refuses known moment w error
+-- known of the programs, to a port whose events until then are so many
+abbrev pub IsRefusedOnce : Offers → Refuses → (counted : ℕ) → Work → TurnError → Type 0
+IsRefusedOnce offers refuses counted w error =
+    (known : List Operation) × (moment : Moment)
+    × RefusesFor offers refuses known counted moment w error
 
 -- a turn for this work was refused, with this number, and no event counts
 abbrev pub IsRefusal : Offers → Refuses → Work → (counted counts : ℕ) → (number : ℕ) → Type 0
 IsRefusal offers refuses w counted counts number =
-    (error : TurnError) × IsRefusedOnce offers refuses w error
+    (error : TurnError) × IsRefusedOnce offers refuses counted w error
     × (number ≡ turn_error_number error) × (counts ≡ counted)
 
 -- a refresh of the table was tried: it is due still where it was refused, and nothing counts then
@@ -125,7 +126,8 @@ abbrev pub IsRefreshed : Offers → Took → Refuses → (due : Bool) → (count
 IsRefreshed offers took refuses false counted counts =
     IsDone offers took refuses work.Refresh counted counts
 IsRefreshed offers took refuses true counted counts =
-    (error : TurnError) × IsRefusedOnce offers refuses work.Refresh error × (counts ≡ counted)
+    (error : TurnError) × IsRefusedOnce offers refuses counted work.Refresh error
+    × (counts ≡ counted)
 
 -- where a refresh of the table is due, it was tried; else nothing was done
 abbrev pub IsMadeUp : Offers → Took → Refuses → (due still : Bool) → (before counted : ℕ)

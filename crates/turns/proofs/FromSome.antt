@@ -1,5 +1,6 @@
 -- What is so of this router is so of some router.
-use Rattle.std.proofs.Common.{◌≡◌, ℕ, Bool, List, Option, None, Some, IfErr, IfOk, subst, sym}
+use Rattle.std.proofs.Common.{◌≡◌, ◌≤◌, ℕ, Bool, List, Option, None, Some, IfErr, IfOk, subst}
+use Rattle.std.proofs.Common.{sym}
 use Rattle.std.specs.Prelude.{◌↔◌, Result, Ok, Err, IfSome, IsTrue, MatchResult}
 use Rattle.words.specs.Numbers.{Moment}
 use Rattle.words.specs.declared.route.Route.{Route}
@@ -17,14 +18,17 @@ use Rattle.book.specs.Offers.{AreCandidatesNow, IsOffered, IsStaleNow}
 use Rattle.turns.specs.Turns.{IsOfferedBySome, IsRefusedBySome, RefusesAt, Sends, taken_at}
 use Rattle.turns.proofs.Tables.{rows_beside}
 
-pub sent_by_some : (origin : Router) (taken : ℕ) (moment at : Moment) (e : Event) (old new : Router)
-    (outs : List Out) (stale : Option Bool) → Leads origin taken old
-    → at ≡ taken_at e moment old.moment → Happens old at (occurrence_of e) outs new
-    → IfSome stale (λ is. IsTrue is ↔ IsStaleNow new) → Sends origin moment e outs stale
-sent_by_some origin taken moment at e old new outs stale leads is h left = (
+pub sent_by_some : (origin : Router) (events taken : ℕ) (moment at : Moment) (e : Event)
+    (old new : Router) (outs : List Out) (stale : Option Bool) → events ≤ taken
+    → Leads origin taken old → at ≡ taken_at e moment old.moment
+    → Happens old at (occurrence_of e) outs new
+    → IfSome stale (λ is. IsTrue is ↔ IsStaleNow new)
+    → Sends origin events moment e outs stale
+sent_by_some origin events taken moment at e old new outs stale least leads is h left = (
   taken,
   old,
   new,
+  least,
   leads,
   subst (λ (m : Moment). Happens old m (occurrence_of e) outs new) is h,
   left,
@@ -75,10 +79,10 @@ refused_now {V = V} moment at e b (Err why) is h =
     subst (λ (m : Moment). AnswersAnew {X = Unit {0}} b m e (Err why)) is
     (error_alone V b at e why h)
 
-pub refused_by_some : {V : Type 0} (origin : Router) (moment at : Moment) (e : Event) (b : BookView)
-    (r : Result V BookError) → Leads origin b.taken b.current
+pub refused_by_some : {V : Type 0} (origin : Router) (events : ℕ) (moment at : Moment) (e : Event)
+    (b : BookView) (r : Result V BookError) → events ≤ b.taken → Leads origin b.taken b.current
     → at ≡ taken_at e moment b.current.moment → AnswersAnew b at e r
-    → IfErr r (λ error. IsRefusedBySome origin moment e error)
-refused_by_some origin moment at e b (Ok x) leads is h = tt
-refused_by_some {V = V} origin moment at e b (Err why) leads is h =
-    (b, leads, refused_now {V = V} moment at e b (Err why) is h)
+    → IfErr r (λ error. IsRefusedBySome origin events moment e error)
+refused_by_some origin events moment at e b (Ok x) least leads is h = tt
+refused_by_some {V = V} origin events moment at e b (Err why) least leads is h =
+    (b, least, leads, refused_now {V = V} moment at e b (Err why) is h)

@@ -84,17 +84,18 @@ module _ (known more : List Operation) (longer : IsPrefix known more) where
   for_longer offers (work.Down number) moment e h = h
   for_longer offers work.Refresh moment e h = install_longer offers moment e h
 
-  pub takes_longer : (offers : Offers) (took : Took) (moment : Moment) (w : Work) (outs : List Out)
-      (stale : Option Bool) → TakesFor offers took more moment w outs stale
-      → TakesFor offers took known moment w outs stale
-  takes_longer offers took moment w outs stale (e, is, taken) =
+  pub takes_longer : (offers : Offers) (took : Took) (events : ℕ) (moment : Moment) (w : Work)
+      (outs : List Out) (stale : Option Bool)
+      → TakesFor offers took more events moment w outs stale
+      → TakesFor offers took known events moment w outs stale
+  takes_longer offers took events moment w outs stale (e, is, taken) =
       (e, for_longer offers w moment e is, taken)
 
-  pub refused_longer : (offers : Offers) (refuses : Refuses) (moment : Moment) (w : Work)
-      (error : TurnError) → RefusesFor offers refuses more moment w error
-      → RefusesFor offers refuses known moment w error
-  refused_longer offers refuses moment w error (inl unasked) = inl unasked
-  refused_longer offers refuses moment w error (inr (e, why, is, refused, same)) =
+  pub refused_longer : (offers : Offers) (refuses : Refuses) (events : ℕ) (moment : Moment)
+      (w : Work) (error : TurnError) → RefusesFor offers refuses more events moment w error
+      → RefusesFor offers refuses known events moment w error
+  refused_longer offers refuses events moment w error (inl unasked) = inl unasked
+  refused_longer offers refuses events moment w error (inr (e, why, is, refused, same)) =
       inr (e, why, for_longer offers w moment e is, refused, same)
 
   unrefreshed_longer : (offers : Offers) (refuses : Refuses) (moment : Moment) (events : ℕ)
@@ -102,24 +103,24 @@ module _ (known more : List Operation) (longer : IsPrefix known more) where
       → IsUnrefreshed offers refuses known moment events
   unrefreshed_longer offers refuses moment events (inl changed) = inl changed
   unrefreshed_longer offers refuses moment events (inr (error, why)) =
-      inr (error, refused_longer offers refuses moment work.Refresh error why)
+      inr (error, refused_longer offers refuses (events + 1) moment work.Refresh error why)
 
   refreshed_longer : {X : Type 0} (items : X → List Out) (offers : Offers) (took : Took)
       (refuses : Refuses) (moment : Moment) (events : ℕ) (one due still two : Type 0)
       (o : Option X)
       → MatchOption o (one × (due → IsUnrefreshed offers refuses more moment events))
       (λ x. due × still × ((left : Option Bool)
-      × TakesFor offers took more moment work.Refresh (items x) left) × two)
+      × TakesFor offers took more (events + 1) moment work.Refresh (items x) left) × two)
       → MatchOption o (one × (due → IsUnrefreshed offers refuses known moment events))
       (λ x. due × still × ((left : Option Bool)
-      × TakesFor offers took known moment work.Refresh (items x) left)
+      × TakesFor offers took known (events + 1) moment work.Refresh (items x) left)
       × two)
   refreshed_longer items offers took refuses moment events one due still two None h =
       (h.0, λ is. unrefreshed_longer offers refuses moment events (h.1 is))
   refreshed_longer items offers took refuses moment events one due still two (Some x) h = (
     h.0,
     h.1,
-    (h.2.0, takes_longer offers took moment work.Refresh (items x) h.2.0 h.2.1),
+    (h.2.0, takes_longer offers took (events + 1) moment work.Refresh (items x) h.2.0 h.2.1),
     h.3,
   )
 
@@ -129,7 +130,7 @@ module _ (known more : List Operation) (longer : IsPrefix known more) where
       → IsTurned offers took refuses known moment w before after turned
   turned_longer offers took refuses moment w before after turned h = record {
     stale = h.stale;
-    outs = takes_longer offers took moment w turned.outs.items h.stale h.outs;
+    outs = takes_longer offers took before moment w turned.outs.items h.stale h.outs;
     refreshed = refreshed_longer (λ outs. outs.items) offers took refuses moment before _ _ _ _
         turned.refreshed h.refreshed;
   }
@@ -137,12 +138,17 @@ module _ (known more : List Operation) (longer : IsPrefix known more) where
   unrefreshed_since : (offers : Offers) (refuses : Refuses) (moment : Moment)
       (before between changes : ℕ) → between ≡ before + 1 → refuses.counted before changes
       → IsChangedSince refuses between changes
-      ⊎ ((error : TurnError) × RefusesFor offers refuses more moment work.Refresh error)
+      ⊎ ((error : TurnError)
+      × RefusesFor offers refuses more between moment work.Refresh error)
       → IsUnrefreshed offers refuses known moment before
   unrefreshed_since offers refuses moment before between changes one counted (inl changed) =
       inl (changes, counted, subst (λ n. IsChangedSince refuses n changes) one changed)
   unrefreshed_since offers refuses moment before between changes one counted (inr (error, why)) =
-      inr (error, refused_longer offers refuses moment work.Refresh error why)
+      inr (
+        error,
+        subst (λ n. RefusesFor offers refuses known n moment work.Refresh error) one
+            (refused_longer offers refuses between moment work.Refresh error why),
+      )
 
   -- what follows an event that counts once
   pub follows : {X : Type 0} (items : X → List Out) (offers : Offers) (took : Took)
@@ -150,15 +156,15 @@ module _ (known more : List Operation) (longer : IsPrefix known more) where
       (o : Option X) → between ≡ before + 1 → refuses.counted before changes
       → IfNone o ((after ≡ between)
       × (due → IsChangedSince refuses between changes
-      ⊎ ((error : TurnError) × RefusesFor offers refuses more moment work.Refresh
+      ⊎ ((error : TurnError) × RefusesFor offers refuses more between moment work.Refresh
       error))) → IfSome o (λ x. due
-      × ((left : Option Bool) × TakesFor offers took more moment
+      × ((left : Option Bool) × TakesFor offers took more between moment
       work.Refresh (items x) left) × (after ≡ between + 1))
       → IfSome o (λ _. refuses.counted between changes)
       → MatchOption o ((after ≡ before + 1)
       × (due → IsUnrefreshed offers refuses known moment before))
       (λ x. due × IsUnchanged refuses before × ((left : Option Bool)
-      × TakesFor offers took known moment work.Refresh
+      × TakesFor offers took known (before + 1) moment work.Refresh
       (items x) left) × (after ≡ before + 2))
   follows items offers took refuses moment before between after changes due None one counted none
       some unchanged = (
@@ -170,6 +176,10 @@ module _ (known more : List Operation) (longer : IsPrefix known more) where
       none some unchanged = (
         some.0,
         (changes, counted, subst (λ n. refuses.counted n changes) one unchanged),
-        (some.1.0, takes_longer offers took moment work.Refresh (items x) some.1.0 some.1.1),
+        (
+          some.1.0,
+          subst (λ n. TakesFor offers took known n moment work.Refresh (items x) some.1.0) one
+              (takes_longer offers took between moment work.Refresh (items x) some.1.0 some.1.1),
+        ),
         omega (arith, some.2, one),
       )

@@ -17,10 +17,11 @@ use Rattle.turns.specs.declared.work.Work.TheVariants as work
 -- what the router sends at it, whatever programs are loaded.
 abbrev pub CountReachesNoEvent : Type 0
 CountReachesNoEvent =
-    (origin : Router) (known : List Operation) (moment : Moment) (number : InterfaceNumber)
-    (bytes : List ℕ) (outs : List Out) (stale : Option Bool)
-    → TakesFor (IsOfferedBySome origin) (took_from origin) known moment (work.Datagram number bytes)
-    outs stale ↔ Sends origin moment (event.Packet number bytes) outs stale
+    (origin : Router) (known : List Operation) (events : ℕ) (moment : Moment)
+    (number : InterfaceNumber) (bytes : List ℕ) (outs : List Out) (stale : Option Bool)
+    → TakesFor (IsOfferedBySome origin) (took_from origin) known events moment
+    (work.Datagram number bytes) outs stale
+    ↔ Sends origin events moment (event.Packet number bytes) outs stale
 
 -- Wherever a table is offered, the answers of an announcement are beside the rows of one that is:
 -- those for which none was asked are the same beside each.

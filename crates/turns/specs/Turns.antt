@@ -41,12 +41,12 @@ use Rattle.turns.specs.declared.work.Work.TheVariants as work
 
 -- ---- what the book is asked
 
--- Three predicates that a `Taker` leaves open: an event was taken at a moment, sent these outs and
--- left the router stale or not (None where that isn't known, for want of memory); the workers were
--- told that the programs are now those that these operations leave; and the programs at `count`
--- were asked about this input.
+-- Three predicates that a `Taker` leaves open: an event was taken at a moment, for a port whose
+-- events until then are so many, sent these outs and left the router stale or not (None where that
+-- isn't known, for want of memory); the workers were told that the programs are now those that
+-- these operations leave; and the programs at `count` were asked about this input.
 pub record Took : Type 1 where
-  pub taken : Moment → Event → List Out → (stale : Option Bool) → Type 0
+  pub taken : (events : ℕ) → Moment → Event → List Out → (stale : Option Bool) → Type 0
   pub told : List Operation → Type 0
   pub asked : Given → Type 0
 
@@ -55,16 +55,17 @@ pub data Lack : Type 0 where
   Reading : (input : Given) → Lack
   Memory : Lack
 
--- Three more: an event was refused at a moment, and why; a question got no reading, or memory was
--- lacking; and this number of changes of the programs was read, by a port whose events until then
--- are so many.
+-- Three more: an event was refused at a moment, to a port whose events until then are so many, and
+-- why; a question got no reading, or memory was lacking; and this number of changes of the programs
+-- was read, by such a port.
 pub record Refuses : Type 1 where
-  pub refused : Moment → Event → BookError → Type 0
+  pub refused : (events : ℕ) → Moment → Event → BookError → Type 0
   pub lacks : Lack → Type 0
   pub counted : (events : ℕ) → (changes : ℕ) → Type 0
 
 -- the fields by names of their own, for contracts
-abbrev pub IsTaken : Took → Moment → Event → List Out → (stale : Option Bool) → Type 0
+abbrev pub IsTaken : Took → (events : ℕ) → Moment → Event → List Out → (stale : Option Bool)
+    → Type 0
 IsTaken took = took.taken
 
 abbrev pub IsTold : Took → List Operation → Type 0
@@ -73,7 +74,7 @@ IsTold took = took.told
 abbrev pub IsAsked : Took → Given → Type 0
 IsAsked took = took.asked
 
-abbrev pub IsRefused : Refuses → Moment → Event → BookError → Type 0
+abbrev pub IsRefused : Refuses → (events : ℕ) → Moment → Event → BookError → Type 0
 IsRefused refuses = refuses.refused
 
 abbrev pub IsLacking : Refuses → Lack → Type 0
@@ -96,12 +97,13 @@ taken_at (event.Withdraw prefix) moment last = moment
 taken_at (event.Install answers) moment last = max moment last
 taken_at (event.LinkDown number) moment last = moment
 
--- a book that began with this router says: the event that is given at this moment sends these, from
--- a router to which events lead from there, and leaves one that is stale or isn't, where that is
--- known
-abbrev pub Sends : (origin : Router) → Moment → Event → List Out → (stale : Option Bool) → Type 0
-Sends origin moment e outs stale =
-    (taken : ℕ) × (old : Router) × (new : Router) × Leads origin taken old
+-- A book that began with this router says to a port whose events until then are so many: the event
+-- that is given at this moment sends these, from a router to which events lead from there, at least
+-- as many as the port's, and leaves one that is stale or isn't, where that is known.
+abbrev pub Sends : (origin : Router) → (events : ℕ) → Moment → Event → List Out
+    → (stale : Option Bool) → Type 0
+Sends origin events moment e outs stale =
+    (taken : ℕ) × (old : Router) × (new : Router) × (events ≤ taken) × Leads origin taken old
     × Happens old (taken_at e moment old.moment) (occurrence_of e) outs new
     × IfSome stale (λ is. IsTrue is ↔ IsStaleNow new)
 
@@ -110,11 +112,12 @@ abbrev pub RefusesAt : BookView → Moment → Event → BookError → Type 0
 RefusesAt b moment e error =
     AnswersAnew {X = Unit {0}} b (taken_at e moment b.current.moment) e (Err error)
 
--- a book that began with this router says: it is refused so, at a router to which events lead from
--- there
-abbrev pub IsRefusedBySome : (origin : Router) → Moment → Event → BookError → Type 0
-IsRefusedBySome origin moment e error =
-    (b : BookView) × Leads origin b.taken b.current × RefusesAt b moment e error
+-- a book that began with this router says to a port whose events until then are so many: it is
+-- refused so, at a router to which events lead from there, at least as many as the port's
+abbrev pub IsRefusedBySome : (origin : Router) → (events : ℕ) → Moment → Event → BookError → Type 0
+IsRefusedBySome origin events moment e error =
+    (b : BookView) × (events ≤ b.taken) × Leads origin b.taken b.current
+    × RefusesAt b moment e error
 
 -- All that is said of a book which began with this router. Nothing is known of a question that was
 -- asked, or got no reading or no memory, nor of a number of changes that was read or told.
@@ -268,11 +271,12 @@ IsFor offers known (work.Withdraw prefix) moment e = e ≡ event.Withdraw prefix
 IsFor offers known (work.Down number) moment e = e ≡ event.LinkDown number
 IsFor offers known work.Refresh moment e = IsInstall offers known moment e
 
--- the work's event was given at this moment, sent these, and left the router so
-abbrev pub TakesFor : Offers → Took → (known : List Operation) → Moment → Work → List Out
-    → (stale : Option Bool) → Type 0
-TakesFor offers took known moment w outs stale =
-    (e : Event) × IsFor offers known w moment e × took.taken moment e outs stale
+-- the work's event was given at this moment, by a port whose events until then are so many, sent
+-- these, and left the router so
+abbrev pub TakesFor : Offers → Took → (known : List Operation) → (events : ℕ) → Moment → Work
+    → List Out → (stale : Option Bool) → Type 0
+TakesFor offers took known events moment w outs stale =
+    (e : Event) × IsFor offers known w moment e × took.taken events moment e outs stale
 
 -- ---- refusals
 
@@ -311,18 +315,19 @@ IsUnaskedFor refuses (work.Down number) moment error = ⊥
 IsUnaskedFor refuses work.Refresh moment error =
     IsAway refuses (AsksOfRoutes moment) error ⊎ IsShort refuses error
 
--- the work's event was given at this moment and refused, for this
-abbrev pub IsGivenInVain : Offers → Refuses → (known : List Operation) → Moment → Work → TurnError
-    → Type 0
-IsGivenInVain offers refuses known moment w error =
-    (e : Event) × (why : BookError) × IsFor offers known w moment e × refuses.refused moment e why
-    × (error ≡ turn_error.Book why)
+-- the work's event was given at this moment, by a port whose events until then are so many, and
+-- refused, for this
+abbrev pub IsGivenInVain : Offers → Refuses → (known : List Operation) → (events : ℕ) → Moment
+    → Work → TurnError → Type 0
+IsGivenInVain offers refuses known events moment w error =
+    (e : Event) × (why : BookError) × IsFor offers known w moment e
+    × refuses.refused events moment e why × (error ≡ turn_error.Book why)
 
 -- that is why, or one of its questions was refused before
-abbrev pub RefusesFor : Offers → Refuses → (known : List Operation) → Moment → Work → TurnError
-    → Type 0
-RefusesFor offers refuses known moment w error =
-    IsUnaskedFor refuses w moment error ⊎ IsGivenInVain offers refuses known moment w error
+abbrev pub RefusesFor : Offers → Refuses → (known : List Operation) → (events : ℕ) → Moment → Work
+    → TurnError → Type 0
+RefusesFor offers refuses known events moment w error =
+    IsUnaskedFor refuses w moment error ⊎ IsGivenInVain offers refuses known events moment w error
 
 -- a number of changes of the programs was read, after so many events, that isn't this one
 abbrev pub IsChangedSince : Refuses → (events : ℕ) → ℕ → Type 0
@@ -335,7 +340,8 @@ abbrev pub IsUnrefreshed : Offers → Refuses → (known : List Operation) → M
     → Type 0
 IsUnrefreshed offers refuses known moment events =
     ((before : ℕ) × refuses.counted events before × IsChangedSince refuses (events + 1) before)
-    ⊎ ((error : TurnError) × RefusesFor offers refuses known moment work.Refresh error)
+    ⊎ ((error : TurnError)
+    × RefusesFor offers refuses known (events + 1) moment work.Refresh error)
 
 -- the number of changes that was read before the event was read after it too
 abbrev pub IsUnchanged : Refuses → (events : ℕ) → Type 0
@@ -347,13 +353,15 @@ IsUnchanged refuses events =
 -- What comes of a turn at a port that knew these operations: the outs of the work's event, and,
 -- where a refresh followed, those of its installation. It followed where the event left the router
 -- stale and only there, unless one wasn't taken, and only where the programs weren't changed
--- meanwhile. The events count in the port's share, which grew from one number to the other.
+-- meanwhile. The events count in the port's share, which grew from one number to the other: the
+-- work's event is among those that count where the refresh is given.
 pub record IsTurned (offers : Offers) (took : Took) (refuses : Refuses) (known : List Operation)
     (moment : Moment) (w : Work) (before after : ℕ) (turned : Turned) : Type 0 where
   pub stale : Option Bool
-  pub outs : TakesFor offers took known moment w turned.outs.items stale
+  pub outs : TakesFor offers took known before moment w turned.outs.items stale
   pub refreshed : MatchOption turned.refreshed
       ((after ≡ before + 1)
       × (stale ≡ Some true → IsUnrefreshed offers refuses known moment before))
       (λ outs. (stale ≡ Some true) × IsUnchanged refuses before × ((left : Option Bool)
-      × TakesFor offers took known moment work.Refresh outs.items left) × (after ≡ before + 2))
+      × TakesFor offers took known (before + 1) moment work.Refresh outs.items left)
+      × (after ≡ before + 2))

@@ -127,8 +127,10 @@ impl<L: Site, B: Taker<L>> Hub<L, B> {
         event: Event,
     ) -> Result<Taken, BookError>
         requires { 0 < mine.old.parts }
-        ensures ok { IfOk result (λ r. IsTaken B.took moment event r.outs.items r.stale) }
-        ensures refused { IfErr result (λ error. IsRefused B.refuses moment event error) }
+        ensures ok { IfOk result (λ r.
+            IsTaken B.took mine.old.amount moment event r.outs.items r.stale) }
+        ensures refused { IfErr result (λ error.
+            IsRefused B.refuses mine.old.amount moment event error) }
         ensures share { OnOk result (mine.new.amount ≡ mine.old.amount + 1) }
         ensures parts { mine.new.parts ≡ mine.old.parts }
         ensures err { OnErr result (mine.new.amount ≡ mine.old.amount) }
@@ -151,10 +153,11 @@ impl<L: Site, B: Taker<L>> Hub<L, B> {
         changes: u64,
     ) -> Result<Taken, TurnError>
         requires { 0 < mine.old.parts }
-        ensures ok { IfOk result (λ r. IsTaken B.took moment event r.outs.items r.stale) }
+        ensures ok { IfOk result (λ r.
+            IsTaken B.took mine.old.amount moment event r.outs.items r.stale) }
         ensures refused { IfErr result (λ error.
             IsChangedSince B.refuses mine.old.amount changes
-            ⊎ ((why : BookError) × IsRefused B.refuses moment event why
+            ⊎ ((why : BookError) × IsRefused B.refuses mine.old.amount moment event why
             × (error ≡ TurnError.Book why))) }
         ensures unchanged { OnOk result (is_counted B.refuses mine.old.amount changes) }
         ensures share { OnOk result (mine.new.amount ≡ mine.old.amount + 1) }

@@ -92,8 +92,10 @@ pub trait Taker<L: Origin> {
         event: Event,
     ) -> Result<Taken, BookError>
         requires { 0 < mine.old.parts }
-        ensures ok { IfOk result (λ t. IsTaken took moment event t.outs.items t.stale) }
-        ensures refused { IfErr result (λ error. IsRefused refuses moment event error) }
+        ensures ok { IfOk result (λ t.
+            IsTaken took mine.old.amount moment event t.outs.items t.stale) }
+        ensures refused { IfErr result (λ error.
+            IsRefused refuses mine.old.amount moment event error) }
         ensures share { OnOk result (mine.new.amount ≡ mine.old.amount + 1) }
         ensures parts { mine.new.parts ≡ mine.old.parts }
         ensures err { OnErr result (mine.new.amount ≡ mine.old.amount) }
@@ -297,9 +299,11 @@ impl<L: Origin> Taker<L> for Book<L> {
             (occurrence_of event) t.outs.items self.new.current) }
         ensures stale { IfOk result (λ t.
             IfSome t.stale (λ is. IsTrue is ↔ IsStaleNow self.new.current)) }
-        ensures ok { IfOk result (λ t. Sends L.origin moment event t.outs.items t.stale) }
+        ensures ok { IfOk result (λ t.
+            Sends L.origin mine.old.amount moment event t.outs.items t.stale) }
         ensures refused_now { IfErr result (λ error. RefusesAt self.old moment event error) }
-        ensures refused { IfErr result (λ error. IsRefusedBySome L.origin moment event error) }
+        ensures refused { IfErr result (λ error.
+            IsRefusedBySome L.origin mine.old.amount moment event error) }
         ensures share { OnOk result (mine.new.amount ≡ mine.old.amount + 1) }
         ensures parts { mine.new.parts ≡ mine.old.parts }
         ensures err { OnErr result (mine.new.amount ≡ mine.old.amount) }
@@ -307,6 +311,7 @@ impl<L: Origin> Taker<L> for Book<L> {
             → result ≡ Err (BookError.Core CoreError.ClockBack)
             → IsOwn L.origin self.old × (clock_end ≤ max moment self.old.current.moment) }
     {
+        self.compare(mine);
         let at = taken_at(&event, moment, self.now().moment());
         match self.apply_anew(mine, at, event) {
             Ok(outs) => {

@@ -35,9 +35,10 @@ use words::Second;
 /// passes no gate. It may wait for the lock.
 ///
 /// At a [`Book`](book::Book) the outs are those that the event gives, by the rules of a whole
-/// event, from some router to some router; which router it was, only the book knows. An
-/// installation happens at the moment of the router's last event, where that is later than the
-/// turn's: it may have passed while the programs were asked. All else happens at the turn's moment.
+/// event, at a router that took at least as many events as the port had given; which router it was,
+/// only the book knows. An installation happens at the moment of the router's last event, where
+/// that is later than the turn's: it may have passed while the programs were asked. All else
+/// happens at the turn's moment.
 ///
 /// Refused: `Away` if `tag`, `price` or `veto` got no reading; else as the book refuses the event
 /// ([`Book::apply_anew`](book::Book::apply_anew)). `Memory` may come earlier, while the programs
@@ -60,7 +61,7 @@ pub fn turn<L: Site, B: Taker<L>, G: Gate, R: Wait>(
     ensures turned { IfOk result (λ r. IsTurned B.offers B.took B.refuses
         (known_to port.old.asker) moment work.now port.old.share.amount port.new.share.amount r) }
     ensures refused { IfErr result (λ error. RefusesFor B.offers B.refuses
-        (known_to port.old.asker) moment work.now error) }
+        (known_to port.old.asker) port.old.share.amount moment work.now error) }
     ensures counted { (known : List Operation) × (seat : SeatView)
         × CountsFor B.refuses (known_to port.old.asker) known port.old.seat seat work.now moment }
     ensures asked { AsksFor B.took moment work.now }
@@ -68,7 +69,8 @@ pub fn turn<L: Site, B: Taker<L>, G: Gate, R: Wait>(
     ensures held { IfErr result (λ error.
         ((gate.new ≡ gate.old) × IsUnaskedFor B.refuses work.now moment error)
         ⊎ (G.passes gate.old port.old.number gate.new
-        × IsGivenInVain B.offers B.refuses (known_to port.old.asker) moment work.now error)) }
+        × IsGivenInVain B.offers B.refuses (known_to port.old.asker) port.old.share.amount
+        moment work.now error)) }
     ensures err { OnErr result (port.new.share.amount ≡ port.old.share.amount) }
     ensures clock { work.now ≡ Work.Refresh
         → result ≡ Err (TurnError.Book (BookError.Core CoreError.ClockBack))
@@ -110,10 +112,11 @@ fn follow<L: Site, B: Taker<L>, R: Wait>(
 ) -> Option<Vec<Out>>
     ensures none { IfNone result ((port.new.share.amount ≡ port.old.share.amount)
         × (stale ≡ Some true → IsChangedSince B.refuses port.old.share.amount changes
-        ⊎ ((error : TurnError)
-        × RefusesFor B.offers B.refuses (known_to port.old.asker) moment Work.Refresh error))) }
+        ⊎ ((error : TurnError) × RefusesFor B.offers B.refuses (known_to port.old.asker)
+        port.old.share.amount moment Work.Refresh error))) }
     ensures some { IfSome result (λ outs. (stale ≡ Some true) × ((left : Option Bool)
-        × TakesFor B.offers B.took (known_to port.old.asker) moment Work.Refresh outs.items left)
+        × TakesFor B.offers B.took (known_to port.old.asker) port.old.share.amount moment
+        Work.Refresh outs.items left)
         × (port.new.share.amount ≡ port.old.share.amount + 1)) }
     ensures unchanged { IfSome result (λ _.
         is_counted B.refuses port.old.share.amount changes) }
@@ -138,10 +141,11 @@ fn refresh<L: Site, B: Taker<L>, R: Wait>(
     changes: u64,
 ) -> Result<Vec<Out>, TurnError>
     ensures outs { IfOk result (λ outs. (left : Option Bool) × TakesFor B.offers B.took
-        (known_to port.old.asker) moment Work.Refresh outs.items left) }
+        (known_to port.old.asker) port.old.share.amount moment Work.Refresh outs.items left) }
     ensures refused { IfErr result (λ error.
         IsChangedSince B.refuses port.old.share.amount changes
-        ⊎ RefusesFor B.offers B.refuses (known_to port.old.asker) moment Work.Refresh error) }
+        ⊎ RefusesFor B.offers B.refuses (known_to port.old.asker) port.old.share.amount moment
+        Work.Refresh error) }
     ensures unchanged { OnOk result (is_counted B.refuses port.old.share.amount changes) }
     ensures share { OnOk result (port.new.share.amount ≡ port.old.share.amount + 1) }
     ensures err { OnErr result (port.new.share.amount ≡ port.old.share.amount) }

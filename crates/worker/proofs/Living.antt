@@ -67,16 +67,16 @@ module _ {Clock : Type 0} (shows : Shows Clock) (refused : (moment : ℕ) → Tu
 pub served : {Link Clock : Type 0} (senses : Senses Link Clock) (moment : ℕ) (work : Work)
     (before : Standing Link Clock) (ended : ℕ) (after : Standing Link Clock)
     (outcome : Result Turned TurnError) (turned : Turned) → outcome ≡ Ok turned
-    → IsTried senses.shows (λ m. senses.refusals m work) before.clock moment after.clock
-    ended outcome → senses.asks ended work
+    → IsTried senses.shows (λ m. senses.refusals before.events m work) before.clock moment
+    after.clock ended outcome → senses.asks ended work
     → senses.turns ended work before.events after.events turned
     → IsSent senses.gives before.link turned after.link
     → Serves senses moment work before ended after
 served senses moment work before ended after outcome turned is tried asked turns sent =
     record {
       outcome = Ok turned;
-      tried = subst (IsTried senses.shows (λ m. senses.refusals m work) before.clock moment
-          after.clock ended) is tried;
+      tried = subst (IsTried senses.shows (λ m. senses.refusals before.events m work)
+          before.clock moment after.clock ended) is tried;
       asked = asked;
       given = (turns, sent);
     }
@@ -84,15 +84,16 @@ served senses moment work before ended after outcome turned is tried asked turns
 pub refused : {Link Clock : Type 0} (senses : Senses Link Clock) (moment : ℕ) (work : Work)
     (before : Standing Link Clock) (ended : ℕ) (after : Standing Link Clock)
     (outcome : Result Turned TurnError) (error : TurnError) → outcome ≡ Err error
-    → IsTried senses.shows (λ m. senses.refusals m work) before.clock moment after.clock
-    ended outcome → senses.asks ended work → senses.refusals ended work error
+    → IsTried senses.shows (λ m. senses.refusals before.events m work) before.clock moment
+    after.clock ended outcome → senses.asks ended work
+    → senses.refusals before.events ended work error
     → after.link ≡ before.link → after.events ≡ before.events
     → Serves senses moment work before ended after
 refused senses moment work before ended after outcome error is tried asked why link events =
     record {
       outcome = Err error;
-      tried = subst (IsTried senses.shows (λ m. senses.refusals m work) before.clock moment
-          after.clock ended) is tried;
+      tried = subst (IsTried senses.shows (λ m. senses.refusals before.events m work)
+          before.clock moment after.clock ended) is tried;
       asked = asked;
       given = (why, link, events);
     }
@@ -153,12 +154,12 @@ module _ {Link Clock : Type 0} (gives : Gives Link) (hears : Hears Link) (shows 
         (outcome : Result Turned TurnError)
         → MatchResult outcome (λ turned. IsTurned offers took refuses more ended work
         before.events after.events turned × IsSent gives before.link turned after.link)
-        (λ error. RefusesFor offers refuses more ended work error
+        (λ error. RefusesFor offers refuses more before.events ended work error
         × (after.link ≡ before.link) × (after.events ≡ before.events))
         → MatchResult outcome (λ turned. IsTurned offers took refuses known ended
         work before.events after.events turned
         × IsSent gives before.link turned after.link)
-        (λ error. RefusesFor offers refuses known ended work error
+        (λ error. RefusesFor offers refuses known before.events ended work error
         × (after.link ≡ before.link)
         × (after.events ≡ before.events))
     given_longer work ended before after (Ok turned) h = (
@@ -166,28 +167,32 @@ module _ {Link Clock : Type 0} (gives : Gives Link) (hears : Hears Link) (shows 
           turned h.0,
       h.1,
     )
-    given_longer work ended before after (Err error) h =
-        (refused_longer known more longer offers refuses ended work error h.0, h.1, h.2)
-
-    ahead_longer : (work : Work) (first : ℕ) (again : List ℕ)
-        → AreAhead (λ m. RefusesFor offers refuses more m work) first again
-        → AreAhead (λ m. RefusesFor offers refuses known m work) first again
-    ahead_longer work first [] h = tt
-    ahead_longer work first (moment ∷ again) h = (
-      refused_longer known more longer offers refuses (latest first again) work clock_back h.0,
-      ahead_longer work first again h.1,
+    given_longer work ended before after (Err error) h = (
+      refused_longer known more longer offers refuses before.events ended work error h.0,
+      h.1,
+      h.2,
     )
 
-    tried_longer : (work : Work) (before : Clock) (first : ℕ) (after : Clock) (last : ℕ)
-        (outcome : Result Turned TurnError)
-        → IsTried shows (λ m. RefusesFor offers refuses more m work) before first after last
-        outcome → IsTried shows (λ m. RefusesFor offers refuses known m work) before first
+    ahead_longer : (work : Work) (events first : ℕ) (again : List ℕ)
+        → AreAhead (λ m. RefusesFor offers refuses more events m work) first again
+        → AreAhead (λ m. RefusesFor offers refuses known events m work) first again
+    ahead_longer work events first [] h = tt
+    ahead_longer work events first (moment ∷ again) h = (
+      refused_longer known more longer offers refuses events (latest first again) work clock_back
+          h.0,
+      ahead_longer work events first again h.1,
+    )
+
+    tried_longer : (work : Work) (events : ℕ) (before : Clock) (first : ℕ) (after : Clock)
+        (last : ℕ) (outcome : Result Turned TurnError)
+        → IsTried shows (λ m. RefusesFor offers refuses more events m work) before first after last
+        outcome → IsTried shows (λ m. RefusesFor offers refuses known events m work) before first
         after last outcome
-    tried_longer work before first after last outcome h = record {
+    tried_longer work events before first after last outcome h = record {
       again = h.again;
       few = h.few;
       shown = h.shown;
-      ahead = ahead_longer work first h.again h.ahead;
+      ahead = ahead_longer work events first h.again h.ahead;
       at_last = h.at_last;
       thrice = h.thrice;
     }
@@ -198,7 +203,8 @@ module _ {Link Clock : Type 0} (gives : Gives Link) (hears : Hears Link) (shows 
     serves_longer moment work before ended after h =
         record {
           outcome = h.outcome;
-          tried = tried_longer work before.clock moment after.clock ended h.outcome h.tried;
+          tried = tried_longer work before.events before.clock moment after.clock ended h.outcome
+              h.tried;
           asked = h.asked;
           given = given_longer work ended before after h.outcome h.given;
         }

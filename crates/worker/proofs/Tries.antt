@@ -33,22 +33,24 @@ answered_first offers took refuses known more moment w before now after (Err err
 
 -- and of what was refused
 pub refused_first : (offers : Offers) (refuses : Refuses) (known more : List Operation)
-    (moment : Moment) (w : Work) (outcome : Result Turned TurnError) → IsPrefix known more
-    → IfErr outcome (λ error. RefusesFor offers refuses more moment w error)
-    → IfErr outcome (λ error. RefusesFor offers refuses known moment w error)
-refused_first offers refuses known more moment w (Ok turned) longer h = h
-refused_first offers refuses known more moment w (Err error) longer h =
-    refused_longer known more longer offers refuses moment w error h
+    (before now : ℕ) (moment : Moment) (w : Work) (outcome : Result Turned TurnError)
+    → IsPrefix known more → now ≡ before
+    → IfErr outcome (λ error. RefusesFor offers refuses more now moment w error)
+    → IfErr outcome (λ error. RefusesFor offers refuses known before moment w error)
+refused_first offers refuses known more before now moment w (Ok turned) longer same h = h
+refused_first offers refuses known more before now moment w (Err error) longer same h =
+    subst (λ n. RefusesFor offers refuses known n moment w error) same
+    (refused_longer known more longer offers refuses now moment w error h)
 
 -- so a turn that is tried again was refused at the moment before
 pub refused_so : (offers : Offers) (refuses : Refuses) (known more : List Operation)
-    (moment : Moment) (w : Work) (outcome : Result Turned TurnError) (error : TurnError)
-    → IsPrefix known more → outcome ≡ Err error
-    → IfErr outcome (λ error. RefusesFor offers refuses more moment w error)
-    → RefusesFor offers refuses known moment w error
-refused_so offers refuses known more moment w outcome error longer is h =
-    subst (λ o. IfErr o (λ e. RefusesFor offers refuses known moment w e)) is
-    (refused_first offers refuses known more moment w outcome longer h)
+    (before now : ℕ) (moment : Moment) (w : Work) (outcome : Result Turned TurnError)
+    (error : TurnError) → IsPrefix known more → now ≡ before → outcome ≡ Err error
+    → IfErr outcome (λ error. RefusesFor offers refuses more now moment w error)
+    → RefusesFor offers refuses known before moment w error
+refused_so offers refuses known more before now moment w outcome error longer same is h =
+    subst (λ o. IfErr o (λ e. RefusesFor offers refuses known before moment w e)) is
+    (refused_first offers refuses known more before now moment w outcome longer same h)
 
 pub known_first : (known : List Operation) → IsPrefix known known
 known_first known = prefix_self known

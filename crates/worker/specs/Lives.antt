@@ -30,9 +30,10 @@ Hears Link = (before : Link) → (heard : Option (List ℕ)) → (after : Link) 
 abbrev pub Turns : Type 1
 Turns = (moment : ℕ) → Work → (before after : ℕ) → Turned → Type 0
 
--- a turn at a moment, for a work, that was refused, and why
+-- a turn at a moment, for a work, that was refused, how many events its port had given before it,
+-- and why
 abbrev pub Refusals : Type 1
-Refusals = (moment : ℕ) → Work → TurnError → Type 0
+Refusals = (events : ℕ) → (moment : ℕ) → Work → TurnError → Type 0
 
 -- a turn at a moment, for a work, whose datagram the programs at `count` were asked about, where it
 -- is one
@@ -114,13 +115,13 @@ pub record IsTried {Clock : Type 0} (shows : Shows Clock)
 pub record Serves {Link Clock : Type 0} (senses : Senses Link Clock) (moment : ℕ) (work : Work)
     (before : Standing Link Clock) (ended : ℕ) (after : Standing Link Clock) : Type 0 where
   pub outcome : Result Turned TurnError
-  pub tried : IsTried senses.shows (λ m. senses.refusals m work)
+  pub tried : IsTried senses.shows (λ m. senses.refusals before.events m work)
       before.clock moment after.clock ended outcome
   pub asked : senses.asks ended work
   pub given : MatchResult outcome
       (λ turned. senses.turns ended work before.events after.events turned
       × IsSent senses.gives before.link turned after.link)
-      (λ error. senses.refusals ended work error
+      (λ error. senses.refusals before.events ended work error
       × (after.link ≡ before.link) × (after.events ≡ before.events))
 
 -- ---- a round

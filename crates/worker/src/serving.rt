@@ -266,10 +266,11 @@ pub fn tried<L: Site, B: Taker<L>, G: Gate, S: Seconds, R: Wait>(
         (known_to port.old.asker) moment.new work.now
         port.old.share.amount port.new.share.amount r) }
     ensures refused { IfErr result (λ error. RefusesFor B.offers B.refuses
-        (known_to port.old.asker) moment.new work.now error) }
+        (known_to port.old.asker) port.old.share.amount moment.new work.now error) }
     ensures err { OnErr result (port.new.share.amount ≡ port.old.share.amount) }
     ensures tried { IsTried S.shows
-        (λ m error. RefusesFor B.offers B.refuses (known_to port.old.asker) m work.now error)
+        (λ m error. RefusesFor B.offers B.refuses (known_to port.old.asker)
+        port.old.share.amount m work.now error)
         clock.old moment.old clock.new moment.new result }
     ensures asked { AsksFor B.took moment.new work.now }
     ensures number { port.new.number ≡ port.old.number }

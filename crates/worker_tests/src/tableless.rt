@@ -29,13 +29,13 @@ struct Tableless<L: Site> {
 
 impl<L: Site> Taker<L> for Tableless<L> {
     ghost took = { record {
-      taken = λ moment event outs stale. ⊤;
+      taken = λ events moment event outs stale. ⊤;
       told = λ operations. ⊤;
       asked = λ input. ⊤;
     } };
 
     ghost refuses = { record {
-      refused = λ moment event error. ⊤;
+      refused = λ events moment event error. ⊤;
       lacks = λ lack. ⊤;
       counted = λ events number. ⊤;
     } };

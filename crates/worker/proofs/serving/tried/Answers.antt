@@ -16,14 +16,15 @@ loop-tries-preserved g c = record {
       c.loop-tries.invariant.known c.turn-turned.ensures.known;
   so =
       once_more g.S.Seconds.shows
-      (λ m. RefusesFor g.B.Taker.offers g.B.Taker.refuses (known_to c.args.port.now.asker) m
-      c.args.work.now)
+      (λ m. RefusesFor g.B.Taker.offers g.B.Taker.refuses (known_to c.args.port.now.asker)
+      c.args.port.now.share.amount m c.args.work.now)
       c.args.clock.now c.args.moment.now c.loop-tries.clock c.loop-tries.moment c.loop-tries._tries
       c.second.new.self c.second.result c.loop-tries.invariant.so
       (refused_so g.B.Taker.offers g.B.Taker.refuses (known_to c.args.port.now.asker)
       (known_to c.loop-tries.port.asker)
+      c.args.port.now.share.amount c.loop-tries.port.share.amount
       c.loop-tries.moment c.args.work.now c.turn-turned.result clock_back
-      c.loop-tries.invariant.known
+      c.loop-tries.invariant.known c.loop-tries.invariant.events
       (c.is_clock_back.ensures.back c.if-not-is_clock_back.false) c.turn-turned.ensures.refused)
       c.second.ensures;
 }
@@ -42,8 +43,9 @@ pub returns-then-not-is_clock_back-clause-refused :
 returns-then-not-is_clock_back-clause-refused g c =
     refused_first g.B.Taker.offers g.B.Taker.refuses (known_to c.args.port.now.asker)
     (known_to c.loop-tries.port.asker)
+    c.args.port.now.share.amount c.loop-tries.port.share.amount
     c.loop-tries.moment c.args.work.now c.turn-turned.result c.loop-tries.invariant.known
-    c.turn-turned.ensures.refused
+    c.loop-tries.invariant.events c.turn-turned.ensures.refused
 
 pub returns-clause-turned : goal.returns-clause-turned
 returns-clause-turned g c =
@@ -57,5 +59,6 @@ pub returns-clause-refused : goal.returns-clause-refused
 returns-clause-refused g c =
     refused_first g.B.Taker.offers g.B.Taker.refuses (known_to c.args.port.now.asker)
     (known_to c.loop-tries.port.asker)
+    c.args.port.now.share.amount c.loop-tries.port.share.amount
     c.loop-tries.moment c.args.work.now c.turn.result c.loop-tries.invariant.known
-    c.turn.ensures.refused
+    c.loop-tries.invariant.events c.turn.ensures.refused

@@ -1,4 +1,4 @@
-use Rattle.std.proofs.Common.{ap, subst, sym, ◌∙◌}
+use Rattle.std.proofs.Common.{◌≤◌, ap, subst, sym, ◌∙◌}
 use Rattle.std.specs.Prelude.{◌↔◌, IfErr, IfSome, IsTrue, Result}
 use Rattle.book.specs.declared.error.BookError.{BookError}
 use Rattle.book.specs.events.Routers.{Router}
@@ -19,9 +19,13 @@ returns-in-Ok-clause-stale g c =
 pub returns-in-Ok-clause-ok : goal.returns-in-Ok-clause-ok
 returns-in-Ok-clause-ok g c =
     let last = c.moment.ensures ∙ ap (λ (r : Router). r.moment) c.now.ensures.router in
-    sent_by_some _ c.args.self.now.taken c.args.moment c.taken_at-at.result c.args.event
-    c.args.self.now.current c.apply_anew.new.self.current c.in-Ok.outs.items
-    c.known-stale.result c.now.ensures.leads
+    sent_by_some _ c.args.mine.now.amount c.compare.new.self.taken c.args.moment
+    c.taken_at-at.result c.args.event
+    c.compare.new.self.current c.apply_anew.new.self.current c.in-Ok.outs.items
+    c.known-stale.result
+    (subst (λ (b : BookView). c.args.mine.now.amount ≤ b.taken) (sym c.compare.ensures.book)
+    c.compare.ensures.least)
+    c.now.ensures.leads
     (c.taken_at-at.ensures ∙ ap (taken_at c.args.event c.args.moment) last) c.in-Ok.ensures.ok
     (left_stale c.apply_anew.new.self.current c.is_stale.result c.known-stale.result
     c.is_stale.ensures.stale c.known-stale.ensures)
@@ -30,9 +34,13 @@ pub returns-in-Err-clause-refused : goal.returns-in-Err-clause-refused
 returns-in-Err-clause-refused g c =
     let last = c.moment.ensures ∙ ap (λ (r : Router). r.moment) c.now.ensures.router in
     let P : Result _ BookError → Type 0 =
-    λ r. IfErr r (λ error. IsRefusedBySome g.L.Origin.origin c.args.moment c.args.event error) in
+    λ r. IfErr r (λ error. IsRefusedBySome g.L.Origin.origin c.args.mine.now.amount c.args.moment
+    c.args.event error) in
     subst P c.in-Err.is
-    (refused_by_some _ c.args.moment c.taken_at-at.result c.args.event c.args.self.now
-    c.apply_anew.result c.now.ensures.leads
+    (refused_by_some _ c.args.mine.now.amount c.args.moment c.taken_at-at.result c.args.event
+    c.compare.new.self c.apply_anew.result
+    (subst (λ (b : BookView). c.args.mine.now.amount ≤ b.taken) (sym c.compare.ensures.book)
+    c.compare.ensures.least)
+    c.now.ensures.leads
     (c.taken_at-at.ensures ∙ ap (taken_at c.args.event c.args.moment) last)
     c.apply_anew.ensures.refused)
