@@ -46,10 +46,11 @@ place input operations known due events seat = record {
 abbrev pub IsObeyedFrom : {Input : Type 0} → Sources → (interfaces : ℕ) → (before : Place Input)
     → (line : List ℕ) → Option Told → (after : Place Input) → Type 0
 IsObeyedFrom s interfaces before line answer after =
-    (still : Bool) × (counted : ℕ) × (seat : SeatView)
-    × IsMadeUp s.offers s.took s.refuses before.due still before.events counted before.seat seat
+    (still : Bool) × (knew : List Operation) × (counted : ℕ) × (seat : SeatView)
+    × IsMadeUp s.offers s.took s.refuses before.due still before.known knew before.events counted
+    before.seat seat
     × IsObeyed s interfaces
-    (change before.operations after.operations after.known after.due counted after.events seat
+    (change before.operations after.operations knew after.known after.due counted after.events seat
     after.seat) line answer
 
 -- nothing changed but the input
@@ -121,11 +122,12 @@ pub record HasTalked {Input : Type 0} (gives : Gives Input) (fails : Fails Input
 
 -- a turn for a Tick was taken, and just what it gave the router counts; or it was refused, and
 -- nothing counts
-abbrev pub IsTicked : Offers → Took → Refuses → (counted counts : ℕ) → Type 0
-IsTicked offers took refuses counted counts =
-    IsDone offers took refuses Tick counted counts
+abbrev pub IsTicked : Offers → Took → Refuses → (known : List Operation) → (counted counts : ℕ)
+    → Type 0
+IsTicked offers took refuses known counted counts =
+    IsDone offers took refuses known Tick counted counts
     ⊎ ((counts ≡ counted)
-    × ((error : TurnError) × IsRefusedOnce offers refuses counted Tick error))
+    × ((error : TurnError) × IsRefusedOnce offers refuses known counted Tick error))
 
 -- the first is a Tick's turn, and then line follows line
 pub record Converses {Input : Type 0} (gives : Gives Input) (fails : Fails Input) (s : Sources)
@@ -135,7 +137,7 @@ pub record Converses {Input : Type 0} (gives : Gives Input) (fails : Fails Input
   pub events : ℕ
   pub seat : SeatView
   pub learnt : IsPrefix begun.known known
-  pub ticked : IsTicked s.offers s.took s.refuses begun.events events
+  pub ticked : IsTicked s.offers s.took s.refuses begun.known begun.events events
   pub talked : HasTalked gives fails s interfaces
       (record begun { known = known; events = events; seat = seat }) old parting now new
 

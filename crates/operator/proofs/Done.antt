@@ -1,8 +1,10 @@
 -- A turn at port 0, put together.
-use Rattle.std.proofs.Common.{◌≡◌, ℕ, ◌<◌, Bool, Result, Ok, Err, sym, subst, arith}
+use Rattle.std.proofs.Common.{◌≡◌, ℕ, ◌<◌, Bool, List, Result, Ok, Err, sym, subst, arith}
 use Rattle.std.specs.Prelude.{IfErr, OnErr, OnOk, is_err}
+use mathlib.Core.List.{IsPrefix}
 use Rattle.words.specs.Numbers.{Moment}
 use Rattle.words.specs.declared.route.External.{External}
+use Rattle.hooks.specs.declared.operation.Operation.{Operation}
 use Rattle.worker.specs.Lives.{IsSent, IsTried, Senses, Standing}
 use Rattle.worker.specs.Sending.{Gives}
 use Rattle.worker.specs.Turned.{Turned}
@@ -10,39 +12,53 @@ use Rattle.worker.specs.TurnError.{TurnError}
 use Rattle.worker.specs.Turns.{Offers, Refuses, Took}
 use Rattle.worker.specs.Work.{Work}
 use Rattle.worker.specs.Work.TheVariants as work
-use Rattle.operator.specs.Answers.{IsDone, IsRefreshed, IsRefusedOnce, IsServed, Wanted}
+use Rattle.operator.specs.Answers.{IsDone, IsFollowed, IsRefreshed, IsRefusedOnce, IsServed}
+use Rattle.operator.specs.Answers.{Wanted}
 
 -- ---- a refresh
 
-pub refreshed : {X : Type 0} (offers : Offers) (took : Took) (refuses : Refuses) (due : Bool)
-    (counted counts : ℕ) (outcome : Result X TurnError) → due ≡ is_err outcome
-    → OnOk outcome (IsDone offers took refuses work.Refresh counted counts)
-    → IfErr outcome (λ error. IsRefusedOnce offers refuses counted work.Refresh error)
-    → OnErr outcome (counts ≡ counted) → IsRefreshed offers took refuses due counted counts
-refreshed offers took refuses due counted counts (Ok x) is done why same =
-    subst (λ (b : Bool). IsRefreshed offers took refuses b counted counts) (sym is) done
-refreshed offers took refuses due counted counts (Err error) is done why same =
-    subst (λ (b : Bool). IsRefreshed offers took refuses b counted counts) (sym is)
+pub refreshed : {X : Type 0} (offers : Offers) (took : Took) (refuses : Refuses)
+    (known : List Operation) (due : Bool) (counted counts : ℕ) (outcome : Result X TurnError)
+    → due ≡ is_err outcome
+    → OnOk outcome (IsDone offers took refuses known work.Refresh counted counts)
+    → IfErr outcome (λ error. IsRefusedOnce offers refuses known counted work.Refresh error)
+    → OnErr outcome (counts ≡ counted)
+    → IsRefreshed offers took refuses known due counted counts
+refreshed offers took refuses known due counted counts (Ok x) is done why same =
+    subst (λ (b : Bool). IsRefreshed offers took refuses known b counted counts) (sym is) done
+refreshed offers took refuses known due counted counts (Err error) is done why same =
+    subst (λ (b : Bool). IsRefreshed offers took refuses known b counted counts) (sym is)
     (error, why, same)
 
--- by a port whose share is as it was before
-pub refreshed_from : (offers : Offers) (took : Took) (refuses : Refuses) (due : Bool)
-    (counted between counts : ℕ) → between ≡ counted
-    → IsRefreshed offers took refuses due between counts
-    → IsRefreshed offers took refuses due counted counts
-refreshed_from offers took refuses due counted between counts same is =
-    subst (λ (n : ℕ). IsRefreshed offers took refuses due n counts) same is
+-- after a change that was told, by a port that learnt of it and whose share is as it was before
+pub followed : (offers : Offers) (took : Took) (refuses : Refuses) (now told : List Operation)
+    (knew known : List Operation) (due : Bool) (counted between counts : ℕ) → told ≡ now
+    → took.told told → IsPrefix told knew → IsPrefix knew known → between ≡ counted
+    → IsRefreshed offers took refuses knew due between counts
+    → IsFollowed offers took refuses now known due counted counts
+followed offers took refuses now told knew known due counted between counts is tells learnt grown
+    same refreshes = record {
+      told = subst (λ (l : List Operation). took.told l) is tells;
+      knew = knew;
+      learnt = subst (λ (l : List Operation). IsPrefix l knew) is learnt;
+      grown = grown;
+      refreshed = subst (λ (n : ℕ). IsRefreshed offers took refuses knew due n counts) same
+          refreshes;
+    }
 
 -- ---- an announcement
 
 -- whether a destination is announced was asked after the turn, by a port that gave no event since
 pub announced : (offers : Offers) (took : Took) (refuses : Refuses) (wanted : Wanted)
-    (external : External) (counted between counts : ℕ) (is : Bool) → counts ≡ between
-    → IsDone offers took refuses (work.Add external) counted between
-    → wanted between external.prefix is → IsDone offers took refuses (work.Add external) counted
-    counts × wanted counts external.prefix is
-announced offers took refuses wanted external counted between counts is same done answer = (
-  subst (λ (n : ℕ). IsDone offers took refuses (work.Add external) counted n) (sym same) done,
+    (knew : List Operation) (external : External) (counted between counts : ℕ) (is : Bool)
+    → counts ≡ between
+    → IsDone offers took refuses knew (work.Add external) counted between
+    → wanted between external.prefix is
+    → IsDone offers took refuses knew (work.Add external) counted counts
+    × wanted counts external.prefix is
+announced offers took refuses wanted knew external counted between counts is same done answer = (
+  subst (λ (n : ℕ). IsDone offers took refuses knew (work.Add external) counted n) (sym same)
+      done,
   subst (λ (n : ℕ). wanted n external.prefix is) (sym same) answer,
 )
 

@@ -68,11 +68,13 @@ sources offers took refuses wanted lists holds unreadable = record {
   unreadable = unreadable;
 }
 
--- What a line changes: the loader's operations, those that the port knows then, whether a refresh of
--- the table is due then, how many events count in the port's share, and the port's seat.
+-- What a line changes: the loader's operations, those that the port knows before it and after it,
+-- whether a refresh of the table is due then, how many events count in the port's share, and the
+-- port's seat.
 pub record Change : Type 0 where
   pub before : List Operation
   pub now : List Operation
+  pub knew : List Operation
   pub known : List Operation
   pub due : Bool
   pub counted : ℕ
@@ -80,11 +82,12 @@ pub record Change : Type 0 where
   pub seat : SeatView
   pub seated : SeatView
 
-abbrev pub change : (before now known : List Operation) → (due : Bool) → (counted counts : ℕ)
+abbrev pub change : (before now knew known : List Operation) → (due : Bool) → (counted counts : ℕ)
     → (seat seated : SeatView) → Change
-change before now known due counted counts seat seated = record {
+change before now knew known due counted counts seat seated = record {
   before = before;
   now = now;
+  knew = knew;
   known = known;
   due = due;
   counted = counted;
@@ -93,11 +96,12 @@ change before now known due counted counts seat seated = record {
   seated = seated;
 }
 
--- a turn for this work was taken, at some moment, whatever was known of the programs, and just what
--- it gave the router counts
-abbrev pub IsDone : Offers → Took → Refuses → Work → (counted counts : ℕ) → Type 0
-IsDone offers took refuses w counted counts =
-    (known : List Operation) × (moment : Moment) × (turned : Turned)
+-- a turn for this work was taken, at some moment, by a port that knew these operations, and just
+-- what it gave the router counts
+abbrev pub IsDone : Offers → Took → Refuses → (known : List Operation) → Work
+    → (counted counts : ℕ) → Type 0
+IsDone offers took refuses known w counted counts =
+    (moment : Moment) × (turned : Turned)
     × IsTurned offers took refuses known moment w counted counts turned
 
 -- as a worker serves one: a turn for this work was tried at a moment that the clock showed, and the
@@ -108,49 +112,60 @@ IsServed {Clock = Clock} senses w before after =
     (moment : Moment) × (shown : Clock) × (ended : Moment) × senses.shows before.clock moment shown
     × Serves senses moment w (record before { clock = shown }) ended after
 
--- the event of this work was refused for this, or its questions were, at some moment, whatever was
--- known of the programs, to a port whose events until then are so many
-abbrev pub IsRefusedOnce : Offers → Refuses → (counted : ℕ) → Work → TurnError → Type 0
-IsRefusedOnce offers refuses counted w error =
-    (known : List Operation) × (moment : Moment)
-    × RefusesFor offers refuses known counted moment w error
+-- the event of this work was refused for this, or its questions were, at some moment, to a port
+-- that knew these operations and whose events until then are so many
+abbrev pub IsRefusedOnce : Offers → Refuses → (known : List Operation) → (counted : ℕ) → Work
+    → TurnError → Type 0
+IsRefusedOnce offers refuses known counted w error =
+    (moment : Moment) × RefusesFor offers refuses known counted moment w error
 
 -- a turn for this work was refused, with this number, and no event counts
-abbrev pub IsRefusal : Offers → Refuses → Work → (counted counts : ℕ) → (number : ℕ) → Type 0
-IsRefusal offers refuses w counted counts number =
-    (error : TurnError) × IsRefusedOnce offers refuses counted w error
+abbrev pub IsRefusal : Offers → Refuses → (known : List Operation) → Work → (counted counts : ℕ)
+    → (number : ℕ) → Type 0
+IsRefusal offers refuses known w counted counts number =
+    (error : TurnError) × IsRefusedOnce offers refuses known counted w error
     × (number ≡ turn_error_number error) × (counts ≡ counted)
 
--- a refresh of the table was tried: it is due still where it was refused, and nothing counts then
-abbrev pub IsRefreshed : Offers → Took → Refuses → (due : Bool) → (counted counts : ℕ) → Type 0
-IsRefreshed offers took refuses false counted counts =
-    IsDone offers took refuses work.Refresh counted counts
-IsRefreshed offers took refuses true counted counts =
-    (error : TurnError) × IsRefusedOnce offers refuses counted work.Refresh error
+-- a refresh of the table was tried, by a port that knew these operations: it is due still where it
+-- was refused, and nothing counts then
+abbrev pub IsRefreshed : Offers → Took → Refuses → (known : List Operation) → (due : Bool)
+    → (counted counts : ℕ) → Type 0
+IsRefreshed offers took refuses known false counted counts =
+    IsDone offers took refuses known work.Refresh counted counts
+IsRefreshed offers took refuses known true counted counts =
+    (error : TurnError) × IsRefusedOnce offers refuses known counted work.Refresh error
     × (counts ≡ counted)
 
 -- where a refresh of the table is due, it was tried; else nothing was done
-abbrev pub IsMadeUp : Offers → Took → Refuses → (due still : Bool) → (before counted : ℕ)
-    → (seat between : SeatView) → Type 0
-IsMadeUp offers took refuses false still before counted seat between =
-    (still ≡ false) × (counted ≡ before) × (between ≡ seat)
-IsMadeUp offers took refuses true still before counted seat between =
-    IsRefreshed offers took refuses still before counted
+abbrev pub IsMadeUp : Offers → Took → Refuses → (due still : Bool)
+    → (knew known : List Operation) → (before counted : ℕ) → (seat between : SeatView) → Type 0
+IsMadeUp offers took refuses false still knew known before counted seat between =
+    (still ≡ false) × (known ≡ knew) × (counted ≡ before) × (between ≡ seat)
+IsMadeUp offers took refuses true still knew known before counted seat between =
+    IsRefreshed offers took refuses knew still before counted × IsPrefix knew known
 
 -- ---- answers
 
--- After the programs were changed the workers were told so, those of the port are no older, and a
--- refresh of the table was tried.
-pub record IsFollowed (offers : Offers) (took : Took) (refuses : Refuses) (c : Change) : Type 0
-  where
-    pub told : took.told c.now
-    pub learnt : IsPrefix c.now c.known
-    pub refreshed : IsRefreshed offers took refuses c.due c.counted c.counts
+-- After the programs were changed the workers were told so. Then the port learnt of it, and a
+-- refresh of the table was tried, by programs that are no older than the change.
+pub record IsFollowed (offers : Offers) (took : Took) (refuses : Refuses)
+    (now known : List Operation) (due : Bool) (counted counts : ℕ) : Type 0 where
+  pub told : took.told now
+  -- those that the port knew when the refresh was tried
+  pub knew : List Operation
+  pub learnt : IsPrefix now knew
+  pub grown : IsPrefix knew known
+  pub refreshed : IsRefreshed offers took refuses knew due counted counts
+
+-- so it is of a line's change
+abbrev pub IsFollowedUp : Offers → Took → Refuses → Change → Type 0
+IsFollowedUp offers took refuses c =
+    IsFollowed offers took refuses c.now c.known c.due c.counted c.counts
 
 -- the program was published at its hook, with its bound; or memory was refused, and nothing was
 abbrev pub IsPublished : Offers → Took → Refuses → Change → Program → Told → Type 0
 IsPublished offers took refuses c program (told.Attached hook bound) =
-    (c.now ≡ c.before ++ Attach program ∷ []) × IsFollowed offers took refuses c
+    (c.now ≡ c.before ++ Attach program ∷ []) × IsFollowedUp offers took refuses c
     × (program.hook ≡ hook) × (program.bound ≡ bound)
 IsPublished offers took refuses c program told.Memory = c.now ≡ c.before
 IsPublished offers took refuses c program other = ⊥
@@ -164,7 +179,7 @@ pub record IsAttached (s : Sources) (c : Change) (path : List ℕ) (hook : Hook)
   pub held : s.holds path bytes
   pub accepted : Accepts bytes program
   pub published : c.now ≡ c.before ++ Attach program ∷ []
-  pub followed : IsFollowed s.offers s.took s.refuses c
+  pub followed : IsFollowedUp s.offers s.took s.refuses c
   pub of_hook : program.hook ≡ hook
   pub of_bound : program.bound ≡ bound
 
@@ -179,32 +194,32 @@ IsAnswerToAttach s c path other = ⊥
 -- that hook has no program
 abbrev pub IsAnswerToDetach : Offers → Took → Refuses → Change → Hook → Told → Type 0
 IsAnswerToDetach offers took refuses c hook (told.Detached of) =
-    (of ≡ hook) × (c.now ≡ c.before ++ Detach hook ∷ []) × IsFollowed offers took refuses c
+    (of ≡ hook) × (c.now ≡ c.before ++ Detach hook ∷ []) × IsFollowedUp offers took refuses c
 IsAnswerToDetach offers took refuses c hook told.Memory = c.now ≡ c.before
 IsAnswerToDetach offers took refuses c hook other = ⊥
 
 -- the router took the announcement, and after that announces the destination or doesn't; or the turn
 -- was refused
-abbrev pub IsAnswerToAdd : Offers → Took → Refuses → Wanted → External → (counted counts : ℕ)
-    → Told → Type 0
-IsAnswerToAdd offers took refuses wanted external counted counts told.Originated =
-    IsDone offers took refuses (work.Add external) counted counts
+abbrev pub IsAnswerToAdd : Offers → Took → Refuses → Wanted → (knew : List Operation) → External
+    → (counted counts : ℕ) → Told → Type 0
+IsAnswerToAdd offers took refuses wanted knew external counted counts told.Originated =
+    IsDone offers took refuses knew (work.Add external) counted counts
     × wanted counts external.prefix true
-IsAnswerToAdd offers took refuses wanted external counted counts told.Withheld =
-    IsDone offers took refuses (work.Add external) counted counts
+IsAnswerToAdd offers took refuses wanted knew external counted counts told.Withheld =
+    IsDone offers took refuses knew (work.Add external) counted counts
     × wanted counts external.prefix false
-IsAnswerToAdd offers took refuses wanted external counted counts (told.Refused number) =
-    IsRefusal offers refuses (work.Add external) counted counts number
-IsAnswerToAdd offers took refuses wanted external counted counts other = ⊥
+IsAnswerToAdd offers took refuses wanted knew external counted counts (told.Refused number) =
+    IsRefusal offers refuses knew (work.Add external) counted counts number
+IsAnswerToAdd offers took refuses wanted knew external counted counts other = ⊥
 
 -- the router took the withdrawal, or the turn was refused
-abbrev pub IsAnswerToWithdraw : Offers → Took → Refuses → Network → (counted counts : ℕ) → Told
-    → Type 0
-IsAnswerToWithdraw offers took refuses prefix counted counts told.Withdrawn =
-    IsDone offers took refuses (work.Withdraw prefix) counted counts
-IsAnswerToWithdraw offers took refuses prefix counted counts (told.Refused number) =
-    IsRefusal offers refuses (work.Withdraw prefix) counted counts number
-IsAnswerToWithdraw offers took refuses prefix counted counts other = ⊥
+abbrev pub IsAnswerToWithdraw : Offers → Took → Refuses → (knew : List Operation) → Network
+    → (counted counts : ℕ) → Told → Type 0
+IsAnswerToWithdraw offers took refuses knew prefix counted counts told.Withdrawn =
+    IsDone offers took refuses knew (work.Withdraw prefix) counted counts
+IsAnswerToWithdraw offers took refuses knew prefix counted counts (told.Refused number) =
+    IsRefusal offers refuses knew (work.Withdraw prefix) counted counts number
+IsAnswerToWithdraw offers took refuses knew prefix counted counts other = ⊥
 
 -- lines, of this text
 abbrev pub AreLines : (IsText : List ℕ → Type 0) → Told → Type 0
@@ -219,9 +234,9 @@ IsAnswerTo s interfaces c (commands.Attach path) answer =
 IsAnswerTo s interfaces c (commands.Detach hook) answer =
     IsAnswerToDetach s.offers s.took s.refuses c hook answer
 IsAnswerTo s interfaces c (commands.Add external) answer =
-    IsAnswerToAdd s.offers s.took s.refuses s.wanted external c.counted c.counts answer
+    IsAnswerToAdd s.offers s.took s.refuses s.wanted c.knew external c.counted c.counts answer
 IsAnswerTo s interfaces c (commands.Withdraw prefix) answer =
-    IsAnswerToWithdraw s.offers s.took s.refuses prefix c.counted c.counts answer
+    IsAnswerToWithdraw s.offers s.took s.refuses c.knew prefix c.counted c.counts answer
 IsAnswerTo s interfaces c commands.Table answer = AreLines (ShowsTable s.offers) answer
 IsAnswerTo s interfaces c commands.Neighbors answer =
     AreLines (ShowsNeighbors (s.lists interfaces)) answer

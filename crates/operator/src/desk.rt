@@ -1,9 +1,10 @@
 //! Lines in, answers out, at port 0.
-ghost use Rattle.std.specs.Prelude.{◌≡◌, ℕ, Bool};
+ghost use Rattle.std.specs.Prelude.{◌≡◌, ℕ, Bool, List};
 ghost use mathlib.Core.List.{IsPrefix};
 ghost use Rattle.maps.specs.Words.{SeatView};
 ghost use Rattle.hooks.specs.Known.{history_of, known_to, operations_of};
-ghost use Rattle.worker.specs.Turns.{IsListed, IsTold};
+ghost use Rattle.hooks.specs.declared.operation.Operation.{Operation};
+ghost use Rattle.worker.specs.Turns.{IsListed};
 ghost use Rattle.operator.specs.Answers.{
   IsAnswerToAdd,
   IsAnswerToAttach,
@@ -12,6 +13,7 @@ ghost use Rattle.operator.specs.Answers.{
   IsAnyFile,
   IsAnyPath,
   IsCarriedOut,
+  IsFollowed,
   IsMadeUp,
   IsObeyed,
   IsPublished,
@@ -57,8 +59,8 @@ fn add<L: Site, B: Taker<L>, R: Wait, K: Link + Drop, C: Seconds + Drop>(
     outlet: &mut Outlet<K, C>,
     external: External,
 ) -> Told
-    ensures { IsAnswerToAdd B.offers B.took B.refuses B.wanted external
-        port.old.share.amount port.new.share.amount result }
+    ensures { IsAnswerToAdd B.offers B.took B.refuses B.wanted
+        (known_to port.old.asker) external port.old.share.amount port.new.share.amount result }
 {
     let prefix = external.prefix;
     match outlet.take(rt, hub, port, &Work::Add(external)) {
@@ -81,8 +83,8 @@ fn withdraw<L: Site, B: Taker<L>, R: Wait, K: Link + Drop, C: Seconds + Drop>(
     outlet: &mut Outlet<K, C>,
     prefix: Prefix,
 ) -> Told
-    ensures { IsAnswerToWithdraw B.offers B.took B.refuses prefix
-        port.old.share.amount port.new.share.amount result }
+    ensures { IsAnswerToWithdraw B.offers B.took B.refuses
+        (known_to port.old.asker) prefix port.old.share.amount port.new.share.amount result }
 {
     match outlet.take(rt, hub, port, &Work::Withdraw(prefix)) {
         Ok(()) => Told::Withdrawn,
@@ -94,8 +96,8 @@ impl<L: Site, Q: Wait + Drop, K: Link + Drop, C: Seconds + Drop> Desk<L, Q, K, C
     // The table is made anew. Where that is refused, it is tried again before the next line.
     #[tactic(auto, using(crate::proofs::Done::refreshed))]
     fn refresh<B: Taker<L>, R: Wait>(&mut self, rt: &R, hub: &Hub<L, B>, port: &mut Port<L>)
-        ensures done { IsRefreshed B.offers B.took B.refuses self.new.unrefreshed
-            port.old.share.amount port.new.share.amount }
+        ensures done { IsRefreshed B.offers B.took B.refuses (known_to port.old.asker)
+            self.new.unrefreshed port.old.share.amount port.new.share.amount }
         ensures known { IsPrefix (known_to port.old.asker) (known_to port.new.asker) }
         ensures loader { self.new.loader ≡ self.old.loader }
         ensures interfaces { self.new.interfaces ≡ self.old.interfaces }
@@ -103,13 +105,12 @@ impl<L: Site, Q: Wait + Drop, K: Link + Drop, C: Seconds + Drop> Desk<L, Q, K, C
         self.unrefreshed = self.outlet.take(rt, hub, port, &Work::Refresh).is_err();
     }
 
-    // After the programs were changed: workers install no answer of the earlier ones any more, the
-    // port's are no older, and the table is made anew.
-    #[tactic(auto, using(crate::proofs::Done::refreshed_from))]
+    // After the programs were changed: the workers are told, so that no turn of theirs from before is
+    // followed by a refresh; the port learns of it, and makes the table anew by programs that are no
+    // older.
     fn follow<B: Taker<L>, R: Wait>(&mut self, rt: &R, hub: &Hub<L, B>, port: &mut Port<L>)
-        ensures told { IsTold B.took (operations_of self.old.loader) }
-        ensures learnt { IsPrefix (operations_of self.old.loader) (known_to port.new.asker) }
-        ensures done { IsRefreshed B.offers B.took B.refuses self.new.unrefreshed
+        ensures followed { IsFollowed B.offers B.took B.refuses
+            (operations_of self.old.loader) (known_to port.new.asker) self.new.unrefreshed
             port.old.share.amount port.new.share.amount }
         ensures loader { self.new.loader ≡ self.old.loader }
         ensures interfaces { self.new.interfaces ≡ self.old.interfaces }
@@ -130,7 +131,7 @@ impl<L: Site, Q: Wait + Drop, K: Link + Drop, C: Seconds + Drop> Desk<L, Q, K, C
     ) -> Told
         ensures told { IsPublished B.offers B.took B.refuses
             (change (operations_of self.old.loader) (operations_of self.new.loader)
-            (known_to port.new.asker) self.new.unrefreshed
+            (known_to port.old.asker) (known_to port.new.asker) self.new.unrefreshed
             port.old.share.amount port.new.share.amount port.old.seat port.new.seat)
             program result }
         ensures interfaces { self.new.interfaces ≡ self.old.interfaces }
@@ -156,7 +157,7 @@ impl<L: Site, Q: Wait + Drop, K: Link + Drop, C: Seconds + Drop> Desk<L, Q, K, C
             (sources B.offers B.took B.refuses B.wanted (IsListed B.own B.neighbor_at)
             F.holds F.unreadable)
             (change (operations_of self.old.loader) (operations_of self.new.loader)
-            (known_to port.new.asker) self.new.unrefreshed
+            (known_to port.old.asker) (known_to port.new.asker) self.new.unrefreshed
             port.old.share.amount port.new.share.amount port.old.seat port.new.seat)
             path.now result }
         ensures interfaces { self.new.interfaces ≡ self.old.interfaces }
@@ -176,7 +177,7 @@ impl<L: Site, Q: Wait + Drop, K: Link + Drop, C: Seconds + Drop> Desk<L, Q, K, C
     ) -> Told
         ensures told { IsAnswerToDetach B.offers B.took B.refuses
             (change (operations_of self.old.loader) (operations_of self.new.loader)
-            (known_to port.new.asker) self.new.unrefreshed
+            (known_to port.old.asker) (known_to port.new.asker) self.new.unrefreshed
             port.old.share.amount port.new.share.amount port.old.seat port.new.seat)
             hook result }
         ensures interfaces { self.new.interfaces ≡ self.old.interfaces }
@@ -202,7 +203,7 @@ impl<L: Site, Q: Wait + Drop, K: Link + Drop, C: Seconds + Drop> Desk<L, Q, K, C
             F.holds F.unreadable)
             self.old.interfaces
             (change (operations_of self.old.loader) (operations_of self.new.loader)
-            (known_to port.new.asker) self.new.unrefreshed
+            (known_to port.old.asker) (known_to port.new.asker) self.new.unrefreshed
             port.old.share.amount port.new.share.amount port.old.seat port.new.seat)
             command.now result }
         ensures interfaces { self.new.interfaces ≡ self.old.interfaces }
@@ -222,7 +223,7 @@ impl<L: Site, Q: Wait + Drop, K: Link + Drop, C: Seconds + Drop> Desk<L, Q, K, C
     // Makes the table anew where that is due.
     fn make_up<B: Taker<L>, R: Wait>(&mut self, rt: &R, hub: &Hub<L, B>, port: &mut Port<L>)
         ensures made_up { IsMadeUp B.offers B.took B.refuses self.old.unrefreshed
-            self.new.unrefreshed
+            self.new.unrefreshed (known_to port.old.asker) (known_to port.new.asker)
             port.old.share.amount port.new.share.amount port.old.seat port.new.seat }
         ensures loader { self.new.loader ≡ self.old.loader }
         ensures interfaces { self.new.interfaces ≡ self.old.interfaces }
@@ -247,7 +248,7 @@ impl<L: Site, Q: Wait + Drop, K: Link + Drop, C: Seconds + Drop> Desk<L, Q, K, C
             F.holds F.unreadable)
             self.old.interfaces
             (change (operations_of self.old.loader) (operations_of self.new.loader)
-            (known_to port.new.asker) self.new.unrefreshed
+            (known_to port.old.asker) (known_to port.new.asker) self.new.unrefreshed
             port.old.share.amount port.new.share.amount port.old.seat port.new.seat)
             line.now result }
         ensures interfaces { self.new.interfaces ≡ self.old.interfaces }
@@ -271,15 +272,15 @@ impl<L: Site, Q: Wait + Drop, K: Link + Drop, C: Seconds + Drop> Desk<L, Q, K, C
         port: &mut Port<L>,
         line: &str,
     ) -> Option<Told>
-        ensures told { (still : Bool) × (counted : ℕ) × (seat : SeatView)
+        ensures told { (still : Bool) × (knew : List Operation) × (counted : ℕ) × (seat : SeatView)
             × IsMadeUp B.offers B.took B.refuses self.old.unrefreshed still
-            port.old.share.amount counted port.old.seat seat
+            (known_to port.old.asker) knew port.old.share.amount counted port.old.seat seat
             × IsObeyed
             (sources B.offers B.took B.refuses B.wanted (IsListed B.own B.neighbor_at)
             F.holds F.unreadable)
             self.old.interfaces
             (change (operations_of self.old.loader) (operations_of self.new.loader)
-            (known_to port.new.asker) self.new.unrefreshed
+            knew (known_to port.new.asker) self.new.unrefreshed
             counted port.new.share.amount seat port.new.seat)
             line.now result }
         ensures interfaces { self.new.interfaces ≡ self.old.interfaces }
@@ -296,15 +297,15 @@ impl<L: Site, Q: Wait + Drop, K: Link + Drop, C: Seconds + Drop> Desk<L, Q, K, C
         port: &mut Port<L>,
         line: &str,
     ) -> Option<Told>
-        ensures told { (still : Bool) × (counted : ℕ) × (seat : SeatView)
+        ensures told { (still : Bool) × (knew : List Operation) × (counted : ℕ) × (seat : SeatView)
             × IsMadeUp B.offers B.took B.refuses self.old.unrefreshed still
-            port.old.share.amount counted port.old.seat seat
+            (known_to port.old.asker) knew port.old.share.amount counted port.old.seat seat
             × IsObeyed
             (sources B.offers B.took B.refuses B.wanted (IsListed B.own B.neighbor_at)
             IsAnyFile IsAnyPath)
             self.old.interfaces
             (change (operations_of self.old.loader) (operations_of self.new.loader)
-            (known_to port.new.asker) self.new.unrefreshed
+            knew (known_to port.new.asker) self.new.unrefreshed
             counted port.new.share.amount seat port.new.seat)
             line.now result }
         ensures interfaces { self.new.interfaces ≡ self.old.interfaces }

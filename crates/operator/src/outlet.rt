@@ -42,10 +42,11 @@ impl<K: Link + Drop, C: Seconds + Drop> Outlet<K, C> {
         port: &mut Port<L>,
         work: &Work,
     ) -> Result<(), TurnError>
-        ensures taken { OnOk result (IsDone B.offers B.took B.refuses work.now
-            port.old.share.amount port.new.share.amount) }
+        ensures taken { OnOk result (IsDone B.offers B.took B.refuses
+            (known_to port.old.asker) work.now port.old.share.amount port.new.share.amount) }
         ensures refused { IfErr result (λ error.
-            IsRefusedOnce B.offers B.refuses port.old.share.amount work.now error) }
+            IsRefusedOnce B.offers B.refuses (known_to port.old.asker)
+            port.old.share.amount work.now error) }
         ensures err { OnErr result (port.new.share.amount ≡ port.old.share.amount) }
         ensures known { IsPrefix (known_to port.old.asker) (known_to port.new.asker) }
         ensures served { K.faults self.new.link ≡ K.faults self.old.link → IsServed

@@ -1,10 +1,12 @@
 use Rattle.std.proofs.Common.{true, false, subst}
+use Rattle.hooks.specs.Known.{known_to}
 use Rattle.operator.proofs.Done.{announced}
 use Rattle.operator.proofs.desk.add.Goals as goal
 
 pub returns-then-wants : goal.returns-then-wants
 returns-then-wants g c =
-    announced g.B.Taker.offers g.B.Taker.took g.B.Taker.refuses g.B.Taker.wanted c.args.external
+    announced g.B.Taker.offers g.B.Taker.took g.B.Taker.refuses g.B.Taker.wanted
+    (known_to c.args.port.now.asker) c.args.external
     c.args.port.now.share.amount c.take.new.port.share.amount c.wants.new.port.share.amount true
     c.wants.ensures.share c.in-Ok.ensures.taken
     (subst (λ is. g.B.Taker.wanted c.take.new.port.share.amount c.args.external.prefix is)
@@ -12,7 +14,8 @@ returns-then-wants g c =
 
 pub returns-in-Ok : goal.returns-in-Ok
 returns-in-Ok g c =
-    announced g.B.Taker.offers g.B.Taker.took g.B.Taker.refuses g.B.Taker.wanted c.args.external
+    announced g.B.Taker.offers g.B.Taker.took g.B.Taker.refuses g.B.Taker.wanted
+    (known_to c.args.port.now.asker) c.args.external
     c.args.port.now.share.amount c.take.new.port.share.amount c.wants.new.port.share.amount false
     c.wants.ensures.share c.in-Ok.ensures.taken
     (subst (λ is. g.B.Taker.wanted c.take.new.port.share.amount c.args.external.prefix is)

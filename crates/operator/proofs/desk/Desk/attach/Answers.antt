@@ -15,7 +15,7 @@ returns-in-Err-clause-told g c =
     g.F.ReadsFiles.holds g.F.ReadsFiles.unreadable in
     let operations = operations_of desk.loader in
     let same =
-    change operations operations (known_to port.asker) desk.unrefreshed port.share.amount
-    port.share.amount port.seat port.seat in
+    change operations operations (known_to port.asker) (known_to port.asker) desk.unrefreshed
+    port.share.amount port.share.amount port.seat port.seat in
     told_why s same c.args.path.now c.in-Err.error c.reason.result c.lines.result refl
     c.in-Err.ensures.err c.reason.ensures c.lines.ensures

@@ -19,53 +19,54 @@ returns-clause-told g c =
     let before = operations_of c.args.self.now.loader in
     let desk = c.match-command.self in
     let after = c.match-command.port in
-    let now = change before (operations_of desk.loader) (known_to after.asker) desk.unrefreshed
-    port.share.amount after.share.amount port.seat after.seat in
+    let knew = known_to port.asker in
+    let now = change before (operations_of desk.loader) knew (known_to after.asker)
+    desk.unrefreshed port.share.amount after.share.amount port.seat after.seat in
     let command = c.args.command.now in
     let answer = c.match-command.result in
     elim c.match-command.branch [
       | in-Attach w ↦
           moved s n now _ command (commands.Attach w.in-Attach.path) answer w.attach.result
-          (λ i. change before (operations_of (w.self-is i).loader) (known_to (w.port-is i).asker)
-          (w.self-is i).unrefreshed
+          (λ i. change before (operations_of (w.self-is i).loader) knew
+          (known_to (w.port-is i).asker) (w.self-is i).unrefreshed
           port.share.amount (w.port-is i).share.amount port.seat (w.port-is i).seat)
           w.in-Attach.is w.result-is w.attach.ensures.told
       | in-Detach w ↦
           moved s n now _ command (commands.Detach w.in-Detach.hook) answer w.detach.result
-          (λ i. change before (operations_of (w.self-is i).loader) (known_to (w.port-is i).asker)
-          (w.self-is i).unrefreshed
+          (λ i. change before (operations_of (w.self-is i).loader) knew
+          (known_to (w.port-is i).asker) (w.self-is i).unrefreshed
           port.share.amount (w.port-is i).share.amount port.seat (w.port-is i).seat)
           w.in-Detach.is w.result-is w.detach.ensures.told
       | in-Add w ↦
           moved s n now _ command (commands.Add w.in-Add.external) answer w.add.result
-          (λ i. change before (operations_of (w.self-is i).loader) (known_to (w.port-is i).asker)
-          (w.self-is i).unrefreshed
+          (λ i. change before (operations_of (w.self-is i).loader) knew
+          (known_to (w.port-is i).asker) (w.self-is i).unrefreshed
           port.share.amount (w.port-is i).share.amount port.seat (w.port-is i).seat)
           w.in-Add.is w.result-is w.add.ensures
       | in-Withdraw w ↦
           moved s n now _ command (commands.Withdraw w.in-Withdraw.prefix) answer w.withdraw.result
-          (λ i. change before (operations_of (w.self-is i).loader) (known_to (w.port-is i).asker)
-          (w.self-is i).unrefreshed
+          (λ i. change before (operations_of (w.self-is i).loader) knew
+          (known_to (w.port-is i).asker) (w.self-is i).unrefreshed
           port.share.amount (w.port-is i).share.amount port.seat (w.port-is i).seat)
           w.in-Withdraw.is w.result-is w.withdraw.ensures
       | in-Table w ↦
           moved s n now _ command (commands.Table) answer w.lines.result
-          (λ i. change before (operations_of (w.self-is i).loader) (known_to (w.port-is i).asker)
-          (w.self-is i).unrefreshed
+          (λ i. change before (operations_of (w.self-is i).loader) knew
+          (known_to (w.port-is i).asker) (w.self-is i).unrefreshed
           port.share.amount (w.port-is i).share.amount port.seat (w.port-is i).seat)
           w.in-Table.is w.result-is (made (ShowsTable g.B.Taker.offers) w.table.result
           w.lines.result w.table.ensures w.lines.ensures)
       | in-Neighbors w ↦
           moved s n now _ command (commands.Neighbors) answer w.lines-in-Neighbors.result
-          (λ i. change before (operations_of (w.self-is i).loader) (known_to (w.port-is i).asker)
-          (w.self-is i).unrefreshed
+          (λ i. change before (operations_of (w.self-is i).loader) knew
+          (known_to (w.port-is i).asker) (w.self-is i).unrefreshed
           port.share.amount (w.port-is i).share.amount port.seat (w.port-is i).seat)
           w.in-Neighbors.is w.result-is (made (ShowsNeighbors (lists n)) w.neighbors.result
           w.lines-in-Neighbors.result w.neighbors.ensures w.lines-in-Neighbors.ensures)
       | in-Counters w ↦
           moved s n now _ command (commands.Counters) answer w.lines-in-Counters.result
-          (λ i. change before (operations_of (w.self-is i).loader) (known_to (w.port-is i).asker)
-          (w.self-is i).unrefreshed
+          (λ i. change before (operations_of (w.self-is i).loader) knew
+          (known_to (w.port-is i).asker) (w.self-is i).unrefreshed
           port.share.amount (w.port-is i).share.amount port.seat (w.port-is i).seat)
           w.in-Counters.is w.result-is (made (IsCountersText port.seat w.counters.new.port.seat)
           w.counters.result w.lines-in-Counters.result w.counters.ensures.text
