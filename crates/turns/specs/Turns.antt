@@ -223,6 +223,14 @@ CountsFor refuses before now old new (work.Withdraw prefix) moment = Unit {0}
 CountsFor refuses before now old new (work.Down number) moment = Unit {0}
 CountsFor refuses before now old new work.Refresh moment = Unit {0}
 
+-- Where the work is a datagram, that is counted, by a port that had such a seat and knew the first of
+-- these operations, and knows the last ones in the end: what it knew as it counted begins them.
+abbrev pub HasCountedFor : Refuses → (before after : List Operation) → (old : SeatView) → Work
+    → Moment → Type 0
+HasCountedFor refuses before after old w moment =
+    (known : List Operation) × (seat : SeatView)
+    × CountsFor refuses before known old seat w moment × IsPrefix known after
+
 -- where the work is a datagram, the programs at `count` were asked about it
 abbrev pub AsksFor : Took → Moment → Work → Type 0
 AsksFor took moment (work.Datagram number bytes) = took.asked (count_input number moment bytes)

@@ -1,14 +1,12 @@
 //! A turn of a worker.
 ghost use Rattle.std.specs.Prelude.{◌≡◌, ◌+◌, ◌≤◌, ◌⊎◌, Bool, Err, IfErr, IfNone, IfOk};
-ghost use Rattle.std.specs.Prelude.{IfSome, List, OnErr, OnOk, Option, Some, false, max, true};
+ghost use Rattle.std.specs.Prelude.{IfSome, OnErr, OnOk, Option, Some, false, max, true};
 ghost use mathlib.Core.List.{IsPrefix};
 ghost use Rattle.words.specs.Constants.{clock_end};
-ghost use Rattle.maps.specs.Words.{SeatView};
 ghost use Rattle.hooks.specs.Known.{known_to};
-ghost use Rattle.hooks.specs.declared.operation.Operation.{Operation};
 ghost use Rattle.turns.specs.Turns.{
   AsksFor,
-  CountsFor,
+  HasCountedFor,
   IsChangedSince,
   IsGivenInVain,
   IsTurned,
@@ -62,8 +60,8 @@ pub fn turn<L: Site, B: Taker<L>, G: Gate, R: Wait>(
         (known_to port.old.asker) moment work.now port.old.share.amount port.new.share.amount r) }
     ensures refused { IfErr result (λ error. RefusesFor B.offers B.refuses
         (known_to port.old.asker) port.old.share.amount moment work.now error) }
-    ensures counted { (known : List Operation) × (seat : SeatView)
-        × CountsFor B.refuses (known_to port.old.asker) known port.old.seat seat work.now moment }
+    ensures counted { HasCountedFor B.refuses (known_to port.old.asker)
+        (known_to port.new.asker) port.old.seat work.now moment }
     ensures asked { AsksFor B.took moment work.now }
     ensures passed { OnOk result (G.passes gate.old port.old.number gate.new) }
     ensures held { IfErr result (λ error.

@@ -1,4 +1,5 @@
 use Rattle.hooks.specs.Known.{known_to}
+use Rattle.hooks.proofs.Fronts.{prefix_self}
 use Rattle.turns.proofs.Longer.{follows}
 use Rattle.turns.proofs.turns.turn.Goals as goal
 
@@ -13,3 +14,27 @@ returns-clause-turned g c = record {
       c.follow-refreshed.ensures.none c.follow-refreshed.ensures.some
       c.follow-refreshed.ensures.unchanged;
 }
+
+pub returns-in_err-event-clause-counted : goal.returns-in_err-event-clause-counted
+returns-in_err-event-clause-counted g c = (
+  known_to c.asked.new.asker,
+  c.asked.new.seat,
+  c.asked.ensures.counted,
+  prefix_self _,
+)
+
+pub returns-in_err-taken-clause-counted : goal.returns-in_err-taken-clause-counted
+returns-in_err-taken-clause-counted g c = (
+  known_to c.asked.new.asker,
+  c.asked.new.seat,
+  c.asked.ensures.counted,
+  prefix_self _,
+)
+
+pub returns-clause-counted : goal.returns-clause-counted
+returns-clause-counted g c = (
+  known_to c.asked.new.asker,
+  c.asked.new.seat,
+  c.asked.ensures.counted,
+  c.follow-refreshed.ensures.known,
+)
