@@ -5,6 +5,7 @@ use Rattle.std.specs.Prelude.{Result, Err, length, map, max, slice_get}
 use Rattle.std.specs.FinMap as finite
 use Rattle.std.specs.List.{All}
 use mathlib.Core.List.{IsPrefix}
+use Rattle.words.specs.Constants.{clock_end}
 use Rattle.words.specs.Numbers.{InterfaceNumber, Moment, RouterNumber}
 use Rattle.words.specs.Prefixes.{Network}
 use Rattle.words.specs.declared.route.External.{External}
@@ -96,6 +97,14 @@ taken_at (event.Redistribute tag price) moment last = moment
 taken_at (event.Withdraw prefix) moment last = moment
 taken_at (event.Install answers) moment last = max moment last
 taken_at (event.LinkDown number) moment last = moment
+
+-- The clock has come to its end: the later of this moment and that of the last event of a book, of
+-- which `own` is so, is past all moments. An installation, which is taken at the later of the two,
+-- is refused for its moment only then.
+abbrev pub IsAtTheEndOfTheClock : {B : Type 0} → (own : B → Type 0) → (moment_of : B → Moment)
+    → Moment → Type 0
+IsAtTheEndOfTheClock {B = B} own moment_of moment =
+    (book : B) × own book × (clock_end ≤ max moment (moment_of book))
 
 -- A book that began with this router says to a port whose events until then are so many: the event
 -- that is given at this moment sends these, from a router to which events lead from there, at least

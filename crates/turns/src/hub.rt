@@ -1,8 +1,7 @@
 //! The book under its lock.
 ghost use Rattle.std.specs.Prelude.{◌≡◌, ◌+◌, ◌<◌, ◌≤◌, ◌⊎◌, List, Err};
-ghost use Rattle.std.specs.Prelude.{IfErr, IfOk, OnOk, OnErr, max};
+ghost use Rattle.std.specs.Prelude.{IfErr, IfOk, OnOk, OnErr};
 ghost use mathlib.Core.List.{IsPrefix};
-ghost use Rattle.words.specs.Constants.{clock_end};
 ghost use Rattle.words.specs.declared.route.TableRow.{TableRow};
 ghost use Rattle.maps.specs.Access.{floor};
 ghost use Rattle.maps.specs.Words.{seat_after};
@@ -10,6 +9,7 @@ ghost use Rattle.maps.specs.declared.access.Access.TheVariants.{Read};
 ghost use Rattle.hooks.specs.Known.{known_to, told_by};
 ghost use Rattle.turns.specs.Turns.{
   AreNeighbors,
+  IsAtTheEndOfTheClock,
   IsChangedSince,
   IsInstalling,
   IsLacking,
@@ -136,7 +136,7 @@ impl<L: Site, B: Taker<L>> Hub<L, B> {
         ensures err { OnErr result (mine.new.amount ≡ mine.old.amount) }
         ensures clock { IsInstalling event
             → result ≡ Err (BookError.Core CoreError.ClockBack)
-            → (book : B) × B.own book × (clock_end ≤ max moment (B.moment_of book)) }
+            → IsAtTheEndOfTheClock B.own B.moment_of moment }
     {
         let mut guard = self.book.lock(rt);
         let book: &mut B = &mut *guard;

@@ -62,10 +62,11 @@ pub struct Taken {
 /// neighbors. The programs, memory and the count of changes are asked here as well, although a
 /// [`Book`] only hands these on.
 ///
-/// What each call says is left open here: a turn, which is proved for any such type, can say only
-/// what a call told it. So a turn that gave another event, at another moment, or to another book,
-/// couldn't say what it promises, nor could one that gave none, or that claims to lack what it
-/// didn't ask for.
+/// What a call says (`took`, `refuses`, `offers` and the others) means nothing here: each type that
+/// implements this gives it a meaning. A turn is proved for all such types at once, so only by the
+/// call itself can it know what the call says. Hence the prover refuses a turn that gives another
+/// event, or none, or gives it at another moment or to another book; and one that says that a
+/// reading or memory was wanting where it never asked for one.
 pub trait Taker<L: Origin> {
     ghost took: { Took };
 

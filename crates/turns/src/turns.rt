@@ -1,12 +1,12 @@
 //! A turn of a worker.
-ghost use Rattle.std.specs.Prelude.{◌≡◌, ◌+◌, ◌≤◌, ◌⊎◌, Bool, Err, IfErr, IfNone, IfOk};
-ghost use Rattle.std.specs.Prelude.{IfSome, OnErr, OnOk, Option, Some, false, max, true};
+ghost use Rattle.std.specs.Prelude.{◌≡◌, ◌+◌, ◌⊎◌, Bool, Err, IfErr, IfNone, IfOk};
+ghost use Rattle.std.specs.Prelude.{IfSome, OnErr, OnOk, Option, Some, false, true};
 ghost use mathlib.Core.List.{IsPrefix};
-ghost use Rattle.words.specs.Constants.{clock_end};
 ghost use Rattle.hooks.specs.Known.{known_to};
 ghost use Rattle.turns.specs.Turns.{
   AsksFor,
   HasCountedFor,
+  IsAtTheEndOfTheClock,
   IsChangedSince,
   IsGivenInVain,
   IsTurned,
@@ -72,7 +72,7 @@ pub fn turn<L: Site, B: Taker<L>, G: Gate, R: Wait>(
     ensures err { OnErr result (port.new.share.amount ≡ port.old.share.amount) }
     ensures clock { work.now ≡ Work.Refresh
         → result ≡ Err (TurnError.Book (BookError.Core CoreError.ClockBack))
-        → (book : B) × B.own book × (clock_end ≤ max moment (B.moment_of book)) }
+        → IsAtTheEndOfTheClock B.own B.moment_of moment }
     ensures number { port.new.number ≡ port.old.number }
     ensures known { IsPrefix (known_to port.old.asker) (known_to port.new.asker) }
 {
