@@ -7,7 +7,7 @@ use Rattle.console.specs.declared.command.Command.TheVariants as commands
 use Rattle.console.specs.Commands.{LineAsks}
 use Rattle.operator.specs.declared.programs.AttachError.{AttachError}
 use Rattle.operator.specs.Answers.{AreLines, Change, IsAnswerTo, IsAnswerToAttach, IsCarriedOut}
-use Rattle.operator.specs.Answers.{IsObeyed, Sources}
+use Rattle.operator.specs.Answers.{IsObeyed, IsUnchanged, Sources}
 use Rattle.operator.specs.Reasons.{IsReason, reason_text}
 use Rattle.operator.specs.declared.told.Told.{Told}
 use Rattle.operator.specs.declared.told.Told.TheVariants as told
@@ -38,7 +38,7 @@ obeyed_from s n m c d line answer same_n same is =
 
 -- the line of a reason, or want of memory for it
 pub told_why : {E : Type 0} (s : Sources) (c : Change) (path : List ℕ) (e : AttachError)
-    (lines : Result (String Global) E) (answer : Told) → c.now ≡ c.before
+    (lines : Result (String Global) E) (answer : Told) → IsUnchanged c
     → IsReason s.holds s.unreadable path e
     → IfOk lines (λ text. string_bytes text ≡ reason_text path e)
     → MatchResult lines (λ text. answer ≡ told.Lines text) (λ _. answer ≡ told.Memory)
@@ -53,12 +53,24 @@ never_unknown : (s : Sources) (n : ℕ) (c : Change) (command : Command)
     → IsAnswerTo s n c command told.Unknown → ⊥
 never_unknown s n c (commands.Attach path) is = is
 never_unknown s n c (commands.Detach hook) is = is
-never_unknown s n c (commands.Add external) is = is
-never_unknown s n c (commands.Withdraw prefix) is = is
-never_unknown s n c commands.Table is = is
-never_unknown s n c commands.Neighbors is = is
-never_unknown s n c commands.Counters is = is
+never_unknown s n c (commands.Add external) is = is.1
+never_unknown s n c (commands.Withdraw prefix) is = is.1
+never_unknown s n c commands.Table is = is.1
+never_unknown s n c commands.Neighbors is = is.1
+never_unknown s n c commands.Counters is = is.1
 never_unknown s n c commands.Quit is = is
+
+-- where memory was refused to a command, nothing changed
+unchanged : (s : Sources) (n : ℕ) (c : Change) (command : Command)
+    → IsAnswerTo s n c command told.Memory → IsUnchanged c
+unchanged s n c (commands.Attach path) is = is
+unchanged s n c (commands.Detach hook) is = is
+unchanged s n c (commands.Add external) is = absurd is.1
+unchanged s n c (commands.Withdraw prefix) is = absurd is.1
+unchanged s n c commands.Table is = is.0
+unchanged s n c commands.Neighbors is = is.0
+unchanged s n c commands.Counters is = is.0
+unchanged s n c commands.Quit is = absurd is
 
 -- what was carried out was obeyed
 pub obeyed : (s : Sources) (n : ℕ) (c : Change) (line : List ℕ) (command : Command)
@@ -66,7 +78,7 @@ pub obeyed : (s : Sources) (n : ℕ) (c : Change) (line : List ℕ) (command : C
     → IsObeyed s n c line answer
 obeyed s n c line command None asks is = (command, asks, is)
 obeyed s n c line command (Some told.Unknown) asks is = absurd (never_unknown s n c command is)
-obeyed s n c line command (Some told.Memory) asks is = tt
+obeyed s n c line command (Some told.Memory) asks is = unchanged s n c command is
 obeyed s n c line command (Some (told.Attached hook bound)) asks is = (command, asks, is)
 obeyed s n c line command (Some (told.Detached hook)) asks is = (command, asks, is)
 obeyed s n c line command (Some told.Originated) asks is = (command, asks, is)

@@ -146,6 +146,12 @@ IsMadeUp offers took refuses true still knew known before counted seat between =
 
 -- ---- answers
 
+-- the loader did nothing, the port learnt nothing, and no event counts
+pub record IsUnchanged (c : Change) : Type 0 where
+  pub operations : c.now ≡ c.before
+  pub known : c.known ≡ c.knew
+  pub events : c.counts ≡ c.counted
+
 -- After the programs were changed the workers were told so. Then the port learnt of it, and a
 -- refresh of the table was tried, by programs that are no older than the change.
 pub record IsFollowed (offers : Offers) (took : Took) (refuses : Refuses)
@@ -162,12 +168,12 @@ abbrev pub IsFollowedUp : Offers → Took → Refuses → Change → Type 0
 IsFollowedUp offers took refuses c =
     IsFollowed offers took refuses c.now c.known c.due c.counted c.counts
 
--- the program was published at its hook, with its bound; or memory was refused, and nothing was
+-- the program was published at its hook, with its bound; or memory was refused, and nothing changed
 abbrev pub IsPublished : Offers → Took → Refuses → Change → Program → Told → Type 0
 IsPublished offers took refuses c program (told.Attached hook bound) =
     (c.now ≡ c.before ++ Attach program ∷ []) × IsFollowedUp offers took refuses c
     × (program.hook ≡ hook) × (program.bound ≡ bound)
-IsPublished offers took refuses c program told.Memory = c.now ≡ c.before
+IsPublished offers took refuses c program told.Memory = IsUnchanged c
 IsPublished offers took refuses c program other = ⊥
 
 -- a program of this hook was published, the one that the file at the path holds, which is accepted
@@ -183,19 +189,19 @@ pub record IsAttached (s : Sources) (c : Change) (path : List ℕ) (hook : Hook)
   pub of_hook : program.hook ≡ hook
   pub of_bound : program.bound ≡ bound
 
--- a program was published, or lines say why none was
+-- a program was published, or lines say why none was; or memory was refused, and nothing changed
 abbrev pub IsAnswerToAttach : Sources → Change → (path : List ℕ) → Told → Type 0
 IsAnswerToAttach s c path (told.Attached hook bound) = IsAttached s c path hook bound
 IsAnswerToAttach s c path (told.Lines reason) =
-    (c.now ≡ c.before) × IsReasonText s.holds s.unreadable path (string_bytes reason)
-IsAnswerToAttach s c path told.Memory = c.now ≡ c.before
+    IsUnchanged c × IsReasonText s.holds s.unreadable path (string_bytes reason)
+IsAnswerToAttach s c path told.Memory = IsUnchanged c
 IsAnswerToAttach s c path other = ⊥
 
--- that hook has no program
+-- that hook has no program; or memory was refused, and nothing changed
 abbrev pub IsAnswerToDetach : Offers → Took → Refuses → Change → Hook → Told → Type 0
 IsAnswerToDetach offers took refuses c hook (told.Detached of) =
     (of ≡ hook) × (c.now ≡ c.before ++ Detach hook ∷ []) × IsFollowedUp offers took refuses c
-IsAnswerToDetach offers took refuses c hook told.Memory = c.now ≡ c.before
+IsAnswerToDetach offers took refuses c hook told.Memory = IsUnchanged c
 IsAnswerToDetach offers took refuses c hook other = ⊥
 
 -- the router took the announcement, and after that announces the destination or doesn't; or the turn
@@ -221,38 +227,44 @@ IsAnswerToWithdraw offers took refuses knew prefix counted counts (told.Refused 
     IsRefusal offers refuses knew (work.Withdraw prefix) counted counts number
 IsAnswerToWithdraw offers took refuses knew prefix counted counts other = ⊥
 
--- lines, of this text
+-- lines, of this text, or memory was refused
 abbrev pub AreLines : (IsText : List ℕ → Type 0) → Told → Type 0
 AreLines IsText (told.Lines lines) = IsText (string_bytes lines)
 AreLines IsText told.Memory = Unit {0}
 AreLines IsText other = ⊥
 
--- what each command is answered at a router of so many interfaces
+-- What each command is answered at a router of so many interfaces. What is shown changes nothing,
+-- and no announcement or withdrawal changes the programs.
 abbrev pub IsAnswerTo : Sources → (interfaces : ℕ) → Change → Command → Told → Type 0
 IsAnswerTo s interfaces c (commands.Attach path) answer =
     IsAnswerToAttach s c path.now answer
 IsAnswerTo s interfaces c (commands.Detach hook) answer =
     IsAnswerToDetach s.offers s.took s.refuses c hook answer
 IsAnswerTo s interfaces c (commands.Add external) answer =
-    IsAnswerToAdd s.offers s.took s.refuses s.wanted c.knew external c.counted c.counts answer
+    (c.now ≡ c.before)
+    × IsAnswerToAdd s.offers s.took s.refuses s.wanted c.knew external c.counted c.counts answer
 IsAnswerTo s interfaces c (commands.Withdraw prefix) answer =
-    IsAnswerToWithdraw s.offers s.took s.refuses c.knew prefix c.counted c.counts answer
-IsAnswerTo s interfaces c commands.Table answer = AreLines (ShowsTable s.offers) answer
+    (c.now ≡ c.before)
+    × IsAnswerToWithdraw s.offers s.took s.refuses c.knew prefix c.counted c.counts answer
+IsAnswerTo s interfaces c commands.Table answer =
+    IsUnchanged c × AreLines (ShowsTable s.offers) answer
 IsAnswerTo s interfaces c commands.Neighbors answer =
-    AreLines (ShowsNeighbors (s.lists interfaces)) answer
+    IsUnchanged c × AreLines (ShowsNeighbors (s.lists interfaces)) answer
 IsAnswerTo s interfaces c commands.Counters answer =
-    AreLines (IsCountersText c.seat c.seated) answer
+    IsUnchanged c × AreLines (IsCountersText c.seat c.seated) answer
 IsAnswerTo s interfaces c commands.Quit answer = ⊥
 
--- a command that is answered; none is where the console ends
+-- a command that is answered; none is where the console ends, and then nothing changed
 abbrev pub IsCarriedOut : Sources → (interfaces : ℕ) → Change → Command → Option Told → Type 0
-IsCarriedOut s interfaces c command None = command ≡ commands.Quit
+IsCarriedOut s interfaces c command None = (command ≡ commands.Quit) × IsUnchanged c
 IsCarriedOut s interfaces c command (Some answer) = IsAnswerTo s interfaces c command answer
 
--- a line is unknown only where it is no command; else it is answered as its command is, and there
--- is no answer only where it is `quit`
+-- A line is unknown only where it is no command, and then nothing changed, nor where it is answered
+-- that memory was refused; else it is answered as its command is, and there is no answer only where
+-- it is `quit`.
 abbrev pub IsObeyed : Sources → (interfaces : ℕ) → Change → (line : List ℕ) → Option Told → Type 0
-IsObeyed s interfaces c line (Some told.Unknown) = (command : Command) → LineAsks line command → ⊥
-IsObeyed s interfaces c line (Some told.Memory) = Unit {0}
+IsObeyed s interfaces c line (Some told.Unknown) =
+    IsUnchanged c × ((command : Command) → LineAsks line command → ⊥)
+IsObeyed s interfaces c line (Some told.Memory) = IsUnchanged c
 IsObeyed s interfaces c line answer =
     (command : Command) × LineAsks line command × IsCarriedOut s interfaces c command answer

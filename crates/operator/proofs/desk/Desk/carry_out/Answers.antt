@@ -1,3 +1,4 @@
+use Rattle.std.proofs.Common.{refl}
 use Rattle.hooks.specs.Known.{known_to, operations_of}
 use Rattle.console.specs.declared.command.Command.TheVariants as commands
 use Rattle.worker.specs.Turns.{IsListed}
@@ -42,33 +43,45 @@ returns-clause-told g c =
           (λ i. change before (operations_of (w.self-is i).loader) knew
           (known_to (w.port-is i).asker) (w.self-is i).unrefreshed
           port.share.amount (w.port-is i).share.amount port.seat (w.port-is i).seat)
-          w.in-Add.is w.result-is w.add.ensures
+          w.in-Add.is w.result-is (refl, w.add.ensures)
       | in-Withdraw w ↦
           moved s n now _ command (commands.Withdraw w.in-Withdraw.prefix) answer w.withdraw.result
           (λ i. change before (operations_of (w.self-is i).loader) knew
           (known_to (w.port-is i).asker) (w.self-is i).unrefreshed
           port.share.amount (w.port-is i).share.amount port.seat (w.port-is i).seat)
-          w.in-Withdraw.is w.result-is w.withdraw.ensures
+          w.in-Withdraw.is w.result-is (refl, w.withdraw.ensures)
       | in-Table w ↦
           moved s n now _ command (commands.Table) answer w.lines.result
           (λ i. change before (operations_of (w.self-is i).loader) knew
           (known_to (w.port-is i).asker) (w.self-is i).unrefreshed
           port.share.amount (w.port-is i).share.amount port.seat (w.port-is i).seat)
-          w.in-Table.is w.result-is (made (ShowsTable g.B.Taker.offers) w.table.result
-          w.lines.result w.table.ensures w.lines.ensures)
+          w.in-Table.is w.result-is (
+            record { operations = refl; known = refl; events = refl },
+            made (ShowsTable g.B.Taker.offers) w.table.result w.lines.result w.table.ensures
+                w.lines.ensures,
+          )
       | in-Neighbors w ↦
           moved s n now _ command (commands.Neighbors) answer w.lines-in-Neighbors.result
           (λ i. change before (operations_of (w.self-is i).loader) knew
           (known_to (w.port-is i).asker) (w.self-is i).unrefreshed
           port.share.amount (w.port-is i).share.amount port.seat (w.port-is i).seat)
-          w.in-Neighbors.is w.result-is (made (ShowsNeighbors (lists n)) w.neighbors.result
-          w.lines-in-Neighbors.result w.neighbors.ensures w.lines-in-Neighbors.ensures)
+          w.in-Neighbors.is w.result-is (
+            record { operations = refl; known = refl; events = refl },
+            made (ShowsNeighbors (lists n)) w.neighbors.result w.lines-in-Neighbors.result
+                w.neighbors.ensures w.lines-in-Neighbors.ensures,
+          )
       | in-Counters w ↦
           moved s n now _ command (commands.Counters) answer w.lines-in-Counters.result
           (λ i. change before (operations_of (w.self-is i).loader) knew
           (known_to (w.port-is i).asker) (w.self-is i).unrefreshed
           port.share.amount (w.port-is i).share.amount port.seat (w.port-is i).seat)
-          w.in-Counters.is w.result-is (made (IsCountersText port.seat w.counters.new.port.seat)
-          w.counters.result w.lines-in-Counters.result w.counters.ensures.text
-          w.lines-in-Counters.ensures)
+          w.in-Counters.is w.result-is (
+            record {
+              operations = refl;
+              known = w.counters.ensures.known;
+              events = λ i. (w.counters.ensures.share i).amount;
+            },
+            made (IsCountersText port.seat w.counters.new.port.seat) w.counters.result
+                w.lines-in-Counters.result w.counters.ensures.text w.lines-in-Counters.ensures,
+          )
     ]
