@@ -1,11 +1,10 @@
 -- How a worker ended, and the program.
 use Rattle.std.proofs.Common.{◌≡◌, ℕ, ◌<◌, ◌⊎◌, inl, inr, List, Result, Ok, Err, true, false, refl}
 use Rattle.std.proofs.Common.{sym, subst, ◌∙◌, arith}
-use Rattle.std.proofs.lemmas.Bool.{ltb-false}
+use Rattle.std.proofs.lemmas.Bool.{ltb-false, ltb-true}
 use Rattle.std.specs.Prelude.{◌↔◌, ⊤, IfErr, IfOk, nat_lt}
 use Rattle.sockets.specs.Ends.{has_failed}
 use Rattle.sockets.specs.declared.socket_links.LinkEnd.{LinkEnd}
-use Rattle.worker.specs.Lives.{Reads}
 use Rattle.worker.specs.declared.serving.Ended.{Ended}
 use Rattle.worker.specs.declared.serving.Ended.TheVariants.{Fault, Quit}
 use Rattle.console.specs.Configurations.{Refuses, Says}
@@ -23,14 +22,19 @@ use Rattle.daemon.specs.declared.error.RouteError.TheVariants.{Configuration, Bi
 use Rattle.daemon.specs.declared.error.RouteError.TheVariants.{Output, Memory}
 use Rattle.daemon.specs.declared.ran.Ran.{Ran}
 
--- a worker whose link didn't fail was told to end
-pub was_told : {Flag : Type 0} (reads : Reads Flag) (now : Flag) (ended : Ended) (old new : ℕ)
-    (end : LinkEnd) → (ended ≡ Quit → (flag : Flag) × reads flag true now)
-    → ((ended ≡ Fault) ↔ (old < new)) → has_failed end ≡ nat_lt 0 new → has_failed end ≡ false
-    → (flag : Flag) × (told : Flag) × reads flag true told
-was_told reads now Quit old new end told fault is not = let t = told refl in (t.0, now, t.1)
-was_told reads now Fault old new end told fault is not =
+-- what is so of a worker that ended as it was told to is so of one whose link didn't fail
+pub until_told : {A : Type 0} (ended : Ended) (old new : ℕ) (end : LinkEnd) → (ended ≡ Quit → A)
+    → ((ended ≡ Fault) ↔ (old < new)) → has_failed end ≡ nat_lt 0 new → has_failed end ≡ false → A
+until_told Quit old new end lived fault is not = lived refl
+until_told Fault old new end lived fault is not =
     absurd (omega (arith, fault.0 refl, ltb-false 0 new (sym is ∙ not)))
+
+-- and what is so of one that ended at a fault is so of one whose link failed then
+pub until_fault : {A : Type 0} (ended : Ended) (old new : ℕ) (end : LinkEnd) → (ended ≡ Fault → A)
+    → ((ended ≡ Fault) ↔ (old < new)) → has_failed end ≡ nat_lt 0 new → has_failed end ≡ true
+    → old ≡ 0 → A
+until_fault ended old new end lived fault is failed none =
+    lived (fault.1 (omega (arith, none, ltb-true 0 new (sym is ∙ failed))))
 
 pub ends_so : (text : List ℕ) (outcome : Result Ran RouteError) (status : ℕ)
     → IfOk outcome (HasRanFor text) → IfErr outcome (IsWhy text)

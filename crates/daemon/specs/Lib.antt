@@ -1,3 +1,4 @@
+pub mod Labors
 pub mod Lines
 pub mod Refusals
 pub mod Statuses

@@ -7,10 +7,10 @@ use Rattle.worker.specs.events.declared.model.Config.{Config}
 use Rattle.console.specs.Configurations.{Says}
 use Rattle.console.specs.declared.configuration.Configured.{Configured}
 use Rattle.sockets.specs.Ends.{has_failed}
-use Rattle.sockets.specs.declared.socket_links.LinkEnd.{LinkEnd}
 use Rattle.daemon.specs.declared.error.RouteError.{RouteError}
 use Rattle.daemon.specs.declared.error.RouteError.TheVariants.{Configuration, Bind, Socket, Hooks}
 use Rattle.daemon.specs.declared.error.RouteError.TheVariants.{Output, Memory}
+use Rattle.daemon.specs.declared.labor.Worked.{Worked}
 use Rattle.daemon.specs.declared.ran.Ran.{Ran}
 use Rattle.daemon.specs.Refusals.{IsWhy}
 use Rattle.daemon.specs.Talks.{is_deaf}
@@ -26,8 +26,8 @@ status_of Memory = 4
 
 -- ---- of a router that ran
 
-abbrev pub any_failed : List LinkEnd → Bool
-any_failed ends = list_any (λ end. has_failed end) ends
+abbrev pub any_failed : List Worked → Bool
+any_failed workers = list_any (λ (worked : Worked). has_failed worked.end) workers
 
 -- 3 where the link of a worker or of the console failed, or the input couldn't be read, else 0
 abbrev pub status_of_ran : Ran → ℕ
@@ -36,8 +36,9 @@ status_of_ran ran =
 
 -- ---- which router ran
 
--- A router that began as this one ran, with so many interfaces: each had a worker, whose link has
--- ended.
+-- A router that began as this one ran, with so many interfaces: each had a worker that lived until
+-- it was told to end, or its link failed. So says that there is a `Worked` of it, which only
+-- `labor::work` makes.
 pub record HasRan (origin : Router) (interfaces : ℕ) (ran : Ran) : Type 0 where
   pub began : ran.origin.value ≡ origin
   pub workers : length ran.workers.items ≡ interfaces

@@ -4,13 +4,13 @@ ghost use Rattle.links.specs.Descending.{CountDownTo};
 ghost use Rattle.maps.specs.Words.{IsOf};
 ghost use Rattle.worker.specs.Opening.{IsSetUpFor};
 
-use crate::labor::{Workers, work};
+use crate::labor::{Worked, Workers, work};
 use crate::lines::ReadsBytes;
 use crate::pairs::next_pair;
 use crate::talk::{Console, Parted, talk};
 use log::Log;
 use operator::Desk;
-use sockets::{LinkEnd, Sockets, SystemSeconds};
+use sockets::{Sockets, SystemSeconds};
 use std::alloc::{AllocError, Global};
 use std::io::Write;
 use std::rt::Files;
@@ -45,7 +45,7 @@ pub fn side_by_side<
     links: Vec<Sockets<'_>>,
     desk: &mut Desk<L, Q, Sockets<'_>, SystemSeconds<'_, S>>,
     console: &mut Console<'_, S, I, O>,
-) -> Result<(Closed<L>, Vec<LinkEnd>, Parted), AllocError>
+) -> Result<(Closed<L>, Vec<Worked>, Parted), AllocError>
     requires setup { IsSetUpFor L.name L.parts L.words L.history setup }
     requires origin { core ≡ L.origin }
     requires links { vec_len setup.seats ≡ vec_len links + 1 }
@@ -85,7 +85,7 @@ fn in_scope<
     links: Vec<Sockets<'_>>,
     desk: &mut Desk<L, Q, Sockets<'_>, SystemSeconds<'_, S>>,
     console: &mut Console<'_, S, I, O>,
-) -> Result<(Vec<Port<L>>, Vec<LinkEnd>, Parted), AllocError>
+) -> Result<(Vec<Port<L>>, Vec<Worked>, Parted), AllocError>
     requires links { vec_len ports ≡ vec_len links + 1 }
     requires numbers { CountDownTo 0 (map (λ p. p.number) ports.items) }
     requires interfaces { CountDownTo 1 (map (λ l. l.own) links.items) }
@@ -95,7 +95,7 @@ fn in_scope<
     thread::scope(
         thread::scope_env(),
         rt,
-        |scope| -> Result<(Vec<Port<L>>, Vec<LinkEnd>, Parted), AllocError>
+        |scope| -> Result<(Vec<Port<L>>, Vec<Worked>, Parted), AllocError>
             requires links { vec_len ports ≡ vec_len links + 1 }
             requires numbers { CountDownTo 0 (map (λ p. p.number) ports.items) }
             requires interfaces { CountDownTo 1 (map (λ l. l.own) links.items) }
@@ -124,7 +124,7 @@ fn crew<
     desk: &mut Desk<L, Q, Sockets<'_>, SystemSeconds<'_, S>>,
     console: &mut Console<'_, S, I, O>,
     ports: Vec<Port<L>>,
-) -> Result<(Vec<Port<L>>, Vec<LinkEnd>, Parted), AllocError>
+) -> Result<(Vec<Port<L>>, Vec<Worked>, Parted), AllocError>
     requires links { vec_len ports ≡ vec_len links + 1 }
     requires numbers { CountDownTo 0 (map (λ p. p.number) ports.items) }
     requires interfaces { CountDownTo 1 (map (λ l. l.own) links.items) }
@@ -152,7 +152,7 @@ fn started<'s, E, L: Site + Send + Sync, R: Threads + Wait + Clock + Log + Sync>
     workers: &'s Workers<'_, R>,
     links: Vec<Sockets<'s>>,
     ports: Vec<Port<L>>,
-) -> Result<Vec<JoinHandle<(Port<L>, LinkEnd)>>, AllocError>
+) -> Result<Vec<JoinHandle<(Port<L>, Worked)>>, AllocError>
     requires { map (λ p. p.number) ports.items ≡ map (λ l. l.own) links.items }
     ensures { IfOk result (λ running. vec_len running ≡ vec_len ports) }
 {
@@ -161,9 +161,19 @@ fn started<'s, E, L: Site + Send + Sync, R: Threads + Wait + Clock + Log + Sync>
     let (clock, memory) = (workers.rt, workers.alloc);
     let quit = &workers.quit;
     while let Some((port, link)) = next_pair(&mut ports, &mut links) {
-        let life = move || -> (Port<L>, LinkEnd)
+        let life = move || -> (Port<L>, Worked)
             requires { port.number ≡ link.own }
-        { work(clock, memory, link, Signal { word: quit }, hub, port) };
+        {
+            work(
+                clock,
+                memory,
+                link,
+                SystemSeconds::new(clock),
+                Signal { word: quit },
+                hub,
+                port,
+            )
+        };
         let Ok(thread) = scope.spawn(life) else {
             workers.quit.store(true, Ordering::SeqCst);
             return Err(AllocError);
@@ -179,11 +189,11 @@ fn started<'s, E, L: Site + Send + Sync, R: Threads + Wait + Clock + Log + Sync>
 // All ports, once the threads that have them are done, and how the threads' links ended.
 fn joined<L: Site, R: Threads>(
     rt: &R,
-    running: Vec<JoinHandle<(Port<L>, LinkEnd)>>,
+    running: Vec<JoinHandle<(Port<L>, Worked)>>,
     first: Port<L>,
     back: Vec<Port<L>>,
-    ends: Vec<LinkEnd>,
-) -> Result<(Vec<Port<L>>, Vec<LinkEnd>), AllocError>
+    ends: Vec<Worked>,
+) -> Result<(Vec<Port<L>>, Vec<Worked>), AllocError>
     requires none { vec_len back ≡ 0 }
     requires unended { vec_len ends ≡ 0 }
     ensures ports { IfOk result (λ back. vec_len back.0 ≡ vec_len running + 1) }

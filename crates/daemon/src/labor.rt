@@ -1,13 +1,15 @@
 //! What the threads of the interfaces do.
 ghost use Rattle.std.specs.Prelude.{◌≡◌, false, true};
+ghost use Rattle.hooks.specs.Known.{known_to};
 ghost use Rattle.sockets.specs.Ends.{has_failed};
+ghost use Rattle.daemon.specs.Labors.{HasServed, HasServedOn, senses_at};
 
+use links::{Link, Seconds};
 use log::{Level, Log, Logged, warn};
-use sockets::{LinkEnd, Sockets, SystemSeconds};
+use sockets::{DatagramSocket, LinkEnd, Sockets, Waits};
 use std::alloc::Global;
 use std::sync::Wait;
 use std::sync::atomic::AtomicBool;
-use std::time::Clock;
 use worker::{Book, Flag, Hub, Open, Port, Site, run};
 
 /// What the workers of all interfaces have.
@@ -19,24 +21,56 @@ pub struct Workers<'a, R> {
     pub quit: AtomicBool,
 }
 
+/// A worker has lived, and its link has ended so. Only [`work`] makes one, so whoever has it had a
+/// worker live as that says.
+#[derive(Drop)]
+pub struct Worked {
+    end: LinkEnd,
+}
+
+impl Worked {
+    /// Whether its link failed.
+    pub fn has_failed(&self) -> bool
+        ensures { result ≡ has_failed self.now.end }
+    {
+        self.end.has_failed()
+    }
+}
+
 /// What a worker does with its port and the link that receives at the port's interface, on a thread
 /// of its own, until it finds the flag set that tells it to end, or its link fails. It brings the
 /// port back, and how its link ended; a warning tells that it failed.
-#[tactic(auto, using(crate::proofs::Ended::was_told))]
-pub fn work<L: Site, R: Wait + Clock + Log, F: Flag + Drop>(
+///
+/// It is proved for any sockets, any clock and any flag, which say themselves what they gave.
+pub fn work<
+    'x,
+    L: Site,
+    R: Wait + Log,
+    S: DatagramSocket,
+    E: Waits + Drop,
+    C: Seconds + Drop,
+    F: Flag + Drop,
+>(
     rt: &R,
     alloc: Global,
-    link: Sockets<'_>,
+    link: Sockets<'x, S, E>,
+    clock: C,
     quit: F,
     hub: &Hub<L, Book<L>>,
     port: Port<L>,
-) -> (Port<L>, LinkEnd)
+) -> (Port<L>, Worked)
     requires { port.number ≡ link.own }
     ensures number { result.0.number ≡ port.number }
-    ensures told { has_failed result.1 ≡ false → (flag : F) × (told : F) × F.reads flag true told }
+    ensures lived { has_failed result.1.end ≡ false → HasServed
+        (senses_at ⟦<Sockets<'x, S, E> as Link>⟧.gives
+        ⟦<Sockets<'x, S, E> as Link>⟧.hears C.shows L.origin (known_to port.asker) port.number)
+        F.reads quit link.entry clock port.share.amount result.0.share.amount }
+    ensures lived_on { has_failed result.1.end ≡ true → link.entry.faults ≡ 0 → HasServedOn
+        (senses_at ⟦<Sockets<'x, S, E> as Link>⟧.gives
+        ⟦<Sockets<'x, S, E> as Link>⟧.hears C.shows L.origin (known_to port.asker) port.number)
+        F.reads quit link.entry clock port.share.amount }
 {
-    let (mut port, mut link, mut quit) = (port, link, quit);
-    let mut clock = SystemSeconds::new(rt);
+    let (mut port, mut link, mut clock, mut quit) = (port, link, clock, quit);
     let _ended = run(
         rt,
         alloc,
@@ -52,5 +86,5 @@ pub fn work<L: Site, R: Wait + Clock + Log, F: Flag + Drop>(
         let number = port.number();
         warn!(rt; "worker {number} stopped");
     }
-    (port, end)
+    (port, Worked { end })
 }

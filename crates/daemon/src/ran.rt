@@ -2,29 +2,30 @@
 ghost use Rattle.std.specs.Prelude.{◌≡◌};
 ghost use Rattle.daemon.specs.Statuses.{any_failed, status_of_ran};
 
+use crate::labor::Worked;
 use crate::talk::Parted;
 use crate::totals::Printed;
 use sockets::LinkEnd;
 use std::snapshot::Snapshot;
 use worker::Core;
 
-/// How a router ran: as which it began (of which nothing is kept when it runs), how the link of
-/// each worker ended, and that of the console, and the conversation; and that the exact counters
-/// were printed then.
+/// How a router ran: as which it began (of which nothing is kept when it runs), that each worker
+/// lived and how its link ended, how that of the console ended, and the conversation; and that the
+/// exact counters were printed then.
 #[derive(Drop)]
 pub struct Ran {
     pub(crate) origin: Snapshot<Core>,
-    pub(crate) workers: Vec<LinkEnd>,
+    pub(crate) workers: Vec<Worked>,
     pub(crate) console: LinkEnd,
     pub(crate) parted: Parted,
     pub(crate) printed: Printed,
 }
 
-// Whether one of these links failed.
-fn is_any_failed(ends: &[LinkEnd]) -> bool
-    ensures { result ≡ any_failed ends.now }
+// Whether the link of one of these failed.
+fn is_any_failed(workers: &[Worked]) -> bool
+    ensures { result ≡ any_failed workers.now }
 {
-    ends.iter().any(|end| end.has_failed())
+    workers.iter().any(|worked| worked.has_failed())
 }
 
 impl Ran {

@@ -13,7 +13,7 @@ ghost use Rattle.daemon.specs.Talks.{is_mute};
 
 use crate::crew::side_by_side;
 use crate::error::RouteError;
-use crate::labor::Workers;
+use crate::labor::{Worked, Workers};
 use crate::lines::ReadsBytes;
 use crate::ran::Ran;
 use crate::talk::{Console, Parted};
@@ -23,7 +23,7 @@ use hooks::Loader;
 use links::Seconds;
 use log::Log;
 use operator::{Desk, Outlet};
-use sockets::{LinkEnd, SocketError, Sockets, SystemSeconds, Wire, bind_each, listening};
+use sockets::{SocketError, Sockets, SystemSeconds, Wire, bind_each, listening};
 use std::alloc::{AllocError, Global};
 use std::io::{BufRead, Write};
 use std::marker::{Brand, PhantomData};
@@ -98,7 +98,7 @@ fn run_crew<
     links: Vec<Sockets<'_>>,
     desk: &mut Desk<L, Q, Sockets<'_>, SystemSeconds<'_, R>>,
     console: &mut Console<'_, R, I, O>,
-) -> Result<(Vec<LinkEnd>, Parted, Printed), RouteError>
+) -> Result<(Vec<Worked>, Parted, Printed), RouteError>
     requires setup { IsSetUpFor L.name L.parts L.words L.history setup }
     requires origin { core ≡ L.origin }
     requires links { vec_len setup.seats ≡ vec_len links + 1 }
@@ -128,7 +128,7 @@ fn run_crew<
 // How a router ran, once the operator's things are let go.
 fn ran<L: Site, Q: Wait + Drop, C: Seconds + Drop>(
     origin: Snapshot<Core>,
-    workers: Vec<LinkEnd>,
+    workers: Vec<Worked>,
     desk: Desk<L, Q, Sockets<'_>, C>,
     parted: Parted,
     printed: Printed,

@@ -78,7 +78,7 @@ impl<'a, S, E> Sockets<'a, S, E> {
     }
 }
 
-impl<'a> Sockets<'a> {
+impl<'a, S, E: Drop> Sockets<'a, S, E> {
     /// The end of the link.
     pub fn end(self) -> LinkEnd
         ensures { has_failed result ≡ nat_lt 0 self.entry.faults }
