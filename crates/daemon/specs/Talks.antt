@@ -122,12 +122,12 @@ pub record HasTalked {Input : Type 0} (gives : Gives Input) (fails : Fails Input
 
 -- a turn for a Tick was taken, and just what it gave the router counts; or it was refused, and
 -- nothing counts
-abbrev pub IsTicked : Offers → Took → Refuses → (known : List Operation) → (counted counts : ℕ)
-    → Type 0
-IsTicked offers took refuses known counted counts =
-    IsDone offers took refuses known Tick counted counts
+abbrev pub IsTicked : Offers → Took → Refuses → (known now : List Operation)
+    → (counted counts : ℕ) → Type 0
+IsTicked offers took refuses known now counted counts =
+    IsDone offers took refuses known now Tick counted counts
     ⊎ ((counts ≡ counted)
-    × ((error : TurnError) × IsRefusedOnce offers refuses known counted Tick error))
+    × ((error : TurnError) × IsRefusedOnce offers refuses known now counted Tick error))
 
 -- the first is a Tick's turn, and then line follows line
 pub record Converses {Input : Type 0} (gives : Gives Input) (fails : Fails Input) (s : Sources)
@@ -137,7 +137,7 @@ pub record Converses {Input : Type 0} (gives : Gives Input) (fails : Fails Input
   pub events : ℕ
   pub seat : SeatView
   pub learnt : IsPrefix begun.known known
-  pub ticked : IsTicked s.offers s.took s.refuses begun.known begun.events events
+  pub ticked : IsTicked s.offers s.took s.refuses begun.known known begun.events events
   pub talked : HasTalked gives fails s interfaces
       (record begun { known = known; events = events; seat = seat }) old parting now new
 

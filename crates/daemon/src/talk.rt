@@ -75,7 +75,8 @@ fn tick<L: Site, B: Taker<L>, R: Wait, K: Link + Drop, C: Seconds + Drop>(
     port: &mut Port<L>,
     outlet: &mut Outlet<K, C>,
 )
-    ensures ticked { IsTicked B.offers B.took B.refuses (known_to port.old.asker)
+    ensures ticked { IsTicked B.offers B.took B.refuses
+        (known_to port.old.asker) (known_to port.new.asker)
         port.old.share.amount port.new.share.amount }
     ensures known { IsPrefix (known_to port.old.asker) (known_to port.new.asker) }
 {

@@ -18,23 +18,23 @@ use Rattle.operator.specs.Answers.{Wanted}
 -- ---- a refresh
 
 pub refreshed : {X : Type 0} (offers : Offers) (took : Took) (refuses : Refuses)
-    (known : List Operation) (due : Bool) (counted counts : ℕ) (outcome : Result X TurnError)
+    (known now : List Operation) (due : Bool) (counted counts : ℕ) (outcome : Result X TurnError)
     → due ≡ is_err outcome
-    → OnOk outcome (IsDone offers took refuses known work.Refresh counted counts)
-    → IfErr outcome (λ error. IsRefusedOnce offers refuses known counted work.Refresh error)
+    → OnOk outcome (IsDone offers took refuses known now work.Refresh counted counts)
+    → IfErr outcome (λ error. IsRefusedOnce offers refuses known now counted work.Refresh error)
     → OnErr outcome (counts ≡ counted)
-    → IsRefreshed offers took refuses known due counted counts
-refreshed offers took refuses known due counted counts (Ok x) is done why same =
-    subst (λ (b : Bool). IsRefreshed offers took refuses known b counted counts) (sym is) done
-refreshed offers took refuses known due counted counts (Err error) is done why same =
-    subst (λ (b : Bool). IsRefreshed offers took refuses known b counted counts) (sym is)
+    → IsRefreshed offers took refuses known now due counted counts
+refreshed offers took refuses known now due counted counts (Ok x) is done why same =
+    subst (λ (b : Bool). IsRefreshed offers took refuses known now b counted counts) (sym is) done
+refreshed offers took refuses known now due counted counts (Err error) is done why same =
+    subst (λ (b : Bool). IsRefreshed offers took refuses known now b counted counts) (sym is)
     (error, why, same)
 
 -- after a change that was told, by a port that learnt of it and whose share is as it was before
 pub followed : (offers : Offers) (took : Took) (refuses : Refuses) (now told : List Operation)
     (knew known : List Operation) (due : Bool) (counted between counts : ℕ) → told ≡ now
     → took.told told → IsPrefix told knew → IsPrefix knew known → between ≡ counted
-    → IsRefreshed offers took refuses knew due between counts
+    → IsRefreshed offers took refuses knew known due between counts
     → IsFollowed offers took refuses now known due counted counts
 followed offers took refuses now told knew known due counted between counts is tells learnt grown
     same refreshes = record {
@@ -42,25 +42,29 @@ followed offers took refuses now told knew known due counted between counts is t
       knew = knew;
       learnt = subst (λ (l : List Operation). IsPrefix l knew) is learnt;
       grown = grown;
-      refreshed = subst (λ (n : ℕ). IsRefreshed offers took refuses knew due n counts) same
+      refreshed = subst (λ (n : ℕ). IsRefreshed offers took refuses knew known due n counts) same
           refreshes;
     }
 
 -- ---- an announcement
 
 -- whether a destination is announced was asked after the turn, by a port that gave no event since
+-- and learnt nothing
 pub announced : (offers : Offers) (took : Took) (refuses : Refuses) (wanted : Wanted)
-    (knew : List Operation) (external : External) (counted between counts : ℕ) (is : Bool)
-    → counts ≡ between
-    → IsDone offers took refuses knew (work.Add external) counted between
+    (knew then known : List Operation) (external : External) (counted between counts : ℕ)
+    (is : Bool) → known ≡ then → counts ≡ between
+    → IsDone offers took refuses knew then (work.Add external) counted between
     → wanted between external.prefix is
-    → IsDone offers took refuses knew (work.Add external) counted counts
+    → IsDone offers took refuses knew known (work.Add external) counted counts
     × wanted counts external.prefix is
-announced offers took refuses wanted knew external counted between counts is same done answer = (
-  subst (λ (n : ℕ). IsDone offers took refuses knew (work.Add external) counted n) (sym same)
-      done,
-  subst (λ (n : ℕ). wanted n external.prefix is) (sym same) answer,
-)
+announced offers took refuses wanted knew then known external counted between counts is kept same
+    done answer = (
+      subst (λ (l : List Operation). IsDone offers took refuses knew l (work.Add external) counted
+          counts) (sym kept)
+          (subst (λ (n : ℕ). IsDone offers took refuses knew then (work.Add external) counted n)
+          (sym same) done),
+      subst (λ (n : ℕ). wanted n external.prefix is) (sym same) answer,
+    )
 
 -- ---- a turn
 
@@ -77,40 +81,49 @@ pub served : {Link Clock : Type 0} (senses : Senses Link Clock) (w : Work)
     (before after : Standing Link Clock) (moment : Moment) (shown : Clock) (ended : Moment)
     (outcome : Result Turned TurnError) (turned : Turned)
     → senses.shows before.clock moment shown → outcome ≡ Ok turned
-    → IsTried senses.shows (λ m. senses.refusals before.events m w) shown moment after.clock ended
-    outcome → senses.asks ended w → senses.turns ended w before.events after.events turned
+    → IsPrefix before.known after.known
+    → IsTried senses.shows (λ m. senses.refusals before.known after.known before.events m w)
+    shown moment after.clock ended outcome → senses.asks ended w
+    → senses.turns before.known after.known ended w before.events after.events turned
     → IsSent senses.gives before.link turned after.link → IsServed senses w before after
-served senses w before after moment shown ended outcome turned is_shown is tried asked turns sent = (
-  moment,
-  shown,
-  ended,
-  is_shown,
-  record {
-    outcome = Ok turned;
-    tried = subst (IsTried senses.shows (λ m. senses.refusals before.events m w) shown moment
-        after.clock ended) is tried;
-    asked = asked;
-    given = (turns, sent);
-  },
-)
+served senses w before after moment shown ended outcome turned is_shown is learnt tried asked turns
+    sent = (
+      moment,
+      shown,
+      ended,
+      is_shown,
+      record {
+        outcome = Ok turned;
+        learnt = learnt;
+        tried = subst (IsTried senses.shows
+            (λ m. senses.refusals before.known after.known before.events m w) shown moment
+            after.clock ended) is tried;
+        asked = asked;
+        given = (turns, sent);
+      },
+    )
 
 pub unserved : {Link Clock : Type 0} (senses : Senses Link Clock) (w : Work)
     (before after : Standing Link Clock) (moment : Moment) (shown : Clock) (ended : Moment)
     (outcome : Result Turned TurnError) (error : TurnError)
     → senses.shows before.clock moment shown → outcome ≡ Err error
-    → IsTried senses.shows (λ m. senses.refusals before.events m w) shown moment after.clock ended
-    outcome → senses.asks ended w → senses.refusals before.events ended w error
+    → IsPrefix before.known after.known
+    → IsTried senses.shows (λ m. senses.refusals before.known after.known before.events m w)
+    shown moment after.clock ended outcome → senses.asks ended w
+    → senses.refusals before.known after.known before.events ended w error
     → after.link ≡ before.link → after.events ≡ before.events
     → IsServed senses w before after
-unserved senses w before after moment shown ended outcome error is_shown is tried asked why link
-    events = (
+unserved senses w before after moment shown ended outcome error is_shown is learnt tried asked why
+    link events = (
       moment,
       shown,
       ended,
       is_shown,
       record {
         outcome = Err error;
-        tried = subst (IsTried senses.shows (λ m. senses.refusals before.events m w) shown moment
+        learnt = learnt;
+        tried = subst (IsTried senses.shows
+            (λ m. senses.refusals before.known after.known before.events m w) shown moment
             after.clock ended) is tried;
         asked = asked;
         given = (why, link, events);

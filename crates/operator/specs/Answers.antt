@@ -96,13 +96,13 @@ change before now knew known due counted counts seat seated = record {
   seated = seated;
 }
 
--- a turn for this work was taken, at some moment, by a port that knew these operations, and just
--- what it gave the router counts
-abbrev pub IsDone : Offers → Took → Refuses → (known : List Operation) → Work
+-- a turn for this work was taken, at some moment, by a port that knew the first of these operations
+-- before and knows the others after it, and just what it gave the router counts
+abbrev pub IsDone : Offers → Took → Refuses → (known now : List Operation) → Work
     → (counted counts : ℕ) → Type 0
-IsDone offers took refuses known w counted counts =
+IsDone offers took refuses known now w counted counts =
     (moment : Moment) × (turned : Turned)
-    × IsTurned offers took refuses known moment w counted counts turned
+    × IsTurned offers took refuses known now moment w counted counts turned
 
 -- as a worker serves one: a turn for this work was tried at a moment that the clock showed, and the
 -- link was given what it sends
@@ -113,27 +113,27 @@ IsServed {Clock = Clock} senses w before after =
     × Serves senses moment w (record before { clock = shown }) ended after
 
 -- the event of this work was refused for this, or its questions were, at some moment, to a port
--- that knew these operations and whose events until then are so many
-abbrev pub IsRefusedOnce : Offers → Refuses → (known : List Operation) → (counted : ℕ) → Work
+-- that knew and knows these operations and whose events until then are so many
+abbrev pub IsRefusedOnce : Offers → Refuses → (known now : List Operation) → (counted : ℕ) → Work
     → TurnError → Type 0
-IsRefusedOnce offers refuses known counted w error =
-    (moment : Moment) × RefusesFor offers refuses known counted moment w error
+IsRefusedOnce offers refuses known now counted w error =
+    (moment : Moment) × RefusesFor offers refuses known now counted moment w error
 
 -- a turn for this work was refused, with this number, and no event counts
-abbrev pub IsRefusal : Offers → Refuses → (known : List Operation) → Work → (counted counts : ℕ)
-    → (number : ℕ) → Type 0
-IsRefusal offers refuses known w counted counts number =
-    (error : TurnError) × IsRefusedOnce offers refuses known counted w error
+abbrev pub IsRefusal : Offers → Refuses → (known now : List Operation) → Work
+    → (counted counts : ℕ) → (number : ℕ) → Type 0
+IsRefusal offers refuses known now w counted counts number =
+    (error : TurnError) × IsRefusedOnce offers refuses known now counted w error
     × (number ≡ turn_error_number error) × (counts ≡ counted)
 
--- a refresh of the table was tried, by a port that knew these operations: it is due still where it
--- was refused, and nothing counts then
-abbrev pub IsRefreshed : Offers → Took → Refuses → (known : List Operation) → (due : Bool)
+-- a refresh of the table was tried, by a port that knew and knows these operations: it is due still
+-- where it was refused, and nothing counts then
+abbrev pub IsRefreshed : Offers → Took → Refuses → (known now : List Operation) → (due : Bool)
     → (counted counts : ℕ) → Type 0
-IsRefreshed offers took refuses known false counted counts =
-    IsDone offers took refuses known work.Refresh counted counts
-IsRefreshed offers took refuses known true counted counts =
-    (error : TurnError) × IsRefusedOnce offers refuses known counted work.Refresh error
+IsRefreshed offers took refuses known now false counted counts =
+    IsDone offers took refuses known now work.Refresh counted counts
+IsRefreshed offers took refuses known now true counted counts =
+    (error : TurnError) × IsRefusedOnce offers refuses known now counted work.Refresh error
     × (counts ≡ counted)
 
 -- where a refresh of the table is due, it was tried; else nothing was done
@@ -142,7 +142,7 @@ abbrev pub IsMadeUp : Offers → Took → Refuses → (due still : Bool)
 IsMadeUp offers took refuses false still knew known before counted seat between =
     (still ≡ false) × (known ≡ knew) × (counted ≡ before) × (between ≡ seat)
 IsMadeUp offers took refuses true still knew known before counted seat between =
-    IsRefreshed offers took refuses knew still before counted × IsPrefix knew known
+    IsRefreshed offers took refuses knew known still before counted × IsPrefix knew known
 
 -- ---- answers
 
@@ -161,7 +161,7 @@ pub record IsFollowed (offers : Offers) (took : Took) (refuses : Refuses)
   pub knew : List Operation
   pub learnt : IsPrefix now knew
   pub grown : IsPrefix knew known
-  pub refreshed : IsRefreshed offers took refuses knew due counted counts
+  pub refreshed : IsRefreshed offers took refuses knew known due counted counts
 
 -- so it is of a line's change
 abbrev pub IsFollowedUp : Offers → Took → Refuses → Change → Type 0
@@ -206,26 +206,26 @@ IsAnswerToDetach offers took refuses c hook other = ⊥
 
 -- the router took the announcement, and after that announces the destination or doesn't; or the turn
 -- was refused
-abbrev pub IsAnswerToAdd : Offers → Took → Refuses → Wanted → (knew : List Operation) → External
-    → (counted counts : ℕ) → Told → Type 0
-IsAnswerToAdd offers took refuses wanted knew external counted counts told.Originated =
-    IsDone offers took refuses knew (work.Add external) counted counts
+abbrev pub IsAnswerToAdd : Offers → Took → Refuses → Wanted → (knew known : List Operation)
+    → External → (counted counts : ℕ) → Told → Type 0
+IsAnswerToAdd offers took refuses wanted knew known external counted counts told.Originated =
+    IsDone offers took refuses knew known (work.Add external) counted counts
     × wanted counts external.prefix true
-IsAnswerToAdd offers took refuses wanted knew external counted counts told.Withheld =
-    IsDone offers took refuses knew (work.Add external) counted counts
+IsAnswerToAdd offers took refuses wanted knew known external counted counts told.Withheld =
+    IsDone offers took refuses knew known (work.Add external) counted counts
     × wanted counts external.prefix false
-IsAnswerToAdd offers took refuses wanted knew external counted counts (told.Refused number) =
-    IsRefusal offers refuses knew (work.Add external) counted counts number
-IsAnswerToAdd offers took refuses wanted knew external counted counts other = ⊥
+IsAnswerToAdd offers took refuses wanted knew known external counted counts (told.Refused number) =
+    IsRefusal offers refuses knew known (work.Add external) counted counts number
+IsAnswerToAdd offers took refuses wanted knew known external counted counts other = ⊥
 
 -- the router took the withdrawal, or the turn was refused
-abbrev pub IsAnswerToWithdraw : Offers → Took → Refuses → (knew : List Operation) → Network
+abbrev pub IsAnswerToWithdraw : Offers → Took → Refuses → (knew known : List Operation) → Network
     → (counted counts : ℕ) → Told → Type 0
-IsAnswerToWithdraw offers took refuses knew prefix counted counts told.Withdrawn =
-    IsDone offers took refuses knew (work.Withdraw prefix) counted counts
-IsAnswerToWithdraw offers took refuses knew prefix counted counts (told.Refused number) =
-    IsRefusal offers refuses knew (work.Withdraw prefix) counted counts number
-IsAnswerToWithdraw offers took refuses knew prefix counted counts other = ⊥
+IsAnswerToWithdraw offers took refuses knew known prefix counted counts told.Withdrawn =
+    IsDone offers took refuses knew known (work.Withdraw prefix) counted counts
+IsAnswerToWithdraw offers took refuses knew known prefix counted counts (told.Refused number) =
+    IsRefusal offers refuses knew known (work.Withdraw prefix) counted counts number
+IsAnswerToWithdraw offers took refuses knew known prefix counted counts other = ⊥
 
 -- lines, of this text, or memory was refused
 abbrev pub AreLines : (IsText : List ℕ → Type 0) → Told → Type 0
@@ -242,10 +242,11 @@ IsAnswerTo s interfaces c (commands.Detach hook) answer =
     IsAnswerToDetach s.offers s.took s.refuses c hook answer
 IsAnswerTo s interfaces c (commands.Add external) answer =
     (c.now ≡ c.before)
-    × IsAnswerToAdd s.offers s.took s.refuses s.wanted c.knew external c.counted c.counts answer
+    × IsAnswerToAdd s.offers s.took s.refuses s.wanted c.knew c.known external c.counted c.counts
+    answer
 IsAnswerTo s interfaces c (commands.Withdraw prefix) answer =
     (c.now ≡ c.before)
-    × IsAnswerToWithdraw s.offers s.took s.refuses c.knew prefix c.counted c.counts answer
+    × IsAnswerToWithdraw s.offers s.took s.refuses c.knew c.known prefix c.counted c.counts answer
 IsAnswerTo s interfaces c commands.Table answer =
     IsUnchanged c × AreLines (ShowsTable s.offers) answer
 IsAnswerTo s interfaces c commands.Neighbors answer =

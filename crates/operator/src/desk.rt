@@ -60,7 +60,8 @@ fn add<L: Site, B: Taker<L>, R: Wait, K: Link + Drop, C: Seconds + Drop>(
     external: External,
 ) -> Told
     ensures { IsAnswerToAdd B.offers B.took B.refuses B.wanted
-        (known_to port.old.asker) external port.old.share.amount port.new.share.amount result }
+        (known_to port.old.asker) (known_to port.new.asker) external
+        port.old.share.amount port.new.share.amount result }
 {
     let prefix = external.prefix;
     match outlet.take(rt, hub, port, &Work::Add(external)) {
@@ -84,7 +85,8 @@ fn withdraw<L: Site, B: Taker<L>, R: Wait, K: Link + Drop, C: Seconds + Drop>(
     prefix: Prefix,
 ) -> Told
     ensures { IsAnswerToWithdraw B.offers B.took B.refuses
-        (known_to port.old.asker) prefix port.old.share.amount port.new.share.amount result }
+        (known_to port.old.asker) (known_to port.new.asker) prefix
+        port.old.share.amount port.new.share.amount result }
 {
     match outlet.take(rt, hub, port, &Work::Withdraw(prefix)) {
         Ok(()) => Told::Withdrawn,
@@ -96,7 +98,8 @@ impl<L: Site, Q: Wait + Drop, K: Link + Drop, C: Seconds + Drop> Desk<L, Q, K, C
     // The table is made anew. Where that is refused, it is tried again before the next line.
     #[tactic(auto, using(crate::proofs::Done::refreshed))]
     fn refresh<B: Taker<L>, R: Wait>(&mut self, rt: &R, hub: &Hub<L, B>, port: &mut Port<L>)
-        ensures done { IsRefreshed B.offers B.took B.refuses (known_to port.old.asker)
+        ensures done { IsRefreshed B.offers B.took B.refuses
+            (known_to port.old.asker) (known_to port.new.asker)
             self.new.unrefreshed port.old.share.amount port.new.share.amount }
         ensures known { IsPrefix (known_to port.old.asker) (known_to port.new.asker) }
         ensures loader { self.new.loader ≡ self.old.loader }
@@ -105,9 +108,9 @@ impl<L: Site, Q: Wait + Drop, K: Link + Drop, C: Seconds + Drop> Desk<L, Q, K, C
         self.unrefreshed = self.outlet.take(rt, hub, port, &Work::Refresh).is_err();
     }
 
-    // After the programs were changed: the workers are told, so that no turn of theirs from before is
-    // followed by a refresh; the port learns of it, and makes the table anew by programs that are no
-    // older.
+    // After the programs were changed: the workers are told, so that no turn of theirs from before
+    // is followed by a refresh; the port learns of it, and makes the table anew by programs that are
+    // no older.
     fn follow<B: Taker<L>, R: Wait>(&mut self, rt: &R, hub: &Hub<L, B>, port: &mut Port<L>)
         ensures followed { IsFollowed B.offers B.took B.refuses
             (operations_of self.old.loader) (known_to port.new.asker) self.new.unrefreshed

@@ -2,7 +2,7 @@
 ghost use Rattle.std.specs.Prelude.{◌≡◌, ◌<◌, ◌⊎◌, ◌↔◌, IfErr, OnErr, OnOk, IsTrue};
 ghost use mathlib.Core.List.{IsPrefix};
 ghost use Rattle.hooks.specs.Known.{known_to};
-ghost use Rattle.worker.specs.Lives.{IsSent, senses_of};
+ghost use Rattle.worker.specs.Lives.{IsSent, senses_of, standing};
 ghost use Rattle.operator.specs.Answers.{IsDone, IsRefusedOnce, IsServed};
 
 use links::{Link, Seconds};
@@ -43,25 +43,19 @@ impl<K: Link + Drop, C: Seconds + Drop> Outlet<K, C> {
         work: &Work,
     ) -> Result<(), TurnError>
         ensures taken { OnOk result (IsDone B.offers B.took B.refuses
-            (known_to port.old.asker) work.now port.old.share.amount port.new.share.amount) }
+            (known_to port.old.asker) (known_to port.new.asker)
+            work.now port.old.share.amount port.new.share.amount) }
         ensures refused { IfErr result (λ error.
-            IsRefusedOnce B.offers B.refuses (known_to port.old.asker)
+            IsRefusedOnce B.offers B.refuses (known_to port.old.asker) (known_to port.new.asker)
             port.old.share.amount work.now error) }
         ensures err { OnErr result (port.new.share.amount ≡ port.old.share.amount) }
         ensures known { IsPrefix (known_to port.old.asker) (known_to port.new.asker) }
         ensures served { K.faults self.new.link ≡ K.faults self.old.link → IsServed
-            (senses_of K.gives K.hears C.shows B.offers B.took B.refuses
-            (known_to port.old.asker) port.old.number) work.now
-            (record {
-              link = self.old.link;
-              clock = self.old.clock;
-              events = port.old.share.amount;
-            })
-            (record {
-              link = self.new.link;
-              clock = self.new.clock;
-              events = port.new.share.amount;
-            }) }
+            (senses_of K.gives K.hears C.shows B.offers B.took B.refuses port.old.number) work.now
+            (standing self.old.link self.old.clock (known_to port.old.asker)
+            port.old.share.amount)
+            (standing self.new.link self.new.clock (known_to port.new.asker)
+            port.new.share.amount) }
         ensures failed { IsTrue self.new.failed
             ↔ (IsTrue self.old.failed ⊎ (K.faults self.old.link < K.faults self.new.link)) }
     {

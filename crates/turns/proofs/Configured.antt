@@ -23,7 +23,7 @@ pub configured : (offers : Offers) (known now : List Operation) (seat : SeatView
     (tag_input external moment rows) tag.word)
     → ((rows : List TableRow) → IsAnsweredByNone known now
     (price_input external moment rows) price.word)
-    → IsRedistribute offers known external moment
+    → IsRedistribute offers known now external moment
     (event.Redistribute tag price)
 configured offers known now seat external moment tag price on_tag on_price tagged priced = (
   tag,
@@ -35,18 +35,19 @@ configured offers known now seat external moment tag price on_tag on_price tagge
   refl,
 )
 
-asked_beside : (origin : Router) (known : List Operation) (moment : Moment) (external : External)
-    (candidates : List Route) (rows : List TableRow) (tag price : ExternalAnswer)
-    → IsOfferedBySome origin candidates rows
-    → AreAsked (IsOfferedBySome origin) known external moment tag price
+asked_beside : (origin : Router) (known now : List Operation) (moment : Moment)
+    (external : External) (candidates : List Route) (rows : List TableRow)
+    (tag price : ExternalAnswer) → IsOfferedBySome origin candidates rows
+    → AreAsked (IsOfferedBySome origin) known now external moment tag price
     → (candidates : List Route) × (rows : List TableRow)
     × IsOfferedBySome origin candidates rows
-    × AreBeside known external moment rows tag price
-asked_beside origin known moment external candidates rows tag price offered (inl beside) = beside
-asked_beside origin known moment external candidates rows tag price offered (inr beside) =
+    × AreBeside known now external moment rows tag price
+asked_beside origin known now moment external candidates rows tag price offered (inl beside) =
+    beside
+asked_beside origin known now moment external candidates rows tag price offered (inr beside) =
     (candidates, rows, offered, beside rows)
 
 pub beside_a_table : AnswersAreBesideATable
-beside_a_table origin candidates rows known moment external e offered (tag, price, asked, is) =
-    let b = asked_beside origin known moment external candidates rows tag price offered asked in
-    (b.0, b.1, tag, price, b.2, b.3, is)
+beside_a_table origin candidates rows known now moment external e offered (tag, price, asked, is) =
+    let b = asked_beside origin known now moment external candidates rows tag price offered asked
+    in (b.0, b.1, tag, price, b.2, b.3, is)

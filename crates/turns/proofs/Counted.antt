@@ -43,10 +43,10 @@ asks took number moment packet bytes w same is asked =
     subst (λ (x : Work). AsksFor took moment x) (sym is)
     (subst (λ (p : List ℕ). took.asked (count_input number moment p)) same asked)
 
-pub installs : (offers : Offers) (known : List Operation) (w : Work) (moment : Moment) (e : Event)
-    → IsFor offers known w moment e → w ≡ work.Refresh → IsInstalling e
-installs offers known w moment e is refresh =
-    let i = subst (λ (x : Work). IsFor offers known x moment e) refresh is in (i.2, i.5)
+pub installs : (offers : Offers) (known now : List Operation) (w : Work) (moment : Moment)
+    (e : Event) → IsFor offers known now w moment e → w ≡ work.Refresh → IsInstalling e
+installs offers known now w moment e is refresh =
+    let i = subst (λ (x : Work). IsFor offers known now x moment e) refresh is in (i.2, i.5)
 
 away_not_back : turn_error.Away ≡ turn_error.Book (book_error.Core core_error.ClockBack) → ⊥
 away_not_back same = cc

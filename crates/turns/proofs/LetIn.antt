@@ -21,13 +21,13 @@ pub all_let_in : (known now : List Operation) (seat : SeatView) (moment : Moment
     → answers ≡ map (let_in moment) asked
     → ((route : Route) (rows : List TableRow)
     → IsAnsweredByNone known now (veto_input route moment rows) 0)
-    → AreVetoes known moment rows routes answers
+    → AreVetoes known now moment rows routes answers
 all_let_in known now seat moment rows asked routes answers same are none =
-    let on : (route : Route) → IsVetoOn known moment rows (let_in moment route) =
+    let on : (route : Route) → IsVetoOn known now moment rows (let_in moment route) =
     λ route. record { asked = refl; answered = is_word (none route rows seat) } in
-    let P : List RouteAnswer → Type 0 = λ l. AreVetoes known moment rows asked l in
-    let Q : List Route → Type 0 = λ l. AreVetoes known moment rows l answers in
+    let P : List RouteAnswer → Type 0 = λ l. AreVetoes known now moment rows asked l in
+    let Q : List Route → Type 0 = λ l. AreVetoes known now moment rows l answers in
     subst Q same (subst P (sym are) (
       routes_of moment asked,
-      All-map (IsVetoOn known moment rows) (let_in moment) asked (λ k d low. on _),
+      All-map (IsVetoOn known now moment rows) (let_in moment) asked (λ k d low. on _),
     ))

@@ -1,4 +1,5 @@
--- What begins with a longer list begins with a shorter one.
+-- What begins with a longer list, and begins a shorter one, begins with a shorter one, and begins a
+-- longer one.
 use Rattle.std.proofs.Common.{◌≡◌, ◌⊎◌, inl, inr, ◌∙◌, ℕ, ◌+◌, Bool, List, Option, None, Some}
 use Rattle.std.proofs.Common.{arith, subst}
 use Rattle.std.specs.Prelude.{IfNone, IfSome, MatchOption}
@@ -23,60 +24,67 @@ use Rattle.turns.specs.declared.turned.TurnError.{TurnError}
 use Rattle.turns.specs.declared.work.Work.{Work}
 use Rattle.turns.specs.declared.work.Work.TheVariants as work
 
-module _ (known more : List Operation) (longer : IsPrefix known more) where
-  pub word_longer : (input : Given) (word : ℕ) → IsWordOn more input word
-      → IsWordOn known input word
-  word_longer input word (operations, labels, begins, answers) =
-      (operations, labels, prefix_trans known more operations longer begins, answers)
+module _ (known more now most : List Operation) (longer : IsPrefix known more)
+    (grown : IsPrefix now most) where
+  pub word_longer : (input : Given) (word : ℕ) → IsWordOn more now input word
+      → IsWordOn known most input word
+  word_longer input word (operations, labels, begins, within, answers) = (
+    operations,
+    labels,
+    prefix_trans known more operations longer begins,
+    prefix_trans operations now most within grown,
+    answers,
+  )
 
   pub tag_longer : (external : External) (moment : Moment) (rows : List TableRow)
-      (a : ExternalAnswer) → IsTagOn more external moment rows a
-      → IsTagOn known external moment rows a
+      (a : ExternalAnswer) → IsTagOn more now external moment rows a
+      → IsTagOn known most external moment rows a
   tag_longer external moment rows a h =
       record { destination = h.destination; asked = h.asked; answered = word_longer _ _ h.answered }
 
   pub price_longer : (external : External) (moment : Moment) (rows : List TableRow)
-      (a : ExternalAnswer) → IsPriceOn more external moment rows a
-      → IsPriceOn known external moment rows a
+      (a : ExternalAnswer) → IsPriceOn more now external moment rows a
+      → IsPriceOn known most external moment rows a
   price_longer external moment rows a h =
       record { destination = h.destination; asked = h.asked; answered = word_longer _ _ h.answered }
 
   pub veto_longer : (moment : Moment) (rows : List TableRow) (a : RouteAnswer)
-      → IsVetoOn more moment rows a → IsVetoOn known moment rows a
+      → IsVetoOn more now moment rows a → IsVetoOn known most moment rows a
   veto_longer moment rows a h = record { asked = h.asked; answered = word_longer _ _ h.answered }
 
   pub vetoes_longer : (moment : Moment) (rows : List TableRow) (routes : List Route)
-      (answers : List RouteAnswer) → AreVetoes more moment rows routes answers
-      → AreVetoes known moment rows routes answers
+      (answers : List RouteAnswer) → AreVetoes more now moment rows routes answers
+      → AreVetoes known most moment rows routes answers
   vetoes_longer moment rows routes answers h =
       (h.0, λ k d low. veto_longer moment rows _ (h.1 k d low))
 
   pub install_longer : (offers : Offers) (moment : Moment) (e : Event)
-      → IsInstall offers more moment e → IsInstall offers known moment e
+      → IsInstall offers more now moment e → IsInstall offers known most moment e
   install_longer offers moment e (candidates, rows, answers, offered, vetoes, is) =
       (candidates, rows, answers, offered, vetoes_longer moment rows candidates answers vetoes, is)
 
   beside_longer : (external : External) (moment : Moment) (rows : List TableRow)
-      (tag price : ExternalAnswer) → AreBeside more external moment rows tag price
-      → AreBeside known external moment rows tag price
+      (tag price : ExternalAnswer) → AreBeside more now external moment rows tag price
+      → AreBeside known most external moment rows tag price
   beside_longer external moment rows tag price h =
       (tag_longer external moment rows tag h.0, price_longer external moment rows price h.1)
 
   asked_longer : (offers : Offers) (external : External) (moment : Moment)
-      (tag price : ExternalAnswer) → AreAsked offers more external moment tag price
-      → AreAsked offers known external moment tag price
+      (tag price : ExternalAnswer) → AreAsked offers more now external moment tag price
+      → AreAsked offers known most external moment tag price
   asked_longer offers external moment tag price (inl (candidates, rows, offered, beside)) =
       inl (candidates, rows, offered, beside_longer external moment rows tag price beside)
   asked_longer offers external moment tag price (inr beside) =
       inr (λ rows. beside_longer external moment rows tag price (beside rows))
 
   pub redistribute_longer : (offers : Offers) (external : External) (moment : Moment) (e : Event)
-      → IsRedistribute offers more external moment e → IsRedistribute offers known external moment e
+      → IsRedistribute offers more now external moment e
+      → IsRedistribute offers known most external moment e
   redistribute_longer offers external moment e (tag, price, asked, is) =
       (tag, price, asked_longer offers external moment tag price asked, is)
 
   pub for_longer : (offers : Offers) (w : Work) (moment : Moment) (e : Event)
-      → IsFor offers more w moment e → IsFor offers known w moment e
+      → IsFor offers more now w moment e → IsFor offers known most w moment e
   for_longer offers (work.Datagram number bytes) moment e h = h
   for_longer offers work.Tick moment e h = h
   for_longer offers (work.Add external) moment e h = redistribute_longer offers external moment e h
@@ -86,21 +94,21 @@ module _ (known more : List Operation) (longer : IsPrefix known more) where
 
   pub takes_longer : (offers : Offers) (took : Took) (events : ℕ) (moment : Moment) (w : Work)
       (outs : List Out) (stale : Option Bool)
-      → TakesFor offers took more events moment w outs stale
-      → TakesFor offers took known events moment w outs stale
+      → TakesFor offers took more now events moment w outs stale
+      → TakesFor offers took known most events moment w outs stale
   takes_longer offers took events moment w outs stale (e, is, taken) =
       (e, for_longer offers w moment e is, taken)
 
   pub refused_longer : (offers : Offers) (refuses : Refuses) (events : ℕ) (moment : Moment)
-      (w : Work) (error : TurnError) → RefusesFor offers refuses more events moment w error
-      → RefusesFor offers refuses known events moment w error
+      (w : Work) (error : TurnError) → RefusesFor offers refuses more now events moment w error
+      → RefusesFor offers refuses known most events moment w error
   refused_longer offers refuses events moment w error (inl unasked) = inl unasked
   refused_longer offers refuses events moment w error (inr (e, why, is, refused, same)) =
       inr (e, why, for_longer offers w moment e is, refused, same)
 
   unrefreshed_longer : (offers : Offers) (refuses : Refuses) (moment : Moment) (events : ℕ)
-      → IsUnrefreshed offers refuses more moment events
-      → IsUnrefreshed offers refuses known moment events
+      → IsUnrefreshed offers refuses more now moment events
+      → IsUnrefreshed offers refuses known most moment events
   unrefreshed_longer offers refuses moment events (inl changed) = inl changed
   unrefreshed_longer offers refuses moment events (inr (error, why)) =
       inr (error, refused_longer offers refuses (events + 1) moment work.Refresh error why)
@@ -108,12 +116,12 @@ module _ (known more : List Operation) (longer : IsPrefix known more) where
   refreshed_longer : {X : Type 0} (items : X → List Out) (offers : Offers) (took : Took)
       (refuses : Refuses) (moment : Moment) (events : ℕ) (one due still two : Type 0)
       (o : Option X)
-      → MatchOption o (one × (due → IsUnrefreshed offers refuses more moment events))
+      → MatchOption o (one × (due → IsUnrefreshed offers refuses more now moment events))
       (λ x. due × still × ((left : Option Bool)
-      × TakesFor offers took more (events + 1) moment work.Refresh (items x) left) × two)
-      → MatchOption o (one × (due → IsUnrefreshed offers refuses known moment events))
+      × TakesFor offers took more now (events + 1) moment work.Refresh (items x) left) × two)
+      → MatchOption o (one × (due → IsUnrefreshed offers refuses known most moment events))
       (λ x. due × still × ((left : Option Bool)
-      × TakesFor offers took known (events + 1) moment work.Refresh (items x) left)
+      × TakesFor offers took known most (events + 1) moment work.Refresh (items x) left)
       × two)
   refreshed_longer items offers took refuses moment events one due still two None h =
       (h.0, λ is. unrefreshed_longer offers refuses moment events (h.1 is))
@@ -126,8 +134,8 @@ module _ (known more : List Operation) (longer : IsPrefix known more) where
 
   pub turned_longer : (offers : Offers) (took : Took) (refuses : Refuses) (moment : Moment)
       (w : Work) (before after : ℕ) (turned : Turned)
-      → IsTurned offers took refuses more moment w before after turned
-      → IsTurned offers took refuses known moment w before after turned
+      → IsTurned offers took refuses more now moment w before after turned
+      → IsTurned offers took refuses known most moment w before after turned
   turned_longer offers took refuses moment w before after turned h = record {
     stale = h.stale;
     outs = takes_longer offers took before moment w turned.outs.items h.stale h.outs;
@@ -139,14 +147,14 @@ module _ (known more : List Operation) (longer : IsPrefix known more) where
       (before between changes : ℕ) → between ≡ before + 1 → refuses.counted before changes
       → IsChangedSince refuses between changes
       ⊎ ((error : TurnError)
-      × RefusesFor offers refuses more between moment work.Refresh error)
-      → IsUnrefreshed offers refuses known moment before
+      × RefusesFor offers refuses more now between moment work.Refresh error)
+      → IsUnrefreshed offers refuses known most moment before
   unrefreshed_since offers refuses moment before between changes one counted (inl changed) =
       inl (changes, counted, subst (λ n. IsChangedSince refuses n changes) one changed)
   unrefreshed_since offers refuses moment before between changes one counted (inr (error, why)) =
       inr (
         error,
-        subst (λ n. RefusesFor offers refuses known n moment work.Refresh error) one
+        subst (λ n. RefusesFor offers refuses known most n moment work.Refresh error) one
             (refused_longer offers refuses between moment work.Refresh error why),
       )
 
@@ -156,15 +164,15 @@ module _ (known more : List Operation) (longer : IsPrefix known more) where
       (o : Option X) → between ≡ before + 1 → refuses.counted before changes
       → IfNone o ((after ≡ between)
       × (due → IsChangedSince refuses between changes
-      ⊎ ((error : TurnError) × RefusesFor offers refuses more between moment work.Refresh
+      ⊎ ((error : TurnError) × RefusesFor offers refuses more now between moment work.Refresh
       error))) → IfSome o (λ x. due
-      × ((left : Option Bool) × TakesFor offers took more between moment
+      × ((left : Option Bool) × TakesFor offers took more now between moment
       work.Refresh (items x) left) × (after ≡ between + 1))
       → IfSome o (λ _. refuses.counted between changes)
       → MatchOption o ((after ≡ before + 1)
-      × (due → IsUnrefreshed offers refuses known moment before))
+      × (due → IsUnrefreshed offers refuses known most moment before))
       (λ x. due × IsUnchanged refuses before × ((left : Option Bool)
-      × TakesFor offers took known (before + 1) moment work.Refresh
+      × TakesFor offers took known most (before + 1) moment work.Refresh
       (items x) left) × (after ≡ before + 2))
   follows items offers took refuses moment before between after changes due None one counted none
       some unchanged = (
@@ -178,7 +186,7 @@ module _ (known more : List Operation) (longer : IsPrefix known more) where
         (changes, counted, subst (λ n. refuses.counted n changes) one unchanged),
         (
           some.1.0,
-          subst (λ n. TakesFor offers took known n moment work.Refresh (items x) some.1.0) one
+          subst (λ n. TakesFor offers took known most n moment work.Refresh (items x) some.1.0) one
               (takes_longer offers took between moment work.Refresh (items x) some.1.0 some.1.1),
         ),
         omega (arith, some.2, one),

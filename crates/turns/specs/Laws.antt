@@ -17,9 +17,9 @@ use Rattle.turns.specs.declared.work.Work.TheVariants as work
 -- what the router sends at it, whatever programs are loaded.
 abbrev pub CountReachesNoEvent : Type 0
 CountReachesNoEvent =
-    (origin : Router) (known : List Operation) (events : ℕ) (moment : Moment)
+    (origin : Router) (known now : List Operation) (events : ℕ) (moment : Moment)
     (number : InterfaceNumber) (bytes : List ℕ) (outs : List Out) (stale : Option Bool)
-    → TakesFor (IsOfferedBySome origin) (took_from origin) known events moment
+    → TakesFor (IsOfferedBySome origin) (took_from origin) known now events moment
     (work.Datagram number bytes) outs stale
     ↔ Sends origin events moment (event.Packet number bytes) outs stale
 
@@ -28,10 +28,10 @@ CountReachesNoEvent =
 abbrev pub AnswersAreBesideATable : Type 0
 AnswersAreBesideATable =
     (origin : Router) (candidates : List Route) (rows : List TableRow)
-    (known : List Operation) (moment : Moment) (external : External) (e : Event)
+    (known now : List Operation) (moment : Moment) (external : External) (e : Event)
     → IsOfferedBySome origin candidates rows
-    → IsFor (IsOfferedBySome origin) known (work.Add external) moment e
+    → IsFor (IsOfferedBySome origin) known now (work.Add external) moment e
     → (candidates : List Route) × (rows : List TableRow)
     × (tag : ExternalAnswer) × (price : ExternalAnswer)
-    × IsOfferedBySome origin candidates rows × AreBeside known external moment rows tag price
+    × IsOfferedBySome origin candidates rows × AreBeside known now external moment rows tag price
     × (e ≡ event.Redistribute tag price)

@@ -181,36 +181,36 @@ IsListed {B = B} own at interfaces neighbors =
 -- ---- answers to questions
 
 -- the word that the programs answer to this input, after operations of the loader that begin with
--- all that were known
-abbrev pub IsWordOn : (known : List Operation) → Given → (word : ℕ) → Type 0
-IsWordOn known input word =
+-- all that the asker knew, and that begin all that it knows now
+abbrev pub IsWordOn : (known now : List Operation) → Given → (word : ℕ) → Type 0
+IsWordOn known now input word =
     (operations : List Operation) × (labels : List Label)
-    × IsPrefix known operations × Answers operations input labels word
+    × IsPrefix known operations × IsPrefix operations now × Answers operations input labels word
 
 -- the answer is on this destination, at this moment, beside these rows
-pub record IsTagOn (known : List Operation) (external : External) (moment : Moment)
+pub record IsTagOn (known now : List Operation) (external : External) (moment : Moment)
     (rows : List TableRow) (a : ExternalAnswer) : Type 0 where
   pub destination : a.external ≡ external
   pub asked : a.moment ≡ moment
-  pub answered : IsWordOn known (tag_input external moment rows) a.word
+  pub answered : IsWordOn known now (tag_input external moment rows) a.word
 
-pub record IsPriceOn (known : List Operation) (external : External) (moment : Moment)
+pub record IsPriceOn (known now : List Operation) (external : External) (moment : Moment)
     (rows : List TableRow) (a : ExternalAnswer) : Type 0 where
   pub destination : a.external ≡ external
   pub asked : a.moment ≡ moment
-  pub answered : IsWordOn known (price_input external moment rows) a.word
+  pub answered : IsWordOn known now (price_input external moment rows) a.word
 
 -- the answer is on its route, at this moment, beside these rows
-pub record IsVetoOn (known : List Operation) (moment : Moment) (rows : List TableRow)
+pub record IsVetoOn (known now : List Operation) (moment : Moment) (rows : List TableRow)
     (a : RouteAnswer) : Type 0 where
   pub asked : a.moment ≡ moment
-  pub answered : IsWordOn known (veto_input a.route moment rows) a.word
+  pub answered : IsWordOn known now (veto_input a.route moment rows) a.word
 
 -- the answers are on these routes, in their order
-abbrev pub AreVetoes : (known : List Operation) → Moment → List TableRow → List Route
+abbrev pub AreVetoes : (known now : List Operation) → Moment → List TableRow → List Route
     → List RouteAnswer → Type 0
-AreVetoes known moment rows routes answers =
-    (map (λ a. a.route) answers ≡ routes) × All (IsVetoOn known moment rows) answers
+AreVetoes known now moment rows routes answers =
+    (map (λ a. a.route) answers ≡ routes) × All (IsVetoOn known now moment rows) answers
 
 -- The datagram was counted as one of the interface: an asker's list and its seat are those after a
 -- word that the programs answer of it; or they are as before, where it got no reading.
@@ -232,8 +232,8 @@ CountsFor refuses before now old new (work.Withdraw prefix) moment = Unit {0}
 CountsFor refuses before now old new (work.Down number) moment = Unit {0}
 CountsFor refuses before now old new work.Refresh moment = Unit {0}
 
--- Where the work is a datagram, that is counted, by a port that had such a seat and knew the first of
--- these operations, and knows the last ones in the end: what it knew as it counted begins them.
+-- Where the work is a datagram, that is counted, by a port that had such a seat and knew the first
+-- of these operations, and knows the last ones in the end: what it knew as it counted begins them.
 abbrev pub HasCountedFor : Refuses → (before after : List Operation) → (old : SeatView) → Work
     → Moment → Type 0
 HasCountedFor refuses before after old w moment =
@@ -252,48 +252,51 @@ AsksFor took moment work.Refresh = Unit {0}
 -- ---- the event of a work
 
 -- it installs an answer on each candidate that was offered at once
-abbrev pub IsInstall : Offers → (known : List Operation) → Moment → Event → Type 0
-IsInstall offers known moment e =
+abbrev pub IsInstall : Offers → (known now : List Operation) → Moment → Event → Type 0
+IsInstall offers known now moment e =
     (candidates : List Route) × (rows : List TableRow) × (answers : List RouteAnswer)
-    × offers candidates rows × AreVetoes known moment rows candidates answers
+    × offers candidates rows × AreVetoes known now moment rows candidates answers
     × (e ≡ event.Install answers)
 
 -- both answers are on this destination, at this moment, beside these rows
-abbrev pub AreBeside : (known : List Operation) → External → Moment → List TableRow
+abbrev pub AreBeside : (known now : List Operation) → External → Moment → List TableRow
     → (tag : ExternalAnswer) → (price : ExternalAnswer) → Type 0
-AreBeside known external moment rows tag price =
-    IsTagOn known external moment rows tag × IsPriceOn known external moment rows price
+AreBeside known now external moment rows tag price =
+    IsTagOn known now external moment rows tag × IsPriceOn known now external moment rows price
 
 -- They are beside the rows of a table that was offered; or beside whatever rows, as they are where
 -- no program stands at `tag` and none at `price`: then no table was asked for.
-abbrev pub AreAsked : Offers → (known : List Operation) → External → Moment
+abbrev pub AreAsked : Offers → (known now : List Operation) → External → Moment
     → (tag : ExternalAnswer) → (price : ExternalAnswer) → Type 0
-AreAsked offers known external moment tag price =
+AreAsked offers known now external moment tag price =
     ((candidates : List Route) × (rows : List TableRow)
-    × offers candidates rows × AreBeside known external moment rows tag price)
-    ⊎ ((rows : List TableRow) → AreBeside known external moment rows tag price)
+    × offers candidates rows × AreBeside known now external moment rows tag price)
+    ⊎ ((rows : List TableRow) → AreBeside known now external moment rows tag price)
 
 -- it announces the destination, with the answers of the programs
-abbrev pub IsRedistribute : Offers → (known : List Operation) → External → Moment → Event → Type 0
-IsRedistribute offers known external moment e =
+abbrev pub IsRedistribute : Offers → (known now : List Operation) → External → Moment → Event
+    → Type 0
+IsRedistribute offers known now external moment e =
     (tag : ExternalAnswer) × (price : ExternalAnswer)
-    × AreAsked offers known external moment tag price × (e ≡ event.Redistribute tag price)
+    × AreAsked offers known now external moment tag price × (e ≡ event.Redistribute tag price)
 
--- the event is that of the work, with answers to its questions
-abbrev pub IsFor : Offers → (known : List Operation) → Work → Moment → Event → Type 0
-IsFor offers known (work.Datagram number bytes) moment e = e ≡ event.Packet number bytes
-IsFor offers known work.Tick moment e = e ≡ event.Tick
-IsFor offers known (work.Add external) moment e = IsRedistribute offers known external moment e
-IsFor offers known (work.Withdraw prefix) moment e = e ≡ event.Withdraw prefix
-IsFor offers known (work.Down number) moment e = e ≡ event.LinkDown number
-IsFor offers known work.Refresh moment e = IsInstall offers known moment e
+-- the event is that of the work, with answers to its questions, by a port that knew the first of
+-- these operations when it began to ask, and knows the others then
+abbrev pub IsFor : Offers → (known now : List Operation) → Work → Moment → Event → Type 0
+IsFor offers known now (work.Datagram number bytes) moment e = e ≡ event.Packet number bytes
+IsFor offers known now work.Tick moment e = e ≡ event.Tick
+IsFor offers known now (work.Add external) moment e =
+    IsRedistribute offers known now external moment e
+IsFor offers known now (work.Withdraw prefix) moment e = e ≡ event.Withdraw prefix
+IsFor offers known now (work.Down number) moment e = e ≡ event.LinkDown number
+IsFor offers known now work.Refresh moment e = IsInstall offers known now moment e
 
 -- the work's event was given at this moment, by a port whose events until then are so many, sent
 -- these, and left the router so
-abbrev pub TakesFor : Offers → Took → (known : List Operation) → (events : ℕ) → Moment → Work
+abbrev pub TakesFor : Offers → Took → (known now : List Operation) → (events : ℕ) → Moment → Work
     → List Out → (stale : Option Bool) → Type 0
-TakesFor offers took known events moment w outs stale =
-    (e : Event) × IsFor offers known w moment e × took.taken events moment e outs stale
+TakesFor offers took known now events moment w outs stale =
+    (e : Event) × IsFor offers known now w moment e × took.taken events moment e outs stale
 
 -- ---- refusals
 
@@ -334,17 +337,18 @@ IsUnaskedFor refuses work.Refresh moment error =
 
 -- the work's event was given at this moment, by a port whose events until then are so many, and
 -- refused, for this
-abbrev pub IsGivenInVain : Offers → Refuses → (known : List Operation) → (events : ℕ) → Moment
+abbrev pub IsGivenInVain : Offers → Refuses → (known now : List Operation) → (events : ℕ) → Moment
     → Work → TurnError → Type 0
-IsGivenInVain offers refuses known events moment w error =
-    (e : Event) × (why : BookError) × IsFor offers known w moment e
+IsGivenInVain offers refuses known now events moment w error =
+    (e : Event) × (why : BookError) × IsFor offers known now w moment e
     × refuses.refused events moment e why × (error ≡ turn_error.Book why)
 
 -- that is why, or one of its questions was refused before
-abbrev pub RefusesFor : Offers → Refuses → (known : List Operation) → (events : ℕ) → Moment → Work
-    → TurnError → Type 0
-RefusesFor offers refuses known events moment w error =
-    IsUnaskedFor refuses w moment error ⊎ IsGivenInVain offers refuses known events moment w error
+abbrev pub RefusesFor : Offers → Refuses → (known now : List Operation) → (events : ℕ) → Moment
+    → Work → TurnError → Type 0
+RefusesFor offers refuses known now events moment w error =
+    IsUnaskedFor refuses w moment error
+    ⊎ IsGivenInVain offers refuses known now events moment w error
 
 -- a number of changes of the programs was read, after so many events, that isn't this one
 abbrev pub IsChangedSince : Refuses → (events : ℕ) → ℕ → Type 0
@@ -353,12 +357,12 @@ IsChangedSince refuses events before = (now : ℕ) × refuses.counted events now
 -- The refresh that was due isn't taken: the programs were changed meanwhile, as the number of
 -- changes tells that was read before the event, beside the one after it; or it was refused, as any
 -- refresh is.
-abbrev pub IsUnrefreshed : Offers → Refuses → (known : List Operation) → Moment → (events : ℕ)
+abbrev pub IsUnrefreshed : Offers → Refuses → (known now : List Operation) → Moment → (events : ℕ)
     → Type 0
-IsUnrefreshed offers refuses known moment events =
+IsUnrefreshed offers refuses known now moment events =
     ((before : ℕ) × refuses.counted events before × IsChangedSince refuses (events + 1) before)
     ⊎ ((error : TurnError)
-    × RefusesFor offers refuses known (events + 1) moment work.Refresh error)
+    × RefusesFor offers refuses known now (events + 1) moment work.Refresh error)
 
 -- the number of changes that was read before the event was read after it too
 abbrev pub IsUnchanged : Refuses → (events : ℕ) → Type 0
@@ -367,18 +371,20 @@ IsUnchanged refuses events =
 
 -- ---- a turn
 
--- What comes of a turn at a port that knew these operations: the outs of the work's event, and,
+-- What comes of a turn at a port that knew the first of these operations before it and knows the
+-- others after it: the outs of the work's event, and,
 -- where a refresh followed, those of its installation. It followed where the event left the router
 -- stale and only there, unless one wasn't taken, and only where the programs weren't changed
 -- meanwhile. The events count in the port's share, which grew from one number to the other: the
 -- work's event is among those that count where the refresh is given.
-pub record IsTurned (offers : Offers) (took : Took) (refuses : Refuses) (known : List Operation)
-    (moment : Moment) (w : Work) (before after : ℕ) (turned : Turned) : Type 0 where
+pub record IsTurned (offers : Offers) (took : Took) (refuses : Refuses)
+    (known now : List Operation) (moment : Moment) (w : Work) (before after : ℕ) (turned : Turned)
+    : Type 0 where
   pub stale : Option Bool
-  pub outs : TakesFor offers took known before moment w turned.outs.items stale
+  pub outs : TakesFor offers took known now before moment w turned.outs.items stale
   pub refreshed : MatchOption turned.refreshed
       ((after ≡ before + 1)
-      × (stale ≡ Some true → IsUnrefreshed offers refuses known moment before))
+      × (stale ≡ Some true → IsUnrefreshed offers refuses known now moment before))
       (λ outs. (stale ≡ Some true) × IsUnchanged refuses before × ((left : Option Bool)
-      × TakesFor offers took known (before + 1) moment work.Refresh outs.items left)
+      × TakesFor offers took known now (before + 1) moment work.Refresh outs.items left)
       × (after ≡ before + 2))

@@ -37,7 +37,7 @@ pub fn asked<L: Site, B: Taker<L>, R: Wait>(
 ) -> Result<Event, TurnError>
     requires { IsOf L.words seat.old }
     ensures event { IfOk result (λ event.
-        IsFor B.offers (known_to asker.old) work.now moment event) }
+        IsFor B.offers (known_to asker.old) (known_to asker.new) work.now moment event) }
     ensures counted { CountsFor B.refuses (known_to asker.old) (known_to asker.new)
         seat.old seat.new work.now moment }
     ensures asked { AsksFor B.took moment work.now }
@@ -72,7 +72,8 @@ fn redistribution<L: Site, B: Taker<L>, R: Wait>(
 ) -> Result<Event, TurnError>
     requires { IsOf L.words seat.old }
     ensures event { IfOk result (λ event.
-        IsFor B.offers (known_to asker.old) (Work.Add external.now) moment event) }
+        IsFor B.offers (known_to asker.old) (known_to asker.new)
+        (Work.Add external.now) moment event) }
     ensures err { IfErr result (IsUnaskedFor B.refuses (Work.Add external.now) moment) }
     ensures seat { IsOf L.words seat.new }
     ensures history { asks_of asker.new ≡ asks_of asker.old }
@@ -96,7 +97,8 @@ fn beside_table<L: Site, B: Taker<L>, R: Wait>(
 ) -> Result<Event, TurnError>
     requires { IsOf L.words seat.old }
     ensures event { IfOk result (λ event.
-        IsFor B.offers (known_to asker.old) (Work.Add external.now) moment event) }
+        IsFor B.offers (known_to asker.old) (known_to asker.new)
+        (Work.Add external.now) moment event) }
     ensures err { IfErr result (IsUnaskedFor B.refuses (Work.Add external.now) moment) }
     ensures seat { IsOf L.words seat.new }
     ensures history { asks_of asker.new ≡ asks_of asker.old }
@@ -118,9 +120,11 @@ fn answers<L: Site, B: Taker<L>>(
 ) -> Result<(TagAnswer, PriceAnswer), TurnError>
     requires { IsOf shared.now seat.old }
     ensures tag { IfOk result (λ r.
-        IsTagOn (known_to asker.old) external.now moment offered.now.rows.items r.0) }
+        IsTagOn (known_to asker.old) (known_to asker.new) external.now moment
+        offered.now.rows.items r.0) }
     ensures price { IfOk result (λ r.
-        IsPriceOn (known_to asker.old) external.now moment offered.now.rows.items r.1) }
+        IsPriceOn (known_to asker.old) (known_to asker.new) external.now moment
+        offered.now.rows.items r.1) }
     ensures err { IfErr result (IsUnaskedFor B.refuses (Work.Add external.now) moment) }
     ensures seat { IsOf shared.now seat.new }
     ensures history { asks_of asker.new ≡ asks_of asker.old }
@@ -144,7 +148,7 @@ fn tag<L: Site, B: Taker<L>>(
 ) -> Result<TagAnswer, TurnError>
     requires { IsOf shared.now seat.old }
     ensures answer { IfOk result (λ a.
-        IsTagOn (known_to asker.old) external.now moment rows.now a) }
+        IsTagOn (known_to asker.old) (known_to asker.new) external.now moment rows.now a) }
     ensures err { IfErr result (IsUnaskedFor B.refuses (Work.Add external.now) moment) }
     ensures seat { IsOf shared.now seat.new }
     ensures history { asks_of asker.new ≡ asks_of asker.old }
@@ -166,7 +170,7 @@ fn price<L: Site, B: Taker<L>>(
 ) -> Result<PriceAnswer, TurnError>
     requires { IsOf shared.now seat.old }
     ensures answer { IfOk result (λ a.
-        IsPriceOn (known_to asker.old) external.now moment rows.now a) }
+        IsPriceOn (known_to asker.old) (known_to asker.new) external.now moment rows.now a) }
     ensures err { IfErr result (IsUnaskedFor B.refuses (Work.Add external.now) moment) }
     ensures seat { IsOf shared.now seat.new }
     ensures history { asks_of asker.new ≡ asks_of asker.old }
@@ -189,7 +193,7 @@ pub fn installation<L: Site, B: Taker<L>, R: Wait>(
 ) -> Result<Event, TurnError>
     requires { IsOf L.words seat.old }
     ensures event { IfOk result (λ event.
-        IsInstall B.offers (known_to asker.old) moment event) }
+        IsInstall B.offers (known_to asker.old) (known_to asker.new) moment event) }
     ensures err { IfErr result (IsUnaskedFor B.refuses Work.Refresh moment) }
     ensures seat { IsOf L.words seat.new }
     ensures history { asks_of asker.new ≡ asks_of asker.old }
@@ -215,7 +219,7 @@ fn vetoed<L: Site, B: Taker<L>, R: Wait>(
 ) -> Result<Event, TurnError>
     requires { IsOf L.words seat.old }
     ensures event { IfOk result (λ event.
-        IsInstall B.offers (known_to asker.old) moment event) }
+        IsInstall B.offers (known_to asker.old) (known_to asker.new) moment event) }
     ensures err { IfErr result (IsUnaskedFor B.refuses Work.Refresh moment) }
     ensures seat { IsOf L.words seat.new }
     ensures history { asks_of asker.new ≡ asks_of asker.old }
@@ -235,7 +239,7 @@ fn vetoes<L: Site, B: Taker<L>>(
     offered: &Offered,
 ) -> Result<Vec<VetoAnswer>, TurnError>
     requires { IsOf shared.now seat.old }
-    ensures answers { IfOk result (λ answers. AreVetoes (known_to asker.old)
+    ensures answers { IfOk result (λ answers. AreVetoes (known_to asker.old) (known_to asker.new)
         moment offered.now.rows.items offered.now.candidates.items answers.items) }
     ensures err { IfErr result (IsUnaskedFor B.refuses Work.Refresh moment) }
     ensures seat { IsOf shared.now seat.new }
@@ -261,7 +265,8 @@ fn veto<L: Site, B: Taker<L>>(
 ) -> Result<VetoAnswer, TurnError>
     requires { IsOf shared.now seat.old }
     ensures answer { IfOk result (λ a.
-        (a.route ≡ route.now) × IsVetoOn (known_to asker.old) moment rows.now a) }
+        (a.route ≡ route.now)
+        × IsVetoOn (known_to asker.old) (known_to asker.new) moment rows.now a) }
     ensures err { IfErr result (IsUnaskedFor B.refuses Work.Refresh moment) }
     ensures seat { IsOf shared.now seat.new }
     ensures history { asks_of asker.new ≡ asks_of asker.old }

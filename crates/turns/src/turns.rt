@@ -57,9 +57,11 @@ pub fn turn<L: Site, B: Taker<L>, G: Gate, R: Wait>(
     work: &Work,
 ) -> Result<Turned, TurnError>
     ensures turned { IfOk result (λ r. IsTurned B.offers B.took B.refuses
-        (known_to port.old.asker) moment work.now port.old.share.amount port.new.share.amount r) }
+        (known_to port.old.asker) (known_to port.new.asker)
+        moment work.now port.old.share.amount port.new.share.amount r) }
     ensures refused { IfErr result (λ error. RefusesFor B.offers B.refuses
-        (known_to port.old.asker) port.old.share.amount moment work.now error) }
+        (known_to port.old.asker) (known_to port.new.asker)
+        port.old.share.amount moment work.now error) }
     ensures counted { HasCountedFor B.refuses (known_to port.old.asker)
         (known_to port.new.asker) port.old.seat work.now moment }
     ensures asked { AsksFor B.took moment work.now }
@@ -67,8 +69,8 @@ pub fn turn<L: Site, B: Taker<L>, G: Gate, R: Wait>(
     ensures held { IfErr result (λ error.
         ((gate.new ≡ gate.old) × IsUnaskedFor B.refuses work.now moment error)
         ⊎ (G.passes gate.old port.old.number gate.new
-        × IsGivenInVain B.offers B.refuses (known_to port.old.asker) port.old.share.amount
-        moment work.now error)) }
+        × IsGivenInVain B.offers B.refuses (known_to port.old.asker) (known_to port.new.asker)
+        port.old.share.amount moment work.now error)) }
     ensures err { OnErr result (port.new.share.amount ≡ port.old.share.amount) }
     ensures clock { work.now ≡ Work.Refresh
         → result ≡ Err (TurnError.Book (BookError.Core CoreError.ClockBack))
@@ -110,11 +112,12 @@ fn follow<L: Site, B: Taker<L>, R: Wait>(
 ) -> Option<Vec<Out>>
     ensures none { IfNone result ((port.new.share.amount ≡ port.old.share.amount)
         × (stale ≡ Some true → IsChangedSince B.refuses port.old.share.amount changes
-        ⊎ ((error : TurnError) × RefusesFor B.offers B.refuses (known_to port.old.asker)
+        ⊎ ((error : TurnError) × RefusesFor B.offers B.refuses
+        (known_to port.old.asker) (known_to port.new.asker)
         port.old.share.amount moment Work.Refresh error))) }
     ensures some { IfSome result (λ outs. (stale ≡ Some true) × ((left : Option Bool)
-        × TakesFor B.offers B.took (known_to port.old.asker) port.old.share.amount moment
-        Work.Refresh outs.items left)
+        × TakesFor B.offers B.took (known_to port.old.asker) (known_to port.new.asker)
+        port.old.share.amount moment Work.Refresh outs.items left)
         × (port.new.share.amount ≡ port.old.share.amount + 1)) }
     ensures unchanged { IfSome result (λ _.
         is_counted B.refuses port.old.share.amount changes) }
@@ -139,11 +142,12 @@ fn refresh<L: Site, B: Taker<L>, R: Wait>(
     changes: u64,
 ) -> Result<Vec<Out>, TurnError>
     ensures outs { IfOk result (λ outs. (left : Option Bool) × TakesFor B.offers B.took
-        (known_to port.old.asker) port.old.share.amount moment Work.Refresh outs.items left) }
+        (known_to port.old.asker) (known_to port.new.asker)
+        port.old.share.amount moment Work.Refresh outs.items left) }
     ensures refused { IfErr result (λ error.
         IsChangedSince B.refuses port.old.share.amount changes
-        ⊎ RefusesFor B.offers B.refuses (known_to port.old.asker) port.old.share.amount moment
-        Work.Refresh error) }
+        ⊎ RefusesFor B.offers B.refuses (known_to port.old.asker) (known_to port.new.asker)
+        port.old.share.amount moment Work.Refresh error) }
     ensures unchanged { OnOk result (is_counted B.refuses port.old.share.amount changes) }
     ensures share { OnOk result (port.new.share.amount ≡ port.old.share.amount + 1) }
     ensures err { OnErr result (port.new.share.amount ≡ port.old.share.amount) }

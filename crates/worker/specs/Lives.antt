@@ -3,6 +3,7 @@
 use Rattle.std.specs.Prelude.{◌≡◌, ◌≢◌, ◌⊎◌, ℕ, zero, suc, ◌+◌, ◌≤◌, List, [], ◌∷◌, ◌++◌, length}
 use Rattle.std.specs.Prelude.{Bool, true, false, Option, Some, None, MatchOption}
 use Rattle.std.specs.Prelude.{Result, Ok, Err, MatchResult}
+use mathlib.Core.List.{IsPrefix}
 use Rattle.hooks.specs.declared.operation.Operation.{Operation}
 use Rattle.turns.specs.Turns.{AsksFor, IsTurned, Offers, Refuses, RefusesFor, Took}
 use Rattle.turns.specs.declared.turned.Turned.{Turned}
@@ -26,14 +27,15 @@ Shows Clock = (before : Clock) → (moment : ℕ) → (after : Clock) → Type 0
 abbrev pub Hears : (Link : Type 0) → Type 1
 Hears Link = (before : Link) → (heard : Option (List ℕ)) → (after : Link) → Type 0
 
--- a turn at a moment, for a work, and how many events its port had given before it and after it
+-- a turn at a moment, for a work, which operations its port knew before it and knows after it, and
+-- how many events that had given before and after
 abbrev pub Turns : Type 1
-Turns = (moment : ℕ) → Work → (before after : ℕ) → Turned → Type 0
+Turns = (known now : List Operation) → (moment : ℕ) → Work → (before after : ℕ) → Turned → Type 0
 
--- a turn at a moment, for a work, that was refused, how many events its port had given before it,
--- and why
+-- a turn at a moment, for a work, that was refused, what its port knew and knows, how many events
+-- that had given before it, and why
 abbrev pub Refusals : Type 1
-Refusals = (events : ℕ) → (moment : ℕ) → Work → TurnError → Type 0
+Refusals = (known now : List Operation) → (events : ℕ) → (moment : ℕ) → Work → TurnError → Type 0
 
 -- a turn at a moment, for a work, whose datagram the programs at `count` were asked about, where it
 -- is one
@@ -50,24 +52,34 @@ pub record Senses (Link Clock : Type 0) : Type 1 where
   pub asks : Asks
   pub number : ℕ
 
--- its link, its clock, and how many events its port has given to the router
+-- its link, its clock, which operations its port knows, and how many events that has given to the
+-- router
 pub record Standing (Link Clock : Type 0) : Type 0 where
   pub link : Link
   pub clock : Clock
+  pub known : List Operation
   pub events : ℕ
+
+abbrev pub standing : {Link Clock : Type 0} → Link → Clock → (known : List Operation) → (events : ℕ)
+    → Standing Link Clock
+standing link clock known events = record {
+  link = link;
+  clock = clock;
+  known = known;
+  events = events;
+}
 
 -- ---- a turn
 
--- what is said of a worker at the port of this number that knew these operations, with such a link
--- and such a clock
+-- what is said of a worker at the port of this number, with such a link and such a clock
 abbrev pub senses_of : {Link Clock : Type 0} → Gives Link → Hears Link → Shows Clock → Offers → Took
-    → Refuses → (known : List Operation) → (number : ℕ) → Senses Link Clock
-senses_of gives hears shows offers took refuses known number = record {
+    → Refuses → (number : ℕ) → Senses Link Clock
+senses_of gives hears shows offers took refuses number = record {
   gives = gives;
   hears = hears;
   shows = shows;
-  turns = IsTurned offers took refuses known;
-  refusals = RefusesFor offers refuses known;
+  turns = IsTurned offers took refuses;
+  refusals = RefusesFor offers refuses;
   asks = AsksFor took;
   number = number;
 }
@@ -110,18 +122,22 @@ pub record IsTried {Clock : Type 0} (shows : Shows Clock)
   pub at_last : last ≡ latest first again
   pub thrice : outcome ≡ Err clock_back → length again ≡ 3
 
--- a turn that asked what it has to ask, and the link was given what it sends; where it is refused
--- nothing is sent, and the router has no event more
+-- A turn that asked what it has to ask, and the link was given what it sends; where it is refused
+-- nothing is sent, and the router has no event more. Its answers are by operations that begin with
+-- all that the port knew before, and begin all that it knows then, which begins with the former.
 pub record Serves {Link Clock : Type 0} (senses : Senses Link Clock) (moment : ℕ) (work : Work)
     (before : Standing Link Clock) (ended : ℕ) (after : Standing Link Clock) : Type 0 where
   pub outcome : Result Turned TurnError
-  pub tried : IsTried senses.shows (λ m. senses.refusals before.events m work)
+  pub learnt : IsPrefix before.known after.known
+  pub tried : IsTried senses.shows
+      (λ m. senses.refusals before.known after.known before.events m work)
       before.clock moment after.clock ended outcome
   pub asked : senses.asks ended work
   pub given : MatchResult outcome
-      (λ turned. senses.turns ended work before.events after.events turned
+      (λ turned. senses.turns before.known after.known ended work before.events after.events
+      turned
       × IsSent senses.gives before.link turned after.link)
-      (λ error. senses.refusals before.events ended work error
+      (λ error. senses.refusals before.known after.known before.events ended work error
       × (after.link ≡ before.link) × (after.events ≡ before.events))
 
 -- ---- a round

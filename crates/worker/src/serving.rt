@@ -7,7 +7,7 @@ ghost use Rattle.turns.specs.Turns.{AsksFor, IsTurned, RefusesFor};
 ghost use Rattle.worker.specs.Refusals.{clock_back};
 ghost use Rattle.worker.specs.Sending.{IsGivenEach};
 ghost use Rattle.worker.specs.Lives.{HasLived, HasLivedOn, IsTried, IsTurnedTo, Listens, Round};
-ghost use Rattle.worker.specs.Lives.{Serves, Ticks, senses_of};
+ghost use Rattle.worker.specs.Lives.{Serves, Ticks, senses_of, standing};
 ghost use Rattle.worker.specs.declared.serving.Ended.TheVariants.{Fault, Quit};
 
 use crate::flag::Flag;
@@ -62,14 +62,14 @@ pub fn run<L: Site, B: Taker<L>, G: Gate, K: Link, S: Seconds, F: Flag, R: Wait>
     ensures told { result ≡ Quit → (flag : F) × F.reads flag true quit.new }
     ensures ended { (result ≡ Fault) ↔ (K.faults link.old < K.faults link.new) }
     ensures lived { result ≡ Quit → HasLived
-        (senses_of K.gives K.hears S.shows B.offers B.took B.refuses
-        (known_to port.old.asker) port.old.number) F.reads quit.old
-        (record { link = link.old; clock = clock.old; events = port.old.share.amount }) quit.new
-        (record { link = link.new; clock = clock.new; events = port.new.share.amount }) }
+        (senses_of K.gives K.hears S.shows B.offers B.took B.refuses port.old.number)
+        F.reads quit.old
+        (standing link.old clock.old (known_to port.old.asker) port.old.share.amount) quit.new
+        (standing link.new clock.new (known_to port.new.asker) port.new.share.amount) }
     ensures lived_on { result ≡ Fault → HasLivedOn
-        (senses_of K.gives K.hears S.shows B.offers B.took B.refuses
-        (known_to port.old.asker) port.old.number) F.reads quit.old
-        (record { link = link.old; clock = clock.old; events = port.old.share.amount }) quit.new }
+        (senses_of K.gives K.hears S.shows B.offers B.took B.refuses port.old.number)
+        F.reads quit.old
+        (standing link.old clock.old (known_to port.old.asker) port.old.share.amount) quit.new }
     ensures number { port.new.number ≡ port.old.number }
     ensures known { IsPrefix (known_to port.old.asker) (known_to port.new.asker) }
 {
@@ -111,10 +111,10 @@ fn round<L: Site, B: Taker<L>, G: Gate, K: Link, S: Seconds, R: Wait>(
     buffer: &mut [u8; 8193],
 ) -> Result<(), LinkFault>
     ensures round { OnOk result (Round
-        (senses_of K.gives K.hears S.shows B.offers B.took B.refuses
-        (known_to port.old.asker) port.old.number) ticked.old
-        (record { link = link.old; clock = clock.old; events = port.old.share.amount }) ticked.new
-        (record { link = link.new; clock = clock.new; events = port.new.share.amount })) }
+        (senses_of K.gives K.hears S.shows B.offers B.took B.refuses port.old.number)
+        ticked.old
+        (standing link.old clock.old (known_to port.old.asker) port.old.share.amount) ticked.new
+        (standing link.new clock.new (known_to port.new.asker) port.new.share.amount)) }
     ensures number { port.new.number ≡ port.old.number }
     ensures known { IsPrefix (known_to port.old.asker) (known_to port.new.asker) }
     ensures fine { OnOk result (K.faults link.new ≡ K.faults link.old) }
@@ -137,10 +137,10 @@ fn tick<L: Site, B: Taker<L>, G: Gate, K: Link, S: Seconds, R: Wait>(
     ticked: &mut Option<Second>,
 ) -> Result<(), LinkFault>
     ensures ticks { OnOk result (Ticks
-        (senses_of K.gives K.hears S.shows B.offers B.took B.refuses
-        (known_to port.old.asker) port.old.number) ticked.old
-        (record { link = link.old; clock = clock.old; events = port.old.share.amount }) ticked.new
-        (record { link = link.new; clock = clock.new; events = port.new.share.amount })) }
+        (senses_of K.gives K.hears S.shows B.offers B.took B.refuses port.old.number)
+        ticked.old
+        (standing link.old clock.old (known_to port.old.asker) port.old.share.amount) ticked.new
+        (standing link.new clock.new (known_to port.new.asker) port.new.share.amount)) }
     ensures number { port.new.number ≡ port.old.number }
     ensures known { IsPrefix (known_to port.old.asker) (known_to port.new.asker) }
     ensures fine { OnOk result (K.faults link.new ≡ K.faults link.old) }
@@ -168,10 +168,9 @@ fn listen<L: Site, B: Taker<L>, G: Gate, K: Link, S: Seconds, R: Wait>(
     buffer: &mut [u8; 8193],
 ) -> Result<(), LinkFault>
     ensures listens { OnOk result (Listens
-        (senses_of K.gives K.hears S.shows B.offers B.took B.refuses
-        (known_to port.old.asker) port.old.number)
-        (record { link = link.old; clock = clock.old; events = port.old.share.amount })
-        (record { link = link.new; clock = clock.new; events = port.new.share.amount })) }
+        (senses_of K.gives K.hears S.shows B.offers B.took B.refuses port.old.number)
+        (standing link.old clock.old (known_to port.old.asker) port.old.share.amount)
+        (standing link.new clock.new (known_to port.new.asker) port.new.share.amount)) }
     ensures number { port.new.number ≡ port.old.number }
     ensures known { IsPrefix (known_to port.old.asker) (known_to port.new.asker) }
     ensures fine { OnOk result (K.faults link.new ≡ K.faults link.old) }
@@ -195,10 +194,10 @@ fn hear<L: Site, B: Taker<L>, G: Gate, K: Link, S: Seconds, R: Wait>(
     heard: Sequence<u8>,
 ) -> Result<(), LinkFault>
     ensures turned { OnOk result (IsTurnedTo
-        (senses_of K.gives K.hears S.shows B.offers B.took B.refuses
-        (known_to port.old.asker) port.old.number) heard
-        (record { link = link.old; clock = clock.old; events = port.old.share.amount })
-        (record { link = link.new; clock = clock.new; events = port.new.share.amount })) }
+        (senses_of K.gives K.hears S.shows B.offers B.took B.refuses port.old.number)
+        heard
+        (standing link.old clock.old (known_to port.old.asker) port.old.share.amount)
+        (standing link.new clock.new (known_to port.new.asker) port.new.share.amount)) }
     ensures number { port.new.number ≡ port.old.number }
     ensures known { IsPrefix (known_to port.old.asker) (known_to port.new.asker) }
     ensures fine { OnOk result (K.faults link.new ≡ K.faults link.old) }
@@ -223,10 +222,10 @@ fn serve<L: Site, B: Taker<L>, G: Gate, K: Link, S: Seconds, R: Wait>(
     work: &Work,
 ) -> Result<(), LinkFault>
     ensures serves { OnOk result (Serves
-        (senses_of K.gives K.hears S.shows B.offers B.took B.refuses
-        (known_to port.old.asker) port.old.number) moment.old work.now
-        (record { link = link.old; clock = clock.old; events = port.old.share.amount }) moment.new
-        (record { link = link.new; clock = clock.new; events = port.new.share.amount })) }
+        (senses_of K.gives K.hears S.shows B.offers B.took B.refuses port.old.number)
+        moment.old work.now
+        (standing link.old clock.old (known_to port.old.asker) port.old.share.amount) moment.new
+        (standing link.new clock.new (known_to port.new.asker) port.new.share.amount)) }
     ensures number { port.new.number ≡ port.old.number }
     ensures known { IsPrefix (known_to port.old.asker) (known_to port.new.asker) }
     ensures fine { OnOk result (K.faults link.new ≡ K.faults link.old) }
@@ -263,13 +262,15 @@ pub fn tried<L: Site, B: Taker<L>, G: Gate, S: Seconds, R: Wait>(
     work: &Work,
 ) -> Result<Turned, TurnError>
     ensures turned { IfOk result (λ r. IsTurned B.offers B.took B.refuses
-        (known_to port.old.asker) moment.new work.now
+        (known_to port.old.asker) (known_to port.new.asker) moment.new work.now
         port.old.share.amount port.new.share.amount r) }
     ensures refused { IfErr result (λ error. RefusesFor B.offers B.refuses
-        (known_to port.old.asker) port.old.share.amount moment.new work.now error) }
+        (known_to port.old.asker) (known_to port.new.asker)
+        port.old.share.amount moment.new work.now error) }
     ensures err { OnErr result (port.new.share.amount ≡ port.old.share.amount) }
     ensures tried { IsTried S.shows
-        (λ m error. RefusesFor B.offers B.refuses (known_to port.old.asker)
+        (λ m error. RefusesFor B.offers B.refuses
+        (known_to port.old.asker) (known_to port.new.asker)
         port.old.share.amount m work.now error)
         clock.old moment.old clock.new moment.new result }
     ensures asked { AsksFor B.took moment.new work.now }

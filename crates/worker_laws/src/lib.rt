@@ -1,8 +1,7 @@
 //! What a worker's rounds come to, as laws, each carried by a function with an empty body.
 #![tactic(auto)]
 
-ghost use Rattle.std.specs.Prelude.{ℕ, List};
-ghost use Rattle.hooks.specs.declared.operation.Operation.{Operation};
+ghost use Rattle.std.specs.Prelude.{ℕ};
 ghost use Rattle.worker.specs.Lives.{senses_of};
 ghost use Rattle.worker_laws.specs.Deeds.{LivesAreDeedsInOrder};
 
@@ -16,6 +15,6 @@ use worker::{Flag, Site, Taker};
 /// was. So it is of any link, any clock, any flag and whatever takes the events.
 #[tactic(auto, using(crate::proofs::InOrder::in_order))]
 pub fn lives_are_deeds_in_order<L: Site, B: Taker<L>, K: Link, S: Seconds, F: Flag>()
-    ensures { (known : List Operation) (number : ℕ) → LivesAreDeedsInOrder
-        (senses_of K.gives K.hears S.shows B.offers B.took B.refuses known number) F.reads }
+    ensures { (number : ℕ) → LivesAreDeedsInOrder
+        (senses_of K.gives K.hears S.shows B.offers B.took B.refuses number) F.reads }
 {}

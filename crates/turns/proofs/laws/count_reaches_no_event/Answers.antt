@@ -5,7 +5,7 @@ use Rattle.turns.specs.Turns.{Sends}
 use Rattle.turns.proofs.laws.count_reaches_no_event.Goals as goal
 
 pub returns : goal.returns
-returns c origin known events moment number bytes outs stale = (
+returns c origin known now events moment number bytes outs stale = (
   λ given. subst (λ (e : Event). Sends origin events moment e outs stale) given.1 given.2,
   λ sent. (event.Packet number bytes, refl, sent),
 )

@@ -6,6 +6,7 @@ use Rattle.words.specs.declared.route.TableRow.{TableRow}
 use Rattle.hooks.specs.Known.{known_to}
 use Rattle.hooks.specs.Questions.{RouteAnswer, veto_input}
 use Rattle.hooks.specs.Vacant.{IsAnsweredByNone, let_in}
+use Rattle.hooks.proofs.Fronts.{prefix_self}
 use Rattle.book.specs.Event.TheVariants as event
 use Rattle.turns.proofs.LetIn.{all_let_in}
 use Rattle.turns.proofs.Longer.{install_longer}
@@ -38,6 +39,6 @@ returns-in-Some-clause-event g c =
 pub returns-clause-event : goal.returns-clause-event
 returns-clause-event g c =
     IfOk-weaker c.vetoed.result _ _
-    (λ e. install_longer (known_to c.args.asker.now) _ c.in_ok-all.ensures.known g.B.Taker.offers
-    c.args.moment e)
+    (λ e. install_longer (known_to c.args.asker.now) _ _ _ c.in_ok-all.ensures.known
+    (prefix_self (known_to c.vetoed.new.asker)) g.B.Taker.offers c.args.moment e)
     c.vetoed.ensures.event

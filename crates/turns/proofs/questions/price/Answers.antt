@@ -1,5 +1,11 @@
 use Rattle.turns.proofs.Away.{of_price}
+use Rattle.turns.proofs.Vetoes.{is_price}
 use Rattle.turns.proofs.questions.price.Goals as goal
+
+pub returns-in-Some-clause-answer : goal.returns-in-Some-clause-answer
+returns-in-Some-clause-answer g c =
+    is_price c.args.external.now c.args.moment c.args.rows.now c.in-Some.answer
+    c.in-Some.ensures.question c.in-Some.ensures.answered
 
 pub returns-in-None-clause-err : goal.returns-in-None-clause-err
 returns-in-None-clause-err g c = of_price g.B.Taker.refuses c.args.external.now c.args.moment

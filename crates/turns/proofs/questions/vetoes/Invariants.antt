@@ -12,6 +12,6 @@ invariant-loop-route g l = record {
   known : IsPrefix (known_to l.initial.asker) (known_to l.asker);
   room : vec_len l.offered.candidates ≤ vec_capacity l.answers;
   many : vec_len l.answers ≡ l.route-index;
-  answers : AreVetoes (known_to l.initial.asker) l.moment l.offered.rows.items
+  answers : AreVetoes (known_to l.initial.asker) (known_to l.asker) l.moment l.offered.rows.items
       (take l.route-index l.offered.candidates.items) l.answers.items;
 }

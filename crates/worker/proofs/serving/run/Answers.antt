@@ -1,76 +1,44 @@
 use Rattle.std.proofs.Common.{rules, subst}
 use Rattle.hooks.specs.Known.{known_to}
 use Rattle.hooks.proofs.Fronts.{prefix_trans}
-use Rattle.worker.specs.Lives.{Round, senses_of}
-use Rattle.worker.proofs.Living.{has_lived_on, lives_on, round_longer}
+use Rattle.worker.specs.Lives.{Round, senses_of, standing}
+use Rattle.worker.proofs.Living.{has_lived_on, lives_on}
 use Rattle.worker.proofs.serving.run.Goals as goal
 
 pub loop-preserved : goal.loop-preserved
 loop-preserved g c =
     let senses = senses_of g.K.Link.gives g.K.Link.hears g.S.Seconds.shows g.B.Taker.offers
     g.B.Taker.took g.B.Taker.refuses in
-    let round =
-    subst (λ n. Round (senses (known_to c.loop.port.asker) n) c.loop.ticked
-    (record { link = c.loop.link; clock = c.loop.clock; events = c.loop.port.share.amount })
-    c.round.new.ticked
-    (record {
-      link = c.round.new.link;
-      clock = c.round.new.clock;
-      events = c.round.new.port.share.amount;
-    }))
-    c.loop.invariant.number c.in-Ok.ensures.round in
-    let longer =
-    round_longer g.K.Link.gives g.K.Link.hears g.S.Seconds.shows g.B.Taker.offers g.B.Taker.took
-    g.B.Taker.refuses
-    (known_to c.args.port.now.asker) (known_to c.loop.port.asker) c.loop.invariant.known
-    c.args.port.now.number c.loop.ticked
-    (record { link = c.loop.link; clock = c.loop.clock; events = c.loop.port.share.amount })
-    c.round.new.ticked
-    (record {
-      link = c.round.new.link;
-      clock = c.round.new.clock;
-      events = c.round.new.port.share.amount;
-    })
-    round in
+    let now = standing c.loop.link c.loop.clock (known_to c.loop.port.asker)
+    c.loop.port.share.amount in
+    let then = standing c.round.new.link c.round.new.clock (known_to c.round.new.port.asker)
+    c.round.new.port.share.amount in
     record {
       fine = search rules;
       number = search rules;
       known = prefix_trans (known_to c.args.port.now.asker) (known_to c.loop.port.asker)
           (known_to c.round.new.port.asker)
           c.loop.invariant.known c.round.ensures.known;
-      lived = lives_on (senses (known_to c.args.port.now.asker) c.args.port.now.number)
-          g.F.Flag.reads c.args.quit.now
-          (record {
-            link = c.args.link.now;
-            clock = c.args.clock.now;
-            events = c.args.port.now.share.amount;
-          })
-          c.loop.ticked c.loop.quit
-          (record { link = c.loop.link; clock = c.loop.clock; events = c.loop.port.share.amount })
-          c.round.new.ticked c.is_set.new.self
-          (record {
-            link = c.round.new.link;
-            clock = c.round.new.clock;
-            events = c.round.new.port.share.amount;
-          })
+      lived = lives_on (senses c.args.port.now.number) g.F.Flag.reads c.args.quit.now
+          (standing c.args.link.now c.args.clock.now (known_to c.args.port.now.asker)
+          c.args.port.now.share.amount)
+          c.loop.ticked c.loop.quit now c.round.new.ticked c.is_set.new.self then
           c.loop.invariant.lived
           (subst (λ b. g.F.Flag.reads c.loop.quit b c.is_set.new.self) c.if-is_set.false
           c.is_set.ensures)
-          longer;
+          (subst (λ n. Round (senses n) c.loop.ticked now c.round.new.ticked then)
+          c.loop.invariant.number c.in-Ok.ensures.round);
     }
 
 pub returns-in_default-clause-lived_on : goal.returns-in_default-clause-lived_on
 returns-in_default-clause-lived_on g c fault =
     has_lived_on (senses_of g.K.Link.gives g.K.Link.hears g.S.Seconds.shows g.B.Taker.offers
-    g.B.Taker.took g.B.Taker.refuses (known_to c.args.port.now.asker) c.args.port.now.number)
+    g.B.Taker.took g.B.Taker.refuses c.args.port.now.number)
     g.F.Flag.reads c.args.quit.now
-    (record {
-      link = c.args.link.now;
-      clock = c.args.clock.now;
-      events = c.args.port.now.share.amount;
-    })
+    (standing c.args.link.now c.args.clock.now (known_to c.args.port.now.asker)
+    c.args.port.now.share.amount)
     c.loop.ticked c.loop.quit c.is_set.new.self
-    (record { link = c.loop.link; clock = c.loop.clock; events = c.loop.port.share.amount })
+    (standing c.loop.link c.loop.clock (known_to c.loop.port.asker) c.loop.port.share.amount)
     c.loop.invariant.lived
     (subst (λ b. g.F.Flag.reads c.loop.quit b c.is_set.new.self) c.if-is_set.false
     c.is_set.ensures)

@@ -1,7 +1,7 @@
 use Rattle.std.specs.Prelude.{◌≡◌, ℕ}
 use mathlib.Core.List.{IsPrefix}
 use Rattle.hooks.specs.Known.{known_to}
-use Rattle.worker.specs.Lives.{Lives, senses_of}
+use Rattle.worker.specs.Lives.{Lives, senses_of, standing}
 use Rattle.worker.proofs.serving.run.Given as goal
 
 abbrev pub invariant-loop : goal.invariant-loop
@@ -10,13 +10,10 @@ invariant-loop g l = record {
   number : l.port.number ≡ l.initial.port.number;
   known : IsPrefix (known_to l.initial.port.asker) (known_to l.port.asker);
   lived : (rounds : ℕ) × Lives (senses_of g.K.Link.gives g.K.Link.hears g.S.Seconds.shows
-      g.B.Taker.offers g.B.Taker.took g.B.Taker.refuses (known_to l.initial.port.asker)
-      l.initial.port.number) g.F.Flag.reads l.initial.quit
-      (record {
-        link = l.initial.link;
-        clock = l.initial.clock;
-        events = l.initial.port.share.amount;
-      })
+      g.B.Taker.offers g.B.Taker.took g.B.Taker.refuses l.initial.port.number) g.F.Flag.reads
+      l.initial.quit
+      (standing l.initial.link l.initial.clock (known_to l.initial.port.asker)
+      l.initial.port.share.amount)
       rounds l.ticked l.quit
-      (record { link = l.link; clock = l.clock; events = l.port.share.amount });
+      (standing l.link l.clock (known_to l.port.asker) l.port.share.amount);
 }

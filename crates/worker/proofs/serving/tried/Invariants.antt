@@ -11,6 +11,7 @@ invariant-loop-tries g l = record {
   number : l.port.number ≡ l.initial.port.number;
   known : IsPrefix (known_to l.initial.port.asker) (known_to l.port.asker);
   so : IsTriedSo g.S.Seconds.shows (λ m. RefusesFor g.B.Taker.offers g.B.Taker.refuses
-      (known_to l.initial.port.asker) l.initial.port.share.amount m l.initial.work)
+      (known_to l.initial.port.asker) (known_to l.port.asker) l.initial.port.share.amount m
+      l.initial.work)
       l.initial.clock l.initial.moment l.clock l.moment l._tries;
 }

@@ -1,6 +1,6 @@
 use Rattle.std.proofs.Common.{refl}
 use Rattle.hooks.specs.Known.{known_to}
-use Rattle.worker.specs.Lives.{senses_of}
+use Rattle.worker.specs.Lives.{senses_of, standing}
 use Rattle.operator.proofs.Done.{served, unserved}
 use Rattle.operator.proofs.outlet.Outlet.take.Goals as goal
 
@@ -14,37 +14,27 @@ returns-clause-taken g c = (
 pub returns-in_err-turned-clause-served : goal.returns-in_err-turned-clause-served
 returns-in_err-turned-clause-served g c fine =
     let senses = senses_of g.K.Link.gives g.K.Link.hears g.C.Seconds.shows g.B.Taker.offers
-    g.B.Taker.took g.B.Taker.refuses (known_to c.args.port.now.asker) c.args.port.now.number in
+    g.B.Taker.took g.B.Taker.refuses c.args.port.now.number in
     unserved senses c.args.work.now
-    (record {
-      link = c.args.self.now.link;
-      clock = c.args.self.now.clock;
-      events = c.args.port.now.share.amount;
-    })
-    (record {
-      link = c.args.self.now.link;
-      clock = c.tried.new.clock;
-      events = c.tried.new.port.share.amount;
-    })
+    (standing c.args.self.now.link c.args.self.now.clock (known_to c.args.port.now.asker)
+    c.args.port.now.share.amount)
+    (standing c.args.self.now.link c.tried.new.clock (known_to c.tried.new.port.asker)
+    c.tried.new.port.share.amount)
     c.second-moment.result c.second-moment.new.self c.tried.new.moment c.tried.result _
-    c.second-moment.ensures c.in_err-turned.was c.tried.ensures.tried c.tried.ensures.asked
+    c.second-moment.ensures c.in_err-turned.was c.tried.ensures.known c.tried.ensures.tried
+    c.tried.ensures.asked
     c.in_err-turned.ensures.refused refl c.in_err-turned.ensures.err
 
 pub returns-clause-served : goal.returns-clause-served
 returns-clause-served g c fine =
     let senses = senses_of g.K.Link.gives g.K.Link.hears g.C.Seconds.shows g.B.Taker.offers
-    g.B.Taker.took g.B.Taker.refuses (known_to c.args.port.now.asker) c.args.port.now.number in
+    g.B.Taker.took g.B.Taker.refuses c.args.port.now.number in
     served senses c.args.work.now
-    (record {
-      link = c.args.self.now.link;
-      clock = c.args.self.now.clock;
-      events = c.args.port.now.share.amount;
-    })
-    (record {
-      link = c.send.new.link;
-      clock = c.tried.new.clock;
-      events = c.tried.new.port.share.amount;
-    })
+    (standing c.args.self.now.link c.args.self.now.clock (known_to c.args.port.now.asker)
+    c.args.port.now.share.amount)
+    (standing c.send.new.link c.tried.new.clock (known_to c.tried.new.port.asker)
+    c.tried.new.port.share.amount)
     c.second-moment.result c.second-moment.new.self c.tried.new.moment c.tried.result
-    c.in_ok-turned.turned c.second-moment.ensures c.in_ok-turned.was c.tried.ensures.tried
+    c.in_ok-turned.turned c.second-moment.ensures c.in_ok-turned.was c.tried.ensures.known
+    c.tried.ensures.tried
     c.tried.ensures.asked c.in_ok-turned.ensures.turned (c.send.ensures.sent fine)
