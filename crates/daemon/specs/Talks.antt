@@ -50,8 +50,8 @@ IsObeyedFrom s interfaces before line answer after =
     × IsMadeUp s.offers s.took s.refuses before.due still before.known knew before.events counted
     before.seat seat
     × IsObeyed s interfaces
-    (change before.operations after.operations knew after.known after.due counted after.events seat
-    after.seat) line answer
+    (change before.operations after.operations knew after.known still after.due counted after.events
+    seat after.seat) line answer
 
 -- nothing changed but the input
 abbrev pub HasRead : {Input : Type 0} → (before after : Place Input) → Type 0

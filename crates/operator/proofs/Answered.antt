@@ -1,14 +1,15 @@
 -- Answers of lines, and an answer by another name.
 use Rattle.std.proofs.Common.{◌≡◌, ℕ, List, Option, None, Some, Result, Ok, Err, String, Global}
-use Rattle.std.proofs.Common.{sym, subst}
-use Rattle.std.specs.Prelude.{IfOk, MatchResult, string_bytes}
+use Rattle.std.proofs.Common.{inr, sym, subst}
+use Rattle.std.specs.Prelude.{IfOk, MatchResult, OnErr, string_bytes}
 use Rattle.console.specs.declared.command.Command.{Command}
 use Rattle.console.specs.declared.command.Command.TheVariants as commands
 use Rattle.console.specs.Commands.{LineAsks}
 use Rattle.operator.specs.declared.programs.AttachError.{AttachError}
-use Rattle.operator.specs.Answers.{AreLines, Change, IsAnswerTo, IsAnswerToAttach, IsCarriedOut}
-use Rattle.operator.specs.Answers.{IsObeyed, IsUnchanged, Sources}
+use Rattle.operator.specs.Answers.{AreLines, Change, IsAnswerTo, IsAnswerToAttach}
+use Rattle.operator.specs.Answers.{IsAnswerToCounters, IsCarriedOut, IsObeyed, IsUntouched, Sources}
 use Rattle.operator.specs.Reasons.{IsReason, reason_text}
+use Rattle.operator.specs.Shown.{HasReadSome, IsCountersText}
 use Rattle.operator.specs.declared.told.Told.{Told}
 use Rattle.operator.specs.declared.told.Told.TheVariants as told
 
@@ -19,6 +20,15 @@ pub made : {E : Type 0} (IsText : List ℕ → Type 0) (lines : Result (String G
     → AreLines IsText answer
 made IsText (Ok text) answer is told = subst (AreLines IsText) (sym told) is
 made IsText (Err refused) answer is told = subst (AreLines IsText) (sym told) tt
+
+-- the counters that were read, or as many of them as were when memory was refused
+pub read_out : {E : Type 0} (c : Change) (lines : Result (String Global) E) (answer : Told)
+    → IfOk lines (λ text. IsCountersText c.seat c.seated (string_bytes text))
+    → OnErr lines (HasReadSome c.seat c.seated)
+    → MatchResult lines (λ text. answer ≡ told.Lines text) (λ _. answer ≡ told.Memory)
+    → IsAnswerToCounters c answer
+read_out c (Ok text) answer is some told = subst (IsAnswerToCounters c) (sym told) is
+read_out c (Err refused) answer is some told = subst (IsAnswerToCounters c) (sym told) some
 
 -- a command and its answer, and what they changed, by other names
 pub moved : (s : Sources) (interfaces : ℕ) (c d : Change) (command same : Command)
@@ -38,7 +48,7 @@ obeyed_from s n m c d line answer same_n same is =
 
 -- the line of a reason, or want of memory for it
 pub told_why : {E : Type 0} (s : Sources) (c : Change) (path : List ℕ) (e : AttachError)
-    (lines : Result (String Global) E) (answer : Told) → IsUnchanged c
+    (lines : Result (String Global) E) (answer : Told) → IsUntouched c
     → IsReason s.holds s.unreadable path e
     → IfOk lines (λ text. string_bytes text ≡ reason_text path e)
     → MatchResult lines (λ text. answer ≡ told.Lines text) (λ _. answer ≡ told.Memory)
@@ -60,25 +70,13 @@ never_unknown s n c commands.Neighbors is = is.1
 never_unknown s n c commands.Counters is = is.1
 never_unknown s n c commands.Quit is = is
 
--- where memory was refused to a command, nothing changed
-unchanged : (s : Sources) (n : ℕ) (c : Change) (command : Command)
-    → IsAnswerTo s n c command told.Memory → IsUnchanged c
-unchanged s n c (commands.Attach path) is = is
-unchanged s n c (commands.Detach hook) is = is
-unchanged s n c (commands.Add external) is = absurd is.1
-unchanged s n c (commands.Withdraw prefix) is = absurd is.1
-unchanged s n c commands.Table is = is.0
-unchanged s n c commands.Neighbors is = is.0
-unchanged s n c commands.Counters is = is.0
-unchanged s n c commands.Quit is = absurd is
-
 -- what was carried out was obeyed
 pub obeyed : (s : Sources) (n : ℕ) (c : Change) (line : List ℕ) (command : Command)
     (answer : Option Told) → LineAsks line command → IsCarriedOut s n c command answer
     → IsObeyed s n c line answer
 obeyed s n c line command None asks is = (command, asks, is)
 obeyed s n c line command (Some told.Unknown) asks is = absurd (never_unknown s n c command is)
-obeyed s n c line command (Some told.Memory) asks is = unchanged s n c command is
+obeyed s n c line command (Some told.Memory) asks is = inr (command, asks, is)
 obeyed s n c line command (Some (told.Attached hook bound)) asks is = (command, asks, is)
 obeyed s n c line command (Some (told.Detached hook)) asks is = (command, asks, is)
 obeyed s n c line command (Some told.Originated) asks is = (command, asks, is)

@@ -1,8 +1,9 @@
 -- Counters that were read one after the other, and one more.
-use Rattle.std.proofs.Common.{◌≡◌, ℕ, suc, ◌+◌, List, [], ◌∷◌, ◌++◌, length, sym, ap, ◌∙◌, arith}
+use Rattle.std.proofs.Common.{◌≡◌, ℕ, suc, ◌+◌, ◌<◌, ◌≤◌, List, [], ◌∷◌, ◌++◌, length, refl, sym}
+use Rattle.std.proofs.Common.{ap, ◌∙◌, arith, length-append}
 use Rattle.maps.specs.Words.{SeatView, seat_after}
 use Rattle.maps.specs.declared.access.Access.TheVariants.{Read}
-use Rattle.operator.specs.Shown.{after_reads}
+use Rattle.operator.specs.Shown.{HasReadSome, after_reads}
 
 one_more : (seat : SeatView) (first : ℕ) (sums : List ℕ) (sum : ℕ)
     → after_reads seat first (sums ++ sum ∷ [])
@@ -24,3 +25,19 @@ read_more before now after sums items index sum same many grown last =
     last ∙ ap (λ s. seat_after s (Read index sum)) same
     ∙ ap (λ n. seat_after (after_reads before 0 sums) (Read n sum)) here
     ∙ sym (one_more before 0 sums sum) ∙ ap (λ l. after_reads before 0 l) (sym grown)
+
+-- they are some of the 256
+pub read_some : (before now : SeatView) (sums : List ℕ) (index : ℕ)
+    → now ≡ after_reads before 0 sums → index ≡ length sums → index ≤ 256
+    → HasReadSome before now
+read_some before now sums index same many few = (sums, omega (arith, many, few), same)
+
+-- and with one more
+pub read_one_more : (before now after : SeatView) (sums : List ℕ) (index sum : ℕ)
+    → now ≡ after_reads before 0 sums → index ≡ length sums → index < 256
+    → after ≡ seat_after now (Read index sum) → HasReadSome before after
+read_one_more before now after sums index sum same many few last = (
+  sums ++ sum ∷ [],
+  omega (arith, length-append sums (sum ∷ []), many, few),
+  read_more before now after sums (sums ++ sum ∷ []) index sum same many refl last,
+)

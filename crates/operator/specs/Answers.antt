@@ -1,5 +1,5 @@
 -- What a line of the console is answered. Each answer may be that memory was refused.
-use Rattle.std.specs.Prelude.{◌≡◌, ℕ, Bool, true, false, List, [], ◌∷◌, ◌++◌, Option, None, Some}
+use Rattle.std.specs.Prelude.{◌≡◌, ◌⊎◌, ℕ, Bool, true, false, List, [], ◌∷◌, ◌++◌, Option, None, Some}
 use Rattle.std.specs.Prelude.{string_bytes}
 use mathlib.Core.List.{IsPrefix}
 use Rattle.words.specs.Numbers.{Moment, RouterNumber}
@@ -25,7 +25,7 @@ use Rattle.console.specs.declared.command.Command.TheVariants as commands
 use Rattle.operator.specs.declared.told.Told.{Told}
 use Rattle.operator.specs.declared.told.Told.TheVariants as told
 use Rattle.operator.specs.Reasons.{Holds, IsReasonText, Unreadable}
-use Rattle.operator.specs.Shown.{IsCountersText, ShowsNeighbors, ShowsTable}
+use Rattle.operator.specs.Shown.{HasReadSome, IsCountersText, ShowsNeighbors, ShowsTable}
 
 -- ---- what answers rest on
 
@@ -69,26 +69,28 @@ sources offers took refuses wanted lists holds unreadable = record {
 }
 
 -- What a line changes: the loader's operations, those that the port knows before it and after it,
--- whether a refresh of the table is due then, how many events count in the port's share, and the
--- port's seat.
+-- whether a refresh of the table was due still and is due then, how many events count in the port's
+-- share, and the port's seat.
 pub record Change : Type 0 where
   pub before : List Operation
   pub now : List Operation
   pub knew : List Operation
   pub known : List Operation
+  pub still : Bool
   pub due : Bool
   pub counted : ℕ
   pub counts : ℕ
   pub seat : SeatView
   pub seated : SeatView
 
-abbrev pub change : (before now knew known : List Operation) → (due : Bool) → (counted counts : ℕ)
-    → (seat seated : SeatView) → Change
-change before now knew known due counted counts seat seated = record {
+abbrev pub change : (before now knew known : List Operation) → (still due : Bool)
+    → (counted counts : ℕ) → (seat seated : SeatView) → Change
+change before now knew known still due counted counts seat seated = record {
   before = before;
   now = now;
   knew = knew;
   known = known;
+  still = still;
   due = due;
   counted = counted;
   counts = counts;
@@ -144,13 +146,24 @@ IsMadeUp offers took refuses false still knew known before counted seat between 
 IsMadeUp offers took refuses true still knew known before counted seat between =
     IsRefreshed offers took refuses knew known still before counted × IsPrefix knew known
 
--- ---- answers
+-- ---- what a line leaves as it is
 
--- the loader did nothing, the port learnt nothing, and no event counts
+-- the loader did nothing, and a refresh is due just if one was
+abbrev pub LeavesPrograms : Change → Type 0
+LeavesPrograms c = (c.now ≡ c.before) × (c.due ≡ c.still)
+
+-- nor did the port learn anything, and no event counts
 pub record IsUnchanged (c : Change) : Type 0 where
-  pub operations : c.now ≡ c.before
+  pub programs : LeavesPrograms c
   pub known : c.known ≡ c.knew
   pub events : c.counts ≡ c.counted
+
+-- nor did the port's seat use the shared words
+pub record IsUntouched (c : Change) : Type 0 where
+  pub unchanged : IsUnchanged c
+  pub seat : c.seated ≡ c.seat
+
+-- ---- answers
 
 -- After the programs were changed the workers were told so. Then the port learnt of it, and a
 -- refresh of the table was tried, by programs that are no older than the change.
@@ -173,7 +186,7 @@ abbrev pub IsPublished : Offers → Took → Refuses → Change → Program → 
 IsPublished offers took refuses c program (told.Attached hook bound) =
     (c.now ≡ c.before ++ Attach program ∷ []) × IsFollowedUp offers took refuses c
     × (program.hook ≡ hook) × (program.bound ≡ bound)
-IsPublished offers took refuses c program told.Memory = IsUnchanged c
+IsPublished offers took refuses c program told.Memory = IsUntouched c
 IsPublished offers took refuses c program other = ⊥
 
 -- a program of this hook was published, the one that the file at the path holds, which is accepted
@@ -193,15 +206,15 @@ pub record IsAttached (s : Sources) (c : Change) (path : List ℕ) (hook : Hook)
 abbrev pub IsAnswerToAttach : Sources → Change → (path : List ℕ) → Told → Type 0
 IsAnswerToAttach s c path (told.Attached hook bound) = IsAttached s c path hook bound
 IsAnswerToAttach s c path (told.Lines reason) =
-    IsUnchanged c × IsReasonText s.holds s.unreadable path (string_bytes reason)
-IsAnswerToAttach s c path told.Memory = IsUnchanged c
+    IsUntouched c × IsReasonText s.holds s.unreadable path (string_bytes reason)
+IsAnswerToAttach s c path told.Memory = IsUntouched c
 IsAnswerToAttach s c path other = ⊥
 
 -- that hook has no program; or memory was refused, and nothing changed
 abbrev pub IsAnswerToDetach : Offers → Took → Refuses → Change → Hook → Told → Type 0
 IsAnswerToDetach offers took refuses c hook (told.Detached of) =
     (of ≡ hook) × (c.now ≡ c.before ++ Detach hook ∷ []) × IsFollowedUp offers took refuses c
-IsAnswerToDetach offers took refuses c hook told.Memory = IsUnchanged c
+IsAnswerToDetach offers took refuses c hook told.Memory = IsUntouched c
 IsAnswerToDetach offers took refuses c hook other = ⊥
 
 -- the router took the announcement, and after that announces the destination or doesn't; or the turn
@@ -233,39 +246,47 @@ AreLines IsText (told.Lines lines) = IsText (string_bytes lines)
 AreLines IsText told.Memory = Unit {0}
 AreLines IsText other = ⊥
 
+-- the counters' lines, as the seat read them; or memory was refused, when it had read some
+abbrev pub IsAnswerToCounters : Change → Told → Type 0
+IsAnswerToCounters c (told.Lines lines) = IsCountersText c.seat c.seated (string_bytes lines)
+IsAnswerToCounters c told.Memory = HasReadSome c.seat c.seated
+IsAnswerToCounters c other = ⊥
+
 -- What each command is answered at a router of so many interfaces. What is shown changes nothing,
--- and no announcement or withdrawal changes the programs.
+-- but for the seat that reads the counters, and no announcement or withdrawal changes the programs.
 abbrev pub IsAnswerTo : Sources → (interfaces : ℕ) → Change → Command → Told → Type 0
 IsAnswerTo s interfaces c (commands.Attach path) answer =
     IsAnswerToAttach s c path.now answer
 IsAnswerTo s interfaces c (commands.Detach hook) answer =
     IsAnswerToDetach s.offers s.took s.refuses c hook answer
 IsAnswerTo s interfaces c (commands.Add external) answer =
-    (c.now ≡ c.before)
+    LeavesPrograms c
     × IsAnswerToAdd s.offers s.took s.refuses s.wanted c.knew c.known external c.counted c.counts
     answer
 IsAnswerTo s interfaces c (commands.Withdraw prefix) answer =
-    (c.now ≡ c.before)
+    LeavesPrograms c
     × IsAnswerToWithdraw s.offers s.took s.refuses c.knew c.known prefix c.counted c.counts answer
 IsAnswerTo s interfaces c commands.Table answer =
-    IsUnchanged c × AreLines (ShowsTable s.offers) answer
+    IsUntouched c × AreLines (ShowsTable s.offers) answer
 IsAnswerTo s interfaces c commands.Neighbors answer =
-    IsUnchanged c × AreLines (ShowsNeighbors (s.lists interfaces)) answer
+    IsUntouched c × AreLines (ShowsNeighbors (s.lists interfaces)) answer
 IsAnswerTo s interfaces c commands.Counters answer =
-    IsUnchanged c × AreLines (IsCountersText c.seat c.seated) answer
+    IsUnchanged c × IsAnswerToCounters c answer
 IsAnswerTo s interfaces c commands.Quit answer = ⊥
 
 -- a command that is answered; none is where the console ends, and then nothing changed
 abbrev pub IsCarriedOut : Sources → (interfaces : ℕ) → Change → Command → Option Told → Type 0
-IsCarriedOut s interfaces c command None = (command ≡ commands.Quit) × IsUnchanged c
+IsCarriedOut s interfaces c command None = (command ≡ commands.Quit) × IsUntouched c
 IsCarriedOut s interfaces c command (Some answer) = IsAnswerTo s interfaces c command answer
 
--- A line is unknown only where it is no command, and then nothing changed, nor where it is answered
--- that memory was refused; else it is answered as its command is, and there is no answer only where
--- it is `quit`.
+-- A line is unknown only if it is no command, and then nothing changed, nor if memory was refused
+-- to read it; else it is answered as its command is, and there is no answer only if it is `quit`.
 abbrev pub IsObeyed : Sources → (interfaces : ℕ) → Change → (line : List ℕ) → Option Told → Type 0
 IsObeyed s interfaces c line (Some told.Unknown) =
-    IsUnchanged c × ((command : Command) → LineAsks line command → ⊥)
-IsObeyed s interfaces c line (Some told.Memory) = IsUnchanged c
+    IsUntouched c × ((command : Command) → LineAsks line command → ⊥)
+IsObeyed s interfaces c line (Some told.Memory) =
+    IsUntouched c
+    ⊎ ((command : Command) × LineAsks line command
+    × IsAnswerTo s interfaces c command told.Memory)
 IsObeyed s interfaces c line answer =
     (command : Command) × LineAsks line command × IsCarriedOut s interfaces c command answer

@@ -1,5 +1,5 @@
 -- What the console shows of a router.
-use Rattle.std.specs.Prelude.{◌≡◌, ℕ, suc, List, [], ◌∷◌, Option, length}
+use Rattle.std.specs.Prelude.{◌≡◌, ◌≤◌, ℕ, suc, List, [], ◌∷◌, Option, length}
 use Rattle.std.specs.List.{Contains}
 use Rattle.words.specs.Numbers.{RouterNumber}
 use Rattle.words.specs.declared.route.Route.{Route}
@@ -53,6 +53,11 @@ ShowsNeighbors IsList text =
 abbrev pub after_reads : SeatView → (first : ℕ) → (sums : List ℕ) → SeatView
 after_reads seat first [] = seat
 after_reads seat first (sum ∷ sums) = after_reads (seat_after seat (Read first sum)) (suc first) sums
+
+-- the seat has read some of the 256 counters, from number 0 on, each once, and done nothing else
+abbrev pub HasReadSome : (before after : SeatView) → Type 0
+HasReadSome before after =
+    (sums : List ℕ) × (length sums ≤ 256) × (after ≡ after_reads before 0 sums)
 
 -- the text of the 256 counters, each as the seat read it, once, in their order
 abbrev pub IsCountersText : (before after : SeatView) → List ℕ → Type 0

@@ -134,7 +134,8 @@ impl<L: Site, Q: Wait + Drop, K: Link + Drop, C: Seconds + Drop> Desk<L, Q, K, C
     ) -> Told
         ensures told { IsPublished B.offers B.took B.refuses
             (change (operations_of self.old.loader) (operations_of self.new.loader)
-            (known_to port.old.asker) (known_to port.new.asker) self.new.unrefreshed
+            (known_to port.old.asker) (known_to port.new.asker)
+            self.old.unrefreshed self.new.unrefreshed
             port.old.share.amount port.new.share.amount port.old.seat port.new.seat)
             program result }
         ensures interfaces { self.new.interfaces ≡ self.old.interfaces }
@@ -160,7 +161,8 @@ impl<L: Site, Q: Wait + Drop, K: Link + Drop, C: Seconds + Drop> Desk<L, Q, K, C
             (sources B.offers B.took B.refuses B.wanted (IsListed B.own B.neighbor_at)
             F.holds F.unreadable)
             (change (operations_of self.old.loader) (operations_of self.new.loader)
-            (known_to port.old.asker) (known_to port.new.asker) self.new.unrefreshed
+            (known_to port.old.asker) (known_to port.new.asker)
+            self.old.unrefreshed self.new.unrefreshed
             port.old.share.amount port.new.share.amount port.old.seat port.new.seat)
             path.now result }
         ensures interfaces { self.new.interfaces ≡ self.old.interfaces }
@@ -180,7 +182,8 @@ impl<L: Site, Q: Wait + Drop, K: Link + Drop, C: Seconds + Drop> Desk<L, Q, K, C
     ) -> Told
         ensures told { IsAnswerToDetach B.offers B.took B.refuses
             (change (operations_of self.old.loader) (operations_of self.new.loader)
-            (known_to port.old.asker) (known_to port.new.asker) self.new.unrefreshed
+            (known_to port.old.asker) (known_to port.new.asker)
+            self.old.unrefreshed self.new.unrefreshed
             port.old.share.amount port.new.share.amount port.old.seat port.new.seat)
             hook result }
         ensures interfaces { self.new.interfaces ≡ self.old.interfaces }
@@ -206,7 +209,8 @@ impl<L: Site, Q: Wait + Drop, K: Link + Drop, C: Seconds + Drop> Desk<L, Q, K, C
             F.holds F.unreadable)
             self.old.interfaces
             (change (operations_of self.old.loader) (operations_of self.new.loader)
-            (known_to port.old.asker) (known_to port.new.asker) self.new.unrefreshed
+            (known_to port.old.asker) (known_to port.new.asker)
+            self.old.unrefreshed self.new.unrefreshed
             port.old.share.amount port.new.share.amount port.old.seat port.new.seat)
             command.now result }
         ensures interfaces { self.new.interfaces ≡ self.old.interfaces }
@@ -251,7 +255,8 @@ impl<L: Site, Q: Wait + Drop, K: Link + Drop, C: Seconds + Drop> Desk<L, Q, K, C
             F.holds F.unreadable)
             self.old.interfaces
             (change (operations_of self.old.loader) (operations_of self.new.loader)
-            (known_to port.old.asker) (known_to port.new.asker) self.new.unrefreshed
+            (known_to port.old.asker) (known_to port.new.asker)
+            self.old.unrefreshed self.new.unrefreshed
             port.old.share.amount port.new.share.amount port.old.seat port.new.seat)
             line.now result }
         ensures interfaces { self.new.interfaces ≡ self.old.interfaces }
@@ -283,7 +288,7 @@ impl<L: Site, Q: Wait + Drop, K: Link + Drop, C: Seconds + Drop> Desk<L, Q, K, C
             F.holds F.unreadable)
             self.old.interfaces
             (change (operations_of self.old.loader) (operations_of self.new.loader)
-            knew (known_to port.new.asker) self.new.unrefreshed
+            knew (known_to port.new.asker) still self.new.unrefreshed
             counted port.new.share.amount seat port.new.seat)
             line.now result }
         ensures interfaces { self.new.interfaces ≡ self.old.interfaces }
@@ -308,7 +313,7 @@ impl<L: Site, Q: Wait + Drop, K: Link + Drop, C: Seconds + Drop> Desk<L, Q, K, C
             IsAnyFile IsAnyPath)
             self.old.interfaces
             (change (operations_of self.old.loader) (operations_of self.new.loader)
-            knew (known_to port.new.asker) self.new.unrefreshed
+            knew (known_to port.new.asker) still self.new.unrefreshed
             counted port.new.share.amount seat port.new.seat)
             line.now result }
         ensures interfaces { self.new.interfaces ≡ self.old.interfaces }

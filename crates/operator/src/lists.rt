@@ -1,10 +1,11 @@
 //! The lines of tables.
-ghost use Rattle.std.specs.Prelude.{◌≡◌, List, IfOk, MatchResult, string_bytes, vec_len};
+ghost use Rattle.std.specs.Prelude.{◌≡◌, List, IfOk, MatchResult, OnErr, string_bytes, vec_len};
 ghost use Rattle.words.specs.declared.route.Route.{Route};
 ghost use Rattle.tables.specs.Rows.{rows_of};
 ghost use Rattle.hooks.specs.Known.{known_to};
 ghost use Rattle.worker.specs.Turns.{IsListed};
-ghost use Rattle.operator.specs.Shown.{IsCountersText, IsPartOf, ShowsNeighbors, ShowsTable};
+ghost use Rattle.operator.specs.Shown.{HasReadSome, IsCountersText, IsPartOf, ShowsNeighbors};
+ghost use Rattle.operator.specs.Shown.{ShowsTable};
 ghost use Rattle.operator.specs.declared.told.Told.TheVariants as told;
 
 use crate::told::Told;
@@ -76,7 +77,7 @@ pub fn neighbors<L: Site, B: Taker<L>, R: Wait>(
     Ok(text)
 }
 
-/// The counters that the programs share.
+/// The counters that the programs share, each read once, in order.
 pub fn counters<L: Site, B: Taker<L>>(
     alloc: Global,
     hub: &Hub<L, B>,
@@ -84,6 +85,7 @@ pub fn counters<L: Site, B: Taker<L>>(
 ) -> Result<String, AllocError>
     ensures text { IfOk result (λ text.
         IsCountersText port.old.seat port.new.seat (string_bytes text)) }
+    ensures some { OnErr result (HasReadSome port.old.seat port.new.seat) }
     ensures known { known_to port.new.asker ≡ known_to port.old.asker }
     ensures share { port.new.share ≡ port.old.share }
 {

@@ -16,7 +16,10 @@ returns-in-Err-clause-told g c =
     let operations = operations_of desk.loader in
     let same =
     change operations operations (known_to port.asker) (known_to port.asker) desk.unrefreshed
-    port.share.amount port.share.amount port.seat port.seat in
+    desk.unrefreshed port.share.amount port.share.amount port.seat port.seat in
     told_why s same c.args.path.now c.in-Err.error c.reason.result c.lines.result
-    (record { operations = refl; known = refl; events = refl })
+    (record {
+      unchanged = record { programs = (refl, refl); known = refl; events = refl };
+      seat = refl;
+    })
     c.in-Err.ensures.err c.reason.ensures c.lines.ensures

@@ -12,22 +12,23 @@ returns-clause-told g c =
     g.F.ReadsFiles.holds g.F.ReadsFiles.unreadable in
     let between = c.make_up.new.port in
     let after = c.answer.new.port in
+    let still = c.make_up.new.self.unrefreshed in
     let desk = c.answer.new.self in (
-      c.make_up.new.self.unrefreshed,
+      still,
       known_to between.asker,
       between.share.amount,
       between.seat,
       c.make_up.ensures.made_up,
       obeyed_from s c.args.self.now.interfaces c.make_up.new.self.interfaces
           (change (operations_of c.args.self.now.loader) (operations_of desk.loader)
-          (known_to between.asker) (known_to after.asker) desk.unrefreshed
+          (known_to between.asker) (known_to after.asker) still desk.unrefreshed
           between.share.amount after.share.amount between.seat after.seat)
           (change (operations_of c.make_up.new.self.loader) (operations_of desk.loader)
-          (known_to between.asker) (known_to after.asker) desk.unrefreshed
+          (known_to between.asker) (known_to after.asker) still desk.unrefreshed
           between.share.amount after.share.amount between.seat after.seat)
           c.args.line.now c.answer.result c.make_up.ensures.interfaces
           (λ i. change (operations_of (c.make_up.ensures.loader i)) (operations_of desk.loader)
-          (known_to between.asker) (known_to after.asker) desk.unrefreshed
+          (known_to between.asker) (known_to after.asker) still desk.unrefreshed
           between.share.amount after.share.amount between.seat after.seat)
           c.answer.ensures.told,
     )
