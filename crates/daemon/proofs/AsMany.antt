@@ -1,6 +1,6 @@
 -- As many sockets as interfaces, and which router ran over them.
-use Rattle.std.proofs.Common.{◌≡◌, ℕ, List, [], ◌∷◌, ◌+◌, length, vec_len, refl, subst, ap, ◌∙◌}
-use Rattle.std.proofs.Common.{arith}
+use Rattle.std.proofs.Common.{◌≡◌, ℕ, List, [], ◌∷◌, ◌+◌, length, vec_len, refl, sym, subst, ap}
+use Rattle.std.proofs.Common.{◌∙◌, arith}
 use Rattle.console.specs.declared.configuration.Configured.{Configured}
 use Rattle.console.specs.declared.configuration.ConfiguredInterface.{ConfiguredInterface}
 use Rattle.console.specs.Configurations.{Says}
@@ -20,6 +20,13 @@ as_many bound [] (w ∷ wires) h = absurd h
 as_many bound (c ∷ interfaces) [] h = absurd h
 as_many bound (c ∷ interfaces) (w ∷ wires) h = let rest = as_many bound interfaces wires h.1 in
     omega (arith, rest)
+
+-- bound sockets, and interfaces, by other names
+pub bound_still : {Socket : Type 0} (bound : Bound Socket) (interfaces same : List ConfiguredInterface)
+    (wires given : List (Wire Socket)) → interfaces ≡ same → given ≡ wires
+    → AreBound bound interfaces wires → AreBound bound same given
+bound_still bound interfaces same wires given is handed h =
+    subst (λ l. AreBound bound same l) (sym handed) (subst (λ l. AreBound bound l wires) is h)
 
 pub ran_as : (origin : Router) (interfaces seats many : ℕ) (ran : Ran) (taken core : Router)
     → ran.origin.value ≡ taken → taken ≡ core → core ≡ origin → vec_len ran.workers ≡ many

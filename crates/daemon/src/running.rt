@@ -1,9 +1,10 @@
 //! A router from its configuration to its end.
-ghost use Rattle.std.specs.Prelude.{◌≡◌, ◌⊎◌, ◌≤◌, ◌+◌, IfErr, IfOk, false, length, map, nat_lt};
-ghost use Rattle.std.specs.Prelude.{vec_len};
+ghost use Rattle.std.specs.Prelude.{◌≡◌, ◌⊎◌, ◌≤◌, ◌+◌, All, IfErr, IfOk, false, length, map};
+ghost use Rattle.std.specs.Prelude.{nat_lt, vec_len, ⊤};
 ghost use Rattle.links.specs.Descending.{CountDownTo};
 ghost use Rattle.hooks.specs.Known.{history_of};
 ghost use Rattle.sockets.specs.Ends.{has_failed};
+ghost use Rattle.sockets.specs.Wires.{AreBound};
 ghost use Rattle.worker.specs.events.Events.{initial};
 ghost use Rattle.worker.specs.Opening.{IsSetUpFor};
 ghost use Rattle.daemon.specs.Refusals.{IsLaterWhy, IsWhy};
@@ -258,6 +259,30 @@ pub fn operate<
     Ok(ran)
 }
 
+// Runs it over links that are all at the same sockets, one for each, and of which no call has failed.
+fn operate_at_same<
+    'x,
+    R: Threads + Wait + Clock + Log + Files + AllocGlobal + Sync + Drop,
+    I: BufRead,
+    O: Write,
+>(
+    rt: &'x R,
+    config: &Config,
+    links: Vec<Sockets<'x>>,
+    own: Sockets<'x>,
+    input: &'x mut I,
+    output: &'x mut O,
+) -> Result<Ran, RouteError>
+    requires interfaces { CountDownTo 1 (map (λ l. l.own) links.items) }
+    requires each { vec_len links ≡ length own.wires.now }
+    requires links { All (λ l. (l.wires.now ≡ own.wires.now) × (l.faults ≡ 0)) links.items }
+    requires fine { own.faults ≡ 0 }
+    ensures ran { IfOk result (HasRan (initial config.now) (vec_len links.entry)) }
+    ensures refused { IfErr result IsLaterWhy }
+{
+    operate(rt, config, links, own, input, output)
+}
+
 // The links of the workers at these sockets, whose ports were had.
 fn links_of<'x, R: Net>(
     rt: &R,
@@ -266,6 +291,8 @@ fn links_of<'x, R: Net>(
 ) -> Result<Vec<Sockets<'x>>, RouteError>
     ensures each { IfOk result (λ links. vec_len links ≡ length wires.now) }
     ensures interfaces { IfOk result (λ links. CountDownTo 1 (map (λ l. l.own) links.items)) }
+    ensures wires { IfOk result (λ links.
+        All (λ l. (l.wires.now ≡ wires.now) × (l.faults ≡ 0)) links.items) }
     ensures refused { IfErr result IsLaterWhy }
 {
     match listening(rt, alloc, wires) {
@@ -275,7 +302,7 @@ fn links_of<'x, R: Net>(
     }
 }
 
-// Runs the router of a configuration over the sockets of its interfaces.
+// Runs the router of a configuration over the sockets of its interfaces, in their order.
 #[tactic(auto, using(crate::proofs::AsMany::ran_over))]
 fn run_over<
     R: Net + Threads + Wait + Clock + Log + Files + AllocGlobal + Sync + Drop,
@@ -288,6 +315,7 @@ fn run_over<
     input: &mut I,
     output: &mut O,
 ) -> Result<Ran, RouteError>
+    requires { AreBound (λ _ _. ⊤) configured.now.interfaces wires.now }
     ensures ran { IfOk result (HasRanOver (length wires.now) configured.now) }
     ensures refused { IfErr result IsLaterWhy }
 {
@@ -295,7 +323,7 @@ fn run_over<
     let config = config_of(rt.alloc(), &mut clock, configured)?;
     let links = links_of(rt, rt.alloc(), wires)?;
     let own = Sockets::of_console(wires);
-    let ran = operate(rt, &config, links, own, input, output)?;
+    let ran = operate_at_same(rt, &config, links, own, input, output)?;
     Ok(ran)
 }
 

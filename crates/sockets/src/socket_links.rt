@@ -57,7 +57,8 @@ impl<'a, S, E> Sockets<'a, S, E> {
         wires: &'a [Wire<S>],
         interface: u16,
     ) -> Result<Sockets<'a, S, E>, SocketError>
-        ensures own { IfOk result (λ link. (link.own ≡ interface) × (link.wires.now ≡ wires.now)) }
+        ensures own { IfOk result (λ link. link.own ≡ interface) }
+        ensures wires { IfOk result (λ link. (link.wires.now ≡ wires.now) × (link.faults ≡ 0)) }
         ensures ear { IfOk result (λ link. IsListening P.listens wires.now interface link.ear) }
     {
         let Some(wire) = wire_at(wires, interface) else {
@@ -110,8 +111,8 @@ impl<'a, S> Sockets<'a, S> {
     }
 }
 
-/// The links of the workers, that of the first interface last. Each waits at its own interface's
-/// socket.
+/// The links of the workers, that of the first interface last. Each sends at these sockets and
+/// receives at its own interface's, at which it waits; no call of it has failed.
 ///
 /// # Errors
 ///
@@ -124,6 +125,8 @@ pub fn listening_with<'x, S, E: Drop, P: ListensAt<S, E>>(
 ) -> Result<Vec<Sockets<'x, S, E>>, SocketError>
     ensures each { IfOk result (λ links. vec_len links ≡ length wires.now) }
     ensures interfaces { IfOk result (λ links. CountDownTo 1 (map (λ l. l.own) links.items)) }
+    ensures wires { IfOk result (λ links.
+        All (λ l. (l.wires.now ≡ wires.now) × (l.faults ≡ 0)) links.items) }
     ensures ears { IfOk result (λ links.
         All (λ l. IsListening P.listens wires.now l.own l.ear) links.items) }
 {
@@ -150,6 +153,8 @@ pub fn listening<'x, R: Net>(
 ) -> Result<Vec<Sockets<'x>>, SocketError>
     ensures each { IfOk result (λ links. vec_len links ≡ length wires.now) }
     ensures interfaces { IfOk result (λ links. CountDownTo 1 (map (λ l. l.own) links.items)) }
+    ensures wires { IfOk result (λ links.
+        All (λ l. (l.wires.now ≡ wires.now) × (l.faults ≡ 0)) links.items) }
 {
     listening_with(&SystemPoller { rt }, alloc, wires)
 }

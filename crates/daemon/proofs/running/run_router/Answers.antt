@@ -1,4 +1,4 @@
-use Rattle.daemon.proofs.AsMany.{ran_for}
+use Rattle.daemon.proofs.AsMany.{bound_still, ran_for}
 use Rattle.daemon.proofs.running.run_router.Goals as goal
 
 pub returns-clause-ran : goal.returns-clause-ran
@@ -7,3 +7,9 @@ returns-clause-ran g c =
     c.in_ok-wires.wires.items c.deref.result.now c.in_ok-ran.ran
     c.in_ok-configured.ensures.said c.as_slice.ensures c.in_ok-wires.ensures.bound
     c.deref.ensures.value c.in_ok-ran.ensures.ran
+
+pub run_over-requires : goal.run_over-requires
+run_over-requires g c =
+    bound_still _ c.as_slice.result.now c.in_ok-configured.configured.interfaces
+    c.in_ok-wires.wires.items c.deref.result.now c.as_slice.ensures c.deref.ensures.value
+    c.in_ok-wires.ensures.bound

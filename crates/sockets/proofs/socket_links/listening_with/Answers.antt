@@ -16,13 +16,18 @@ loop-before-preserved g c =
     let listens = g.P.ListensAt.listens in
     let there : IsListening listens c.args.wires.now c.in_ok-link.link.own c.in_ok-link.link.ear =
     subst (λ n. IsListening listens c.args.wires.now n c.in_ok-link.link.ear)
-    (sym c.in_ok-link.ensures.own.0) c.in_ok-link.ensures.ear in
+    (sym c.in_ok-link.ensures.own) c.in_ok-link.ensures.ear in
     record {
       each = search rules;
       interfaces = subst (λ n. CountDownTo n (map (λ link. link.own) c.push.new.self.items))
           (sym next)
           (subst (λ items. CountDownTo interface (map (λ link. link.own) items))
           (sym c.in_ok-push.ensures.items) more);
+      wires = subst (λ items. All (λ link. (link.wires.now ≡ c.args.wires.now)
+          × (link.faults ≡ 0)) items) (sym c.in_ok-push.ensures.items)
+          (All-push (λ link. (link.wires.now ≡ c.args.wires.now) × (link.faults ≡ 0))
+          c.loop-before.links.items c.in_ok-link.link
+          c.loop-before.invariant.wires c.in_ok-link.ensures.wires);
       ears = subst (λ items. All (λ link. IsListening listens c.args.wires.now link.own link.ear)
           items) (sym c.in_ok-push.ensures.items)
           (All-push (λ link. IsListening listens c.args.wires.now link.own link.ear)
