@@ -4,9 +4,9 @@ use Rattle.std.proofs.Common.{None, refl, sym, subst, ap, ◌∙◌}
 use Rattle.std.proofs.lemmas.List.{append-nil, append_assoc, map-append}
 use Rattle.worker.specs.Work.TheVariants.{Datagram, Tick}
 use Rattle.worker.specs.Lives.{IsHeard, Listens, Lives, Reads, Senses, Standing, Ticks}
-use Rattle.worker_laws.specs.Deeds.{Deed, DoesEach, EachMayFollow, HasDone, LivesAreDeedsInOrder}
-use Rattle.worker_laws.specs.Deeds.{MayFollow, given, given_by, heard, heard_by, last_tick}
-use Rattle.worker_laws.specs.Deeds.{tick_after}
+use Rattle.worker_laws.specs.Deeds.{Deed, DoesEach, EachMayFollow, IsLookingAfter}
+use Rattle.worker_laws.specs.Deeds.{LivesAreDeedsInOrder, MayFollow, given, given_by, heard}
+use Rattle.worker_laws.specs.Deeds.{heard_by, last_tick, tick_after}
 
 -- ---- one list after another
 
@@ -70,6 +70,12 @@ module _ {Link Clock : Type 0} (senses : Senses Link Clock) where
     last = last_append None d.deeds more ∙ ap (λ t. last_tick t more) d.last ∙ last;
   }
 
+  -- at the end of a round the worker may look at its clock
+  record Rounded (start : Standing Link Clock) (ticked : Option ℕ) (now : Standing Link Clock)
+      : Type 0 where
+    pub so_far : Done start ticked now
+    pub looks : IsLookingAfter so_far.deeds
+
   -- whether the clock was looked at alone, or a Tick came of it, whoever listens now may
   record Looked (start : Standing Link Clock) (ticked : Option ℕ) (now : Standing Link Clock) : Type
       0 where
@@ -77,126 +83,145 @@ module _ {Link Clock : Type 0} (senses : Senses Link Clock) where
     pub listens : (heard : Option (List ℕ)) → MayFollow so_far.deeds (Deed.Listens heard)
 
   ticked_now : (start : Standing Link Clock) (ticked : Option ℕ) (before : Standing Link Clock)
-      (next : Option ℕ) (after : Standing Link Clock) → Done start ticked before
-      → Ticks senses ticked before next after → Looked start next after
-  ticked_now start ticked before next after d t = elim t.turn as (λ _. Looked start next after) [
-    | inl (same, keeps, is_after) ↦
-        record {
-          so_far = done_more start ticked before next after d (Deed.Looks t.moment ∷ []) (
-            record before {
-              clock = t.shown;
-            },
-            (t.shown, t.is_shown, refl),
-            is_after,
-          ) (tt, tt) refl
-              (sym keeps);
-          listens = λ heard. inr (
-            t.moment,
-            (d.deeds, refl),
-            last_append None d.deeds (Deed.Looks t.moment ∷ []) ∙ d.last ∙ same,
-          );
-        }
-    | inr (other, (ended, is_next, serves)) ↦
-        record {
-          so_far = done_more start ticked before next after d
-              (Deed.Looks t.moment ∷ Deed.Gives t.moment Tick ended ∷ []) (
+      (next : Option ℕ) (after : Standing Link Clock) (d : Done start ticked before)
+      → IsLookingAfter d.deeds → Ticks senses ticked before next after → Looked start next after
+  ticked_now start ticked before next after d looks t =
+      elim t.turn as (λ _. Looked start next after) [
+        | inl (same, keeps, is_after) ↦
+            record {
+              so_far = done_more start ticked before next after d (Deed.Looks t.moment ∷ []) (
                 record before {
                   clock = t.shown;
                 },
                 (t.shown, t.is_shown, refl),
-                (after, serves, refl),
-              ) (
-                tt,
+                is_after,
+              ) (looks, tt) refl
+                  (sym keeps);
+              listens = λ heard. inr (
+                t.moment,
+                (d.deeds, refl),
+                last_append None d.deeds (Deed.Looks t.moment ∷ []) ∙ d.last ∙ same,
+              );
+            }
+        | inr (other, (ended, is_next, serves)) ↦
+            record {
+              so_far = done_more start ticked before next after d
+                  (Deed.Looks t.moment ∷ Deed.Gives t.moment Tick ended ∷ []) (
+                    record before {
+                      clock = t.shown;
+                    },
+                    (t.shown, t.is_shown, refl),
+                    (after, serves, refl),
+                  ) (
+                    looks,
+                    (
+                      (
+                        (d.deeds, refl),
+                        λ e. other
+                            (sym d.last ∙ sym (last_append None d.deeds (Deed.Looks t.moment ∷ []))
+                            ∙ e),
+                      ),
+                      tt,
+                    ),
+                  )
+                  refl (sym is_next);
+              listens = λ heard. inl (
+                t.moment,
+                ended,
                 (
-                  (
-                    (d.deeds, refl),
-                    λ e. other
-                        (sym d.last ∙ sym (last_append None d.deeds (Deed.Looks t.moment ∷ []))
-                        ∙ e),
-                  ),
-                  tt,
+                  d.deeds ++ Deed.Looks t.moment ∷ [],
+                  sym (append_assoc d.deeds (Deed.Looks t.moment ∷ [])
+                      (Deed.Gives t.moment Tick ended ∷ [])),
                 ),
-              )
-              refl (sym is_next);
-          listens = λ heard. inl (
-            t.moment,
-            ended,
-            (
-              d.deeds ++ Deed.Looks t.moment ∷ [],
-              sym (append_assoc d.deeds (Deed.Looks t.moment ∷ [])
-                  (Deed.Gives t.moment Tick ended ∷ [])),
-            ),
-          );
-        }
-  ]
+              );
+            }
+      ]
 
   heard_now : (start : Standing Link Clock) (ticked : Option ℕ) (before : Standing Link Clock)
       (heard : Option (List ℕ)) (between : Link) (after : Standing Link Clock)
       → Looked start ticked before → senses.hears before.link heard between
       → IsHeard senses heard (record before { link = between }) after
-      → Done start ticked after
-  heard_now start ticked before None between after l is_heard turn =
-      done_more start ticked before ticked after l.so_far (Deed.Listens None ∷ []) (
-        record before {
-          link = between;
-        },
-        (between, is_heard, refl),
-        turn,
-      ) (l.listens None, tt) refl refl
+      → Rounded start ticked after
+  heard_now start ticked before None between after l is_heard turn = record {
+    so_far = done_more start ticked before ticked after l.so_far (Deed.Listens None ∷ []) (
+      record before {
+        link = between;
+      },
+      (between, is_heard, refl),
+      turn,
+    ) (l.listens None, tt) refl refl;
+    looks = inr (inl (None, (l.so_far.deeds, refl)));
+  }
   heard_now start ticked before (Some bytes) between after l is_heard
       (moment, shown, ended, is_shown, serves) =
       let hearing = Deed.Listens (Some bytes) in
       let looking = Deed.Looks moment in
-      done_more start ticked before ticked after l.so_far
-      (hearing ∷ looking ∷ Deed.Gives moment (Datagram senses.number bytes) ended ∷ []) (
-        record before { link = between },
-        (between, is_heard, refl),
-        (
-          record before {
-            link = between;
-            clock = shown;
-          },
-          (shown, is_shown, refl),
-          (after, serves, refl),
-        ),
-      ) (
-        l.listens (Some bytes),
-        (
-          tt,
+      let giving = Deed.Gives moment (Datagram senses.number bytes) ended in
+      record {
+        so_far = done_more start ticked before ticked after l.so_far
+            (hearing ∷ looking ∷ giving ∷ []) (
+              record before { link = between },
+              (between, is_heard, refl),
+              (
+                record before {
+                  link = between;
+                  clock = shown;
+                },
+                (shown, is_shown, refl),
+                (after, serves, refl),
+              ),
+            ) (
+              l.listens (Some bytes),
+              (
+                inr (inl (Some bytes, (l.so_far.deeds, refl))),
+                (
+                  (
+                    l.so_far.deeds,
+                    append_assoc l.so_far.deeds (hearing ∷ []) (looking ∷ []),
+                  ),
+                  tt,
+                ),
+              ),
+            ) refl refl;
+        looks = inr (inr (
+          moment,
+          senses.number,
+          bytes,
+          ended,
           (
-            (
-              l.so_far.deeds,
-              append_assoc l.so_far.deeds (hearing ∷ []) (looking ∷ []),
-            ),
-            tt,
+            l.so_far.deeds ++ hearing ∷ looking ∷ [],
+            sym (append_assoc l.so_far.deeds (hearing ∷ looking ∷ []) (giving ∷ [])),
           ),
-        ),
-      ) refl refl
+        ));
+      }
 
   listened_now : (start : Standing Link Clock) (ticked : Option ℕ)
       (before after : Standing Link Clock) → Looked start ticked before
-      → Listens senses before after → Done start ticked after
+      → Listens senses before after → Rounded start ticked after
   listened_now start ticked before after l h =
       heard_now start ticked before h.heard h.between after l h.is_heard h.turn
 
-  so_many : {Flag : Type 0} (reads : Reads Flag) (begun : Flag) (start : Standing Link Clock)
+  all_rounds : {Flag : Type 0} (reads : Reads Flag) (begun : Flag) (start : Standing Link Clock)
       (rounds : ℕ) (ticked : Option ℕ) (flag : Flag) (now : Standing Link Clock)
-      → Lives senses reads begun start rounds ticked flag now → Done start ticked now
-  so_many reads begun start zero ticked flag now (none, unread, same) = record {
-    deeds = [];
-    does = same;
-    follows = tt;
-    works = refl;
-    last = sym none;
+      → Lives senses reads begun start rounds ticked flag now → Rounded start ticked now
+  all_rounds reads begun start zero ticked flag now (none, unread, same) = record {
+    so_far = record { deeds = []; does = same; follows = tt; works = refl; last = sym none };
+    looks = inl refl;
   }
-  so_many reads begun start (suc rounds) ticked flag now
+  all_rounds reads begun start (suc rounds) ticked flag now
       (earlier, unset, then, lives, read, (between, ticks, listens)) =
+      let r = all_rounds reads begun start rounds earlier unset then lives in
       listened_now start ticked between now
-      (ticked_now start earlier then ticked between
-      (so_many reads begun start rounds earlier unset then lives) ticks) listens
+      (ticked_now start earlier then ticked between r.so_far r.looks ticks) listens
 
 pub in_order : {Link Clock Flag : Type 0} (senses : Senses Link Clock) (reads : Reads Flag)
     → LivesAreDeedsInOrder senses reads
 in_order senses reads begun flag start now rounds ticked lives =
-    let d = so_many senses reads begun start rounds ticked flag now lives in
-    record { deeds = d.deeds; does = d.does; follows = d.follows; works = d.works }
+    let r = all_rounds senses reads begun start rounds ticked flag now lives in
+    record {
+      deeds = r.so_far.deeds;
+      does = r.so_far.does;
+      follows = r.so_far.follows;
+      looks_next = r.looks;
+      works = r.so_far.works;
+    }

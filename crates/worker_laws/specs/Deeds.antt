@@ -102,8 +102,16 @@ IsWorkAfter earlier moment (Withdraw prefix) = ⊥
 IsWorkAfter earlier moment (Down number) = ⊥
 IsWorkAfter earlier moment Refresh = ⊥
 
+-- It looks at its clock first, and then after it listened, or after a turn with a datagram.
+abbrev pub IsLookingAfter : (earlier : List Deed) → Type 0
+IsLookingAfter earlier =
+    (earlier ≡ [])
+    ⊎ ((heard : Option (List ℕ)) × EndsWith earlier (Deed.Listens heard ∷ []))
+    ⊎ ((moment : ℕ) × (number : ℕ) × (bytes : List ℕ) × (ended : ℕ)
+    × EndsWith earlier (Deed.Gives moment (Datagram number bytes) ended ∷ []))
+
 -- It listens after a Tick, or after its clock showed the moment of the last Tick: each second that
--- it sees has had its Tick by then.
+-- it sees has had its Tick by then, except one at which it looks for a datagram's turn.
 abbrev pub IsListeningAfter : (earlier : List Deed) → Type 0
 IsListeningAfter earlier =
     ((moment : ℕ) × (ended : ℕ) × EndsWith earlier (Deed.Gives moment Tick ended ∷ []))
@@ -112,7 +120,7 @@ IsListeningAfter earlier =
 
 -- a deed may come after those earlier ones
 abbrev pub MayFollow : (earlier : List Deed) → Deed → Type 0
-MayFollow earlier (Deed.Looks moment) = Unit {0}
+MayFollow earlier (Deed.Looks moment) = IsLookingAfter earlier
 MayFollow earlier (Deed.Listens heard) = IsListeningAfter earlier
 MayFollow earlier (Deed.Gives moment work ended) = IsWorkAfter earlier moment work
 
@@ -124,13 +132,15 @@ EachMayFollow earlier (deed ∷ deeds) =
 
 -- ---- the law
 
--- What was done between two standings: these deeds and no others, each in its place, and of the
--- works but Ticks that were given none lacks, none came twice, and none came before an earlier one.
+-- What was done between two standings: these deeds and no others, each in its place, after which it
+-- looks at its clock again; and of the works but Ticks that were given none lacks, none came twice,
+-- and none came before an earlier one.
 pub record HasDone {Link Clock : Type 0} (senses : Senses Link Clock)
     (start now : Standing Link Clock) : Type 0 where
   pub deeds : List Deed
   pub does : DoesEach senses start deeds now
   pub follows : EachMayFollow [] deeds
+  pub looks_next : IsLookingAfter deeds
   pub works : given deeds ≡ map (λ bytes. Datagram senses.number bytes) (heard deeds)
 
 abbrev pub LivesAreDeedsInOrder : {Link Clock Flag : Type 0} → Senses Link Clock → Reads Flag
