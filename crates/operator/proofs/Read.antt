@@ -1,6 +1,7 @@
 -- Counters that were read one after the other, and one more.
 use Rattle.std.proofs.Common.{◌≡◌, ℕ, suc, ◌+◌, ◌<◌, ◌≤◌, List, [], ◌∷◌, ◌++◌, length, refl, sym}
 use Rattle.std.proofs.Common.{ap, ◌∙◌, arith, length-append}
+use Rattle.std.specs.Prelude.{OnErr, Result, Ok, Err}
 use Rattle.maps.specs.Words.{SeatView, seat_after}
 use Rattle.maps.specs.declared.access.Access.TheVariants.{Read}
 use Rattle.operator.specs.Shown.{HasReadSome, after_reads}
@@ -25,6 +26,11 @@ read_more before now after sums items index sum same many grown last =
     last ∙ ap (λ s. seat_after s (Read index sum)) same
     ∙ ap (λ n. seat_after (after_reads before 0 sums) (Read n sum)) here
     ∙ sym (one_more before 0 sums sum) ∙ ap (λ l. after_reads before 0 l) (sym grown)
+
+-- what is so is so if the outcome is an error
+pub if_refused : {X E P : Type 0} (outcome : Result X E) → P → OnErr outcome P
+if_refused (Ok x) h = tt
+if_refused (Err error) h = h
 
 -- they are some of the 256
 pub read_some : (before now : SeatView) (sums : List ℕ) (index : ℕ)
