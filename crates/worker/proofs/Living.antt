@@ -83,6 +83,10 @@ tried_so shows refused other before first now last tries so h = record {
 
 -- ---- a turn
 
+pub on_ok : {T E P Q : Type 0} (r : Result T E) → (P → Q) → OnOk r P → OnOk r Q
+on_ok (Ok x) f h = f h
+on_ok (Err e) f h = h
+
 pub served : {Link Clock : Type 0} (senses : Senses Link Clock) (moment : ℕ) (work : Work)
     (before : Standing Link Clock) (ended : ℕ) (after : Standing Link Clock)
     (outcome : Result Turned TurnError) (turned : Turned) → outcome ≡ Ok turned
