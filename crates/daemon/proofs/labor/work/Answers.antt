@@ -3,16 +3,16 @@ use Rattle.daemon.proofs.labor.work.Goals as goal
 
 pub returns-clause-lived : goal.returns-clause-lived
 returns-clause-lived g c fine = (
-  c.run-_ended.new.quit,
-  c.run-_ended.new.link,
-  c.run-_ended.new.clock,
-  until_told c.run-_ended.result _ _ c.end-end.result c.run-_ended.ensures.lived
-      c.run-_ended.ensures.ended c.end-end.ensures fine,
+  c.run-ended.new.quit,
+  c.run-ended.new.link,
+  c.run-ended.new.clock,
+  until_told c.run-ended.result _ _ c.end-end.result c.run-ended.ensures.lived
+      c.run-ended.ensures.ended c.end-end.ensures fine,
 )
 
 pub returns-clause-lived_on : goal.returns-clause-lived_on
 returns-clause-lived_on g c failed none = (
-  c.run-_ended.new.quit,
-  until_fault c.run-_ended.result _ _ c.end-end.result c.run-_ended.ensures.lived_on
-      c.run-_ended.ensures.ended c.end-end.ensures failed none,
+  c.run-ended.new.quit,
+  until_fault c.run-ended.result _ _ c.end-end.result c.run-ended.ensures.lived_on
+      c.run-ended.ensures.ended c.end-end.ensures failed none,
 )
