@@ -9,7 +9,7 @@ returns-clause-ran g c =
     c.deref.ensures.value c.in_ok-ran.ensures.ran
 
 pub run_over-requires : goal.run_over-requires
-run_over-requires g c =
+run_over-requires g c κs within =
     bound_still _ c.as_slice.result.now c.in_ok-configured.configured.interfaces
     c.in_ok-wires.wires.items c.deref.result.now c.as_slice.ensures c.deref.ensures.value
     c.in_ok-wires.ensures.bound
