@@ -571,17 +571,11 @@ fn no_elf<'a>(
 {
     let hint = match fault {
         elf::ElfFault::NotElf =>
-            "\n  compile C first: clang -O2 -target bpf -mcpu=v3 -c PROGRAM.c -o FILE (Debian's \
+            "  compile C first: clang -O2 -target bpf -mcpu=v3 -c PROGRAM.c -o FILE (Debian's \
                 package clang), or tools/hooktool-build PROGRAM.c\n",
-        _ => "\n",
+        _ => "",
     };
-    let (first, second) = fault.numbers();
-    let mut text = Text::new(alloc);
-    text.push(path);
-    text.push(": ");
-    text.fill(fault.words(), &[first as u128, second as u128]);
-    text.push(hint);
-    refusal(text)
+    told(format!(in alloc; "{path}: {fault}\n{hint}"), true)
 }
 
 /// Tells whether a section has instructions.

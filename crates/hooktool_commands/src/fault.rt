@@ -7,8 +7,8 @@ ghost use Rattle.hooktool_commands.specs.declared.fault.HooktoolFault.TheVariant
 use isa::DecodeError;
 use object::ReadError;
 use std::alloc::AllocError;
-use std::error::Error;
 use std::fmt;
+use thiserror::Error;
 
 /// The statuses that the program ends with.
 pub const DONE: u8 = 0;
@@ -22,36 +22,30 @@ pub const OUTSIDE: u8 = 3;
 pub const MEMORY: u8 = 4;
 
 /// Why a command didn't do what it was asked. The text is the line that is printed.
-#[derive(Clone, Copy)]
+#[derive(Clone, Copy, Error)]
 pub enum HooktoolFault<'a> {
     /// A file can't be opened or read.
+    #[error("cannot read {path}")]
     Read { path: &'a str },
     /// A file can't be written.
+    #[error("cannot write {path}")]
     Write { path: &'a str },
     /// Bytes that are no code: the number of the refusal, and the slot of the first bad
     /// instruction.
+    #[error("code refusal {number} slot {slot}")]
     Code { number: u8, slot: u64 },
     /// Bytes that are no object file: the number of the refusal.
+    #[error("object refusal {number}")]
     Object { number: u8 },
     /// An object that is for another hook than the one that was named.
+    #[error("the object is for {hook}")]
     OtherHook { hook: &'static str },
     /// Code in which turns can't be counted, and why.
+    #[error("{reason}")]
     Uncounted { reason: &'static str },
     /// An allocation was refused.
+    #[error("out of memory")]
     Memory,
-}
-
-impl fmt::Display for HooktoolFault<'_> {
-    fn fmt<W: fmt::Write>(&self, f: &mut fmt::Formatter<W>) -> fmt::Result {
-        match *self {
-            HooktoolFault::Code { number, slot } => write!(f, "code refusal {number} slot {slot}"),
-            HooktoolFault::Object { number } => write!(f, "object refusal {number}"),
-            other => {
-                let (before, name) = other.words();
-                write!(f, "{before}{name}")
-            }
-        }
-    }
 }
 
 impl fmt::Debug for HooktoolFault<'_> {
@@ -59,8 +53,6 @@ impl fmt::Debug for HooktoolFault<'_> {
         fmt::Display::fmt(self, f)
     }
 }
-
-impl Error for HooktoolFault<'_> {}
 
 impl<'a> From<AllocError> for HooktoolFault<'a> {
     ghost from_gives = { λ _ fault. fault ≡ Memory };
@@ -98,17 +90,6 @@ impl<'a> From<ReadError> for HooktoolFault<'a> {
 }
 
 impl<'a> HooktoolFault<'a> {
-    /// The text of a fault that has no number, in two parts.
-    fn words(&self) -> (&'static str, &'a str) {
-        match *self {
-            HooktoolFault::Read { path } => ("cannot read ", path),
-            HooktoolFault::Write { path } => ("cannot write ", path),
-            HooktoolFault::OtherHook { hook } => ("the object is for ", hook),
-            HooktoolFault::Uncounted { reason } => ("", reason),
-            _ => ("out of memory", ""),
-        }
-    }
-
     /// The status that the program ends with.
     pub fn status(&self) -> u8
         ensures value { result ≡ status_of self.now }

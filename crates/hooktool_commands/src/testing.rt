@@ -8,7 +8,6 @@ use crate::fault::HooktoolFault;
 use crate::files;
 use crate::report::{CommandReport, told};
 use crate::tap::protocol;
-use explanations::Text;
 use hooktool_line::{LineError, TestLine, WrongLine, read_lines, words_of_lines};
 use object_trials::{PlayError, Point, Stopped, play};
 use std::alloc::{AllocError, Global};
@@ -46,17 +45,12 @@ fn unread<'a>(text: Result<String, AllocError>) -> Result<Tested, HooktoolFault<
 
 /// Why a line can't be played, behind its place.
 fn stopped_text(alloc: Global, path: &str, stopped: Stopped) -> Result<String, AllocError> {
+    let number = stopped.number;
     let error = stopped.error;
-    if matches!(error, PlayError::Memory) {
-        return Err(AllocError);
+    match error {
+        PlayError::Memory => Err(AllocError),
+        _ => format!(in alloc; "{path}, line {number}: {error}\n{UNPLAYED}"),
     }
-    let mut text = Text::new(alloc);
-    text.push(path);
-    text.numbered(", line ", stopped.number, ": ");
-    text.fill(error.words(), &[u128::from(error.number())]);
-    text.push("\n");
-    text.push(UNPLAYED);
-    text.finish()
 }
 
 /// Tells whether one of the points isn't ok.

@@ -1,44 +1,35 @@
 //! Why a test isn't played to its end.
 use crate::captures::CaptureError;
 use crate::error::TrialError;
+use std::fmt;
+use thiserror::Error;
 
-/// Why a test isn't played to its end.
-#[derive(Clone, Copy)]
+/// Why a test isn't played to its end. The text is what is told behind the line's number.
+#[derive(Clone, Copy, Error)]
 pub enum PlayError {
     /// A question comes before any `program` that could be asked.
+    #[error("no line before it names a program OBJECT")]
     NoProgram,
     /// A file can't be read.
+    #[error("cannot read the file that it names")]
     Unreadable,
     /// The file of a program isn't one.
+    #[error("its file is no object (hooktool annotate and build make them)")]
     Object(TrialError),
     /// The file of packets isn't one.
+    #[error("the capture: {0}")]
     Capture(CaptureError),
     /// A packet of the capture isn't whole.
+    #[error("a packet of the capture isn't whole (tcpdump -s 0)")]
     CutPacket,
     /// An allocation was refused.
+    #[error("out of memory")]
     Memory,
 }
 
-impl PlayError {
-    /// What is told behind the line's number, in words that have `{}` in the place of the number, if
-    /// there is one.
-    pub fn words(&self) -> &'static str {
-        match self {
-            PlayError::NoProgram => "no line before it names a program OBJECT",
-            PlayError::Unreadable => "cannot read the file that it names",
-            PlayError::Object(_) => "its file is no object (hooktool annotate and build make them)",
-            PlayError::Capture(error) => error.words(),
-            PlayError::CutPacket => "a packet of the capture isn't whole (tcpdump -s 0)",
-            PlayError::Memory => "out of memory",
-        }
-    }
-
-    /// The number in the words, or 0.
-    pub fn number(&self) -> u64 {
-        match self {
-            PlayError::Capture(error) => error.number(),
-            _ => 0,
-        }
+impl fmt::Debug for PlayError {
+    fn fmt<W: fmt::Write>(&self, f: &mut fmt::Formatter<W>) -> fmt::Result {
+        fmt::Display::fmt(self, f)
     }
 }
 

@@ -2,40 +2,29 @@
 ghost use Rattle.std.specs.Prelude.{◌≡◌};
 
 use std::alloc::AllocFailed;
+use std::fmt;
+use thiserror::Error;
 
-/// Why bytes are no capture that can be read.
-#[derive(Clone, Copy)]
+/// Why bytes are no capture that can be read. The text is what is told of the file.
+#[derive(Clone, Copy, Error)]
 pub enum CaptureError {
     /// Fewer than 24 bytes, another magic number in front, or another version than 2.
+    #[error("it is no pcap file of version 2")]
     NotCapture,
     /// Frames of a link that isn't known, by its number.
+    #[error("its link type is {link}: known are 1 (Ethernet), 101, 228 (IP), 113, 276 (Linux)")]
     Link { link: u32 },
     /// The file ends inside of a record. Records are counted from 1.
+    #[error("it ends inside of record {record}")]
     Short { record: usize },
     /// An allocation was refused.
+    #[error("out of memory")]
     Memory,
 }
 
-impl CaptureError {
-    /// What is wrong, in words that have `{}` in the place of the number, if there is one.
-    pub fn words(&self) -> &'static str {
-        match self {
-            CaptureError::NotCapture => "the capture: it is no pcap file of version 2",
-            CaptureError::Link { .. } =>
-                "the capture: its link type is {}: known are 1 (Ethernet), 101, 228 (IP), 113, 276 \
-                    (Linux)",
-            CaptureError::Short { .. } => "the capture: it ends inside of record {}",
-            CaptureError::Memory => "the capture: out of memory",
-        }
-    }
-
-    /// The number in the words, or 0.
-    pub fn number(&self) -> u64 {
-        match *self {
-            CaptureError::Link { link } => u64::from(link),
-            CaptureError::Short { record } => record as u64,
-            _ => 0,
-        }
+impl fmt::Debug for CaptureError {
+    fn fmt<W: fmt::Write>(&self, f: &mut fmt::Formatter<W>) -> fmt::Result {
+        fmt::Display::fmt(self, f)
     }
 }
 
