@@ -12,8 +12,9 @@ use Rattle.words.specs.declared.key.Key.{Key}
 use Rattle.lsdb.specs.Instances.{ListEntry}
 use Rattle.lsdb.specs.Keys.{ByKey, KeySet, key_cmp, same_key}
 use Rattle.lsdb.proofs.Keys.{keys_exact, keys_total}
-use Rattle.adjacency.specs.declared.state.State.{State}
-use Rattle.adjacency.specs.declared.state.State.TheVariants.{Init, ExStart, Exchange, Loading, Full}
+use Rattle.adjacency.specs.declared.state.NeighborState.{NeighborState}
+use Rattle.adjacency.specs.declared.state.NeighborState.TheVariants.{Init, ExStart, Exchange}
+use Rattle.adjacency.specs.declared.state.NeighborState.TheVariants.{Loading, Full}
 use Rattle.adjacency.specs.Lists.{HasSoundLists, IsDoneWhereFull, IsOutstandingRequested}
 use Rattle.adjacency.specs.Neighbors.{Neighbor, is_full, is_exchange_or_loading}
 use Rattle.adjacency.specs.Neighbors.{is_exchange_or_later}
@@ -104,7 +105,7 @@ abbrev pub Listless : Fact
 Listless state s r t o = is_exchange_or_later state ≡ false
     → (s ≡ finite.empty) × (r ≡ finite.empty) × (t ≡ finite.empty) × (o ≡ set.empty)
 
-synchronizing_part : (state : State) → is_exchange_or_loading state ≡ true
+synchronizing_part : (state : NeighborState) → is_exchange_or_loading state ≡ true
     → is_exchange_or_later state ≡ false → true ≡ false
 synchronizing_part Init e p = sym e
 synchronizing_part ExStart e p = sym e
@@ -133,7 +134,7 @@ listless_kept = record {
 abbrev pub Bare : Fact
 Bare state s r t o = state ≡ Full → (finite.len r == 0) ≡ true
 
-other_state : {A : Type 0} (state : State) → is_full state ≡ false → state ≡ Full → A
+other_state : {A : Type 0} (state : NeighborState) → is_full state ≡ false → state ≡ Full → A
 other_state state not_full e = not_both (sym (ap is_full e) ∙ not_full)
 
 pub bare_kept : IsKept Bare

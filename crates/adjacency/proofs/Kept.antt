@@ -11,8 +11,9 @@ use Rattle.lsdb.specs.Headers.{Header, key_of}
 use Rattle.lsdb.specs.Instances.{ListEntry}
 use Rattle.lsdb.specs.Keys.{ByKey, KeySet}
 use Rattle.packet.specs.declared.model.Description.{Description}
-use Rattle.adjacency.specs.declared.state.State.{State}
-use Rattle.adjacency.specs.declared.state.State.TheVariants.{Init, ExStart, Exchange, Loading, Full}
+use Rattle.adjacency.specs.declared.state.NeighborState.{NeighborState}
+use Rattle.adjacency.specs.declared.state.NeighborState.TheVariants.{Init, ExStart, Exchange}
+use Rattle.adjacency.specs.declared.state.NeighborState.TheVariants.{Loading, Full}
 use Rattle.adjacency.specs.Adjacencies.{after_hello, loading_done, has_passed, with_hello_heard}
 use Rattle.adjacency.specs.Adjacencies.{mismatch_step, two_way_received, two_way_received_in}
 use Rattle.adjacency.specs.Adjacencies.{requests_nothing, enter_exstart}
@@ -45,7 +46,7 @@ chosen P false x y p q = q refl
 -- retransmission list, and what is outstanding
 
 abbrev pub Fact : Type 1
-Fact = State → ByKey ListEntry → ByKey ListEntry → ByKey ListEntry → KeySet → Type 0
+Fact = NeighborState → ByKey ListEntry → ByKey ListEntry → ByKey ListEntry → KeySet → Type 0
 
 abbrev pub Of : Fact → Neighbor → Type 0
 Of Q n = Q n.state n.summary n.requests n.retransmissions n.outstanding
@@ -67,15 +68,15 @@ pub record IsKeptWith (Begins : ByKey ListEntry → Type 0) (Adds : Key → List
       → (finite.len r == 0) ≡ true → Q Full s r t o
   pub fills : (s r t : ByKey ListEntry) (o : KeySet) → Q Loading s r t o
       → (finite.len r == 0) ≡ true → Q Full s r t o
-  pub asks : (state : State) (s r t : ByKey ListEntry) (o : KeySet)
+  pub asks : (state : NeighborState) (s r t : ByKey ListEntry) (o : KeySet)
       → is_exchange_or_loading state ≡ true → Q state s r t o
       → Q state s r t (set.from_list (take 680 (finite.keys r)))
-  pub meets : (state : State) (s r t : ByKey ListEntry) (o : KeySet) (key : Key) → Q state s r t o
-      → Q state s (finite.remove r key) t (set.remove o key)
-  pub releases : (state : State) (s r t : ByKey ListEntry) (o : KeySet) (key : Key)
+  pub meets : (state : NeighborState) (s r t : ByKey ListEntry) (o : KeySet) (key : Key)
+      → Q state s r t o → Q state s (finite.remove r key) t (set.remove o key)
+  pub releases : (state : NeighborState) (s r t : ByKey ListEntry) (o : KeySet) (key : Key)
       → Q state s r t o → Q state s r (finite.remove t key) o
-  pub has_retransmission : (state : State) (s r t : ByKey ListEntry) (o : KeySet) (key : Key)
-      (x : ListEntry) → Adds key x → is_exchange_or_later state ≡ true → Q state s r t o
+  pub has_retransmission : (state : NeighborState) (s r t : ByKey ListEntry) (o : KeySet)
+      (key : Key) (x : ListEntry) → Adds key x → is_exchange_or_later state ≡ true → Q state s r t o
       → Q state s r (finite.insert (finite.remove t key) key x) o
 
 -- whatever an exchange begins with, and whatever flooding adds
@@ -138,7 +139,7 @@ module _ {Begins : ByKey ListEntry → Type 0} {Adds : Key → ListEntry → Typ
   mismatched_kept moment n h = chosen (λ (s : Step). Of Q s.neighbor) (is_exchange_or_later n.state)
       (enter_exstart moment n) (no_sends n) (λ e. kept.restarts) (λ e. h)
 
-  named_in_kept : (s : State) (moment : ℕ) (n : Neighbor) → Of Q n
+  named_in_kept : (s : NeighborState) (moment : ℕ) (n : Neighbor) → Of Q n
       → Of Q (two_way_received_in s moment n).neighbor
   named_in_kept Init moment n h = kept.restarts
   named_in_kept ExStart moment n h = h
@@ -166,7 +167,7 @@ module _ {Begins : ByKey ListEntry → Type 0} {Adds : Key → ListEntry → Typ
   done_kept : (moment : ℕ) (n : Neighbor) → Of Q (in_exchange n)
       → Of Q (exchange_done moment (in_exchange n))
   done_kept moment n h =
-      chosen (λ (s : State). Q s n.summary n.requests n.retransmissions n.outstanding)
+      chosen (λ (s : NeighborState). Q s n.summary n.requests n.retransmissions n.outstanding)
       (requests_nothing n) Full Loading
       (λ e. kept.ends n.summary n.requests n.retransmissions n.outstanding h e)
       (λ e. kept.loads n.summary n.requests n.retransmissions n.outstanding h)
@@ -250,7 +251,7 @@ module _ {Begins : ByKey ListEntry → Type 0} {Adds : Key → ListEntry → Typ
           t.summary
           t.retransmissions m.outstanding begun k)
 
-      judged_in : (s : State) (own : ℕ) (n : Neighbor) → Of Q (record n {
+      judged_in : (s : NeighborState) (own : ℕ) (n : Neighbor) → Of Q (record n {
         state = s;
       }) → Of Q (judge own moment db d (record n { state = s })).neighbor
       judged_in Init own n k = k
@@ -281,7 +282,7 @@ module _ {Begins : ByKey ListEntry → Type 0} {Adds : Key → ListEntry → Typ
   hello_kept moment from true o h = named_kept moment (with_hello_heard from moment o) h
   hello_kept moment from false o h = kept.begins
 
-  stated_kept : (s : State) (own moment : ℕ) (db : Database) (d : Description)
+  stated_kept : (s : NeighborState) (own moment : ℕ) (db : Database) (d : Description)
       → Begins (aged_copies moment db) → (n : Neighbor) → Of Q n
       → Of Q (in_state s own moment db d n).neighbor
   stated_kept Init own moment db d begun n h =
@@ -301,7 +302,7 @@ module _ {Begins : ByKey ListEntry → Type 0} {Adds : Key → ListEntry → Typ
 
   -- ---- Loading and Link State Requests
 
-  filled_in_kept : (s : State) (n : Neighbor) → Of Q (record n {
+  filled_in_kept : (s : NeighborState) (n : Neighbor) → Of Q (record n {
     state = s;
   }) → Of Q (loading_done (record n { state = s }))
   filled_in_kept Init n h = h

@@ -7,8 +7,9 @@ use Rattle.adjacency.specs.Kept.{Kept}
 use Rattle.adjacency.specs.Contents.{no_sends}
 use Rattle.adjacency.specs.Adjacencies.{two_way_received_in, after_hello, initial_description}
 use Rattle.adjacency.specs.Adjacencies.{enter_exstart}
-use Rattle.adjacency.specs.declared.state.State.{State}
-use Rattle.adjacency.specs.declared.state.State.TheVariants.{Init, ExStart, Exchange, Loading, Full}
+use Rattle.adjacency.specs.declared.state.NeighborState.{NeighborState}
+use Rattle.adjacency.specs.declared.state.NeighborState.TheVariants.{Init, ExStart, Exchange}
+use Rattle.adjacency.specs.declared.state.NeighborState.TheVariants.{Loading, Full}
 use Rattle.std.specs.Ordering.{eq_by_cmp}
 use Rattle.std.specs.FinMap as finite
 use Rattle.std.specs.FinSet as set
@@ -177,7 +178,7 @@ unfolding begun
 none_begins moment router true = refl
 none_begins moment router false = refl
 
-starts_in : (moment : ℕ) (n : Neighbor) (state : State) → begins state true ≡ true
+starts_in : (moment : ℕ) (n : Neighbor) (state : NeighborState) → begins state true ≡ true
     → enter_exstart moment (fresh n.router n.dd_sequence_start moment)
     ≡ two_way_received_in state moment (record n { last_heard = moment })
 starts_in moment n Init is = refl
@@ -192,7 +193,7 @@ unfolding begun
 some_begins moment from n true is = starts_in moment n n.state is
 some_begins moment from n false is = refl
 
-rests_in : (moment : ℕ) (n : Neighbor) (state : State) → begins state true ≡ false
+rests_in : (moment : ℕ) (n : Neighbor) (state : NeighborState) → begins state true ≡ false
     → two_way_received_in state moment n ≡ no_sends n
 rests_in moment n Init is = absurd (false≢true (sym is))
 rests_in moment n ExStart is = refl
@@ -200,7 +201,7 @@ rests_in moment n Exchange is = refl
 rests_in moment n Loading is = refl
 rests_in moment n Full is = refl
 
-goes_on : (state : State) → begins state false ≡ true
+goes_on : (state : NeighborState) → begins state false ≡ true
 goes_on Init = refl
 goes_on ExStart = refl
 goes_on Exchange = refl

@@ -21,8 +21,9 @@ use Rattle.lsdb.specs.Headers.{Header, Lsa, key_of, lsa_aged}
 use Rattle.lsdb.specs.Keys.{KeySet, key_cmp}
 use Rattle.lsdb.proofs.Keys.{keys_total}
 use Rattle.packet.specs.declared.model.Description.{Description}
-use Rattle.adjacency.specs.declared.state.State.{State}
-use Rattle.adjacency.specs.declared.state.State.TheVariants.{Init, ExStart, Exchange, Loading, Full}
+use Rattle.adjacency.specs.declared.state.NeighborState.{NeighborState}
+use Rattle.adjacency.specs.declared.state.NeighborState.TheVariants.{Init, ExStart, Exchange}
+use Rattle.adjacency.specs.declared.state.NeighborState.TheVariants.{Loading, Full}
 use Rattle.adjacency.specs.Adjacencies.{after_hello, loading_done, loading_done_in, has_passed}
 use Rattle.adjacency.specs.Adjacencies.{with_hello_heard, mismatch_step, two_way_received}
 use Rattle.adjacency.specs.Adjacencies.{two_way_received_in, next_dd_sequence_start}
@@ -211,7 +212,7 @@ pub mismatched_roomy : (moment : ℕ) (n : Neighbor) → HasRoomyLists n
 mismatched_roomy moment n h = chosen IsRoomyStep (is_exchange_or_later n.state)
     (enter_exstart moment n) (no_sends n) (λ e. restart_roomy moment n) (λ e. quiet_roomy n h)
 
-named_in_roomy : (s : State) (moment : ℕ) (n : Neighbor) → HasRoomyLists n
+named_in_roomy : (s : NeighborState) (moment : ℕ) (n : Neighbor) → HasRoomyLists n
     → IsRoomyStep (two_way_received_in s moment n)
 named_in_roomy Init moment n h = restart_roomy moment n
 named_in_roomy ExStart moment n h = quiet_roomy n h
@@ -325,8 +326,8 @@ judge_roomy : (own moment : ℕ) (db : Database) (d : Description) (n : Neighbor
     → IsRoomyStep (judge own moment db d n)
 judge_roomy own moment db d n h = act_roomy (verdict own n d) moment db d n h
 
-in_state_roomy : (s : State) (own moment : ℕ) (db : Database) (d : Description) (n : Neighbor)
-    → HasRoomyLists n → IsRoomyStep (in_state s own moment db d n)
+in_state_roomy : (s : NeighborState) (own moment : ℕ) (db : Database) (d : Description)
+    (n : Neighbor) → HasRoomyLists n → IsRoomyStep (in_state s own moment db d n)
 in_state_roomy Init own moment db d n h =
     then_roomy (two_way_received moment n) (judge own moment db d) (named_roomy moment n h)
     (judge_roomy own moment db d)
@@ -343,7 +344,8 @@ description_roomy own moment db d n h =
 
 -- ---- Loading and Link State Requests
 
-filled_in_roomy : (s : State) (n : Neighbor) → HasRoomyLists n → HasRoomyLists (loading_done_in s n)
+filled_in_roomy : (s : NeighborState) (n : Neighbor) → HasRoomyLists n
+    → HasRoomyLists (loading_done_in s n)
 filled_in_roomy Init n h = h
 filled_in_roomy ExStart n h = h
 filled_in_roomy Exchange n h = h

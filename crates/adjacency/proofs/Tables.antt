@@ -2,8 +2,9 @@
 use Rattle.std.proofs.Common.{◌≡◌, Bool, true, false, cond, Option, refl, sym, ap, ◌∙◌}
 use Rattle.lsdb.specs.Headers.{key_of}
 use Rattle.lsdb.specs.Instances.{ListEntry}
-use Rattle.adjacency.specs.declared.state.State.{State}
-use Rattle.adjacency.specs.declared.state.State.TheVariants.{Init, ExStart, Exchange, Loading, Full}
+use Rattle.adjacency.specs.declared.state.NeighborState.{NeighborState}
+use Rattle.adjacency.specs.declared.state.NeighborState.TheVariants.{Init, ExStart, Exchange}
+use Rattle.adjacency.specs.declared.state.NeighborState.TheVariants.{Loading, Full}
 use Rattle.adjacency.specs.Adjacencies.{loading_done_in, requests_nothing}
 use Rattle.adjacency.specs.Laws.{FullHasNothingToRequest, IsBareWhereFull}
 use Rattle.adjacency.specs.Laws.{OnlyTheSameInstanceIsAcknowledged}
@@ -22,7 +23,7 @@ filled_bare : (b : Bool) (n : Neighbor) → requests_nothing n ≡ b → (cond b
 filled_bare true n is e loading = is
 filled_bare false n is e loading = is ∙ ap is_full (sym loading ∙ e)
 
-kept_bare : (s : State) (n : Neighbor) → n.state ≡ s → IsBareWhereFull n
+kept_bare : (s : NeighborState) (n : Neighbor) → n.state ≡ s → IsBareWhereFull n
     → (loading_done_in s n).state ≡ Full → requests_nothing (loading_done_in s n) ≡ true
 kept_bare Init n is bare e = bare e
 kept_bare ExStart n is bare e = bare e

@@ -10,8 +10,9 @@ use Rattle.lsdb.specs.Instances.{ListEntry}
 use Rattle.lsdb.specs.Keys.{ByKey}
 use Rattle.packet.specs.declared.model.Description.{Description}
 use Rattle.adjacency.specs.declared.standing.Standing.{Standing}
-use Rattle.adjacency.specs.declared.state.State.{State}
-use Rattle.adjacency.specs.declared.state.State.TheVariants.{Init, ExStart, Exchange, Loading, Full}
+use Rattle.adjacency.specs.declared.state.NeighborState.{NeighborState}
+use Rattle.adjacency.specs.declared.state.NeighborState.TheVariants.{Init, ExStart, Exchange}
+use Rattle.adjacency.specs.declared.state.NeighborState.TheVariants.{Loading, Full}
 use Rattle.adjacency.specs.Adjacencies.{enter_exstart, has_passed, loading_done, loading_done_in}
 use Rattle.adjacency.specs.Adjacencies.{mismatch_step, requests_nothing}
 use Rattle.adjacency.specs.Contents.{Step, Updates, no_sends, sent_on, step_on, then_}
@@ -35,7 +36,7 @@ full_by : (b : Bool) (n : Neighbor) → record n {
 full_by true n = refl
 full_by false n = refl
 
-done_in : (s : State) (n : Neighbor) → record n {
+done_in : (s : NeighborState) (n : Neighbor) → record n {
   state = full_where s (requests_nothing n);
 } ≡ loading_done_in s (record n { state = s })
 done_in Init n = refl

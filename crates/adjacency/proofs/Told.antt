@@ -12,8 +12,9 @@ use Rattle.lsdb.specs.Copies.{Database, DatabaseCopy, age_now, is_aged_out, list
 use Rattle.lsdb.specs.Headers.{Header, Lsa, key_of, lsa_aged, lsa_key}
 use Rattle.lsdb.specs.Instances.{ListEntry}
 use Rattle.packet.specs.declared.model.Description.{Description}
-use Rattle.adjacency.specs.declared.state.State.{State}
-use Rattle.adjacency.specs.declared.state.State.TheVariants.{Init, ExStart, Exchange, Loading, Full}
+use Rattle.adjacency.specs.declared.state.NeighborState.{NeighborState}
+use Rattle.adjacency.specs.declared.state.NeighborState.TheVariants.{Init, ExStart, Exchange}
+use Rattle.adjacency.specs.declared.state.NeighborState.TheVariants.{Loading, Full}
 use Rattle.adjacency.specs.Adjacencies.{after_hello, loading_done, loading_done_in, has_passed}
 use Rattle.adjacency.specs.Adjacencies.{with_hello_heard, mismatch_step, two_way_received}
 use Rattle.adjacency.specs.Adjacencies.{two_way_received_in, one_way_received, requests_nothing}
@@ -105,7 +106,7 @@ module _ (t : Telling) where
   mismatched_told moment n h = chosen (OfStep t) (is_exchange_or_later n.state)
       (enter_exstart moment n) (no_sends n) (λ e. restart_told moment n) (λ e. quiet_told n h)
 
-  named_in_told : (s : State) (moment : ℕ) (n : Neighbor) → OfOwed t n
+  named_in_told : (s : NeighborState) (moment : ℕ) (n : Neighbor) → OfOwed t n
       → OfStep t (two_way_received_in s moment n)
   named_in_told Init moment n h = restart_told moment n
   named_in_told ExStart moment n h = quiet_told n h
@@ -218,8 +219,8 @@ module _ (t : Telling) where
       → OfOwed t n → OfStep t (judge own moment db d n)
   judge_told own moment db d copies n h = act_told (verdict own n d) moment db d n copies h
 
-  in_state_told : (s : State) (own moment : ℕ) (db : Database) (d : Description) (n : Neighbor)
-      → OfCopies t db → OfOwed t n → OfStep t (in_state s own moment db d n)
+  in_state_told : (s : NeighborState) (own moment : ℕ) (db : Database) (d : Description)
+      (n : Neighbor) → OfCopies t db → OfOwed t n → OfStep t (in_state s own moment db d n)
   in_state_told Init own moment db d n copies h =
       then_told (two_way_received moment n) (judge own moment db d) (named_told moment n h)
       (judge_told own moment db d copies)
@@ -237,7 +238,7 @@ module _ (t : Telling) where
 
   -- ---- Loading and Link State Requests
 
-  filled_in_told : (s : State) (n : Neighbor) → OfOwed t n → OfOwed t (loading_done_in s n)
+  filled_in_told : (s : NeighborState) (n : Neighbor) → OfOwed t n → OfOwed t (loading_done_in s n)
   filled_in_told Init n h = h
   filled_in_told ExStart n h = h
   filled_in_told Exchange n h = h

@@ -9,8 +9,9 @@ use Rattle.lsdb.specs.Headers.{Header}
 use Rattle.lsdb.specs.Instances.{ListEntry, aged_header}
 use Rattle.lsdb.specs.Keys.{ByKey}
 use Rattle.packet.specs.declared.model.Description.{Description}
-use Rattle.adjacency.specs.declared.state.State.{State}
-use Rattle.adjacency.specs.declared.state.State.TheVariants.{Init, ExStart, Exchange, Loading, Full}
+use Rattle.adjacency.specs.declared.state.NeighborState.{NeighborState}
+use Rattle.adjacency.specs.declared.state.NeighborState.TheVariants.{Init, ExStart, Exchange}
+use Rattle.adjacency.specs.declared.state.NeighborState.TheVariants.{Loading, Full}
 use Rattle.adjacency.specs.declared.standing.Standing.{Standing}
 use Rattle.adjacency.specs.declared.verdict.Verdict.{Verdict as Said}
 use Rattle.adjacency.specs.declared.verdict.Verdict.TheVariants as said
@@ -117,7 +118,7 @@ proceeding Verdict.Mismatch moment db d n = no_sends n
 unfoldable pub judging : RouterNumber → Moment → Database → Description → Neighbor → Step
 judging own moment db d n = judge own moment db d n
 
-abbrev pub is_init : State → Bool
+abbrev pub is_init : NeighborState → Bool
 is_init Init = true
 is_init ExStart = false
 is_init Exchange = false

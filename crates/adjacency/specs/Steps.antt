@@ -9,12 +9,12 @@ use Rattle.lsdb.specs.Copies.{Database}
 use Rattle.lsdb.specs.Headers.{Lsa}
 use Rattle.adjacency.specs.Adjacencies.{mismatch_step}
 use Rattle.adjacency.specs.Contents.{Step, Updates, no_sends}
-use Rattle.adjacency.specs.declared.state.State.{State}
+use Rattle.adjacency.specs.declared.state.NeighborState.{NeighborState}
 use Rattle.adjacency.specs.Neighbors.{Neighbor, is_exchange_or_later}
 use Rattle.adjacency.specs.Retransmissions.{lsa_of}
 
 -- the Router ID and the state of the neighbor, if there is one
-abbrev pub named_neighbor : Option Neighbor → Option (RouterNumber × State)
+abbrev pub named_neighbor : Option Neighbor → Option (RouterNumber × NeighborState)
 named_neighbor None = None
 named_neighbor (Some n) = Some (n.router, n.state)
 

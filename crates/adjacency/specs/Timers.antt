@@ -6,8 +6,9 @@ use Rattle.std.specs.FinMap as finite
 use Rattle.std.specs.FinSet as set
 use Rattle.words.specs.Numbers.{Moment, Seconds}
 use Rattle.lsdb.specs.Headers.{Lsa}
-use Rattle.adjacency.specs.declared.state.State.{State}
-use Rattle.adjacency.specs.declared.state.State.TheVariants.{Init, ExStart, Exchange, Loading, Full}
+use Rattle.adjacency.specs.declared.state.NeighborState.{NeighborState}
+use Rattle.adjacency.specs.declared.state.NeighborState.TheVariants.{Init, ExStart, Exchange}
+use Rattle.adjacency.specs.declared.state.NeighborState.TheVariants.{Loading, Full}
 use Rattle.adjacency.specs.Adjacencies.{after_inactivity_timer, has_passed}
 use Rattle.adjacency.specs.Contents.{no_sends, step_on}
 use Rattle.adjacency.specs.Descriptions.{without_old_description}
@@ -29,7 +30,7 @@ run_out moment dead n =
     (after_inactivity_timer moment dead n)
 
 -- from Loading to Full if the request list is empty
-abbrev pub full_where : State → (requests_nothing : Bool) → State
+abbrev pub full_where : NeighborState → (requests_nothing : Bool) → NeighborState
 full_where Init requests_nothing = Init
 full_where ExStart requests_nothing = ExStart
 full_where Exchange requests_nothing = Exchange

@@ -7,8 +7,9 @@ use Rattle.lsdb.specs.Keys.{ByKey, KeySet}
 use Rattle.packet.specs.declared.model.Description.{Description}
 use Rattle.adjacency.specs.Kept.{Kept}
 use Rattle.adjacency.specs.Neighbors.{Neighbor, fresh}
-use Rattle.adjacency.specs.declared.state.State.TheVariants.{Init, ExStart, Exchange, Loading, Full}
-use Rattle.adjacency.specs.declared.state.State.{State}
+use Rattle.adjacency.specs.declared.state.NeighborState.TheVariants.{Init, ExStart, Exchange}
+use Rattle.adjacency.specs.declared.state.NeighborState.TheVariants.{Loading, Full}
+use Rattle.adjacency.specs.declared.state.NeighborState.{NeighborState}
 use Rattle.adjacency.specs.Adjacencies.{after_hello}
 use Rattle.adjacency.specs.Contents.{Step}
 use Rattle.adjacency.specs.declared.standing.Standing.{Standing}
@@ -93,7 +94,7 @@ begun moment router dd_sequence_start names =
 
 -- the neighbor starts over at a Hello: always in Init, and otherwise if the Hello doesn't list this
 -- router
-abbrev pub begins : State → Bool → Bool
+abbrev pub begins : NeighborState → Bool → Bool
 begins Init names = true
 begins ExStart names = not names
 begins Exchange names = not names

@@ -17,7 +17,7 @@ pub use interface::Interface;
 pub use listed::{ListEntry, instance_of};
 pub use saved::Saved;
 pub use standing::{ReceivedDescription, Standing};
-pub use state::State;
+pub use state::NeighborState;
 pub use verdict::{Mismatch, Verdict};
 // Names from the crates below that crates above use.
 pub use lsdb::{DatabaseCopy, Lsdb, age_at, compare, newer};

@@ -2,7 +2,7 @@
 ghost use Rattle.std.specs.Prelude.{◌≡◌};
 ghost use Rattle.adjacency.specs.Views.{fresh_standing, started_standing};
 
-use crate::state::State;
+use crate::state::NeighborState;
 use std::marker::Model;
 use words::{RouterId, Second};
 
@@ -43,7 +43,7 @@ impl Model for ReceivedDescription {
 #[derive(Clone, Copy, Debug)]
 pub struct Standing {
     pub router: RouterId,
-    pub state: State,
+    pub state: NeighborState,
     /// Whether this router is the master of the exchange.
     pub is_master: bool,
     /// The DD sequence number.
@@ -78,7 +78,7 @@ impl Standing {
     {
         Standing {
             router,
-            state: State::Init,
+            state: NeighborState::Init,
             is_master: false,
             sequence: 0,
             dd_sequence_start,
@@ -97,7 +97,7 @@ impl Standing {
     {
         Standing {
             router,
-            state: State::ExStart,
+            state: NeighborState::ExStart,
             is_master: true,
             sequence: number,
             dd_sequence_start: Some(number),

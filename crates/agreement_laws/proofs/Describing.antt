@@ -17,8 +17,9 @@ use Rattle.lsdb.specs.Instances.{ListEntry, aged_header, listed_now}
 use Rattle.lsdb.specs.Keys.{ByKey, key_cmp, same_key}
 use Rattle.lsdb.specs.declared.order.Instance.{Instance}
 use Rattle.packet.specs.declared.model.Description.{Description}
-use Rattle.adjacency.specs.declared.state.State.{State}
-use Rattle.adjacency.specs.declared.state.State.TheVariants.{Init, ExStart, Exchange, Loading, Full}
+use Rattle.adjacency.specs.declared.state.NeighborState.{NeighborState}
+use Rattle.adjacency.specs.declared.state.NeighborState.TheVariants.{Init, ExStart, Exchange}
+use Rattle.adjacency.specs.declared.state.NeighborState.TheVariants.{Loading, Full}
 use Rattle.adjacency.specs.Adjacencies.{enter_exstart, mismatch_step}
 use Rattle.adjacency.specs.Contents.{Content, Describes, Step, no_sends}
 use Rattle.adjacency.specs.Descriptions.{Verdict, accept, act, after_description, aged_copies}
@@ -294,7 +295,7 @@ module _ (key : Key) (now : ℕ) (Of : ℕ → Type 0) (Said : Saying) where
                 (conversation_with (judge own_id now db d (entered m)).neighbor) l k)
                 (held now key db) h
 
-        stated : (st : State) (m : Neighbor) → Of m.router
+        stated : (st : NeighborState) (m : Neighbor) → Of m.router
             → ((w : Conversation) (h : Header) → Contains d.headers h → key_of h ≡ key → w.router
             ≡ m.router → Said w (record { header = h; at = now }))
             → (is_exchange_or_later st ≡ false

@@ -16,13 +16,14 @@ use Rattle.lsdb.specs.Copies.{install_originated, lsa_now}
 use Rattle.lsdb.specs.Headers.{Header, Lsa, key_of, lsa_aged, lsa_key}
 use Rattle.lsdb.specs.Instances.{ListEntry}
 use Rattle.lsdb.specs.Keys.{ByKey, key_cmp}
-use Rattle.packet.specs.declared.model.Body.{Body}
-use Rattle.packet.specs.declared.model.Body.TheVariants as body
+use Rattle.packet.specs.declared.model.PacketBody.{PacketBody}
+use Rattle.packet.specs.declared.model.PacketBody.TheVariants as body
 use Rattle.packet.specs.declared.model.Description.{Description}
 use Rattle.packet.specs.declared.model.Hello.{Hello}
 use Rattle.adjacency.specs.declared.interface.Interface.{Interface}
-use Rattle.adjacency.specs.declared.state.State.{State}
-use Rattle.adjacency.specs.declared.state.State.TheVariants.{Init, ExStart, Exchange, Loading, Full}
+use Rattle.adjacency.specs.declared.state.NeighborState.{NeighborState}
+use Rattle.adjacency.specs.declared.state.NeighborState.TheVariants.{Init, ExStart, Exchange}
+use Rattle.adjacency.specs.declared.state.NeighborState.TheVariants.{Loading, Full}
 use Rattle.adjacency.specs.Adjacencies as adjacencies
 use Rattle.adjacency.specs.Adjacencies.{enter_exstart, has_passed, loading_done, loading_done_in}
 use Rattle.adjacency.specs.Adjacencies.{mismatch_step, requests_nothing, two_way_received_in}
@@ -91,7 +92,7 @@ left_empty n m e =
 
 -- the moment at which the exchange was completed is kept from then on; before it, the last Database
 -- Description sent had the M-bit set if anything was left
-abbrev pub Done : State → Option Description → Option ℕ → ByKey ListEntry → Type 0
+abbrev pub Done : NeighborState → Option Description → Option ℕ → ByKey ListEntry → Type 0
 Done Init d at s = at ≡ None
 Done ExStart d at s = (at ≡ None) × (announced_more d ≡ true)
 Done Exchange d at s = (at ≡ None) × (announced_more d ≡ false → s ≡ finite.empty)
@@ -127,7 +128,7 @@ mismatched : (moment : ℕ) (m : Neighbor) → IsDone m → IsDone (mismatch_ste
 mismatched moment m h = chosen OfStep (is_exchange_or_later m.state) (enter_exstart moment m)
     (no_sends m) (λ e. (refl, refl)) (λ e. h)
 
-two_way : (s : State) (moment : ℕ) (m : Neighbor) → IsDone m
+two_way : (s : NeighborState) (moment : ℕ) (m : Neighbor) → IsDone m
     → IsDone (two_way_received_in s moment m).neighbor
 two_way Init moment m h = (refl, refl)
 two_way ExStart moment m h = h
@@ -193,7 +194,7 @@ master moment d m is h =
     })) (no_sends (exchange_done moment m))
     (λ e.
     let n : Neighbor = record m { sequence = (m.sequence + 1) % 2 ^ 32 } in
-    subst (λ (s : State). Done s (describe moment n).neighbor.described m.exchanged
+    subst (λ (s : NeighborState). Done s (describe moment n).neighbor.described m.exchanged
     (describe moment n).neighbor.summary) (sym is) (described moment n h.0))
     (λ e. over_by (requests_nothing m) m.described (Some moment) m.summary
     (h.1 (first_false (announced_more m.described) d.more e)))
@@ -208,7 +209,7 @@ slave moment d m is h =
     chosen OfStep (announced_more replied.neighbor.described || d.more) replied (record replied {
       neighbor = exchange_done moment replied.neighbor;
     })
-    (λ e. subst (λ (s : State). Done s replied.neighbor.described m.exchanged
+    (λ e. subst (λ (s : NeighborState). Done s replied.neighbor.described m.exchanged
     replied.neighbor.summary) (sym is) so)
     (λ e. over_by (requests_nothing replied.neighbor) replied.neighbor.described (Some moment)
     replied.neighbor.summary
@@ -259,7 +260,7 @@ module _ (own moment : ℕ) (db : Database) (d : Description) where
       (is_duplicate m.received d && is_kept m.described) Verdict.Mismatch
       h (repeated moment m h) (mismatched moment m h)
 
-  stated : (s : State) (m : Neighbor) → IsDone (record m {
+  stated : (s : NeighborState) (m : Neighbor) → IsDone (record m {
     state = s;
   }) → IsDone (in_state s own moment db d (record m { state = s })).neighbor
   stated Init m h = negotiating_so (enter_exstart moment (record m {
@@ -282,7 +283,7 @@ module _ (own moment : ℕ) (db : Database) (d : Description) where
 
 -- ---- Loading, Link State Requests and a Tick
 
-filled_in : (s : State) (m : Neighbor) → IsDone (record m {
+filled_in : (s : NeighborState) (m : Neighbor) → IsDone (record m {
   state = s;
 }) → IsDone (loading_done_in s (record m { state = s }))
 filled_in Init m h = h
@@ -342,7 +343,7 @@ sent_again moment interval db m h =
         }) (no_sends n) (λ e. k) (λ e. k)
 
 -- the last Database Description is discarded only after the exchange was completed
-given_up : (s : State) (moment dead : ℕ) (d : Option Description) (at : Option ℕ)
+given_up : (s : NeighborState) (moment dead : ℕ) (d : Option Description) (at : Option ℕ)
     (l : ByKey ListEntry) → is_over_for moment dead at ≡ true → Done s d at l → Done s None at l
 given_up Init moment dead d at l e h = h
 given_up ExStart moment dead d at l e h = let no : true ≡ false = sym e
@@ -489,7 +490,7 @@ texts_any (bytes ∷ rest) = (read_any (lsa_in bytes), texts_any rest)
     read_any None = tt
     read_any (Some lsa) = tt
 
-brought_any : (b : Body) → OfBrought on_neighbors.of_lsa b
+brought_any : (b : PacketBody) → OfBrought on_neighbors.of_lsa b
 brought_any (body.Hello h) = tt
 brought_any (body.Description d) = tt
 brought_any (body.Request keys) = tt
@@ -537,7 +538,7 @@ always_done c steps r run number n at =
     subst (Holds IsDone) at (one_holds IsDone number r.area.links
     (run_kept steps (initial c) r run (first_so c)))
 
-emptied : (s : State) (d : Option Description) (at : Option ℕ) (l : ByKey ListEntry)
+emptied : (s : NeighborState) (d : Option Description) (at : Option ℕ) (l : ByKey ListEntry)
     → is_exchange_done s ≡ true → Done s d at l → l ≡ finite.empty
 emptied Init d at l is h = absurd cc
 emptied ExStart d at l is h = absurd cc

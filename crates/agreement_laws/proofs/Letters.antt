@@ -11,10 +11,10 @@ use Rattle.words.specs.declared.key.Key.{Key}
 use Rattle.lsa.specs.Headers.{header_at}
 use Rattle.lsa.specs.Reading.{fault_of, lsa_in, lsa_of}
 use Rattle.lsa.specs.Text.{text}
-use Rattle.lsa.specs.declared.fault.Fault.{Fault}
+use Rattle.lsa.specs.declared.fault.LsaFault.{LsaFault}
 use Rattle.lsdb.specs.Headers.{Header, Lsa, key_of, lsa_key}
-use Rattle.packet.specs.declared.model.Body.{Body}
-use Rattle.packet.specs.declared.model.Body.TheVariants as body
+use Rattle.packet.specs.declared.model.PacketBody.{PacketBody}
+use Rattle.packet.specs.declared.model.PacketBody.TheVariants as body
 use Rattle.packet.specs.declared.model.Description.{Description}
 use Rattle.packet.specs.declared.model.Packet.{Packet}
 use Rattle.packet.specs.Text.{PacketText, canonical}
@@ -71,7 +71,7 @@ module _ (R : Content → Type 0) where
   IsTextOfSent delay bytes = (lsa : Lsa) × (bytes ≡ text (sent_lsa delay lsa))
       × R (Content.Updates lsa)
 
-  abbrev pub BearsSent : ℕ → Body → Type 0
+  abbrev pub BearsSent : ℕ → PacketBody → Type 0
   BearsSent delay (body.Hello h) = Unit {0}
   BearsSent delay (body.Description d) = R (Content.Describes d)
   BearsSent delay (body.Request keys) = Unit {0}
@@ -168,7 +168,7 @@ module _ (R : Content → Type 0) where
 
     -- bytes of a packet from this router with contents that were sent
     abbrev pub IsLetter : List ℕ → Type 0
-    IsLetter bytes = (delay : ℕ) × (b : Body) × BearsSent delay b
+    IsLetter bytes = (delay : ℕ) × (b : PacketBody) × BearsSent delay b
         × (bytes ≡ canonical (packet_of own b)) × IsText own b
 
     abbrev OfOut : Out → Type 0
@@ -180,7 +180,8 @@ module _ (R : Content → Type 0) where
         (enumerate_from n links))
     outs_so n [] texts = tt
     outs_so n (link ∷ links) texts =
-        let bs : List Body = bodies link.interface.delay (filter_map (at_interface n) sends) in
+        let bs : List PacketBody = bodies link.interface.delay (filter_map (at_interface n) sends)
+        in
         both OfOut (outs_at own sends n link)
         (flat_map (λ (e : ℕ × Link). outs_at own sends e.0 e.1) (enumerate_from (n + 1) links))
         (mapped_all (out_of own n) (λ b. (n ≡ number → BearsSent link.interface.delay b)
@@ -213,7 +214,7 @@ module _ (R : Content → Type 0) where
 module _ (R : Content → Type 0) (ranged : (lsa : Lsa) → R (Content.Updates lsa)
     → IsInstance (instance_of_lsa lsa)) where
   -- an LSA that was sent, or a header that was acknowledged
-  pub data IsOfSent (b : Body) (name : LsaInstance) : Type 0 where
+  pub data IsOfSent (b : PacketBody) (name : LsaInstance) : Type 0 where
     OfUpdate : (lsa : Lsa) → R (Content.Updates lsa) → instance_of_lsa lsa ≡ name → IsOfSent b name
     OfDescription : (d : Description) (header : Header) → Contains d.headers header
         → R (Content.Describes d) → instance_of_header header ≡ name → IsOfSent b name
@@ -221,11 +222,11 @@ module _ (R : Content → Type 0) (ranged : (lsa : Lsa) → R (Content.Updates l
         → Contains headers header → R (Content.Acknowledges header) → instance_of_header header
         ≡ name → IsOfSent b name
 
-  abbrev read_unless : List ℕ → Option Fault → Option Lsa
+  abbrev read_unless : List ℕ → Option LsaFault → Option Lsa
   read_unless bytes None = Some (lsa_of bytes)
   read_unless bytes (Some f) = None
 
-  in_update : (b : Body) (delay : ℕ) (lsas : List (List ℕ)) (name : LsaInstance)
+  in_update : (b : PacketBody) (delay : ℕ) (lsas : List (List ℕ)) (name : LsaInstance)
       → AllByRecursion (IsTextOfSent R delay) lsas → Contains (instances_in_update lsas) name
       → IsOfSent b name
   in_update b delay [] name h c = absurd (of_empty name c)
@@ -236,9 +237,11 @@ module _ (R : Content → Type 0) (ranged : (lsa : Lsa) → R (Content.Updates l
       same = sym (ap (λ bs. instance_of_header (header_at bs 0)) h.0.1
           ∙ name_read (sent_lsa delay h.0.0) (ranged h.0.0 h.0.2))
 
-      by_fault : (o : Option Fault) → (Contains (instances_in_update rest) name → IsOfSent b name)
+      by_fault : (o : Option LsaFault)
+          → (Contains (instances_in_update rest) name → IsOfSent b name)
           → Contains (map instance_of_lsa
-          (cons_option (read_unless bytes o) (filter_map lsa_in rest))) name → IsOfSent b name
+          (cons_option (read_unless bytes o) (filter_map lsa_in rest))) name
+          → IsOfSent b name
       by_fault None others k = by_place
           (of_cons (instance_of_lsa (lsa_of bytes)) (instances_in_update rest) name k)
         where
@@ -263,7 +266,7 @@ module _ (R : Content → Type 0) (ranged : (lsa : Lsa) → R (Content.Updates l
       by_place others (inl is) = (header, named_first header headers header refl, is)
       by_place others (inr k) = let it = others k in (it.0, later_is header headers it.0 it.1, it.2)
 
-  in_body : (delay : ℕ) (b : Body) (name : LsaInstance) → BearsSent R delay b
+  in_body : (delay : ℕ) (b : PacketBody) (name : LsaInstance) → BearsSent R delay b
       → Contains (instances_told b) name → IsOfSent b name
   in_body delay (body.Hello h) name bears c = absurd (of_empty name c)
   in_body delay (body.Description d) name bears c = let it = header_of d.headers name c in
@@ -283,7 +286,7 @@ module _ (R : Content → Type 0) (ranged : (lsa : Lsa) → R (Content.Updates l
       → (name : LsaInstance) → Contains (instances_told packet.body) name
       → IsOfSent packet.body name
   told_in number own sends so bytes letter packet text name c =
-      let b : Body = letter.1 in
+      let b : PacketBody = letter.1 in
       let same : packet_of own b ≡ packet =
       one_packet bytes (packet_of own b) packet
       (subst (λ bs. PacketText bs (packet_of own b)) (sym letter.3) letter.4) text in

@@ -7,7 +7,7 @@ use Rattle.std.specs.Prelude.{slice_get}
 use Rattle.std.specs.FinMap as finite
 use Rattle.std.specs.List.{AllByRecursion, Contains, filter_map}
 use Rattle.words.specs.declared.key.Key.{Key}
-use Rattle.lsa.specs.declared.body.Body.{Body as LsaBody}
+use Rattle.lsa.specs.declared.body.LsaBody.{LsaBody}
 use Rattle.lsdb.specs.Copies.{DatabaseCopy, age_out, copy_now, install_originated, is_aged_out}
 use Rattle.lsdb.specs.Headers.{Header, Lsa, key_of, lsa_aged, lsa_key}
 use Rattle.lsdb.specs.Instances.{instance_of}

@@ -11,7 +11,7 @@ use Rattle.std.specs.Ordering.{is_eq}
 use Rattle.std.proofs.lemmas.Bool.{eqb-true}
 use Rattle.std.specs.declared.cmp.Ordering.{Ordering}
 use Rattle.words.specs.declared.key.Key.{Key}
-use Rattle.lsa.specs.declared.body.Body.{Body as LsaBody}
+use Rattle.lsa.specs.declared.body.LsaBody.{LsaBody}
 use Rattle.lsdb.specs.Copies.{Database, DatabaseCopy, age_out, copy_now, has_just_aged_out}
 use Rattle.lsdb.specs.Copies.{install_flooded, install_originated, installed_just_now, lsa_now}
 use Rattle.lsdb.specs.Copies.{newer_than_copy, same_as_copy, sent_just_now}

@@ -16,8 +16,9 @@ use Rattle.lsdb.specs.Instances.{ListEntry, aged_header, instance_of}
 use Rattle.lsdb.specs.Order.{is_max_age}
 use Rattle.lsdb.specs.declared.order.Instance.{Instance}
 use Rattle.packet.specs.declared.model.Description.{Description}
-use Rattle.adjacency.specs.declared.state.State.{State}
-use Rattle.adjacency.specs.declared.state.State.TheVariants.{Init, ExStart, Exchange, Loading, Full}
+use Rattle.adjacency.specs.declared.state.NeighborState.{NeighborState}
+use Rattle.adjacency.specs.declared.state.NeighborState.TheVariants.{Init, ExStart, Exchange}
+use Rattle.adjacency.specs.declared.state.NeighborState.TheVariants.{Loading, Full}
 use Rattle.adjacency.specs.Adjacencies.{after_hello, after_inactivity_timer, enter_exstart}
 use Rattle.adjacency.specs.Adjacencies.{has_passed, loading_done_in, mismatch_step}
 use Rattle.adjacency.specs.Adjacencies.{one_way_received, requests_nothing, two_way_received}
@@ -184,7 +185,7 @@ module _ (old : Router) where
     mismatched moment n h = chosen OfStep (is_exchange_or_later n.state) (enter_exstart moment n)
         (no_sends n) (λ e. begun moment n) (λ e. quiet_step n h)
 
-    named_in : (s : State) (moment : ℕ) (n : Neighbor) → OfNeighbor T number n
+    named_in : (s : NeighborState) (moment : ℕ) (n : Neighbor) → OfNeighbor T number n
         → OfStep (two_way_received_in s moment n)
     named_in Init moment n h = begun moment n
     named_in ExStart moment n h = quiet_step n h
@@ -356,8 +357,8 @@ module _ (old : Router) where
         → OfNeighbor T number n → OfStep (judge own moment db d n)
     judged own moment db d copies n h = acted (verdict own n d) moment db d n copies h
 
-    in_state_so : (s : State) (own moment : ℕ) (db : Database) (d : Description) (n : Neighbor)
-        → OfCopies db → OfNeighbor T number n → OfStep (in_state s own moment db d n)
+    in_state_so : (s : NeighborState) (own moment : ℕ) (db : Database) (d : Description)
+        (n : Neighbor) → OfCopies db → OfNeighbor T number n → OfStep (in_state s own moment db d n)
     in_state_so Init own moment db d n copies h =
         then_step (two_way_received moment n) (judge own moment db d) (named moment n h)
         (judged own moment db d copies)
@@ -467,7 +468,7 @@ module _ (old : Router) where
 
     -- ---- by each link itself
 
-    filled_in : (s : State) (n : Neighbor) → OfNeighbor T number n
+    filled_in : (s : NeighborState) (n : Neighbor) → OfNeighbor T number n
         → OfNeighbor T number (loading_done_in s n)
     filled_in Init n h = h
     filled_in ExStart n h = h

@@ -6,8 +6,8 @@ use Rattle.std.specs.List.{Contains, cons_option, enumerate_from, filter_map, fl
 use Rattle.std.proofs.lemmas.Bool.{eq-eqb}
 use Rattle.std.proofs.lemmas.List.Elements.{Contains-append_left, Contains-append_right}
 use Rattle.lsdb.specs.Headers.{key_of, lsa_key}
-use Rattle.packet.specs.declared.model.Body.{Body}
-use Rattle.packet.specs.declared.model.Body.TheVariants as body
+use Rattle.packet.specs.declared.model.PacketBody.{PacketBody}
+use Rattle.packet.specs.declared.model.PacketBody.TheVariants as body
 use Rattle.packet.specs.declared.model.Description.{Description}
 use Rattle.adjacency.specs.Contents.{Content}
 use Rattle.received.specs.Links.{Link, link_at}
@@ -40,13 +40,14 @@ module _ (d : Description) where
   among_bodies : (delay : ℕ) (contents : List Content) → Contains contents (Content.Describes d)
       → Contains (bodies delay contents) (body.Description d)
   among_bodies delay contents c =
-      let hs : List Body = filter_map hellos contents in
-      let ds : List Body = filter_map descriptions contents in
-      let rs : List Body = map body.Request (in_key_order first_key (filter_map requests contents))
+      let hs : List PacketBody = filter_map hellos contents in
+      let ds : List PacketBody = filter_map descriptions contents in
+      let rs : List PacketBody = map body.Request
+      (in_key_order first_key (filter_map requests contents))
       in
-      let us : List Body = map (update_of delay)
+      let us : List PacketBody = map (update_of delay)
       (packed_groups lsa_size 28 (in_key_order lsa_key (filter_map updates contents))) in
-      let acks : List Body = map body.Acknowledgment
+      let acks : List PacketBody = map body.Acknowledgment
       (packed_groups header_size 24 (in_key_order key_of (filter_map acknowledgments contents)))
       in
       Contains-append_left (hs ++ ds ++ rs ++ us) acks (body.Description d)

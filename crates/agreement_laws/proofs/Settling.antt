@@ -14,8 +14,9 @@ use Rattle.lsdb.specs.Instances.{ListEntry, instance_of, listed_now}
 use Rattle.lsdb.specs.Keys.{ByKey, same_key}
 use Rattle.lsdb.specs.declared.order.Instance.{Instance}
 use Rattle.packet.specs.declared.model.Description.{Description}
-use Rattle.adjacency.specs.declared.state.State.{State}
-use Rattle.adjacency.specs.declared.state.State.TheVariants.{Init, ExStart, Exchange, Loading, Full}
+use Rattle.adjacency.specs.declared.state.NeighborState.{NeighborState}
+use Rattle.adjacency.specs.declared.state.NeighborState.TheVariants.{Init, ExStart, Exchange}
+use Rattle.adjacency.specs.declared.state.NeighborState.TheVariants.{Loading, Full}
 use Rattle.adjacency.specs.Adjacencies.{after_hello, enter_exstart, has_passed, loading_done}
 use Rattle.adjacency.specs.Adjacencies.{loading_done_in, mismatch_step, requests_nothing}
 use Rattle.adjacency.specs.Adjacencies.{two_way_received_in, with_hello_heard}
@@ -246,7 +247,7 @@ module _ (key : Key) (now : ℕ) (Of : ℕ → Type 0) (Said : Saying) where
   mismatched x moment m h = chosen (λ (s : Step). Settling x s.neighbor)
       (is_exchange_or_later m.state) (enter_exstart moment m) (no_sends m) (λ e. inl refl) (λ e. h)
 
-  two_way : (x : Option Instance) (s : State) (moment : ℕ) (m : Neighbor) → Settling x m
+  two_way : (x : Option Instance) (s : NeighborState) (moment : ℕ) (m : Neighbor) → Settling x m
       → Settling x (two_way_received_in s moment m).neighbor
   two_way x Init moment m h = inl refl
   two_way x ExStart moment m h = h
@@ -400,7 +401,7 @@ module _ (key : Key) (now : ℕ) (Of : ℕ → Type 0) (Said : Saying) where
 
   -- ---- Loading, Link State Requests and the last Database Description
 
-  filled_in : (x : Option Instance) (s : State) (m : Neighbor) → Settling x (record m {
+  filled_in : (x : Option Instance) (s : NeighborState) (m : Neighbor) → Settling x (record m {
     state = s;
   }) → Settling x (loading_done_in s (record m { state = s }))
   filled_in x Init m h = h

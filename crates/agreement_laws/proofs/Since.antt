@@ -7,8 +7,8 @@ use Rattle.words.specs.declared.key.Key.{Key}
 use Rattle.lsa.specs.Reading.{lsa_in}
 use Rattle.lsdb.specs.Headers.{Header, Lsa, key_of}
 use Rattle.lsdb.specs.Instances.{ListEntry}
-use Rattle.packet.specs.declared.model.Body.{Body}
-use Rattle.packet.specs.declared.model.Body.TheVariants as body
+use Rattle.packet.specs.declared.model.PacketBody.{PacketBody}
+use Rattle.packet.specs.declared.model.PacketBody.TheVariants as body
 use Rattle.packet.specs.declared.model.Packet.{Packet}
 use Rattle.packet.specs.Text.{PacketText}
 use Rattle.adjacency.specs.Neighbors.{Neighbor, is_exchange_or_later}
@@ -58,8 +58,8 @@ renamed (l ∷ lsas) header c = by_place (λ k. renamed lsas header k)
 
 module _ (number : ℕ) (own : ℕ) (step : Step) (header : Header) where
   heard : (bytes : List ℕ) (packet : Packet) → step.event ≡ Occurrence.Packet number bytes
-      → PacketText bytes packet → (b : Body) → packet.body ≡ b → Contains (headers_told b) header
-      → Exchanged number header own step
+      → PacketText bytes packet → (b : PacketBody) → packet.body ≡ b
+      → Contains (headers_told b) header → Exchanged number header own step
   heard bytes packet is text (body.Hello h) same c = absurd (of_empty header c)
   heard bytes packet is text (body.Description d) same c =
       inr (
@@ -68,7 +68,7 @@ module _ (number : ℕ) (own : ℕ) (step : Step) (header : Header) where
           is = is;
           packet = packet;
           text = text;
-          told = subst (λ (b : Body). Contains (instances_told b) (instance_of_header header))
+          told = subst (λ (b : PacketBody). Contains (instances_told b) (instance_of_header header))
               (sym same) (mapped instance_of_header d.headers header c);
         },
       )
@@ -80,7 +80,7 @@ module _ (number : ℕ) (own : ℕ) (step : Step) (header : Header) where
           is = is;
           packet = packet;
           text = text;
-          told = subst (λ (b : Body). Contains (instances_told b) (instance_of_header header))
+          told = subst (λ (b : PacketBody). Contains (instances_told b) (instance_of_header header))
               (sym same) (renamed (filter_map lsa_in lsas) header c);
         },
       )
@@ -91,7 +91,7 @@ module _ (number : ℕ) (own : ℕ) (step : Step) (header : Header) where
           is = is;
           packet = packet;
           text = text;
-          told = subst (λ (b : Body). Contains (instances_told b) (instance_of_header header))
+          told = subst (λ (b : PacketBody). Contains (instances_told b) (instance_of_header header))
               (sym same) (mapped instance_of_header headers header c);
         },
       )

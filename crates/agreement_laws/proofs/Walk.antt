@@ -10,17 +10,17 @@ use Rattle.words.specs.declared.key.Key.{Key}
 use Rattle.lsa.specs.Origination.{sealed_lsa}
 use Rattle.lsa.specs.Reading.{body_fills, checksum_is_right, fault_of, first_of, is_known_type}
 use Rattle.lsa.specs.Reading.{lsa_in, lsa_of}
-use Rattle.lsa.specs.declared.body.Body.{Body as LsaBody}
-use Rattle.lsa.specs.declared.fault.Fault.{Fault}
-use Rattle.lsa.specs.declared.fault.Fault.TheVariants as wrong
+use Rattle.lsa.specs.declared.body.LsaBody.{LsaBody}
+use Rattle.lsa.specs.declared.fault.LsaFault.{LsaFault}
+use Rattle.lsa.specs.declared.fault.LsaFault.TheVariants as wrong
 use Rattle.words.specs.Fields.{field}
 use Rattle.lsdb.specs.Copies.{DatabaseCopy, copy_now, has_just_aged_out, lsa_now}
 use Rattle.lsdb.specs.Headers.{Header, Lsa, key_of, lsa_key}
 use Rattle.lsdb.specs.Instances.{ListEntry}
 use Rattle.lsdb.specs.Keys.{ByKey, key_cmp, same_key}
 use Rattle.lsdb.specs.declared.order.Instance.{Instance}
-use Rattle.packet.specs.declared.model.Body.{Body}
-use Rattle.packet.specs.declared.model.Body.TheVariants as body
+use Rattle.packet.specs.declared.model.PacketBody.{PacketBody}
+use Rattle.packet.specs.declared.model.PacketBody.TheVariants as body
 use Rattle.packet.specs.declared.model.Packet.{Packet}
 use Rattle.adjacency.specs.Contents.{Content}
 use Rattle.adjacency.specs.Lists.{HasSoundLists}
@@ -61,13 +61,14 @@ use Rattle.agreement_laws.proofs.Settling.{Has, Saying, Settling, settling_more}
 
 -- ---- ages of LSAs that are parsed, and of those that are originated
 
-abbrev read_unless : List ℕ → Option Fault → Option Lsa
+abbrev read_unless : List ℕ → Option LsaFault → Option Lsa
 read_unless bytes None = Some (lsa_of bytes)
 read_unless bytes (Some f) = None
 
-not_too_old : (a b c d e f g : Bool) (s : Fault) (t : Fault) (u : Fault) (v : Fault) (w : Fault)
-    (x : Fault) (y : Fault) → first_of
-    ((a, s) ∷ (b, t) ∷ (c, u) ∷ (d, v) ∷ (e, w) ∷ (f, x) ∷ (g, y) ∷ []) ≡ None → e ≡ false
+not_too_old : (a b c d e f g : Bool) (s : LsaFault) (t : LsaFault) (u : LsaFault) (v : LsaFault)
+    (w : LsaFault) (x : LsaFault) (y : LsaFault)
+    → first_of ((a, s) ∷ (b, t) ∷ (c, u) ∷ (d, v) ∷ (e, w) ∷ (f, x) ∷ (g, y) ∷ []) ≡ None
+    → e ≡ false
 not_too_old true b c d e f g s t u v w x y is = absurd cc
 not_too_old false true c d e f g s t u v w x y is = absurd cc
 not_too_old false false true d e f g s t u v w x y is = absurd cc
@@ -88,7 +89,7 @@ young_text bytes is = ltb-false 3600 (field bytes 0 2)
 read_age : (bytes : List ℕ) (lsa : Lsa) → lsa_in bytes ≡ Some lsa → lsa.header.age ≤ 3600
 read_age bytes lsa is = by_fault (fault_of bytes) refl is
   where
-    by_fault : (o : Option Fault) → fault_of bytes ≡ o → read_unless bytes o ≡ Some lsa
+    by_fault : (o : Option LsaFault) → fault_of bytes ≡ o → read_unless bytes o ≡ Some lsa
         → lsa.header.age ≤ 3600
     by_fault None e at = subst (λ (l : Lsa). l.header.age ≤ 3600) (some_same at)
         (young_text bytes e)
@@ -109,7 +110,7 @@ brought_age (bytes ∷ rest) lsa c = by_first (lsa_in bytes) refl (λ k. brought
         by_place (inl is) = subst (λ (m : Lsa). m.header.age ≤ 3600) is (read_age bytes l e)
         by_place (inr more) = others more
 
-brought_by : (b : Body) (lsa : Lsa) → Contains (lsas_brought b) lsa → (lsa.header.age ≤ 3600)
+brought_by : (b : PacketBody) (lsa : Lsa) → Contains (lsas_brought b) lsa → (lsa.header.age ≤ 3600)
     × Contains (headers_told b) lsa.header
 brought_by (body.Hello h) lsa c = absurd (of_empty lsa c)
 brought_by (body.Description d) lsa c = absurd (of_empty lsa c)
@@ -557,13 +558,13 @@ module _ (key : Key) (number : ℕ) (Before : Saying) (old : Router) (moment : �
             parts.descriptions key moment number HasLink IsIts Base start.router.id place d
             (outcome start)
             (λ g c. tells place packet heard (ap is_hello is) g
-            (subst (λ (b : Body). Contains (headers_told b) g) (sym is) c))
+            (subst (λ (b : PacketBody). Contains (headers_told b) g) (sym is) c))
             (own_of start.router.area so.area)
             (λ m at. (its_router m at, empty_before so.area m at, has_link m at)) h;
         acknowledgment = λ place packet headers heard is so h.
             parts.acknowledgments key moment number HasLink IsIts Base place headers (outcome start)
             (λ g c. tells place packet heard (ap is_hello is) g
-            (subst (λ (b : Body). Contains (headers_told b) g) (sym is) c))
+            (subst (λ (b : PacketBody). Contains (headers_told b) g) (sym is) c))
             (one_of (AreOfTheDatabase start.router.area.database) start.router.area
             (facts so.area).entries) h;
         requested = λ place keys o t area h. parts.sent key moment number HasLink IsIts Base

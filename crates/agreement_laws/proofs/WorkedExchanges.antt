@@ -4,7 +4,7 @@ use Rattle.std.proofs.Common.{ap, subst, ◌∙◌}
 use Rattle.std.specs.List.{Contains}
 use Rattle.lsdb.specs.Headers.{Header}
 use Rattle.lsdb.specs.Instances.{ListEntry}
-use Rattle.packet.specs.declared.model.Body.TheVariants as body
+use Rattle.packet.specs.declared.model.PacketBody.TheVariants as body
 use Rattle.packet.specs.declared.model.Description.{Description}
 use Rattle.packet.specs.declared.model.Hello.{Hello}
 use Rattle.packet.specs.declared.model.Packet.{Packet}
@@ -12,7 +12,7 @@ use Rattle.packet.specs.Text.{PacketText}
 use Rattle.adjacency.specs.Adjacencies.{initial_description}
 use Rattle.adjacency.specs.Contents.{Content}
 use Rattle.adjacency.specs.Descriptions.{young_copies}
-use Rattle.adjacency.specs.declared.state.State.{State}
+use Rattle.adjacency.specs.declared.state.NeighborState.{NeighborState}
 use Rattle.received.specs.Links.{Link, link_at, neighbor_on}
 use Rattle.events.specs.declared.model.Out.{Out}
 use Rattle.events.specs.Events.{Happens, Run, Step}
@@ -31,7 +31,7 @@ use Rattle.agreement_laws.specs.WorkedExchanges.{WorkedExchanges}
 use Rattle.agreement_laws.proofs.Sent.{goes_out}
 
 -- a neighbor that is shown is at an interface
-its_link : (o : Option Link) (from : ℕ) (state : State) → id_and_state (neighbor_on o)
+its_link : (o : Option Link) (from : ℕ) (state : NeighborState) → id_and_state (neighbor_on o)
     ≡ Some (from, state) → (link : Link) × (o ≡ Some link)
 its_link None from state e = absurd cc
 its_link (Some link) from state e = (link, refl)

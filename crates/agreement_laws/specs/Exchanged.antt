@@ -7,8 +7,8 @@ use Rattle.words.specs.Numbers.{InterfaceNumber, Moment, RouterNumber}
 use Rattle.lsa.specs.Reading.{lsa_in}
 use Rattle.lsdb.specs.Headers.{Header, Lsa}
 use Rattle.lsdb.specs.Instances.{ListEntry}
-use Rattle.packet.specs.declared.model.Body.{Body}
-use Rattle.packet.specs.declared.model.Body.TheVariants as body
+use Rattle.packet.specs.declared.model.PacketBody.{PacketBody}
+use Rattle.packet.specs.declared.model.PacketBody.TheVariants as body
 use Rattle.packet.specs.declared.model.Description.{Description}
 use Rattle.packet.specs.declared.model.Packet.{Packet}
 use Rattle.packet.specs.Text.{PacketText}
@@ -43,7 +43,7 @@ pub record Converses (number : InterfaceNumber) (with_it : Conversation) (r : Ro
 
 -- the headers in a packet: those of a Database Description, of the LSAs in a Link State Update that
 -- can be parsed, and of a Link State Acknowledgment
-abbrev pub headers_told : Body → List Header
+abbrev pub headers_told : PacketBody → List Header
 headers_told (body.Hello h) = []
 headers_told (body.Description d) = d.headers
 headers_told (body.Request keys) = []

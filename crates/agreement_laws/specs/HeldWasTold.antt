@@ -11,9 +11,9 @@ use Rattle.lsdb.specs.Copies.{DatabaseCopy, copy_now}
 use Rattle.lsdb.specs.Headers.{key_of}
 use Rattle.lsdb.specs.Instances.{ListEntry, listed_now}
 use Rattle.lsdb.specs.declared.order.Instance.{Instance}
-use Rattle.adjacency.specs.declared.state.State.{State}
-use Rattle.adjacency.specs.declared.state.State.TheVariants.{Exchange, ExStart, Full, Init}
-use Rattle.adjacency.specs.declared.state.State.TheVariants.{Loading}
+use Rattle.adjacency.specs.declared.state.NeighborState.{NeighborState}
+use Rattle.adjacency.specs.declared.state.NeighborState.TheVariants.{Exchange, ExStart, Full, Init}
+use Rattle.adjacency.specs.declared.state.NeighborState.TheVariants.{Loading}
 use Rattle.adjacency.specs.Neighbors.{Neighbor, is_exchange_or_later}
 use Rattle.received.specs.Links.{neighbor_at}
 use Rattle.events.specs.declared.model.Config.{Config}
@@ -47,12 +47,13 @@ WhatIsHeldWasTold =
     → is_exchange_or_later n.state ≡ true
     → (key : Key) (copy : DatabaseCopy) → finite.get r.area.database key ≡ Some copy
     → IsNotOwed n key
-    → WasExchangedAsNew number (conversation_with n) key (copy_now r.moment copy) (initial c) steps r
+    → WasExchangedAsNew number (conversation_with n) key (copy_now r.moment copy) (initial c)
+    steps r
 
 -- ---- Full neighbors
 
 -- in Loading and Full the exchange of Database Descriptions is completed
-abbrev pub is_exchange_done : State → Bool
+abbrev pub is_exchange_done : NeighborState → Bool
 is_exchange_done Init = false
 is_exchange_done ExStart = false
 is_exchange_done Exchange = false
@@ -76,4 +77,5 @@ FullNeighborsWereTold =
     → n.state ≡ Full
     → (key : Key) (copy : DatabaseCopy) → finite.get r.area.database key ≡ Some copy
     → finite.contains_key n.retransmissions key ≡ false
-    → WasExchangedAsNew number (conversation_with n) key (copy_now r.moment copy) (initial c) steps r
+    → WasExchangedAsNew number (conversation_with n) key (copy_now r.moment copy) (initial c)
+    steps r

@@ -2,7 +2,8 @@
 -- the other, and an LSA is on neither one's retransmission list, both hold the same instance;
 -- unless one of them described it to the other in their exchange, or was without a copy after it
 -- had told the other that it has it.
-use Rattle.std.specs.Prelude.{◌≡◌, ◌⊎◌, ℕ, ◌<◌, Bool, true, false, List, [], length, map, None, Some}
+use Rattle.std.specs.Prelude.{◌≡◌, ◌⊎◌, ℕ, ◌<◌, Bool, true, false, List, [], length, map, None}
+use Rattle.std.specs.Prelude.{Some}
 use Rattle.std.specs.Prelude.{slice_get}
 use Rattle.std.specs.FinMap as finite
 use Rattle.std.specs.List.{Contains}
@@ -11,11 +12,11 @@ use Rattle.words.specs.declared.key.Key.{Key}
 use Rattle.lsdb.specs.Copies.{DatabaseCopy}
 use Rattle.lsdb.specs.Headers.{Header, key_of}
 use Rattle.lsdb.specs.Order.{is_max_age}
-use Rattle.packet.specs.declared.model.Body.{Body}
-use Rattle.packet.specs.declared.model.Body.TheVariants as body
+use Rattle.packet.specs.declared.model.PacketBody.{PacketBody}
+use Rattle.packet.specs.declared.model.PacketBody.TheVariants as body
 use Rattle.packet.specs.declared.model.Packet.{Packet}
 use Rattle.packet.specs.Text.{PacketText}
-use Rattle.adjacency.specs.declared.state.State.TheVariants.{Full}
+use Rattle.adjacency.specs.declared.state.NeighborState.TheVariants.{Full}
 use Rattle.adjacency.specs.Neighbors.{Neighbor}
 use Rattle.received.specs.Links.{neighbor_at}
 use Rattle.events.specs.Events.{Step}
@@ -45,7 +46,7 @@ pub record HoldsAsNew (r : Router) (name : LsaInstance) : Type 0 where
 
 -- the instances in a packet: in a Database Description, a Link State Update or a Link State
 -- Acknowledgment
-abbrev pub instances_told : Body → List LsaInstance
+abbrev pub instances_told : PacketBody → List LsaInstance
 instances_told (body.Hello h) = []
 instances_told (body.Description d) = map instance_of_header d.headers
 instances_told (body.Request keys) = []

@@ -5,7 +5,7 @@ use Rattle.words.specs.Numbers.{InterfaceNumber}
 use Rattle.words.specs.declared.key.Key.{Key}
 use Rattle.lsdb.specs.Headers.{Header}
 use Rattle.lsdb.specs.Instances.{ListEntry}
-use Rattle.packet.specs.declared.model.Body.TheVariants as body
+use Rattle.packet.specs.declared.model.PacketBody.TheVariants as body
 use Rattle.packet.specs.declared.model.Hello.{Hello}
 use Rattle.packet.specs.Text.{PacketText}
 use Rattle.packet.specs.declared.model.Packet.{Packet}

@@ -8,7 +8,7 @@ use crate::trimming::trim;
 use crate::verdict::{Annotated, judged};
 use inference::{Inference, infer_statements};
 use isa::{Code, Hook, decode};
-use object::{Kind, Rank, Statement};
+use object::{Rank, StatedKind, Statement};
 use ranking_functions::{RankPlan, Ranking, Unranked, rank_statements};
 use std::alloc::{AllocError, Global};
 use verifier::BUDGET;
@@ -30,8 +30,8 @@ fn most_for(code: &Code) -> u64 {
 }
 
 /// What the statement says of r0 to r9.
-pub fn kinds_of(statement: &Statement) -> [Kind; 10] {
-    let mut kinds = [Kind::Empty; 10];
+pub fn kinds_of(statement: &Statement) -> [StatedKind; 10] {
+    let mut kinds = [StatedKind::Empty; 10];
     for (register, kind) in statement.kinds().iter().enumerate() {
         if register < 10 {
             kinds[register] = *kind;

@@ -19,7 +19,8 @@ pub enum CountError {
 }
 
 impl From<BuildError> for CountError {
-    ghost use Rattle.annotations.specs.declared.count_error.CountError.TheVariants.{Memory, TooLong};
+    ghost use Rattle.annotations.specs.declared.count_error.CountError.TheVariants.{Memory};
+    ghost use Rattle.annotations.specs.declared.count_error.CountError.TheVariants.{TooLong};
 
     ghost from_gives = { λ _ error. (error ≡ TooLong) ⊎ (error ≡ Memory) };
 

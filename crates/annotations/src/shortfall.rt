@@ -3,7 +3,7 @@
 use crate::count_error::CountError;
 use crate::verdict::{EndlessLoop, Rejected};
 use isa::{DecodeError, Hook};
-use object::ReadError;
+use object::ObjectError;
 
 /// Why there is no object that the verifier accepts.
 #[derive(Drop)]
@@ -11,7 +11,7 @@ pub enum Shortfall {
     /// The bytes are no code.
     Code(DecodeError),
     /// The file begins as an object's does, and is none.
-    Object(ReadError),
+    Object(ObjectError),
     /// The object is for this other hook.
     OtherHook(Hook),
     /// The turns of its loops can't be counted.

@@ -6,7 +6,7 @@ ghost use Rattle.annotations.specs.Verdict.{IsShortfall};
 use crate::attempt::{Task, kinds_of};
 use crate::shortfall::Shortfall;
 use crate::verdict::{Annotated, judged};
-use object::{Kind, StatedNumber, Statement};
+use object::{StatedKind, StatedNumber, Statement};
 use std::alloc::{AllocError, Global};
 
 /// So many statements are trimmed one by one at most.
@@ -21,11 +21,11 @@ fn any_bits(numbers: StatedNumber) -> StatedNumber {
 }
 
 /// The kind without known bits.
-fn without_bits(kind: Kind) -> Kind {
+fn without_bits(kind: StatedKind) -> StatedKind {
     match kind {
-        Kind::Number(numbers) => Kind::Number(any_bits(numbers)),
-        Kind::MapValue(map, numbers) => Kind::MapValue(map, any_bits(numbers)),
-        Kind::Empty | Kind::Context(_) | Kind::Stack(_) => kind,
+        StatedKind::Number(numbers) => StatedKind::Number(any_bits(numbers)),
+        StatedKind::MapValue(map, numbers) => StatedKind::MapValue(map, any_bits(numbers)),
+        StatedKind::Empty | StatedKind::Context(_) | StatedKind::Stack(_) => kind,
     }
 }
 

@@ -3,9 +3,10 @@
 use Rattle.std.proofs.Common.{◌≡◌, ℕ, Bool, true, false, cond, ◌⊎◌, inl, inr, List, [], ◌∷◌}
 use Rattle.std.proofs.Common.{Option, None, Some, refl, sym, ap, subst, ◌∙◌}
 use Rattle.packet.specs.declared.model.Description.{Description}
-use Rattle.adjacency.specs.declared.state.State.{State}
-use Rattle.adjacency.specs.declared.state.State.TheVariants.{Init, ExStart, Exchange, Loading}
-use Rattle.adjacency.specs.declared.state.State.TheVariants.{Full}
+use Rattle.adjacency.specs.declared.state.NeighborState.{NeighborState}
+use Rattle.adjacency.specs.declared.state.NeighborState.TheVariants.{Init, ExStart, Exchange}
+use Rattle.adjacency.specs.declared.state.NeighborState.TheVariants.{Loading}
+use Rattle.adjacency.specs.declared.state.NeighborState.TheVariants.{Full}
 use Rattle.adjacency.specs.Neighbors.{Neighbor, is_exchange_or_later}
 use Rattle.received.specs.Holds.{Holds}
 use Rattle.received.specs.Links.{neighbor_at}
@@ -448,7 +449,7 @@ foreigners ends side now earlier h =
 
 -- ---- the law
 
-exchange_then : (s : State) → is_exchange_done s ≡ true → is_exchange_or_later s ≡ true
+exchange_then : (s : NeighborState) → is_exchange_done s ≡ true → is_exchange_or_later s ≡ true
 exchange_then Init e = absurd cc
 exchange_then ExStart e = absurd cc
 exchange_then Exchange e = absurd cc

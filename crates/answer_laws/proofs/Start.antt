@@ -5,7 +5,7 @@ use Rattle.std.proofs.Common.{refl, ap}
 use Rattle.std.specs.Prelude.{slice_get}
 use Rattle.std.specs.FinMap as finite
 use Rattle.words.specs.declared.key.Key.{Key}
-use Rattle.lsa.specs.declared.body.Body.{Body as LsaBody}
+use Rattle.lsa.specs.declared.body.LsaBody.{LsaBody}
 use Rattle.lsdb.specs.Copies.{DatabaseCopy, age_out, install_originated, is_aged_out}
 use Rattle.lsdb.specs.Headers.{Lsa, lsa_aged}
 use Rattle.adjacency.specs.Neighbors.{Neighbor}

@@ -12,9 +12,10 @@ use Rattle.std.proofs.lemmas.List.Elements.{Contains-append_cases}
 use Rattle.lsdb.specs.Copies.{Database}
 use Rattle.lsdb.specs.Headers.{Header, Lsa, key_of, lsa_key}
 use Rattle.packet.specs.declared.model.Description.{Description}
-use Rattle.adjacency.specs.declared.state.State.{State}
-use Rattle.adjacency.specs.declared.state.State.TheVariants.{Init, ExStart, Exchange, Loading}
-use Rattle.adjacency.specs.declared.state.State.TheVariants.{Full}
+use Rattle.adjacency.specs.declared.state.NeighborState.{NeighborState}
+use Rattle.adjacency.specs.declared.state.NeighborState.TheVariants.{Init, ExStart, Exchange}
+use Rattle.adjacency.specs.declared.state.NeighborState.TheVariants.{Loading}
+use Rattle.adjacency.specs.declared.state.NeighborState.TheVariants.{Full}
 use Rattle.adjacency.specs.Adjacencies.{after_hello, enter_exstart, has_passed, initial_description}
 use Rattle.adjacency.specs.Adjacencies.{loading_done, loading_done_in, mismatch_step}
 use Rattle.adjacency.specs.Adjacencies.{requests_nothing, two_way_received}
@@ -268,7 +269,7 @@ module _ (own : ℕ) (Acc : Description → Type 0) (Began : Conversation → Ty
       chosen (OfStep S) (is_exchange_or_later m.state) (enter_exstart moment m) (no_sends m)
       (λ e. entered moment (With S (enter_exstart moment m).sends) m h.0) (λ e. nothing S m h)
 
-  two_way : (moment : ℕ) (S : Description → Type 0) (s : State) (m : Neighbor) → Sound S m
+  two_way : (moment : ℕ) (S : Description → Type 0) (s : NeighborState) (m : Neighbor) → Sound S m
       → OfStep S (two_way_received_in s moment m)
   two_way moment S Init m h = entered moment (With S (enter_exstart moment m).sends) m h.0
   two_way moment S ExStart m h = nothing S m h
@@ -305,7 +306,7 @@ module _ (own : ℕ) (Acc : Description → Type 0) (Began : Conversation → Ty
   acknowledged moment (x ∷ xs) S m h =
       acknowledged moment xs S (acknowledged_neighbor moment m x) (acknowledged_one moment x S m h)
 
-  filled_in : (s : State) (S : Description → Type 0) (m : Neighbor)
+  filled_in : (s : NeighborState) (S : Description → Type 0) (m : Neighbor)
       → Sound S (record m { state = s }) → Sound S (loading_done_in s (record m { state = s }))
   filled_in Init S m h = h
   filled_in ExStart S m h = h
@@ -450,7 +451,7 @@ module _ (own : ℕ) (Acc : Description → Type 0) (Began : Conversation → Ty
           ),
         )
 
-        over : (st : State) → is_exchange_or_later st ≡ true → is_exchange_done st ≡ true
+        over : (st : NeighborState) → is_exchange_or_later st ≡ true → is_exchange_done st ≡ true
             → Sound (With S []) (record w { state = st; exchanged = Some moment })
         over st later is = (
           foreign,
@@ -476,7 +477,10 @@ module _ (own : ℕ) (Acc : Description → Type 0) (Began : Conversation → Ty
         done : OfStep S (no_sends (exchange_done moment w))
         done =
             chosen
-            (λ (st : State). Sound (With S []) (record w { state = st; exchanged = Some moment }))
+            (λ (st : NeighborState). Sound (With S []) (record w {
+              state = st;
+              exchanged = Some moment;
+            }))
             (requests_nothing w) Full Loading (λ e. over Full refl refl)
             (λ e. over Loading refl refl)
 
@@ -517,7 +521,7 @@ module _ (own : ℕ) (Acc : Description → Type 0) (Began : Conversation → Ty
         (record reply { neighbor = exchange_done moment reply.neighbor })
         (λ e. stands Exchange refl reply.neighbor.exchanged)
         (λ e. chosen
-        (λ (st : State). Sound (With S reply.sends)
+        (λ (st : NeighborState). Sound (With S reply.sends)
         (record reply.neighbor { state = st; exchanged = Some moment }))
         (requests_nothing reply.neighbor) Full Loading
         (λ e. stands Full refl (Some moment)) (λ e. stands Loading refl (Some moment)))
@@ -536,7 +540,7 @@ module _ (own : ℕ) (Acc : Description → Type 0) (Began : Conversation → Ty
         by_said x (inl k) = said x k
         by_said x (inr c) = itself x (one_described (next_description moment next) x c)
 
-        stands : (st : State) → is_exchange_or_later st ≡ true → (o : Option ℕ)
+        stands : (st : NeighborState) → is_exchange_or_later st ≡ true → (o : Option ℕ)
             → Sound (With S reply.sends) (record reply.neighbor { state = st; exchanged = o })
         stands st later o =
             (foreign, inr (later, role, same, λ x at. itself x (some_same at), by_said, opened))
@@ -660,12 +664,12 @@ module _ (own : ℕ) (Acc : Description → Type 0) (Began : Conversation → Ty
         V v = OfStep S (act v moment db d m)
 
     -- before Exchange nothing was sent in the conversation
-    abbrev IsNew : (Description → Type 0) → State → Type 0
+    abbrev IsNew : (Description → Type 0) → NeighborState → Type 0
     IsNew S s =
         is_exchange_or_later s ≡ false
         → ((w : Conversation) → Began w → ⊥) × ((x : Description) → S x → ⊥)
 
-    stated : (S : Description → Type 0) (s : State) (role : Bool) (m : Neighbor)
+    stated : (S : Description → Type 0) (s : NeighborState) (role : Bool) (m : Neighbor)
         → Sound S (record m { state = s; is_master = role }) → IsNew S s
         → Accepts (two_way_received moment (record m { state = s; is_master = role })).neighbor
         → OfStep S (in_state s own moment db d (record m { state = s; is_master = role }))

@@ -4,9 +4,10 @@ use Rattle.std.proofs.Common.{sym, ap, subst, ◌∙◌, arith}
 use Rattle.std.specs.Prelude.{nat_lt}
 use Rattle.std.proofs.lemmas.Bool.{ltb-true}
 use Rattle.packet.specs.declared.model.Description.{Description}
-use Rattle.adjacency.specs.declared.state.State.{State}
-use Rattle.adjacency.specs.declared.state.State.TheVariants.{Init, ExStart, Exchange, Loading}
-use Rattle.adjacency.specs.declared.state.State.TheVariants.{Full}
+use Rattle.adjacency.specs.declared.state.NeighborState.{NeighborState}
+use Rattle.adjacency.specs.declared.state.NeighborState.TheVariants.{Init, ExStart, Exchange}
+use Rattle.adjacency.specs.declared.state.NeighborState.TheVariants.{Loading}
+use Rattle.adjacency.specs.declared.state.NeighborState.TheVariants.{Full}
 use Rattle.adjacency.specs.Neighbors.{Neighbor, is_exchange_or_later}
 use Rattle.agreement_laws.specs.Exchanged.{conversation_with}
 use Rattle.agreement_laws.specs.HeldWasTold.{is_exchange_done}
@@ -17,7 +18,7 @@ use Rattle.answer_laws.specs.Answers.{IsOf, IsOpening}
 use Rattle.answer_laws.specs.Together.{IsDone, NoneIsMistaken, NumbersServeOnce}
 use Rattle.answer_laws.specs.Together.{TheExchangeEndsTogether, WasAccepted}
 
-exchange_then : (s : State) → is_exchange_done s ≡ true → is_exchange_or_later s ≡ true
+exchange_then : (s : NeighborState) → is_exchange_done s ≡ true → is_exchange_or_later s ≡ true
 exchange_then Init e = absurd cc
 exchange_then ExStart e = absurd cc
 exchange_then Exchange e = absurd cc

@@ -11,7 +11,7 @@ use Rattle.lsdb.specs.Headers.{Header, Lsa, key_of, lsa_key}
 use Rattle.packet.specs.declared.model.Description.{Description}
 use Rattle.packet.specs.declared.model.Packet.{Packet}
 use Rattle.packet.specs.Text.{PacketText}
-use Rattle.adjacency.specs.declared.state.State.TheVariants.{Full}
+use Rattle.adjacency.specs.declared.state.NeighborState.TheVariants.{Full}
 use Rattle.adjacency.specs.Neighbors.{Neighbor}
 use Rattle.received.specs.Links.{neighbor_at}
 use Rattle.events.specs.Events.{Step}

@@ -11,8 +11,8 @@ use Rattle.std.specs.List.{Contains, cons_option, filter_map}
 use Rattle.std.specs.Ordering.{is_lt, nat_cmp, ordering_then}
 use Rattle.std.specs.declared.cmp.Ordering.TheVariants.{Equal, Greater, Less}
 use Rattle.words.specs.declared.key.Key.{Key}
-use Rattle.lsa.specs.declared.body.Body.{Body}
-use Rattle.lsa.specs.declared.body.Body.TheVariants as body
+use Rattle.lsa.specs.declared.body.LsaBody.{LsaBody}
+use Rattle.lsa.specs.declared.body.LsaBody.TheVariants as body
 use Rattle.lsa.specs.declared.body.NetworkLsa.{NetworkLsa}
 use Rattle.lsa.specs.declared.body.RouterLsa.{RouterLsa}
 use Rattle.lsdb.specs.Bodies.{AreBodies, InOrder}
@@ -34,7 +34,7 @@ key_of (ANetwork id by) = network_key id by
 
 -- ---- what an LSA says
 
-pub router_said : (o : Option Body) (lsa : RouterLsa) → router_in o ≡ Some lsa
+pub router_said : (o : Option LsaBody) (lsa : RouterLsa) → router_in o ≡ Some lsa
     → o ≡ Some (body.Router lsa)
 router_said None lsa e = absurd (none-some lsa e)
 router_said (Some (body.Router x)) lsa e = ap (λ y. Some (body.Router y)) (same_Some x lsa e)
@@ -43,7 +43,7 @@ router_said (Some (body.NetworkSummary x)) lsa e = absurd (none-some lsa e)
 router_said (Some (body.RouterSummary x)) lsa e = absurd (none-some lsa e)
 router_said (Some (body.External x)) lsa e = absurd (none-some lsa e)
 
-pub network_said : (o : Option Body) (lsa : NetworkLsa) → network_in o ≡ Some lsa
+pub network_said : (o : Option LsaBody) (lsa : NetworkLsa) → network_in o ≡ Some lsa
     → o ≡ Some (body.Network lsa)
 network_said None lsa e = absurd (none-some lsa e)
 network_said (Some (body.Router x)) lsa e = absurd (none-some lsa e)
@@ -63,7 +63,7 @@ two : (a b : Bool) → a && b ≡ true → (a ≡ true) × (b ≡ true)
 two true b e = (refl, e)
 two false b e = absurd (false≢true e)
 
-of_router : (said : Said) (one : Key × Body) (node : Node) → said one.0 ≡ Some one.1
+of_router : (said : Said) (one : Key × LsaBody) (node : Node) → said one.0 ≡ Some one.1
     → one.0.ls_type ≡ 1 → one.0.link_state_id ≡ one.0.advertising_router
     → if_router one.0.advertising_router (router_in (Some one.1)) ≡ Some node
     → IsNodeOf said one.0 node
@@ -85,7 +85,7 @@ of_router said one node says first both e =
           })
     ] refl e
 
-of_network : (said : Said) (one : Key × Body) (node : Node) → said one.0 ≡ Some one.1
+of_network : (said : Said) (one : Key × LsaBody) (node : Node) → said one.0 ≡ Some one.1
     → one.0.ls_type ≡ 2 → if_network one.0.link_state_id one.0.advertising_router
     (network_in (Some one.1)) ≡ Some node → IsNodeOf said one.0 node
 of_network said one node says is_two e =
@@ -108,7 +108,7 @@ of_network said one node says is_two e =
           })
     ] refl e
 
-is_node : (said : Said) (one : Key × Body) (node : Node) → said one.0 ≡ Some one.1
+is_node : (said : Said) (one : Key × LsaBody) (node : Node) → said one.0 ≡ Some one.1
     → node_of one ≡ Some node → IsNodeOf said one.0 node
 is_node said one node says e =
     let key = one.0 in
@@ -131,7 +131,7 @@ is_node said one node says e =
 
 -- what the node's LSA says, which makes it a node
 record IsSaidOf (said : Said) (node : Node) : Type 0 where
-  says : Body
+  says : LsaBody
   its : said (key_of node) ≡ Some says
   low : (key_of node).ls_type ≤ 2
   made : node_of (key_of node, says) ≡ Some node
@@ -223,24 +223,24 @@ go_down nodes ascend node middle m here never k other there high below =
 
 -- ---- the nodes of what LSAs say
 
-abbrev AllSaid : Said → List (Key × Body) → Type 0
-AllSaid said es = (one : Key × Body) → Contains es one → said one.0 ≡ Some one.1
+abbrev AllSaid : Said → List (Key × LsaBody) → Type 0
+AllSaid said es = (one : Key × LsaBody) → Contains es one → said one.0 ≡ Some one.1
 
-first_before : (e : Key × Body) (es : List (Key × Body)) → InOrder (e ∷ es) → (one : Key × Body)
-    → Contains es one → key_cmp e.0 one.0 ≡ Less
+first_before : (e : Key × LsaBody) (es : List (Key × LsaBody)) → InOrder (e ∷ es)
+    → (one : Key × LsaBody) → Contains es one → key_cmp e.0 one.0 ≡ Less
 first_before e es order one (k, within, is) =
-    let P : Key × Body → Type 0 = λ x. key_cmp e.0 x.0 ≡ Less in
+    let P : Key × LsaBody → Type 0 = λ x. key_cmp e.0 x.0 ≡ Less in
     subst P is (order zero (suc k) one (omega arith) (omega (arith, within)))
 
-rest_in_order : (e : Key × Body) (es : List (Key × Body)) → InOrder (e ∷ es) → InOrder es
+rest_in_order : (e : Key × LsaBody) (es : List (Key × LsaBody)) → InOrder (e ∷ es) → InOrder es
 rest_in_order e es order = λ i j d before within. order (suc i) (suc j) d (omega (arith, before))
     (omega (arith, within))
 
-ascend : (said : Said) (es : List (Key × Body)) → AllSaid said es → InOrder es
+ascend : (said : Said) (es : List (Key × LsaBody)) → AllSaid said es → InOrder es
     → Ascend (filter_map node_of es)
 ascend said [] says order = none_pairs (λ (a : Node) (b : Node). node_cmp a b ≡ Less)
 ascend said (e ∷ es) says order =
-    let later : (one : Key × Body) → Contains es one → said one.0 ≡ Some one.1 =
+    let later : (one : Key × LsaBody) → Contains es one → said one.0 ≡ Some one.1 =
     λ one among. says one (later_is e es one among) in
     let rest = ascend said es later (rest_in_order e es order) in
     let these = filter_map node_of es in
@@ -260,10 +260,10 @@ ascend said (e ∷ es) says order =
           rest
     ] refl
 
-pub are_nodes : (said : Said) (es : List (Key × Body)) → AreBodies (Some 2) said es
+pub are_nodes : (said : Said) (es : List (Key × LsaBody)) → AreBodies (Some 2) said es
     → AreNodes said (filter_map node_of es)
 are_nodes said es told =
-    let says : (one : Key × Body) → Contains es one → said one.0 ≡ Some one.1 =
+    let says : (one : Key × LsaBody) → Contains es one → said one.0 ≡ Some one.1 =
     λ one among. ((told.each one.0 one.1).0 among).1 in
     record {
       each = λ node. (
@@ -276,19 +276,20 @@ are_nodes said es told =
       ascend = ascend said es says told.ascend;
     }
 
-pub few : (es : List (Key × Body)) (n : ℕ) → length es ≤ n → length (filter_map node_of es) ≤ n
+pub few : (es : List (Key × LsaBody)) (n : ℕ) → length es ≤ n → length (filter_map node_of es) ≤ n
 few es n count = omega (arith, filtered_few node_of es, count)
 
 -- ---- the loop over them
 
-pub kept_more : (es : List (Key × Body)) (i : ℕ) (one : Key × Body) → i < length es
+pub kept_more : (es : List (Key × LsaBody)) (i : ℕ) (one : Key × LsaBody) → i < length es
     → one ≡ get_or es i one → filter_map node_of (take (i + 1) es) ≡ filter_map node_of (take i es)
     ++ cons_option (node_of one) []
 kept_more es i one lt is =
     ap (filter_map node_of) (take_more es i one lt)
     ∙ filter_map-append node_of (take i es) (get_or es i one ∷ [])
-    ∙ ap (λ (e : Key × Body). filter_map node_of (take i es) ++ cons_option (node_of e) []) (sym is)
+    ∙ ap (λ (e : Key × LsaBody). filter_map node_of (take i es) ++ cons_option (node_of e) [])
+    (sym is)
 
-pub all_bodies : (nodes : List Node) (seen es : List (Key × Body)) (k : ℕ) → seen ≡ es
+pub all_bodies : (nodes : List Node) (seen es : List (Key × LsaBody)) (k : ℕ) → seen ≡ es
     → length seen ≤ k → nodes ≡ filter_map node_of (take k seen) → nodes ≡ filter_map node_of es
 all_bodies nodes seen es k same done e = e ∙ ap (filter_map node_of) (take_all k seen done ∙ same)

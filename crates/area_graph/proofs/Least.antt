@@ -5,15 +5,15 @@ use Rattle.std.proofs.lemmas.Bool.{cases_eq, cases_lt}
 use Rattle.std.specs.List.{Contains}
 use Rattle.routes.proofs.Lists.{first_is, later_is, of_cons, of_empty}
 use Rattle.area_graph.specs.Entries.{HasMetric, IsLeastMetric, rank}
-use Rattle.area_graph.specs.declared.entry.Entry.{Entry}
+use Rattle.area_graph.specs.declared.entry.AdvertisedLink.{AdvertisedLink}
 use Rattle.area_graph.specs.declared.entry.EntryKind.{EntryKind}
 use Rattle.area_graph.proofs.Order.{same_kind}
 
 module _ (router : ℕ) (kind : EntryKind) (id from : ℕ) where
-  abbrev Suits : Entry → Type 0
+  abbrev Suits : AdvertisedLink → Type 0
   Suits e = (e.router ≡ router) × (e.kind ≡ kind) × (e.id ≡ id) × (from ≤ e.metric)
 
-  suits : (e : Entry) → Suits e ⊎ (Suits e → ⊥)
+  suits : (e : AdvertisedLink) → Suits e ⊎ (Suits e → ⊥)
   suits e =
       elim (cases_eq e.router router) [
         | inr apart ↦ inr (λ s. apart s.0)
@@ -32,17 +32,17 @@ module _ (router : ℕ) (kind : EntryKind) (id from : ℕ) where
             ]
       ]
 
-  record Least (es : List Entry) : Type 0 where
-    entry : Entry
+  record Least (es : List AdvertisedLink) : Type 0 where
+    entry : AdvertisedLink
     among : Contains es entry
     suited : Suits entry
-    least : (other : Entry) → Contains es other → Suits other → entry.metric ≤ other.metric
+    least : (other : AdvertisedLink) → Contains es other → Suits other → entry.metric ≤ other.metric
 
-  abbrev NoneOf : List Entry → Type 0
-  NoneOf es = (e : Entry) → Contains es e → Suits e → ⊥
+  abbrev NoneOf : List AdvertisedLink → Type 0
+  NoneOf es = (e : AdvertisedLink) → Contains es e → Suits e → ⊥
 
-  longer : (x : Entry) (xs : List Entry) → Suits x ⊎ (Suits x → ⊥) → Least xs ⊎ NoneOf xs
-      → Least (x ∷ xs) ⊎ NoneOf (x ∷ xs)
+  longer : (x : AdvertisedLink) (xs : List AdvertisedLink) → Suits x ⊎ (Suits x → ⊥)
+      → Least xs ⊎ NoneOf xs → Least (x ∷ xs) ⊎ NoneOf (x ∷ xs)
   longer x xs (inl s) (inl l) =
       elim (cases_lt x.metric l.entry.metric) [
         | inl lt ↦
@@ -51,7 +51,7 @@ module _ (router : ℕ) (kind : EntryKind) (id from : ℕ) where
               among = first_is x xs;
               suited = s;
               least = λ o p t. elim (of_cons x xs o p) [
-                | inl e ↦ omega (arith, ap (λ (y : Entry). y.metric) e)
+                | inl e ↦ omega (arith, ap (λ (y : AdvertisedLink). y.metric) e)
                 | inr later ↦ omega
                     (arith, lt, l.least o later t)
               ];
@@ -62,7 +62,7 @@ module _ (router : ℕ) (kind : EntryKind) (id from : ℕ) where
               among = later_is x xs l.entry l.among;
               suited = l.suited;
               least = λ o p t. elim (of_cons x xs o p) [
-                | inl e ↦ omega (arith, le, ap (λ (y : Entry). y.metric) e)
+                | inl e ↦ omega (arith, le, ap (λ (y : AdvertisedLink). y.metric) e)
                 | inr later ↦ l.least
                     o later t
               ];
@@ -74,13 +74,13 @@ module _ (router : ℕ) (kind : EntryKind) (id from : ℕ) where
         among = first_is x xs;
         suited = s;
         least = λ o p t. elim (of_cons x xs o p) [
-          | inl e ↦ omega (arith, ap (λ (y : Entry). y.metric) e)
+          | inl e ↦ omega (arith, ap (λ (y : AdvertisedLink). y.metric) e)
           | inr later ↦ absurd
               (none o later t)
         ];
       })
   longer x xs (inr never) (inl l) =
-      let P : Entry → Type 0 = λ y. Suits y in
+      let P : AdvertisedLink → Type 0 = λ y. Suits y in
       inl (record {
         entry = l.entry;
         among = later_is x xs l.entry l.among;
@@ -89,21 +89,21 @@ module _ (router : ℕ) (kind : EntryKind) (id from : ℕ) where
             [ inl e ↦ absurd (never (subst P (sym e) t)) | inr later ↦ l.least o later t ];
       })
   longer x xs (inr never) (inr none) =
-      let P : Entry → Type 0 = λ y. Suits y in
+      let P : AdvertisedLink → Type 0 = λ y. Suits y in
       inr (λ o p t. elim (of_cons x xs o p)
       [ inl e ↦ never (subst P (sym e) t) | inr later ↦ none o later t ])
 
-  least_of : (es : List Entry) → Least es ⊎ NoneOf es
+  least_of : (es : List AdvertisedLink) → Least es ⊎ NoneOf es
   least_of [] = inr (λ e p s. of_empty e p)
   least_of (x ∷ xs) = longer x xs (suits x) (least_of xs)
 
-  pub least_exists : (entries : List Entry) (metric : ℕ) → from ≤ metric
+  pub least_exists : (entries : List AdvertisedLink) (metric : ℕ) → from ≤ metric
       → HasMetric entries router kind id metric
       → (least : ℕ) × IsLeastMetric entries router kind id from (Some least) × (least ≤ metric)
   least_exists entries metric le (place, among) =
       elim (least_of entries) [
         | inl l ↦
-            let P : Entry → Type 0 = λ e. Contains entries e in
+            let P : AdvertisedLink → Type 0 = λ e. Contains entries e in
             let r = l.suited.0 in
             let k = l.suited.1 in
             let n = l.suited.2 in

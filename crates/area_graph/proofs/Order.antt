@@ -13,7 +13,7 @@ use Rattle.std.specs.List.Sorted.{IsPartitionPoint, IsPartitionedBy, IsSorted}
 use Rattle.std.specs.Ordering.{is_lt, nat_cmp, ordering_index, ordering_then}
 use Rattle.std.specs.declared.cmp.Ordering.TheVariants.{Equal, Greater, Less}
 use Rattle.area_graph.specs.Entries.{HasEntry, HasMetric, IsBeside, IsLeastMetric, entry_cmp, rank}
-use Rattle.area_graph.specs.declared.entry.Entry.{Entry}
+use Rattle.area_graph.specs.declared.entry.AdvertisedLink.{AdvertisedLink}
 use Rattle.area_graph.specs.declared.entry.EntryKind.{EntryKind}
 use Rattle.area_graph.specs.declared.entry.EntryKind.TheVariants.{Attached, PointToPoint, Transit}
 use Rattle.area_graph.proofs.KeyNodes.{lt_false, lt_true}
@@ -21,22 +21,23 @@ use Rattle.area_graph.proofs.Whole.{contained, placed}
 
 pub entries_total : IsTotalOrder entry_cmp
 entries_total =
-    then_total (on_total (λ (e : Entry). e.router) nat_cmp_total)
-    (then_total (on_total (λ (e : Entry). rank e.kind) nat_cmp_total)
-    (then_total (on_total (λ (e : Entry). e.id) nat_cmp_total)
-    (then_total (on_total (λ (e : Entry). e.metric) nat_cmp_total)
-    (on_total (λ (e : Entry). e.place) nat_cmp_total))))
+    then_total (on_total (λ (e : AdvertisedLink). e.router) nat_cmp_total)
+    (then_total (on_total (λ (e : AdvertisedLink). rank e.kind) nat_cmp_total)
+    (then_total (on_total (λ (e : AdvertisedLink). e.id) nat_cmp_total)
+    (then_total (on_total (λ (e : AdvertisedLink). e.metric) nat_cmp_total)
+    (on_total (λ (e : AdvertisedLink). e.place) nat_cmp_total))))
 
 -- a later entry isn't before an earlier one
-pub in_order : (entries : List Entry) → IsSorted entry_cmp entries → (i j : ℕ) (a b : Entry)
-    → slice_get entries i ≡ Some a → slice_get entries j ≡ Some b → i ≤ j → entry_cmp b a ≡ Less → ⊥
+pub in_order : (entries : List AdvertisedLink) → IsSorted entry_cmp entries
+    → (i j : ℕ) (a b : AdvertisedLink) → slice_get entries i ≡ Some a → slice_get entries j ≡ Some b
+    → i ≤ j → entry_cmp b a ≡ Less → ⊥
 in_order entries sorted i j a b here there le less =
     let far : is_lt (entry_cmp (get_or entries j a) (get_or entries i a)) ≡ false =
-    sorted_far (λ (x : Entry) (y : Entry). is_lt (entry_cmp x y))
-    (ranks_by entries_total (λ (x : Entry). x)) entries sorted i j a le
+    sorted_far (λ (x : AdvertisedLink) (y : AdvertisedLink). is_lt (entry_cmp x y))
+    (ranks_by entries_total (λ (x : AdvertisedLink). x)) entries sorted i j a le
     (slice_get_within entries j b there) in
-    let P : Entry → Type 0 = λ x. is_lt (entry_cmp x (get_or entries i a)) ≡ false in
-    let Q : Entry → Type 0 = λ x. is_lt (entry_cmp b x) ≡ false in
+    let P : AdvertisedLink → Type 0 = λ x. is_lt (entry_cmp x (get_or entries i a)) ≡ false in
+    let Q : AdvertisedLink → Type 0 = λ x. is_lt (entry_cmp b x) ≡ false in
     lt_false (entry_cmp b a) (subst Q (get_or_from_slice_get entries i a a here)
     (subst P (get_or_from_slice_get entries j b a there) far)) less
 
@@ -51,65 +52,69 @@ low_index Greater Less le t = absurd (omega (arith, le))
 low_index Greater Equal le t = absurd (false≢true t)
 low_index Greater Greater le t = absurd (false≢true t)
 
-pub parted : (entries : List Entry) (entry : Entry) → IsSorted entry_cmp entries
-    → IsPartitionedBy (λ (y : Entry). is_lt (entry_cmp y entry)) entries
+pub parted : (entries : List AdvertisedLink) (entry : AdvertisedLink) → IsSorted entry_cmp entries
+    → IsPartitionedBy (λ (y : AdvertisedLink). is_lt (entry_cmp y entry)) entries
 parted entries entry sorted i j d le lt t =
     low_index (entry_cmp (get_or entries i d) entry) (entry_cmp (get_or entries j d) entry)
-    (searchable_from_sorted entries_total (λ (e : Entry). e) entries entry sorted i j d le lt) t
+    (searchable_from_sorted entries_total (λ (e : AdvertisedLink). e) entries entry sorted i j d le
+    lt) t
 
-abbrev pub IsPoint : List Entry → Entry → ℕ → Type 0
-IsPoint entries entry at = IsPartitionPoint (λ (y : Entry). is_lt (entry_cmp y entry) ≡ true)
-    (λ (y : Entry). is_lt (entry_cmp y entry) ≡ false) entries at
+abbrev pub IsPoint : List AdvertisedLink → AdvertisedLink → ℕ → Type 0
+IsPoint entries entry at = IsPartitionPoint
+    (λ (y : AdvertisedLink). is_lt (entry_cmp y entry) ≡ true)
+    (λ (y : AdvertisedLink). is_lt (entry_cmp y entry) ≡ false) entries at
 
-pub before : (entries : List Entry) (entry : Entry) (at : ℕ) → IsPoint entries entry at
-    → (k : ℕ) (other : Entry) → slice_get entries k ≡ Some other → k < at
-    → entry_cmp other entry ≡ Less
+pub before : (entries : List AdvertisedLink) (entry : AdvertisedLink) (at : ℕ)
+    → IsPoint entries entry at → (k : ℕ) (other : AdvertisedLink) → slice_get entries k ≡ Some other
+    → k < at → entry_cmp other entry ≡ Less
 before entries entry at point k other here low =
-    let P : Entry → Type 0 = λ y. is_lt (entry_cmp y entry) ≡ true in
+    let P : AdvertisedLink → Type 0 = λ y. is_lt (entry_cmp y entry) ≡ true in
     lt_true (entry_cmp other entry) (subst P (get_or_from_slice_get entries k other other here)
     (point.0 k other (omega arith) low))
 
-pub beyond : (entries : List Entry) (entry : Entry) (at : ℕ) → IsPoint entries entry at
-    → (k : ℕ) (other : Entry) → slice_get entries k ≡ Some other → at ≤ k
-    → entry_cmp other entry ≡ Less → ⊥
+pub beyond : (entries : List AdvertisedLink) (entry : AdvertisedLink) (at : ℕ)
+    → IsPoint entries entry at → (k : ℕ) (other : AdvertisedLink) → slice_get entries k ≡ Some other
+    → at ≤ k → entry_cmp other entry ≡ Less → ⊥
 beyond entries entry at point k other here high =
-    let P : Entry → Type 0 = λ y. is_lt (entry_cmp y entry) ≡ false in
+    let P : AdvertisedLink → Type 0 = λ y. is_lt (entry_cmp y entry) ≡ false in
     lt_false (entry_cmp other entry) (subst P (get_or_from_slice_get entries k other other here)
     (point.1 k other high (slice_get_within entries k other here)))
 
 -- ---- an index that is tried first
 
-before_at : (entries : List Entry) (entry : Entry) → IsSorted entry_cmp entries
-    → (i j : ℕ) (a b : Entry) → slice_get entries i ≡ Some a → slice_get entries j ≡ Some b → i ≤ j
-    → entry_cmp b entry ≡ Less → entry_cmp a entry ≡ Less
+before_at : (entries : List AdvertisedLink) (entry : AdvertisedLink) → IsSorted entry_cmp entries
+    → (i j : ℕ) (a b : AdvertisedLink) → slice_get entries i ≡ Some a → slice_get entries j ≡ Some b
+    → i ≤ j → entry_cmp b entry ≡ Less → entry_cmp a entry ≡ Less
 before_at entries entry sorted i j a b here there le less =
-    let P : Entry → Type 0 = λ x. is_lt (entry_cmp x entry) ≡ true in
+    let P : AdvertisedLink → Type 0 = λ x. is_lt (entry_cmp x entry) ≡ true in
     let later = subst P (sym (get_or_from_slice_get entries j b a there)) (ap is_lt less) in
     lt_true (entry_cmp a entry) (subst P (get_or_from_slice_get entries i a a here)
     (parted entries entry sorted i j a le (slice_get_within entries j b there) later))
 
 -- all below an index are before the entry if the last of them is
-pub lower_ones : (entries : List Entry) (entry : Entry) → IsSorted entry_cmp entries
-    → (at : ℕ) (last : Entry) → slice_get entries at ≡ Some last → entry_cmp last entry ≡ Less
-    → (k : ℕ) (other : Entry) → slice_get entries k ≡ Some other → k < at + 1
+pub lower_ones : (entries : List AdvertisedLink) (entry : AdvertisedLink)
+    → IsSorted entry_cmp entries → (at : ℕ) (last : AdvertisedLink)
+    → slice_get entries at ≡ Some last → entry_cmp last entry ≡ Less
+    → (k : ℕ) (other : AdvertisedLink) → slice_get entries k ≡ Some other → k < at + 1
     → entry_cmp other entry ≡ Less
 lower_ones entries entry sorted at last there less k other here low =
     before_at entries entry sorted k at other last here there (omega (arith, low)) less
 
 -- none from an index on is before the entry if the first of them isn't
-pub higher_ones : (entries : List Entry) (entry : Entry) → IsSorted entry_cmp entries
-    → (at : ℕ) (first : Entry) → slice_get entries at ≡ Some first
-    → (entry_cmp first entry ≡ Less → ⊥) → (k : ℕ) (other : Entry)
-    → slice_get entries k ≡ Some other → at ≤ k → entry_cmp other entry ≡ Less → ⊥
+pub higher_ones : (entries : List AdvertisedLink) (entry : AdvertisedLink)
+    → IsSorted entry_cmp entries → (at : ℕ) (first : AdvertisedLink)
+    → slice_get entries at ≡ Some first → (entry_cmp first entry ≡ Less → ⊥)
+    → (k : ℕ) (other : AdvertisedLink) → slice_get entries k ≡ Some other → at ≤ k
+    → entry_cmp other entry ≡ Less → ⊥
 higher_ones entries entry sorted at first here never k other there le less =
     never (before_at entries entry sorted at k first other here there le less)
 
 -- the entry at some index has the router, kind and ID
-pub has_found : (entries : List Entry) (at : ℕ) (found : Entry) (router : ℕ) (kind : EntryKind)
-    (id : ℕ) → slice_get entries at ≡ Some found → found.router ≡ router → found.kind ≡ kind
-    → found.id ≡ id → HasEntry entries router kind id
+pub has_found : (entries : List AdvertisedLink) (at : ℕ) (found : AdvertisedLink) (router : ℕ)
+    (kind : EntryKind) (id : ℕ) → slice_get entries at ≡ Some found → found.router ≡ router
+    → found.kind ≡ kind → found.id ≡ id → HasEntry entries router kind id
 has_found entries at found router kind id here same_router same_kind same_id =
-    let P : Entry → Type 0 = λ e. Contains entries e in
+    let P : AdvertisedLink → Type 0 = λ e. Contains entries e in
     let same : found ≡ record {
       router = router;
       kind = kind;
@@ -170,22 +175,22 @@ at_rank Attached = refl
 pub same_kind : (a b : EntryKind) → rank a ≡ rank b → a ≡ b
 same_kind a b e = at_rank a ∙ ap kind_at e ∙ sym (at_rank b)
 
-abbrev by_metric : Entry → Entry → Ordering
+abbrev by_metric : AdvertisedLink → AdvertisedLink → Ordering
 by_metric a b = ordering_then (nat_cmp a.metric b.metric) (nat_cmp a.place b.place)
 
-abbrev by_id : Entry → Entry → Ordering
+abbrev by_id : AdvertisedLink → AdvertisedLink → Ordering
 by_id a b = ordering_then (nat_cmp a.id b.id) (by_metric a b)
 
-abbrev by_kind : Entry → Entry → Ordering
+abbrev by_kind : AdvertisedLink → AdvertisedLink → Ordering
 by_kind a b = ordering_then (nat_cmp (rank a.kind) (rank b.kind)) (by_id a b)
 
-pub record OfKind (low x high : Entry) : Type 0 where
+pub record OfKind (low x high : AdvertisedLink) : Type 0 where
   pub router : x.router ≡ low.router
   pub kind : x.kind ≡ low.kind
   up : by_id x low ≡ Less → ⊥
   down : by_id high x ≡ Less → ⊥
 
-pub of_kind : (low x high : Entry) → high.router ≡ low.router → high.kind ≡ low.kind
+pub of_kind : (low x high : AdvertisedLink) → high.router ≡ low.router → high.kind ≡ low.kind
     → (entry_cmp x low ≡ Less → ⊥) → (entry_cmp high x ≡ Less → ⊥) → OfKind low x high
 of_kind low x high router kind up down =
     let first = level low.router x.router high.router (by_kind x low) (by_kind high x) router up
@@ -199,12 +204,12 @@ of_kind low x high router kind up down =
       down = second.2;
     }
 
-record OfId (low x high : Entry) : Type 0 where
+record OfId (low x high : AdvertisedLink) : Type 0 where
   beside : IsBeside x low
   up : low.metric ≤ x.metric
   down : x.metric ≤ high.metric
 
-of_id : (low x high : Entry) → IsBeside high low → (entry_cmp x low ≡ Less → ⊥)
+of_id : (low x high : AdvertisedLink) → IsBeside high low → (entry_cmp x low ≡ Less → ⊥)
     → (entry_cmp high x ≡ Less → ⊥) → OfId low x high
 of_id low x high beside up down =
     let first = of_kind low x high beside.router beside.kind up down in
@@ -233,8 +238,8 @@ no_less : (a b : ℕ) → b ≤ a → nat_cmp a b ≡ Less → ⊥
 no_less a b le less = omega (arith, ranked a b Less (sym less), le)
 
 -- no entry with its router and kind and no lower ID and metric is before an entry with place 0
-pub not_before : (low x : Entry) → x.router ≡ low.router → x.kind ≡ low.kind → low.id ≤ x.id
-    → low.metric ≤ x.metric → low.place ≤ x.place → entry_cmp x low ≡ Less → ⊥
+pub not_before : (low x : AdvertisedLink) → x.router ≡ low.router → x.kind ≡ low.kind
+    → low.id ≤ x.id → low.metric ≤ x.metric → low.place ≤ x.place → entry_cmp x low ≡ Less → ⊥
 not_before low x router kind id metric place less =
     let first : by_kind x low ≡ Less =
     tied x.router low.router (by_kind x low) (omega (arith, router)) less in
@@ -246,13 +251,14 @@ not_before low x router kind id metric place less =
 
 -- ---- the least metric
 
-module _ (entries : List Entry) (sorted : IsSorted entry_cmp entries) (low : Entry) (at : ℕ)
-    (lower : (k : ℕ) (other : Entry) → slice_get entries k ≡ Some other → k < at
-    → entry_cmp other low ≡ Less) (higher : (k : ℕ) (other : Entry)
+module _ (entries : List AdvertisedLink) (sorted : IsSorted entry_cmp entries)
+    (low : AdvertisedLink) (at : ℕ)
+    (lower : (k : ℕ) (other : AdvertisedLink) → slice_get entries k ≡ Some other → k < at
+    → entry_cmp other low ≡ Less) (higher : (k : ℕ) (other : AdvertisedLink)
     → slice_get entries k ≡ Some other → at ≤ k → entry_cmp other low ≡ Less → ⊥)
     (first : low.place ≡ 0) where
   record Seen (metric : ℕ) : Type 0 where
-    entry : Entry
+    entry : AdvertisedLink
     is : entry.metric ≡ metric
     beside : IsBeside entry low
     place : ℕ
@@ -262,7 +268,7 @@ module _ (entries : List Entry) (sorted : IsSorted entry_cmp entries) (low : Ent
   seen : (metric : ℕ) → low.metric ≤ metric → HasMetric entries low.router low.kind low.id metric
       → Seen metric
   seen metric le (place, among) =
-      let entry : Entry = record {
+      let entry : AdvertisedLink = record {
         router = low.router;
         kind = low.kind;
         id = low.id;
@@ -289,17 +295,18 @@ module _ (entries : List Entry) (sorted : IsSorted entry_cmp entries) (low : Ent
       let s = seen metric le has in
       omega (arith, s.past, slice_get_within entries s.place s.entry s.here, end)
 
-  pub none_beside : (found : Entry) → slice_get entries at ≡ Some found → (IsBeside found low → ⊥)
-      → IsLeastMetric entries low.router low.kind low.id low.metric None
+  pub none_beside : (found : AdvertisedLink) → slice_get entries at ≡ Some found
+      → (IsBeside found low → ⊥) → IsLeastMetric entries low.router low.kind low.id low.metric None
   none_beside found here apart metric le has =
       let s = seen metric le has in
       apart (of_id low found s.entry s.beside (higher at found here (omega arith))
       (in_order entries sorted at s.place found s.entry here s.here s.past)).beside
 
-  pub least_beside : (found : Entry) → slice_get entries at ≡ Some found → IsBeside found low
-      → IsLeastMetric entries low.router low.kind low.id low.metric (Some found.metric)
+  pub least_beside : (found : AdvertisedLink) → slice_get entries at ≡ Some found
+      → IsBeside found low → IsLeastMetric entries low.router low.kind low.id low.metric
+      (Some found.metric)
   least_beside found here beside =
-      let P : Entry → Type 0 = λ e. Contains entries e in
+      let P : AdvertisedLink → Type 0 = λ e. Contains entries e in
       let router = beside.router in
       let kind = beside.kind in
       let id = beside.id in

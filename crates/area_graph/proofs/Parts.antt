@@ -10,7 +10,7 @@ use Rattle.lsa.specs.declared.body.NetworkLsa.{NetworkLsa}
 use Rattle.lsa.specs.declared.body.RouterLsa.{RouterLsa}
 use Rattle.routes.specs.Links.{Counts, IsNetworkLsa, IsRouterLsa, LeadsTo, ListsRouter}
 use Rattle.routes.specs.Said.{Said}
-use Rattle.routes.specs.declared.graph.Link.{Link}
+use Rattle.routes.specs.declared.graph.VertexLink.{VertexLink}
 use Rattle.routes.specs.declared.node.Node.{Node}
 use Rattle.routes.specs.declared.node.Node.TheVariants.{ANetwork, ARouter}
 use Rattle.routes.specs.declared.root.Root.{Root}
@@ -20,7 +20,7 @@ use Rattle.area_graph.specs.Graphs.{Adds, AreLinksFrom, IsLinkFrom, IsNoDearer, 
 use Rattle.area_graph.specs.Links.{IsCheapest, IsOwnTransit, IsToListed, IsToNetwork, IsToRouter}
 use Rattle.area_graph.specs.Links.{IsToSomeNetwork}
 use Rattle.area_graph.specs.Nodes.{HasLsa, network_in, network_lsa, router_in, router_lsa}
-use Rattle.area_graph.specs.declared.entry.Entry.{Entry}
+use Rattle.area_graph.specs.declared.entry.AdvertisedLink.{AdvertisedLink}
 use Rattle.area_graph.specs.declared.entry.EntryKind.{EntryKind}
 use Rattle.area_graph.specs.declared.entry.EntryKind.TheVariants.{PointToPoint, Transit}
 use Rattle.area_graph.proofs.KeyNodes.{network_said, router_said}
@@ -29,31 +29,31 @@ use Rattle.area_graph.proofs.Least.{least_exists}
 use Rattle.area_graph.proofs.Told.{back_point, back_transit, of_transit, point_back, transit_back}
 use Rattle.area_graph.proofs.Told.{transit_of}
 
-no_dearer : (link : Link) → IsNoDearer link link
+no_dearer : (link : VertexLink) → IsNoDearer link link
 no_dearer link = record { same_end = refl; same_exit = refl; costs = omega arith }
 
 module _ (said : Said) (root : Root) (nodes : List Node) where
   -- a node without an LSA has no links
-  pub no_links : (from : Node) → (HasLsa said from → ⊥) → (links : List Link) → links ≡ []
+  pub no_links : (from : Node) → (HasLsa said from → ⊥) → (links : List VertexLink) → links ≡ []
       → AreLinksFrom said root nodes from links
   no_links from never links none =
-      let P : List Link → Type 0 = λ ls. AreLinksFrom said root nodes from ls in
+      let P : List VertexLink → Type 0 = λ ls. AreLinksFrom said root nodes from ls in
       subst P (sym none) (record {
         only = λ x among. absurd (of_empty x among);
         each = λ x f. absurd (never (near_end said root from f.target x.cost x.interface f.leads));
       })
 
-  pub no_router : (router : ℕ) (links : List Link) → router_lsa said router ≡ None → links ≡ []
-      → AreLinksFrom said root nodes (ARouter router) links
+  pub no_router : (router : ℕ) (links : List VertexLink) → router_lsa said router ≡ None
+      → links ≡ [] → AreLinksFrom said root nodes (ARouter router) links
   no_router router links is none = no_links (ARouter router)
       (λ has. none-some has.0 (sym is ∙ ap router_in has.1)) links none
 
-  pub no_network : (id by : ℕ) (links : List Link) → network_lsa said id by ≡ None → links ≡ []
-      → AreLinksFrom said root nodes (ANetwork id by) links
+  pub no_network : (id by : ℕ) (links : List VertexLink) → network_lsa said id by ≡ None
+      → links ≡ [] → AreLinksFrom said root nodes (ANetwork id by) links
   no_network id by links is none = no_links (ANetwork id by)
       (λ has. none-some has.0 (sym is ∙ ap network_in has.1)) links none
 
-module _ (said : Said) (root : Root) (nodes : List Node) (entries : List Entry)
+module _ (said : Said) (root : Root) (nodes : List Node) (entries : List AdvertisedLink)
     (told : AreEntries said nodes entries) where
   -- ---- from a router
 
@@ -61,7 +61,7 @@ module _ (said : Said) (root : Root) (nodes : List Node) (entries : List Entry)
     its : IsRouterLsa said router lsa
     its = router_said _ lsa is
 
-    to_router : (x : Link) → OfEach (IsToRouter root nodes entries router) lsa.links x
+    to_router : (x : VertexLink) → OfEach (IsToRouter root nodes entries router) lsa.links x
         → IsLinkFrom said root nodes (ARouter router) x
     to_router x o =
         let t = o.2 in
@@ -82,7 +82,7 @@ module _ (said : Said) (root : Root) (nodes : List Node) (entries : List Entry)
           leads = (counts, point_back said nodes entries told o.0.link_id router t.back);
         }
 
-    module _ (x : Link) (s : IsToSomeNetwork root entries router lsa.links x) (by : ℕ)
+    module _ (x : VertexLink) (s : IsToSomeNetwork root entries router lsa.links x) (by : ℕ)
         (stands : StandsAt nodes (ANetwork s.entry.id by) s.entry.place)
         (lists : ListsRouter said s.entry.id by router) where
       abbrev At : ℕ → Type 0
@@ -130,7 +130,7 @@ module _ (said : Said) (root : Root) (nodes : List Node) (entries : List Entry)
             leads = (counts, lists);
           }
 
-    to_network : (x : Link) → IsToSomeNetwork root entries router lsa.links x
+    to_network : (x : VertexLink) → IsToSomeNetwork root entries router lsa.links x
         → IsLinkFrom said root nodes (ARouter router) x
     to_network x s =
         let K : EntryKind → Type 0 = λ k. IsToldAs said nodes k s.entry in
@@ -143,20 +143,20 @@ module _ (said : Said) (root : Root) (nodes : List Node) (entries : List Entry)
               listed.0 listed.1 lists off
         ]
 
-    module _ (middle links : List Link)
+    module _ (middle links : List VertexLink)
         (a : Adds (OfEach (IsToRouter root nodes entries router) lsa.links) [] middle)
         (b : Adds (IsToSomeNetwork root entries router lsa.links) middle links) where
-      abbrev Found : Link → Type 0
-      Found x = (other : Link) × Contains links other × IsNoDearer x other
+      abbrev Found : VertexLink → Type 0
+      Found x = (other : VertexLink) × Contains links other × IsNoDearer x other
 
       -- the link of the LSA that it stands for
-      among : (kind : LinkKind) (id : ℕ) (x : Link)
+      among : (kind : LinkKind) (id : ℕ) (x : VertexLink)
           (c : Counts said root router kind id x.cost x.interface) → Contains lsa.links c.link
       among kind id x c =
           let L : RouterLsa → Type 0 = λ l. Contains l.links c.link in
           subst L (same_Some c.its.lsa lsa (sym (ap router_in c.its.its) ∙ is)) c.its.among
 
-      found_router : (x : Link) (id : ℕ) → StandsAt nodes (ARouter id) x.to
+      found_router : (x : VertexLink) (id : ℕ) → StandsAt nodes (ARouter id) x.to
           → LeadsTo said root (ARouter router) (ARouter id) x.cost x.interface → Found x
       found_router x id stands l =
           let c = l.0 in
@@ -181,7 +181,7 @@ module _ (said : Said) (root : Root) (nodes : List Node) (entries : List Entry)
             no_dearer x,
           )
 
-      module _ (x : Link) (id by : ℕ) (stands : StandsAt nodes (ANetwork id by) x.to)
+      module _ (x : VertexLink) (id by : ℕ) (stands : StandsAt nodes (ANetwork id by) x.to)
           (l : LeadsTo said root (ARouter router) (ANetwork id by) x.cost x.interface) where
         listed : Contains entries (attached_entry id x.to router)
         listed = (told.each (attached_entry id x.to router)).1 ((by, stands, l.1), refl)
@@ -218,7 +218,7 @@ module _ (said : Said) (root : Root) (nodes : List Node) (entries : List Entry)
             (c.link, c.its, c.is_kind, c.is_id, c.costs) in
             let m = least_exists router Transit id 1 entries x.cost (omega (arith, c.not_free)) has
             in
-            let y : Link = record { to = x.to; cost = m.0; interface = 0 } in
+            let y : VertexLink = record { to = x.to; cost = m.0; interface = 0 } in
             let cheap : IsCheapest entries router (attached_entry id x.to router) y = record {
               same_end = refl;
               least = m.1;
@@ -241,7 +241,7 @@ module _ (said : Said) (root : Root) (nodes : List Node) (entries : List Entry)
         found_network = elim (cases_eq router root.router)
             [ inl own ↦ found_own own | inr off ↦ found_other off ]
 
-      found : (x : Link) (target : Node) → StandsAt nodes target x.to
+      found : (x : VertexLink) (target : Node) → StandsAt nodes target x.to
           → LeadsTo said root (ARouter router) target x.cost x.interface → Found x
       found x (ARouter id) stands l = found_router x id stands l
       found x (ANetwork id by) stands l = found_network x id by stands l
@@ -258,14 +258,15 @@ module _ (said : Said) (root : Root) (nodes : List Node) (entries : List Entry)
   -- ---- from a network
 
   module _ (id by : ℕ) (lsa : NetworkLsa) (is : network_lsa said id by ≡ Some lsa)
-      (links : List Link) (a : Adds (OfEach (IsToListed nodes entries id) lsa.attached) [] links)
+      (links : List VertexLink) (a : Adds (OfEach (IsToListed nodes entries id) lsa.attached) []
+      links)
     where
       listed_by : IsNetworkLsa said id by lsa
       listed_by = network_said _ lsa is
 
-      found_listed : (x : Link) (target : Node) → StandsAt nodes target x.to
+      found_listed : (x : VertexLink) (target : Node) → StandsAt nodes target x.to
           → LeadsTo said root (ANetwork id by) target x.cost x.interface
-          → (other : Link) × Contains links other × IsNoDearer x other
+          → (other : VertexLink) × Contains links other × IsNoDearer x other
       found_listed x (ARouter router) stands l =
           let L : NetworkLsa → Type 0 = λ n. Contains n.attached router in
           let among = subst L (same_Some l.0.lsa lsa (sym (ap network_in l.0.its) ∙ is)) l.0.among

@@ -8,9 +8,9 @@ use Rattle.std.specs.List.{All, Contains}
 use Rattle.std.specs.List.Sorted.{IsSorted}
 use Rattle.std.specs.Result.{OnOk}
 use Rattle.std.specs.declared.cmp.Ordering.TheVariants.{Less}
-use Rattle.lsa.specs.declared.body.Link.{Link as Told}
+use Rattle.lsa.specs.declared.body.RouterLink.{RouterLink as Told}
 use Rattle.lsa.specs.declared.body.LinkKind.TheVariants as kinds
-use Rattle.routes.specs.declared.graph.Link.{Link}
+use Rattle.routes.specs.declared.graph.VertexLink.{VertexLink}
 use Rattle.routes.specs.declared.node.Node.{Node}
 use Rattle.routes.specs.declared.node.Node.TheVariants.{ARouter}
 use Rattle.routes.specs.declared.root.Root.{Root}
@@ -19,7 +19,7 @@ use Rattle.area_graph.specs.Graphs.{Adds, CostFits, OfEach, StandsAt}
 use Rattle.area_graph.specs.Links.{IsCheapest, IsExitTo, IsNeighborAt, IsOwnTo, IsOwnTransit}
 use Rattle.area_graph.specs.Links.{IsToListed, IsToNetwork, IsToRouter, IsToSomeNetwork}
 use Rattle.area_graph.specs.Nodes.{Ascend, node_cmp}
-use Rattle.area_graph.specs.declared.entry.Entry.{Entry}
+use Rattle.area_graph.specs.declared.entry.AdvertisedLink.{AdvertisedLink}
 use Rattle.area_graph.specs.declared.entry.EntryKind.{EntryKind}
 use Rattle.area_graph.specs.declared.entry.EntryKind.TheVariants.{Attached, PointToPoint, Transit}
 use Rattle.area_graph.proofs.Lists.{adds_all, adds_both, adds_more, adds_none, adds_one, adds_same}
@@ -30,33 +30,33 @@ pub on_ok : {T E : Type 0} (r : Result T E) (P Q : Type 0) → (P → Q) → OnO
 on_ok (Ok x) P Q f p = f p
 on_ok (Err e) P Q f p = p
 
-pub pushed_fits : (xs : List Link) (link : Link) → link.cost < 65536 → All CostFits xs
+pub pushed_fits : (xs : List VertexLink) (link : VertexLink) → link.cost < 65536 → All CostFits xs
     → All CostFits (xs ++ link ∷ [])
-pushed_fits xs link fits = adds_all (λ (x : Link). x ≡ link) CostFits xs (xs ++ link ∷ [])
-    (adds_one (λ (x : Link). x ≡ link) xs link refl (λ x e. e))
-    (λ x e. omega (arith, ap (λ (y : Link). y.cost) e, fits))
+pushed_fits xs link fits = adds_all (λ (x : VertexLink). x ≡ link) CostFits xs (xs ++ link ∷ [])
+    (adds_one (λ (x : VertexLink). x ≡ link) xs link refl (λ x e. e))
+    (λ x e. omega (arith, ap (λ (y : VertexLink). y.cost) e, fits))
 
 -- ---- a link by each own interface with the address
 
 module _ (root : Root) (to cost address : ℕ) where
-  abbrev pub OwnBelow : ℕ → Link → Type 0
+  abbrev pub OwnBelow : ℕ → VertexLink → Type 0
   OwnBelow i link = (link.to ≡ to) × (link.cost ≡ cost)
       × ((n : ℕ) × (link.interface ≡ n + 1) × (slice_get root.addresses n ≡ Some address) × (n < i))
 
-  pub own_none : (xs : List Link) → Adds (OwnBelow 0) xs xs
+  pub own_none : (xs : List VertexLink) → Adds (OwnBelow 0) xs xs
   own_none xs = adds_none (OwnBelow 0) xs (λ x o. omega (arith, o.2.3))
 
-  wider : (i : ℕ) (x : Link) → OwnBelow i x → OwnBelow (i + 1) x
+  wider : (i : ℕ) (x : VertexLink) → OwnBelow i x → OwnBelow (i + 1) x
   wider i x o = (o.0, o.1, (o.2.0, o.2.1, o.2.2, omega (arith, o.2.3)))
 
-  pub own_more : (i : ℕ) (xs ys : List Link) → slice_get root.addresses i ≡ Some address
+  pub own_more : (i : ℕ) (xs ys : List VertexLink) → slice_get root.addresses i ≡ Some address
       → Adds (OwnBelow i) xs ys → Adds (OwnBelow (i + 1)) xs (ys ++ record {
         to = to;
         cost = cost;
         interface = i + 1;
       } ∷ [])
   own_more i xs ys here a =
-      let link : Link = record { to = to; cost = cost; interface = i + 1 } in
+      let link : VertexLink = record { to = to; cost = cost; interface = i + 1 } in
       adds_more (OwnBelow i) (OwnBelow (i + 1)) xs ys link a
       (refl, refl, (i, refl, here, omega arith))
       (λ x o. elim (cases_lt o.2.0 i) [
@@ -66,7 +66,7 @@ module _ (root : Root) (to cost address : ℕ) where
       ])
       (wider i)
 
-  pub own_skip : (i : ℕ) (xs ys : List Link) → (slice_get root.addresses i ≡ Some address → ⊥)
+  pub own_skip : (i : ℕ) (xs ys : List VertexLink) → (slice_get root.addresses i ≡ Some address → ⊥)
       → Adds (OwnBelow i) xs ys → Adds (OwnBelow (i + 1)) xs ys
   own_skip i xs ys never a =
       adds_same (OwnBelow i) (OwnBelow (i + 1)) xs ys (wider i)
@@ -78,8 +78,8 @@ module _ (root : Root) (to cost address : ℕ) where
             absurd (never (subst P same o.2.2))
       ]) a
 
-  pub own_all : (i : ℕ) (xs ys : List Link) → length root.addresses ≤ i → Adds (OwnBelow i) xs ys
-      → Adds (IsOwnTo root to cost address) xs ys
+  pub own_all : (i : ℕ) (xs ys : List VertexLink) → length root.addresses ≤ i
+      → Adds (OwnBelow i) xs ys → Adds (IsOwnTo root to cost address) xs ys
   own_all i xs ys done a =
       adds_same (OwnBelow i) (IsOwnTo root to cost address) xs ys
       (λ x o. (o.0, o.1, (o.2.0, o.2.1, o.2.2)))
@@ -94,15 +94,15 @@ module _ (root : Root) (to cost address : ℕ) where
         ),
       )) a
 
-  pub own_fits : cost < 65536 → (xs ys : List Link) → Adds (IsOwnTo root to cost address) xs ys
-      → All CostFits xs → All CostFits ys
+  pub own_fits : cost < 65536 → (xs ys : List VertexLink)
+      → Adds (IsOwnTo root to cost address) xs ys → All CostFits xs → All CostFits ys
   own_fits fits xs ys a = adds_all (IsOwnTo root to cost address) CostFits xs ys a
       (λ x o. omega (arith, o.1, fits))
 
   -- ---- of the root, or of any other router
 
   module _ (router : ℕ) where
-    pub exits_at_root : (xs ys : List Link) → router ≡ root.router
+    pub exits_at_root : (xs ys : List VertexLink) → router ≡ root.router
         → Adds (IsOwnTo root to cost address) xs ys
         → Adds (IsExitTo root router to cost address) xs ys
     exits_at_root xs ys own a =
@@ -117,14 +117,14 @@ module _ (root : Root) (to cost address : ℕ) where
         ))
         (λ x e. (e.0, e.1, e.2.by_interface own)) a
 
-    pub exit_elsewhere : (xs : List Link) → (router ≡ root.router → ⊥)
+    pub exit_elsewhere : (xs : List VertexLink) → (router ≡ root.router → ⊥)
         → Adds (IsExitTo root router to cost address) xs (xs ++ record {
           to = to;
           cost = cost;
           interface = 0;
         } ∷ [])
     exit_elsewhere xs off =
-        let link : Link = record { to = to; cost = cost; interface = 0 } in
+        let link : VertexLink = record { to = to; cost = cost; interface = 0 } in
         adds_one (IsExitTo root router to cost address) xs link (
           refl,
           refl,
@@ -136,15 +136,16 @@ module _ (root : Root) (to cost address : ℕ) where
         (λ x e. let at : x.interface ≡ 0 = e.2.elsewhere off in let to_end = e.0 in let costs =
         e.1 in λ j. record { to = to_end j; cost = costs j; interface = at j })
 
-    pub exits_fit : cost < 65536 → (xs ys : List Link)
+    pub exits_fit : cost < 65536 → (xs ys : List VertexLink)
         → Adds (IsExitTo root router to cost address) xs ys → All CostFits xs → All CostFits ys
     exits_fit fits xs ys a = adds_all (IsExitTo root router to cost address) CostFits xs ys a
         (λ x e. omega (arith, e.1, fits))
 
 -- ---- to the router at the far end
 
-pub neighbor_is : (nodes : List Node) (entries : List Entry) (router : ℕ) (kind : EntryKind)
-    (id at : ℕ) → Ascend nodes → Contains nodes (ARouter router) → HasEntry entries router kind id
+pub neighbor_is : (nodes : List Node) (entries : List AdvertisedLink) (router : ℕ)
+    (kind : EntryKind) (id at : ℕ) → Ascend nodes → Contains nodes (ARouter router)
+    → HasEntry entries router kind id
     → ((k : ℕ) (other : Node) → slice_get nodes k ≡ Some other → k < at
     → node_cmp other (ARouter router) ≡ Less)
     → ((k : ℕ) (other : Node) → slice_get nodes k ≡ Some other → at ≤ k
@@ -153,7 +154,7 @@ pub neighbor_is : (nodes : List Node) (entries : List Entry) (router : ℕ) (kin
 neighbor_is nodes entries router kind id at ascend among has before beyond =
     (at_its_place nodes ascend (ARouter router) at among before beyond, has)
 
-pub same_neighbor : (nodes : List Node) (entries : List Entry) (kind : EntryKind)
+pub same_neighbor : (nodes : List Node) (entries : List AdvertisedLink) (kind : EntryKind)
     (router other id its : ℕ) (at to : Option ℕ) → router ≡ other → id ≡ its → at ≡ to
     → IsNeighborAt nodes entries router kind id at
     → IsNeighborAt nodes entries other kind its to
@@ -163,16 +164,18 @@ same_neighbor nodes entries kind router other id its at to e f g is =
     let R : Option ℕ → Type 0 = λ o. IsNeighborAt nodes entries other kind its o in
     subst R g (subst Q f (subst P e is))
 
-module _ (root : Root) (nodes : List Node) (entries : List Entry) (router : ℕ) (told : Told) where
-  pub no_neighbor : (xs : List Link)
+module _ (root : Root) (nodes : List Node) (entries : List AdvertisedLink) (router : ℕ)
+    (told : Told) where
+  pub no_neighbor : (xs : List VertexLink)
       → IsNeighborAt nodes entries told.link_id PointToPoint router None
       → Adds (IsToRouter root nodes entries router told) xs xs
   no_neighbor xs none = adds_none (IsToRouter root nodes entries router told) xs
       (λ x t. none t.back)
 
   -- it has one index
-  pub to_neighbor : (to : ℕ) (xs ys : List Link) → Ascend nodes → told.kind ≡ kinds.PointToPoint
-      → 0 < told.metric → IsNeighborAt nodes entries told.link_id PointToPoint router (Some to)
+  pub to_neighbor : (to : ℕ) (xs ys : List VertexLink) → Ascend nodes
+      → told.kind ≡ kinds.PointToPoint → 0 < told.metric
+      → IsNeighborAt nodes entries told.link_id PointToPoint router (Some to)
       → Adds (IsExitTo root router to told.metric told.link_data) xs ys
       → Adds (IsToRouter root nodes entries router told) xs ys
   to_neighbor to xs ys ascend kind counts at a =
@@ -195,9 +198,10 @@ module _ (root : Root) (nodes : List Node) (entries : List Entry) (router : ℕ)
 
 -- ---- to the network of one entry
 
-module _ (root : Root) (entries : List Entry) (router : ℕ) (told_links : List Told) (entry : Entry)
+module _ (root : Root) (entries : List AdvertisedLink) (router : ℕ) (told_links : List Told)
+    (entry : AdvertisedLink)
   where
-    pub network_at_root : (xs ys : List Link) → router ≡ root.router
+    pub network_at_root : (xs ys : List VertexLink) → router ≡ root.router
         → Adds (OfEach (IsOwnTransit root entry.id entry.place) told_links) xs ys
         → Adds (IsToNetwork root entries router told_links entry) xs ys
     network_at_root xs ys own a =
@@ -207,7 +211,7 @@ module _ (root : Root) (entries : List Entry) (router : ℕ) (told_links : List 
           other = λ off. absurd (off own);
         }) (λ x t. t.own own) a
 
-    pub network_elsewhere : (xs ys : List Link) → (router ≡ root.router → ⊥)
+    pub network_elsewhere : (xs ys : List VertexLink) → (router ≡ root.router → ⊥)
         → Adds (IsCheapest entries router entry) xs ys
         → Adds (IsToNetwork root entries router told_links entry) xs ys
     network_elsewhere xs ys off a =
@@ -218,13 +222,13 @@ module _ (root : Root) (entries : List Entry) (router : ℕ) (told_links : List 
           other = λ _. c;
         }) (λ x t. t.other off) a
 
-module _ (entries : List Entry) (router : ℕ) (entry : Entry) where
-  pub none_cheapest : (xs : List Link) → IsLeastMetric entries router Transit entry.id 1 None
+module _ (entries : List AdvertisedLink) (router : ℕ) (entry : AdvertisedLink) where
+  pub none_cheapest : (xs : List VertexLink) → IsLeastMetric entries router Transit entry.id 1 None
       → Adds (IsCheapest entries router entry) xs xs
   none_cheapest xs none = adds_none (IsCheapest entries router entry) xs
       (λ x c. none x.cost c.least.0 c.least.1)
 
-  pub one_cheapest : (cost : ℕ) (xs : List Link)
+  pub one_cheapest : (cost : ℕ) (xs : List VertexLink)
       → IsLeastMetric entries router Transit entry.id 1 (Some cost)
       → Adds (IsCheapest entries router entry) xs (xs ++ record {
         to = entry.place;
@@ -232,7 +236,7 @@ module _ (entries : List Entry) (router : ℕ) (entry : Entry) where
         interface = 0;
       } ∷ [])
   one_cheapest cost xs least =
-      let link : Link = record { to = entry.place; cost = cost; interface = 0 } in
+      let link : VertexLink = record { to = entry.place; cost = cost; interface = 0 } in
       adds_one (IsCheapest entries router entry) xs link (record {
         same_end = refl;
         least = least;
@@ -247,26 +251,26 @@ module _ (entries : List Entry) (router : ℕ) (entry : Entry) where
 
 -- ---- to the networks of all entries that list the router
 
-module _ (root : Root) (entries : List Entry) (router : ℕ) (told_links : List Told) where
-  abbrev To : Entry → Link → Type 0
+module _ (root : Root) (entries : List AdvertisedLink) (router : ℕ) (told_links : List Told) where
+  abbrev To : AdvertisedLink → VertexLink → Type 0
   To = IsToNetwork root entries router told_links
 
-  abbrev ToSome : Link → Type 0
+  abbrev ToSome : VertexLink → Type 0
   ToSome = IsToSomeNetwork root entries router told_links
 
-  abbrev pub WalkedTo : ℕ → Link → Type 0
-  WalkedTo at link = (k : ℕ) × (entry : Entry) × (slice_get entries k ≡ Some entry)
+  abbrev pub WalkedTo : ℕ → VertexLink → Type 0
+  WalkedTo at link = (k : ℕ) × (entry : AdvertisedLink) × (slice_get entries k ≡ Some entry)
       × (entry.router ≡ router) × (entry.kind ≡ Attached) × (k < at) × To entry link
 
-  pub walk_none : (first : ℕ) (xs : List Link)
-      → ((k : ℕ) (other : Entry) → slice_get entries k ≡ Some other → k < first
+  pub walk_none : (first : ℕ) (xs : List VertexLink)
+      → ((k : ℕ) (other : AdvertisedLink) → slice_get entries k ≡ Some other → k < first
       → entry_cmp other (attached_entry 0 0 router) ≡ Less) → Adds (WalkedTo first) xs xs
   walk_none first xs before =
       adds_none (WalkedTo first) xs
       (λ x o. not_before (attached_entry 0 0 router) o.1 o.3 o.4 (omega arith) (omega arith)
       (omega arith) (before o.0 o.1 o.2 o.5))
 
-  pub walk_more : (at : ℕ) (entry : Entry) (xs ys zs : List Link)
+  pub walk_more : (at : ℕ) (entry : AdvertisedLink) (xs ys zs : List VertexLink)
       → slice_get entries at ≡ Some entry → entry.router ≡ router → entry.kind ≡ Attached
       → Adds (WalkedTo at) xs ys → Adds (To entry) ys zs → Adds (WalkedTo (at + 1)) xs zs
   walk_more at entry xs ys zs here is_router is_kind a b =
@@ -276,13 +280,13 @@ module _ (root : Root) (entries : List Entry) (router : ℕ) (told_links : List 
         | inr past ↦
             let same : o.0 ≡ at = omega (arith, o.5, past) in
             let P : ℕ → Type 0 = λ k. slice_get entries k ≡ Some o.1 in
-            let Q : Entry → Type 0 = λ e. To e x in
+            let Q : AdvertisedLink → Type 0 = λ e. To e x in
             inr (subst Q (same_Some o.1 entry (sym (subst P same o.2) ∙ here)) o.6)
       ])
       (λ x o. (o.0, o.1, o.2, o.3, o.4, omega (arith, o.5), o.6))
       (λ x t. (at, entry, here, is_router, is_kind, omega arith, t))
 
-  walked : (at : ℕ) (x : Link) → WalkedTo at x → ToSome x
+  walked : (at : ℕ) (x : VertexLink) → WalkedTo at x → ToSome x
   walked at x o = record {
     entry = o.1;
     among = contained entries o.0 o.1 o.2;
@@ -291,7 +295,7 @@ module _ (root : Root) (entries : List Entry) (router : ℕ) (told_links : List 
     leads = o.6;
   }
 
-  pub walk_end : (at : ℕ) (xs ys : List Link) → length entries ≤ at → Adds (WalkedTo at) xs ys
+  pub walk_end : (at : ℕ) (xs ys : List VertexLink) → length entries ≤ at → Adds (WalkedTo at) xs ys
       → Adds ToSome xs ys
   walk_end at xs ys done a =
       adds_same (WalkedTo at) ToSome xs ys (walked at)
@@ -305,12 +309,13 @@ module _ (root : Root) (entries : List Entry) (router : ℕ) (told_links : List 
         s.leads,
       )) a
 
-  pub walk_stop : (first at : ℕ) (entry : Entry) (xs ys : List Link) → IsSorted entry_cmp entries
-      → ((k : ℕ) (other : Entry) → slice_get entries k ≡ Some other → first ≤ k
+  pub walk_stop : (first at : ℕ) (entry : AdvertisedLink) (xs ys : List VertexLink)
+      → IsSorted entry_cmp entries → ((k : ℕ) (other : AdvertisedLink)
+      → slice_get entries k ≡ Some other → first ≤ k
       → entry_cmp other (attached_entry 0 0 router) ≡ Less → ⊥) → first ≤ at
       → slice_get entries at ≡ Some entry
-      → (entry.router ≡ router → entry.kind ≡ Attached → ⊥) → Adds (WalkedTo at) xs ys
-      → Adds ToSome xs ys
+      → (entry.router ≡ router → entry.kind ≡ Attached → ⊥)
+      → Adds (WalkedTo at) xs ys → Adds ToSome xs ys
   walk_stop first at entry xs ys sorted beyond low here never a =
       adds_same (WalkedTo at) ToSome xs ys (walked at)
       (λ x s.
@@ -326,12 +331,12 @@ module _ (root : Root) (entries : List Entry) (router : ℕ) (told_links : List 
 
 -- ---- from a network
 
-module _ (nodes : List Node) (entries : List Entry) (id router : ℕ) where
-  pub not_listed : (xs : List Link) → IsNeighborAt nodes entries router Transit id None
+module _ (nodes : List Node) (entries : List AdvertisedLink) (id router : ℕ) where
+  pub not_listed : (xs : List VertexLink) → IsNeighborAt nodes entries router Transit id None
       → Adds (IsToListed nodes entries id router) xs xs
   not_listed xs none = adds_none (IsToListed nodes entries id router) xs (λ x t. none t.back)
 
-  pub to_listed : (to : ℕ) (xs : List Link) → Ascend nodes
+  pub to_listed : (to : ℕ) (xs : List VertexLink) → Ascend nodes
       → IsNeighborAt nodes entries router Transit id (Some to)
       → Adds (IsToListed nodes entries id router) xs (xs ++ record {
         to = to;
@@ -339,7 +344,7 @@ module _ (nodes : List Node) (entries : List Entry) (id router : ℕ) where
         interface = 0;
       } ∷ [])
   to_listed to xs ascend at =
-      let link : Link = record { to = to; cost = 0; interface = 0 } in
+      let link : VertexLink = record { to = to; cost = 0; interface = 0 } in
       adds_one (IsToListed nodes entries id router) xs link (record {
         stands = at.0;
         back = at.1;

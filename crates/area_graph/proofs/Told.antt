@@ -5,7 +5,7 @@ use Rattle.std.proofs.lemmas.Bool.{cases_lt}
 use Rattle.std.proofs.lemmas.Option.{none-some, same_Some, slice_get_within}
 use Rattle.std.specs.List.{Contains}
 use Rattle.std.specs.List.Sorted.{IsSorted}
-use Rattle.lsa.specs.declared.body.Link.{Link}
+use Rattle.lsa.specs.declared.body.RouterLink.{RouterLink}
 use Rattle.lsa.specs.declared.body.LinkKind.{LinkKind}
 use Rattle.lsa.specs.declared.body.LinkKind.TheVariants as kinds
 use Rattle.lsa.specs.declared.body.NetworkLsa.{NetworkLsa}
@@ -20,7 +20,7 @@ use Rattle.area_graph.specs.Entries.{IsToldAs, TellsOf, attached_entry, entry_cm
 use Rattle.area_graph.specs.Entries.{link_entry, rank, with_kind}
 use Rattle.area_graph.specs.Graphs.{Adds, OfEach, StandsAt}
 use Rattle.area_graph.specs.Nodes.{AreNodes, network_in, network_lsa, router_in, router_lsa}
-use Rattle.area_graph.specs.declared.entry.Entry.{Entry}
+use Rattle.area_graph.specs.declared.entry.AdvertisedLink.{AdvertisedLink}
 use Rattle.area_graph.specs.declared.entry.EntryKind.{EntryKind}
 use Rattle.area_graph.specs.declared.entry.EntryKind.TheVariants.{Attached, PointToPoint, Transit}
 use Rattle.area_graph.proofs.KeyNodes.{network_said, router_said}
@@ -30,13 +30,15 @@ use Rattle.area_graph.proofs.Whole.{placed}
 -- ---- what one LSA advertises
 
 module _ (said : Said) (place : ℕ) where
-  pub router_tells : (router : ℕ) (lsa : RouterLsa) (xs ys : List Entry)
+  pub router_tells : (router : ℕ) (lsa : RouterLsa) (xs ys : List AdvertisedLink)
       → router_lsa said router ≡ Some lsa
-      → Adds (OfEach (λ (link : Link) (entry : Entry). entry_of router link ≡ Some entry)
+      → Adds (OfEach (λ (link : RouterLink) (entry : AdvertisedLink). entry_of router link
+      ≡ Some entry)
       lsa.links) xs ys → Adds (TellsOf said (ARouter router) place) xs ys
   router_tells router lsa xs ys is a =
       let its : IsRouterLsa said router lsa = router_said _ lsa is in
-      adds_same (OfEach (λ (link : Link) (entry : Entry). entry_of router link ≡ Some entry)
+      adds_same (OfEach (λ (link : RouterLink) (entry : AdvertisedLink). entry_of router link
+      ≡ Some entry)
       lsa.links) (TellsOf said (ARouter router) place) xs ys (λ x o. (
         o.0,
         record {
@@ -51,16 +53,18 @@ module _ (said : Said) (place : ℕ) where
       let same : t.1.lsa ≡ lsa = same_Some t.1.lsa lsa (sym (ap router_in t.1.its) ∙ is) in
       (t.0, subst L same t.1.among, t.2)) a
 
-  pub network_tells : (id by : ℕ) (lsa : NetworkLsa) (xs ys : List Entry)
+  pub network_tells : (id by : ℕ) (lsa : NetworkLsa) (xs ys : List AdvertisedLink)
       → network_lsa said id by ≡ Some lsa
-      → Adds (OfEach (λ (router : ℕ) (entry : Entry). entry ≡ attached_entry id place router)
+      → Adds (OfEach (λ (router : ℕ) (entry : AdvertisedLink). entry
+      ≡ attached_entry id place router)
       lsa.attached) xs ys → Adds (TellsOf said (ANetwork id by) place) xs ys
   network_tells id by lsa xs ys is a =
       let its : IsNetworkLsa said id by lsa = network_said _ lsa is in
-      adds_same (OfEach (λ (router : ℕ) (entry : Entry). entry ≡ attached_entry id place router)
+      adds_same (OfEach (λ (router : ℕ) (entry : AdvertisedLink). entry
+      ≡ attached_entry id place router)
       lsa.attached) (TellsOf said (ANetwork id by) place) xs ys
       (λ x o.
-      let same : o.0 ≡ x.router = sym (ap (λ (e : Entry). e.router) o.2) in
+      let same : o.0 ≡ x.router = sym (ap (λ (e : AdvertisedLink). e.router) o.2) in
       let P : ℕ → Type 0 = λ r. Contains lsa.attached r in (
         record {
           lsa = lsa;
@@ -77,14 +81,14 @@ module _ (said : Said) (place : ℕ) where
 -- ---- what the LSAs of the first nodes advertise
 
 module _ (said : Said) (nodes : List Node) where
-  abbrev pub FromBelow : ℕ → Entry → Type 0
+  abbrev pub FromBelow : ℕ → AdvertisedLink → Type 0
   FromBelow n entry = (place : ℕ) × (node : Node) × StandsAt nodes node place × (place < n)
       × TellsOf said node place entry
 
-  pub below_none : (xs : List Entry) → Adds (FromBelow 0) xs xs
+  pub below_none : (xs : List AdvertisedLink) → Adds (FromBelow 0) xs xs
   below_none xs = adds_none (FromBelow 0) xs (λ x o. omega (arith, o.3))
 
-  pub below_more : (i : ℕ) (node : Node) (xs ys zs : List Entry) → StandsAt nodes node i
+  pub below_more : (i : ℕ) (node : Node) (xs ys zs : List AdvertisedLink) → StandsAt nodes node i
       → Adds (FromBelow i) xs ys → Adds (TellsOf said node i) ys zs → Adds (FromBelow (i + 1)) xs zs
   below_more i node xs ys zs here a b =
       adds_both (FromBelow i) (TellsOf said node i) (FromBelow (i + 1)) xs ys zs a b
@@ -103,34 +107,34 @@ module _ (said : Said) (nodes : List Node) where
 
   -- ---- and what entries say on their own
 
-  told_link : (router : ℕ) (link : Link) → HasLink said router link → (kind : LinkKind)
-      → link.kind ≡ kind → (entry : Entry) → link_entry kind router link ≡ Some entry
+  told_link : (router : ℕ) (link : RouterLink) → HasLink said router link → (kind : LinkKind)
+      → link.kind ≡ kind → (entry : AdvertisedLink) → link_entry kind router link ≡ Some entry
       → IsToldAs said nodes entry.kind entry
   told_link router link has kinds.PointToPoint is entry e =
-      let P : Entry → Type 0 = λ x. IsToldAs said nodes x.kind x in
+      let P : AdvertisedLink → Type 0 = λ x. IsToldAs said nodes x.kind x in
       subst P (same_Some (with_kind router PointToPoint link) entry e)
       ((link, has, is, refl, refl), refl)
   told_link router link has kinds.Transit is entry e =
-      let P : Entry → Type 0 = λ x. IsToldAs said nodes x.kind x in
+      let P : AdvertisedLink → Type 0 = λ x. IsToldAs said nodes x.kind x in
       subst P (same_Some (with_kind router Transit link) entry e)
       ((link, has, is, refl, refl), refl)
   told_link router link has kinds.Stub is entry e = absurd (none-some entry e)
   told_link router link has kinds.Virtual is entry e = absurd (none-some entry e)
 
-  told_of : (place : ℕ) (node : Node) (entry : Entry) → StandsAt nodes node place
+  told_of : (place : ℕ) (node : Node) (entry : AdvertisedLink) → StandsAt nodes node place
       → TellsOf said node place entry → IsToldAs said nodes entry.kind entry
   told_of place (ARouter router) entry stands t = told_link router t.0 t.1 t.0.kind refl entry t.2
   told_of place (ANetwork id by) entry stands t =
-      let P : Entry → Type 0 = λ x. IsToldAs said nodes x.kind x in
+      let P : AdvertisedLink → Type 0 = λ x. IsToldAs said nodes x.kind x in
       subst P (sym t.1) ((by, stands, t.0), refl)
 
   module _ (are : AreNodes said nodes) where
-    abbrev Source : Entry → Type 0
+    abbrev Source : AdvertisedLink → Type 0
     Source entry = (place : ℕ) × (node : Node) × StandsAt nodes node place
         × TellsOf said node place entry
 
-    source : (entry : Entry) (kind : EntryKind) → entry.kind ≡ kind → IsToldAs said nodes kind entry
-        → Source entry
+    source : (entry : AdvertisedLink) (kind : EntryKind) → entry.kind ≡ kind
+        → IsToldAs said nodes kind entry → Source entry
     source entry PointToPoint is t =
         let h = t.0 in
         let at = placed nodes (ARouter entry.router)
@@ -153,7 +157,7 @@ module _ (said : Said) (nodes : List Node) where
             h.0,
             h.1,
             ap (λ (l : LinkKind). link_entry l entry.router h.0) h.2
-                ∙ ap (λ (x : Entry). Some x) same,
+                ∙ ap (λ (x : AdvertisedLink). Some x) same,
           ),
         )
     source entry Transit is t =
@@ -178,7 +182,7 @@ module _ (said : Said) (nodes : List Node) where
             h.0,
             h.1,
             ap (λ (l : LinkKind). link_entry l entry.router h.0) h.2
-                ∙ ap (λ (x : Entry). Some x) same,
+                ∙ ap (λ (x : AdvertisedLink). Some x) same,
           ),
         )
     source entry Attached is t =
@@ -193,8 +197,8 @@ module _ (said : Said) (nodes : List Node) where
         } in
         (entry.place, ANetwork entry.id l.0, l.1, (l.2, same))
 
-    pub are_entries : (n : ℕ) (raw entries : List Entry) → length nodes ≤ n
-        → Adds (FromBelow n) [] raw → ((entry : Entry)
+    pub are_entries : (n : ℕ) (raw entries : List AdvertisedLink) → length nodes ≤ n
+        → Adds (FromBelow n) [] raw → ((entry : AdvertisedLink)
         → Contains entries entry ↔ Contains raw entry) → IsSorted entry_cmp entries
         → AreEntries said nodes entries
     are_entries n raw entries done a same sorted = record {
@@ -213,7 +217,7 @@ module _ (said : Said) (nodes : List Node) where
 
 -- ---- what entries say of links back
 
-module _ (said : Said) (nodes : List Node) (entries : List Entry)
+module _ (said : Said) (nodes : List Node) (entries : List AdvertisedLink)
     (told : AreEntries said nodes entries) where
   pub transit_of : (router id metric : ℕ) → HasMetric entries router Transit id metric
       → HasLinkOf said router kinds.Transit id metric
@@ -277,7 +281,7 @@ module _ (said : Said) (nodes : List Node) (entries : List Entry)
     ),
   )
 
-  has_lsa : (entry : Entry) (kind : EntryKind) → AreNodes said nodes
+  has_lsa : (entry : AdvertisedLink) (kind : EntryKind) → AreNodes said nodes
       → IsToldAs said nodes kind entry → rank kind < 2 → Contains nodes (ARouter entry.router)
   has_lsa entry PointToPoint are t low = (are.each (ARouter entry.router)).1 (t.0.1.lsa, t.0.1.its)
   has_lsa entry Transit are t low = (are.each (ARouter entry.router)).1 (t.0.1.lsa, t.0.1.its)

@@ -14,8 +14,8 @@ use Rattle.routes.specs.Graphs.{Graph, HasLink, IsGraph, IsGraphOf, IsNoDearer, 
 use Rattle.routes.specs.Links.{Leads, LeadsTo}
 use Rattle.routes.specs.Paths.{Step}
 use Rattle.routes.specs.Said.{Said}
-use Rattle.routes.specs.declared.graph.Kind.TheVariants.{Network, Router}
-use Rattle.routes.specs.declared.graph.Link.{Link}
+use Rattle.routes.specs.declared.graph.VertexKind.TheVariants.{Network, Router}
+use Rattle.routes.specs.declared.graph.VertexLink.{VertexLink}
 use Rattle.routes.specs.declared.graph.Vertex.{Vertex}
 use Rattle.routes.specs.declared.node.Node.{Node}
 use Rattle.routes.specs.declared.node.Node.TheVariants.{ANetwork, ARouter}
@@ -137,11 +137,11 @@ counted_exit root router address exit few own elsewhere =
 module _ (said : Said) (root : Root) (nodes : List Node) (g : Graph) (are : AreNodes said nodes)
     (s : AreVertices said root nodes g) where
   forth : (v : Node) (at : ℕ) (step : Step Node) → StandsAt nodes v at → Leads said root v step
-      → (link : Link) × HasLink g at link × IsNoDearer (StandsAt nodes) step link
+      → (link : VertexLink) × HasLink g at link × IsNoDearer (StandsAt nodes) step link
   forth v at step here l =
       let to = placed nodes step.target
       ((are.each step.target).1 (far_end said root v step.target step.price step.exit l)) in
-      let link : Link = record { to = to.0; cost = step.price; interface = step.exit } in
+      let link : VertexLink = record { to = to.0; cost = step.price; interface = step.exit } in
       let vertex = element g at (omega (arith, s.count, slice_get_within nodes at v here)) in
       let is = s.each at v vertex.0 here vertex.1 in
       let found = is.links.each link (record { target = step.target; stands = to.1; leads = l }) in
@@ -161,7 +161,7 @@ module _ (said : Said) (root : Root) (nodes : List Node) (g : Graph) (are : AreN
         },
       )
 
-  back : (v : Node) (at : ℕ) (link : Link) → StandsAt nodes v at → HasLink g at link
+  back : (v : Node) (at : ℕ) (link : VertexLink) → StandsAt nodes v at → HasLink g at link
       → (step : Step Node) × Leads said root v step × IsSameStep (StandsAt nodes) step link
   back v at link here has =
       let is = s.each at v has.vertex here has.here in
@@ -192,7 +192,7 @@ module _ (said : Said) (root : Root) (nodes : List Node) (g : Graph) (are : AreN
   below_64 (ANetwork id by) (ARouter b) price exit few l = omega (arith, l.3)
   below_64 (ANetwork id by) (ANetwork other its) price exit few l = absurd l
 
-  free : (v target : Node) (vertex : Vertex) (link : Link) → vertex.kind ≡ kind_of v
+  free : (v target : Node) (vertex : Vertex) (link : VertexLink) → vertex.kind ≡ kind_of v
       → StandsAt nodes target link.to → LeadsTo said root v target link.cost link.interface
       → link.cost ≡ 0 → (vertex.kind ≡ Network)
       × ((to : Vertex) → slice_get g link.to ≡ Some to → to.kind ≡ Router)

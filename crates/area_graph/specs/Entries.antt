@@ -4,8 +4,8 @@ use Rattle.std.specs.List.{Contains}
 use Rattle.std.specs.List.Sorted.{IsSorted}
 use Rattle.std.specs.Ordering.{nat_cmp, ordering_then}
 use Rattle.std.specs.declared.cmp.Ordering.{Ordering}
-use Rattle.lsa.specs.declared.body.Body.{Body}
-use Rattle.lsa.specs.declared.body.Link.{Link}
+use Rattle.lsa.specs.declared.body.LsaBody.{LsaBody}
+use Rattle.lsa.specs.declared.body.RouterLink.{RouterLink}
 use Rattle.lsa.specs.declared.body.LinkKind.{LinkKind}
 use Rattle.lsa.specs.declared.body.LinkKind.TheVariants as kinds
 use Rattle.lsdb.specs.Bodies.{AreBodies}
@@ -16,7 +16,7 @@ use Rattle.routes.specs.declared.node.Node.TheVariants.{ANetwork, ARouter}
 use Rattle.words.specs.declared.key.Key.{Key}
 use Rattle.area_graph.specs.Graphs.{StandsAt}
 use Rattle.area_graph.specs.Nodes.{AreNodes, Ascend}
-use Rattle.area_graph.specs.declared.entry.Entry.{Entry}
+use Rattle.area_graph.specs.declared.entry.AdvertisedLink.{AdvertisedLink}
 use Rattle.area_graph.specs.declared.entry.EntryKind.{EntryKind}
 use Rattle.area_graph.specs.declared.entry.EntryKind.TheVariants.{Attached, PointToPoint, Transit}
 
@@ -29,7 +29,7 @@ rank Transit = 1
 rank Attached = 2
 
 -- by router, kind, ID, metric and place
-abbrev pub entry_cmp : Entry → Entry → Ordering
+abbrev pub entry_cmp : AdvertisedLink → AdvertisedLink → Ordering
 entry_cmp a b =
     ordering_then (nat_cmp a.router b.router)
     (ordering_then (nat_cmp (rank a.kind) (rank b.kind))
@@ -38,7 +38,7 @@ entry_cmp a b =
 
 -- ---- what an entry says
 
-abbrev pub with_kind : (router : ℕ) → EntryKind → Link → Entry
+abbrev pub with_kind : (router : ℕ) → EntryKind → RouterLink → AdvertisedLink
 with_kind router kind link =
     record {
       router = router;
@@ -49,31 +49,31 @@ with_kind router kind link =
     }
 
 -- the entry of a link of the router's; links of the other kinds have none
-abbrev pub link_entry : LinkKind → (router : ℕ) → Link → Option Entry
+abbrev pub link_entry : LinkKind → (router : ℕ) → RouterLink → Option AdvertisedLink
 link_entry kinds.PointToPoint router link = Some (with_kind router PointToPoint link)
 link_entry kinds.Transit router link = Some (with_kind router Transit link)
 link_entry kinds.Stub router link = None
 link_entry kinds.Virtual router link = None
 
-abbrev pub entry_of : (router : ℕ) → Link → Option Entry
+abbrev pub entry_of : (router : ℕ) → RouterLink → Option AdvertisedLink
 entry_of router link = link_entry link.kind router link
 
 -- the entry of a router that the network at this index lists
-abbrev pub attached_entry : (id place router : ℕ) → Entry
+abbrev pub attached_entry : (id place router : ℕ) → AdvertisedLink
 attached_entry id place router =
     record { router = router; kind = Attached; id = id; metric = 0; place = place }
 
 -- the entry is from the LSA of the node at this index
-abbrev pub TellsOf : Said → Node → (place : ℕ) → Entry → Type 0
+abbrev pub TellsOf : Said → Node → (place : ℕ) → AdvertisedLink → Type 0
 TellsOf said (ARouter router) place entry =
-    (link : Link) × HasLink said router link × (entry_of router link ≡ Some entry)
+    (link : RouterLink) × HasLink said router link × (entry_of router link ≡ Some entry)
 TellsOf said (ANetwork id by) place entry =
     ListsRouter said id by entry.router × (entry ≡ attached_entry id place entry.router)
 
 -- the router's LSA has a link of this kind to this ID with this metric
 abbrev pub HasLinkOf : Said → (router : ℕ) → LinkKind → (id metric : ℕ) → Type 0
 HasLinkOf said router kind id metric =
-    (link : Link) × HasLink said router link × (link.kind ≡ kind) × (link.link_id ≡ id)
+    (link : RouterLink) × HasLink said router link × (link.kind ≡ kind) × (link.link_id ≡ id)
     × (link.metric ≡ metric)
 
 -- the network with this Link State ID, at this index, lists the router
@@ -81,7 +81,7 @@ abbrev pub IsListedAt : Said → List Node → (router id place : ℕ) → Type 
 IsListedAt said nodes router id place =
     (by : ℕ) × StandsAt nodes (ANetwork id by) place × ListsRouter said id by router
 
-abbrev pub IsToldAs : Said → List Node → EntryKind → Entry → Type 0
+abbrev pub IsToldAs : Said → List Node → EntryKind → AdvertisedLink → Type 0
 IsToldAs said nodes PointToPoint entry =
     HasLinkOf said entry.router kinds.PointToPoint entry.id entry.metric × (entry.place ≡ 0)
 IsToldAs said nodes Transit entry =
@@ -90,44 +90,46 @@ IsToldAs said nodes Attached entry =
     IsListedAt said nodes entry.router entry.id entry.place × (entry.metric ≡ 0)
 
 -- exactly what LSAs advertise, sorted
-pub record AreEntries (said : Said) (nodes : List Node) (entries : List Entry) : Type 0 where
-  pub each : (entry : Entry) → Contains entries entry ↔ IsToldAs said nodes entry.kind entry
-  pub sorted : IsSorted entry_cmp entries
+pub record AreEntries (said : Said) (nodes : List Node) (entries : List AdvertisedLink) : Type 0
+  where
+    pub each : (entry : AdvertisedLink)
+        → Contains entries entry ↔ IsToldAs said nodes entry.kind entry
+    pub sorted : IsSorted entry_cmp entries
 
 -- what is known of an area: the bodies of its LSAs, its nodes, and what LSAs advertise about them
-pub record IsArea (said : Said) (bodies : List (Key × Body)) (nodes : List Node)
-    (entries : List Entry) : Type 0 where
+pub record IsArea (said : Said) (bodies : List (Key × LsaBody)) (nodes : List Node)
+    (entries : List AdvertisedLink) : Type 0 where
   pub are_bodies : AreBodies (Some 2) said bodies
   pub are_nodes : AreNodes said nodes
   pub are_entries : AreEntries said nodes entries
 
 -- nodes and entries are sorted, and each router that has an entry for a link is a node
-pub record AreOrdered (nodes : List Node) (entries : List Entry) : Type 0 where
+pub record AreOrdered (nodes : List Node) (entries : List AdvertisedLink) : Type 0 where
   pub ascend : Ascend nodes
   pub sorted : IsSorted entry_cmp entries
-  pub routers : (entry : Entry) → Contains entries entry → rank entry.kind < 2
+  pub routers : (entry : AdvertisedLink) → Contains entries entry → rank entry.kind < 2
       → Contains nodes (ARouter entry.router)
 
 -- ---- looking up
 
 -- both are about one router, from the same kind of link or list with the same ID
-pub record IsBeside (entry other : Entry) : Type 0 where
+pub record IsBeside (entry other : AdvertisedLink) : Type 0 where
   pub router : entry.router ≡ other.router
   pub kind : entry.kind ≡ other.kind
   pub id : entry.id ≡ other.id
 
 -- an entry of the router, of this kind and ID, with this metric
-abbrev pub HasMetric : List Entry → (router : ℕ) → EntryKind → (id metric : ℕ) → Type 0
+abbrev pub HasMetric : List AdvertisedLink → (router : ℕ) → EntryKind → (id metric : ℕ) → Type 0
 HasMetric entries router kind id metric =
     (place : ℕ)
     × Contains entries
     (record { router = router; kind = kind; id = id; metric = metric; place = place })
 
-abbrev pub HasEntry : List Entry → (router : ℕ) → EntryKind → (id : ℕ) → Type 0
+abbrev pub HasEntry : List AdvertisedLink → (router : ℕ) → EntryKind → (id : ℕ) → Type 0
 HasEntry entries router kind id = (metric : ℕ) × HasMetric entries router kind id metric
 
 -- the least metric, at least `from`, of the entries with this router, kind and ID
-abbrev pub IsLeastMetric : List Entry → (router : ℕ) → EntryKind → (id : ℕ) → (from : ℕ)
+abbrev pub IsLeastMetric : List AdvertisedLink → (router : ℕ) → EntryKind → (id : ℕ) → (from : ℕ)
     → Option ℕ → Type 0
 IsLeastMetric entries router kind id from None =
     (metric : ℕ) → from ≤ metric → HasMetric entries router kind id metric → ⊥

@@ -4,15 +4,15 @@ use Rattle.std.specs.List.{All, Contains}
 use Rattle.routes.specs.Graphs.{Graph}
 use Rattle.routes.specs.Links.{LeadsTo}
 use Rattle.routes.specs.Said.{Said}
-use Rattle.routes.specs.declared.graph.Kind.{Kind}
-use Rattle.routes.specs.declared.graph.Kind.TheVariants.{Network, Router}
-use Rattle.routes.specs.declared.graph.Link.{Link}
+use Rattle.routes.specs.declared.graph.VertexKind.{VertexKind}
+use Rattle.routes.specs.declared.graph.VertexKind.TheVariants.{Network, Router}
+use Rattle.routes.specs.declared.graph.VertexLink.{VertexLink}
 use Rattle.routes.specs.declared.graph.Vertex.{Vertex}
 use Rattle.routes.specs.declared.node.Node.{Node}
 use Rattle.routes.specs.declared.node.Node.TheVariants.{ANetwork, ARouter}
 use Rattle.routes.specs.declared.root.Root.{Root}
 
-abbrev pub kind_of : Node → Kind
+abbrev pub kind_of : Node → VertexKind
 kind_of (ARouter router) = Router
 kind_of (ANetwork id by) = Network
 
@@ -22,23 +22,23 @@ StandsAt nodes node at = slice_get nodes at ≡ Some node
 
 -- the link of the graph stands for one that counts
 pub record IsLinkFrom (said : Said) (root : Root) (nodes : List Node) (from : Node)
-    (link : Link) : Type 0 where
+    (link : VertexLink) : Type 0 where
   pub target : Node
   pub stands : StandsAt nodes target link.to
   pub leads : LeadsTo said root from target link.cost link.interface
 
 -- the other link leads to the same node, by the same interface, and costs no more
-pub record IsNoDearer (link other : Link) : Type 0 where
+pub record IsNoDearer (link other : VertexLink) : Type 0 where
   pub same_end : other.to ≡ link.to
   pub same_exit : other.interface ≡ link.interface
   pub costs : other.cost ≤ link.cost
 
 -- each stands for a link that counts, and for each such link there is one that costs no more
 pub record AreLinksFrom (said : Said) (root : Root) (nodes : List Node) (from : Node)
-    (links : List Link) : Type 0 where
-  pub only : (link : Link) → Contains links link → IsLinkFrom said root nodes from link
-  pub each : (link : Link) → IsLinkFrom said root nodes from link
-      → (other : Link) × Contains links other × IsNoDearer link other
+    (links : List VertexLink) : Type 0 where
+  pub only : (link : VertexLink) → Contains links link → IsLinkFrom said root nodes from link
+  pub each : (link : VertexLink) → IsLinkFrom said root nodes from link
+      → (other : VertexLink) × Contains links other × IsNoDearer link other
 
 -- the list after exactly these elements were added
 abbrev pub Adds : {X : Type 0} → (X → Type 0) → (old : List X) → (new : List X) → Type 0
@@ -48,7 +48,7 @@ Adds {X} P old new = (x : X) → Contains new x ↔ (Contains old x ⊎ P x)
 abbrev pub OfEach : {X Y : Type 0} → (Y → X → Type 0) → List Y → X → Type 0
 OfEach {X} {Y} P ys x = (y : Y) × Contains ys y × P y x
 
-abbrev pub CostFits : Link → Type 0
+abbrev pub CostFits : VertexLink → Type 0
 CostFits link = link.cost < 2 ^ 16
 
 -- the vertex has the node's kind and links that stand for its links

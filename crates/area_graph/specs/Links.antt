@@ -1,20 +1,20 @@
 -- The links of the graph as they are added, each from one link or one list of an LSA.
 use Rattle.std.specs.Prelude.{◌≡◌, ℕ, ◌+◌, ◌<◌, List, Option, None, Some, slice_get}
 use Rattle.std.specs.List.{Contains}
-use Rattle.lsa.specs.declared.body.Link.{Link as Told}
+use Rattle.lsa.specs.declared.body.RouterLink.{RouterLink as Told}
 use Rattle.lsa.specs.declared.body.LinkKind.TheVariants as kinds
-use Rattle.routes.specs.declared.graph.Link.{Link}
+use Rattle.routes.specs.declared.graph.VertexLink.{VertexLink}
 use Rattle.routes.specs.declared.node.Node.{Node}
 use Rattle.routes.specs.declared.node.Node.TheVariants.{ARouter}
 use Rattle.routes.specs.declared.root.Root.{Root}
 use Rattle.area_graph.specs.Entries.{HasEntry, IsLeastMetric}
 use Rattle.area_graph.specs.Graphs.{OfEach, StandsAt}
-use Rattle.area_graph.specs.declared.entry.Entry.{Entry}
+use Rattle.area_graph.specs.declared.entry.AdvertisedLink.{AdvertisedLink}
 use Rattle.area_graph.specs.declared.entry.EntryKind.{EntryKind}
 use Rattle.area_graph.specs.declared.entry.EntryKind.TheVariants.{Attached, PointToPoint, Transit}
 
 -- the index of a router with an entry of this kind and ID, if it has one
-abbrev pub IsNeighborAt : List Node → List Entry → (router : ℕ) → EntryKind → (id : ℕ)
+abbrev pub IsNeighborAt : List Node → List AdvertisedLink → (router : ℕ) → EntryKind → (id : ℕ)
     → Option ℕ → Type 0
 IsNeighborAt nodes entries router kind id None = HasEntry entries router kind id → ⊥
 IsNeighborAt nodes entries router kind id (Some at) =
@@ -31,18 +31,18 @@ pub record IsExit (root : Root) (router : ℕ) (address exit : ℕ) : Type 0 whe
   pub elsewhere : ¬ (router ≡ root.router) → exit ≡ 0
 
 -- the root's links to the node by an own interface with this address
-abbrev pub IsOwnTo : Root → (to cost address : ℕ) → Link → Type 0
+abbrev pub IsOwnTo : Root → (to cost address : ℕ) → VertexLink → Type 0
 IsOwnTo root to cost address link =
     (link.to ≡ to) × (link.cost ≡ cost) × IsOwnExit root address link.interface
 
 -- the router's links to the node by an interface with this address
-abbrev pub IsExitTo : Root → (router : ℕ) → (to cost address : ℕ) → Link → Type 0
+abbrev pub IsExitTo : Root → (router : ℕ) → (to cost address : ℕ) → VertexLink → Type 0
 IsExitTo root router to cost address link =
     (link.to ≡ to) × (link.cost ≡ cost) × IsExit root router address link.interface
 
 -- to the router at the far end of a point-to-point link, which has a link back
-pub record IsToRouter (root : Root) (nodes : List Node) (entries : List Entry) (router : ℕ)
-    (told : Told) (link : Link) : Type 0 where
+pub record IsToRouter (root : Root) (nodes : List Node) (entries : List AdvertisedLink) (router : ℕ)
+    (told : Told) (link : VertexLink) : Type 0 where
   pub is_kind : told.kind ≡ kinds.PointToPoint
   pub counts : 0 < told.metric
   pub stands : StandsAt nodes (ARouter told.link_id) link.to
@@ -50,7 +50,7 @@ pub record IsToRouter (root : Root) (nodes : List Node) (entries : List Entry) (
   pub leads : IsExitTo root router link.to told.metric told.link_data link
 
 -- the root's link to a network with this Link State ID, for a transit link of its LSA
-pub record IsOwnTransit (root : Root) (id to : ℕ) (told : Told) (link : Link) : Type 0 where
+pub record IsOwnTransit (root : Root) (id to : ℕ) (told : Told) (link : VertexLink) : Type 0 where
   pub is_kind : told.kind ≡ kinds.Transit
   pub is_id : told.link_id ≡ id
   pub counts : 0 < told.metric
@@ -58,22 +58,23 @@ pub record IsOwnTransit (root : Root) (id to : ℕ) (told : Told) (link : Link) 
 
 -- another router's link to the network of the entry, by the cheapest of its transit links to that
 -- Link State ID whose metric isn't 0
-pub record IsCheapest (entries : List Entry) (router : ℕ) (entry : Entry)
-    (link : Link) : Type 0 where
+pub record IsCheapest (entries : List AdvertisedLink) (router : ℕ) (entry : AdvertisedLink)
+    (link : VertexLink) : Type 0 where
   pub same_end : link.to ≡ entry.place
   pub least : IsLeastMetric entries router Transit entry.id 1 (Some link.cost)
   pub exit : link.interface ≡ 0
 
 -- to the network of the entry
-pub record IsToNetwork (root : Root) (entries : List Entry) (router : ℕ) (told_links : List Told)
-    (entry : Entry) (link : Link) : Type 0 where
+pub record IsToNetwork (root : Root) (entries : List AdvertisedLink) (router : ℕ)
+    (told_links : List Told)
+    (entry : AdvertisedLink) (link : VertexLink) : Type 0 where
   pub own : router ≡ root.router → OfEach (IsOwnTransit root entry.id entry.place) told_links link
   pub other : ¬ (router ≡ root.router) → IsCheapest entries router entry link
 
 -- to a network that lists the router
-pub record IsToSomeNetwork (root : Root) (entries : List Entry) (router : ℕ)
-    (told_links : List Told) (link : Link) : Type 0 where
-  pub entry : Entry
+pub record IsToSomeNetwork (root : Root) (entries : List AdvertisedLink) (router : ℕ)
+    (told_links : List Told) (link : VertexLink) : Type 0 where
+  pub entry : AdvertisedLink
   pub among : Contains entries entry
   pub is_router : entry.router ≡ router
   pub is_kind : entry.kind ≡ Attached
@@ -81,8 +82,8 @@ pub record IsToSomeNetwork (root : Root) (entries : List Entry) (router : ℕ)
 
 -- from a network with this Link State ID to a router that it lists and that has a link back, at
 -- cost 0
-pub record IsToListed (nodes : List Node) (entries : List Entry) (id router : ℕ)
-    (link : Link) : Type 0 where
+pub record IsToListed (nodes : List Node) (entries : List AdvertisedLink) (id router : ℕ)
+    (link : VertexLink) : Type 0 where
   pub stands : StandsAt nodes (ARouter router) link.to
   pub back : HasEntry entries router Transit id
   pub free : link.cost ≡ 0

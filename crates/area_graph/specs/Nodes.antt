@@ -6,8 +6,8 @@ use Rattle.std.specs.Ordering.{nat_cmp, ordering_then}
 use Rattle.std.specs.declared.cmp.Ordering.{Ordering}
 use Rattle.std.specs.declared.cmp.Ordering.TheVariants.{Greater, Less}
 use Rattle.words.specs.declared.key.Key.{Key}
-use Rattle.lsa.specs.declared.body.Body.{Body}
-use Rattle.lsa.specs.declared.body.Body.TheVariants as body
+use Rattle.lsa.specs.declared.body.LsaBody.{LsaBody}
+use Rattle.lsa.specs.declared.body.LsaBody.TheVariants as body
 use Rattle.lsa.specs.declared.body.NetworkLsa.{NetworkLsa}
 use Rattle.lsa.specs.declared.body.RouterLsa.{RouterLsa}
 use Rattle.routes.specs.Links.{IsNetworkLsa, IsRouterLsa, network_key, router_key}
@@ -38,7 +38,7 @@ pub record AreNodes (said : Said) (nodes : List Node) : Type 0 where
 
 -- ---- what is read from a database
 
-abbrev pub router_in : Option Body → Option RouterLsa
+abbrev pub router_in : Option LsaBody → Option RouterLsa
 router_in None = None
 router_in (Some (body.Router lsa)) = Some lsa
 router_in (Some (body.Network lsa)) = None
@@ -46,7 +46,7 @@ router_in (Some (body.NetworkSummary lsa)) = None
 router_in (Some (body.RouterSummary lsa)) = None
 router_in (Some (body.External lsa)) = None
 
-abbrev pub network_in : Option Body → Option NetworkLsa
+abbrev pub network_in : Option LsaBody → Option NetworkLsa
 network_in None = None
 network_in (Some (body.Router lsa)) = None
 network_in (Some (body.Network lsa)) = Some lsa
@@ -69,7 +69,7 @@ if_network id by None = None
 if_network id by (Some lsa) = Some (ANetwork id by)
 
 -- the node of the LSA with this key and body, if there is one
-abbrev pub node_of : Key × Body → Option Node
+abbrev pub node_of : Key × LsaBody → Option Node
 node_of one =
     if (one.0.ls_type == 1) && (one.0.link_state_id == one.0.advertising_router)
     then if_router one.0.advertising_router (router_in (Some one.1))

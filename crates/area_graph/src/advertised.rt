@@ -5,7 +5,7 @@ ghost use Rattle.routes.specs.Said.{said_at};
 ghost use Rattle.area_graph.specs.Nodes.{network_lsa, router_lsa};
 
 use crate::lookups::few_from;
-use lsa::{Body, NetworkLsa, RouterLsa};
+use lsa::{LsaBody, NetworkLsa, RouterLsa};
 use lsdb::{KeyedBody, Lsdb};
 use words::{Key, LinkStateId, RouterId, Second};
 
@@ -24,7 +24,7 @@ pub struct Advertised<'a> {
 }
 
 // What the LSA with this key says, unless it is at MaxAge. The search begins at index `place`.
-fn body_near<'a>(told: &Advertised<'a>, place: usize, key: &Key) -> Option<&'a Body>
+fn body_near<'a>(told: &Advertised<'a>, place: usize, key: &Key) -> Option<&'a LsaBody>
     requires { AreBodies (Some 2) (said_at told.now.moment told.now.db.now.present)
         told.now.bodies.now }
     ensures { option_copied result ≡ said_at told.now.moment told.now.db.now.present key.now }
@@ -63,7 +63,7 @@ pub fn router_lsa<'a>(
         advertising_router: router,
     };
     match body_near(told, place, &key) {
-        Some(Body::Router(lsa)) => Some(lsa),
+        Some(LsaBody::Router(lsa)) => Some(lsa),
         _ => None,
     }
 }
@@ -87,7 +87,7 @@ pub fn network_lsa<'a>(
         advertising_router: by,
     };
     match body_near(told, place, &key) {
-        Some(Body::Network(lsa)) => Some(lsa),
+        Some(LsaBody::Network(lsa)) => Some(lsa),
         _ => None,
     }
 }

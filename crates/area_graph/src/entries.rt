@@ -3,17 +3,17 @@
 ghost use Rattle.std.specs.Prelude.{◌≡◌, ◌↔◌, ℕ, IfOk, OnOk, Some};
 ghost use Rattle.std.specs.List.{Contains};
 ghost use Rattle.std.specs.List.Sorted.{IsSorted};
-ghost use Rattle.lsa.specs.declared.body.Link.{Link as LinkValue};
+ghost use Rattle.lsa.specs.declared.body.RouterLink.{RouterLink as LinkValue};
 ghost use Rattle.lsdb.specs.Bodies.{AreBodies};
 ghost use Rattle.routes.specs.Said.{said_at};
 ghost use Rattle.area_graph.specs.Entries.{AreEntries, TellsOf, attached_entry, entry_cmp};
 ghost use Rattle.area_graph.specs.Entries.{entry_of};
 ghost use Rattle.area_graph.specs.Graphs.{Adds, OfEach};
 ghost use Rattle.area_graph.specs.Nodes.{AreNodes};
-ghost use Rattle.area_graph.specs.declared.entry.Entry.{Entry as EntryValue};
+ghost use Rattle.area_graph.specs.declared.entry.AdvertisedLink.{AdvertisedLink as EntryValue};
 
 use crate::advertised::{Advertised, network_lsa, router_lsa};
-use crate::entry::{Entry, compare, of_link, of_list};
+use crate::entry::{AdvertisedLink, compare, of_link, of_list};
 use lsa::{NetworkLsa, RouterLsa};
 use routes::Node;
 use std::alloc::{AllocError, Global};
@@ -28,7 +28,7 @@ pub fn entries_of(
     alloc: Global,
     told: &Advertised<'_>,
     nodes: &[Node],
-) -> Result<Vec<Entry>, AllocError>
+) -> Result<Vec<AdvertisedLink>, AllocError>
     requires bodies { AreBodies (Some 2)
         (said_at told.now.moment told.now.db.now.present) told.now.bodies.now }
     requires nodes { AreNodes (said_at told.now.moment told.now.db.now.present) nodes.now }
@@ -50,8 +50,8 @@ fn add_in_order(
     told: &Advertised<'_>,
     node: &Node,
     place: usize,
-    own: &mut Vec<Entry>,
-    entries: &mut Vec<Entry>,
+    own: &mut Vec<AdvertisedLink>,
+    entries: &mut Vec<AdvertisedLink>,
 ) -> Result<(), AllocError>
     requires { AreBodies (Some 2)
         (said_at told.now.moment told.now.db.now.present) told.now.bodies.now }
@@ -70,7 +70,7 @@ fn add_node(
     told: &Advertised<'_>,
     node: &Node,
     place: usize,
-    entries: &mut Vec<Entry>,
+    entries: &mut Vec<AdvertisedLink>,
 ) -> Result<(), AllocError>
     requires { AreBodies (Some 2)
         (said_at told.now.moment told.now.db.now.present) told.now.bodies.now }
@@ -90,7 +90,11 @@ fn add_node(
 }
 
 // Adds an entry for each link that has one.
-fn add_links(router: RouterId, lsa: &RouterLsa, entries: &mut Vec<Entry>) -> Result<(), AllocError>
+fn add_links(
+    router: RouterId,
+    lsa: &RouterLsa,
+    entries: &mut Vec<AdvertisedLink>,
+) -> Result<(), AllocError>
     ensures { OnOk result (Adds (OfEach (λ (link : LinkValue) (entry : EntryValue).
         entry_of router link ≡ Some entry) lsa.now.links) entries.old.items entries.new.items) }
 {
@@ -107,7 +111,7 @@ fn add_list(
     id: LinkStateId,
     place: usize,
     lsa: &NetworkLsa,
-    entries: &mut Vec<Entry>,
+    entries: &mut Vec<AdvertisedLink>,
 ) -> Result<(), AllocError>
     ensures { OnOk result (Adds (OfEach (λ (router : ℕ) (entry : EntryValue). entry
         ≡ attached_entry id place router) lsa.now.attached) entries.old.items entries.new.items) }
@@ -119,7 +123,7 @@ fn add_list(
 }
 
 // Adds all of them.
-fn push_all(own: &[Entry], entries: &mut Vec<Entry>) -> Result<(), AllocError>
+fn push_all(own: &[AdvertisedLink], entries: &mut Vec<AdvertisedLink>) -> Result<(), AllocError>
     ensures { OnOk result (Adds (λ (entry : EntryValue). Contains own.now entry)
         entries.old.items entries.new.items) }
 {
@@ -129,14 +133,14 @@ fn push_all(own: &[Entry], entries: &mut Vec<Entry>) -> Result<(), AllocError>
     Ok(())
 }
 
-fn sort_own(own: &mut Vec<Entry>)
+fn sort_own(own: &mut Vec<AdvertisedLink>)
     ensures { (entry : EntryValue) → Contains own.new.items entry ↔ Contains own.old.items entry }
 {
     own.sort_unstable_by(|a, b| compare(a, b));
 }
 
 // Merges the runs that are sorted.
-fn sort(entries: &mut Vec<Entry>) -> Result<(), AllocError>
+fn sort(entries: &mut Vec<AdvertisedLink>) -> Result<(), AllocError>
     ensures sorted { OnOk result (IsSorted entry_cmp entries.new.items) }
     ensures same { OnOk result ((entry : EntryValue) → Contains entries.new.items entry
         ↔ Contains entries.old.items entry) }

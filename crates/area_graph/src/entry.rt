@@ -5,7 +5,7 @@ ghost use Rattle.std.specs.Ordering.{is_lt};
 ghost use Rattle.area_graph.specs.Entries.{IsBeside, attached_entry, entry_cmp, entry_of, rank};
 ghost use Rattle.area_graph.specs.Entries.{with_kind};
 
-use lsa::{Link, LinkKind};
+use lsa::{LinkKind, RouterLink};
 use std::cmp::Ordering;
 use words::{LinkStateId, RouterId};
 
@@ -22,7 +22,7 @@ pub enum EntryKind {
 
 /// What one link of its router-LSA, or the list of a network-LSA, advertises about a router.
 #[derive(Clone, Copy, Debug)]
-pub struct Entry {
+pub struct AdvertisedLink {
     pub router: RouterId,
     pub kind: EntryKind,
     /// The Link ID, or the Link State ID of the network-LSA.
@@ -44,7 +44,7 @@ fn rank(kind: EntryKind) -> u8
 }
 
 /// Orders entries by router, kind, ID, metric and place.
-pub fn compare(a: &Entry, b: &Entry) -> Ordering
+pub fn compare(a: &AdvertisedLink, b: &AdvertisedLink) -> Ordering
     ensures { result ≡ entry_cmp a.now b.now }
 {
     a.router
@@ -57,14 +57,14 @@ pub fn compare(a: &Entry, b: &Entry) -> Ordering
 }
 
 /// Whether the first comes before the second in that order.
-pub fn is_before(a: &Entry, b: &Entry) -> bool
+pub fn is_before(a: &AdvertisedLink, b: &AdvertisedLink) -> bool
     ensures { result ≡ is_lt (entry_cmp a.now b.now) }
 {
     compare(a, b) == Ordering::Less
 }
 
 /// Whether both have the same router, kind and ID.
-pub fn is_beside(entry: &Entry, other: &Entry) -> bool
+pub fn is_beside(entry: &AdvertisedLink, other: &AdvertisedLink) -> bool
     ensures { IsTrue result ↔ IsBeside entry.now other.now }
 {
     entry.router.number() == other.router.number()
@@ -73,7 +73,7 @@ pub fn is_beside(entry: &Entry, other: &Entry) -> bool
 }
 
 /// Whether the entry has this router, kind and ID.
-pub fn is_of(entry: &Entry, router: RouterId, kind: EntryKind, id: u32) -> bool
+pub fn is_of(entry: &AdvertisedLink, router: RouterId, kind: EntryKind, id: u32) -> bool
     ensures { IsTrue result ↔ ((entry.now.id ≡ id) × (entry.now.router ≡ router)
         × (entry.now.kind ≡ kind)) }
 {
@@ -81,7 +81,7 @@ pub fn is_of(entry: &Entry, router: RouterId, kind: EntryKind, id: u32) -> bool
 }
 
 /// The entry of a link of the router's LSA; links to stub networks and virtual links have none.
-pub fn of_link(router: RouterId, link: &Link) -> Option<Entry>
+pub fn of_link(router: RouterId, link: &RouterLink) -> Option<AdvertisedLink>
     ensures { result ≡ entry_of router link.now }
 {
     match link.kind {
@@ -92,10 +92,10 @@ pub fn of_link(router: RouterId, link: &Link) -> Option<Entry>
     }
 }
 
-fn with_kind(router: RouterId, kind: EntryKind, link: &Link) -> Entry
+fn with_kind(router: RouterId, kind: EntryKind, link: &RouterLink) -> AdvertisedLink
     ensures { result ≡ with_kind router kind link.now }
 {
-    Entry {
+    AdvertisedLink {
         router,
         kind,
         id: link.link_id,
@@ -106,10 +106,10 @@ fn with_kind(router: RouterId, kind: EntryKind, link: &Link) -> Entry
 
 /// The entry of a router that the network-LSA with this Link State ID lists. The network's node is
 /// at index `place`.
-pub fn of_list(id: LinkStateId, place: usize, router: RouterId) -> Entry
+pub fn of_list(id: LinkStateId, place: usize, router: RouterId) -> AdvertisedLink
     ensures { result ≡ attached_entry id place router }
 {
-    Entry {
+    AdvertisedLink {
         router,
         kind: EntryKind::Attached,
         id: id.number(),

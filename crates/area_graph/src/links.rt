@@ -9,21 +9,21 @@ ghost use Rattle.area_graph.specs.Links.{IsCheapest, IsExitTo, IsNeighborAt, IsO
 ghost use Rattle.area_graph.specs.Links.{IsToListed, IsToNetwork, IsToRouter, IsToSomeNetwork};
 
 use crate::advertised::{Advertised, network_lsa, router_lsa};
-use crate::entry::{Entry, EntryKind, of_list};
+use crate::entry::{AdvertisedLink, EntryKind, of_list};
 use crate::lookups::{first_at_near, has_entry_near, least_metric};
 use crate::slots::Slots;
 use crate::starts::{Start, start_at};
-use lsa::{Link as ToldLink, LinkKind, NetworkLsa, RouterLsa};
-use routes::{Link, Node, Root};
+use lsa::{LinkKind, NetworkLsa, RouterLink as ToldLink, RouterLsa};
+use routes::{Node, Root, VertexLink};
 use std::alloc::{AllocError, Global};
 use words::{LinkStateId, RouterId};
 
 /// The nodes of an area with their slots, what LSAs advertise about its routers, and where that
 /// begins for each of these.
 #[derive(Drop)]
-pub struct Area<'a> {
+pub struct AreaTopology<'a> {
     pub nodes: &'a [Node],
-    pub entries: &'a [Entry],
+    pub entries: &'a [AdvertisedLink],
     pub slots: &'a Slots,
     pub starts: &'a [Start],
 }
@@ -34,10 +34,10 @@ pub fn links_from(
     alloc: Global,
     told: &Advertised<'_>,
     root: &Root,
-    area: &Area<'_>,
+    area: &AreaTopology<'_>,
     from: &Node,
     place: usize,
-) -> Result<Vec<Link>, AllocError>
+) -> Result<Vec<VertexLink>, AllocError>
     requires area { IsArea (said_at told.now.moment told.now.db.now.present) told.now.bodies.now
         area.now.nodes.now area.now.entries.now }
     requires interfaces { length root.now.addresses ≤ 63 }
@@ -75,10 +75,10 @@ pub fn links_from(
 // Adds the links to the routers at the far ends of point-to-point links.
 fn add_routers(
     root: &Root,
-    area: &Area<'_>,
+    area: &AreaTopology<'_>,
     router: RouterId,
     lsa: &RouterLsa,
-    links: &mut Vec<Link>,
+    links: &mut Vec<VertexLink>,
 ) -> Result<(), AllocError>
     requires ordered { AreOrdered area.now.nodes.now area.now.entries.now }
     requires interfaces { length root.now.addresses ≤ 63 }
@@ -106,10 +106,10 @@ fn is_to_router(told: &ToldLink) -> bool
 // Adds the links to the router at the far end of one, if that has a link back.
 fn add_router(
     root: &Root,
-    area: &Area<'_>,
+    area: &AreaTopology<'_>,
     router: RouterId,
     told: &ToldLink,
-    links: &mut Vec<Link>,
+    links: &mut Vec<VertexLink>,
 ) -> Result<(), AllocError>
     requires ordered { AreOrdered area.now.nodes.now area.now.entries.now }
     requires interfaces { length root.now.addresses ≤ 63 }
@@ -128,7 +128,7 @@ fn add_router(
 }
 
 // The index of a router, if its LSA has a link of this kind to this ID.
-fn neighbor_at(area: &Area<'_>, router: RouterId, kind: EntryKind, id: u32) -> Option<usize>
+fn neighbor_at(area: &AreaTopology<'_>, router: RouterId, kind: EntryKind, id: u32) -> Option<usize>
     requires ordered { AreOrdered area.now.nodes.now area.now.entries.now }
     requires of_link { rank kind < 2 }
     ensures { IsNeighborAt area.now.nodes.now area.now.entries.now router kind id result }
@@ -153,7 +153,7 @@ pub fn add_exits(
     address: u32,
     cost: u16,
     to: usize,
-    links: &mut Vec<Link>,
+    links: &mut Vec<VertexLink>,
 ) -> Result<(), AllocError>
     requires { length root.now.addresses ≤ 63 }
     ensures adds { OnOk result (Adds (IsExitTo root.now router to cost address) links.old.items
@@ -163,7 +163,7 @@ pub fn add_exits(
     if is_root(root, router) {
         return add_own(root, address, cost, to, links);
     }
-    links.push(Link {
+    links.push(VertexLink {
         to,
         cost,
         interface: 0,
@@ -183,7 +183,7 @@ fn add_own(
     address: u32,
     cost: u16,
     to: usize,
-    links: &mut Vec<Link>,
+    links: &mut Vec<VertexLink>,
 ) -> Result<(), AllocError>
     requires { length root.now.addresses ≤ 63 }
     ensures adds { OnOk result (Adds (IsOwnTo root.now to cost address) links.old.items
@@ -193,7 +193,7 @@ fn add_own(
     let addresses = root.addresses.as_slice();
     for n in 0..addresses.len() {
         if addresses[n].bits() == address {
-            links.push(Link {
+            links.push(VertexLink {
                 to,
                 cost,
                 interface: n as u8 + 1,
@@ -209,11 +209,11 @@ fn add_own(
 // index `start`.
 fn add_networks(
     root: &Root,
-    entries: &[Entry],
+    entries: &[AdvertisedLink],
     start: usize,
     router: RouterId,
     lsa: &RouterLsa,
-    links: &mut Vec<Link>,
+    links: &mut Vec<VertexLink>,
 ) -> Result<(), AllocError>
     requires sorted { IsSorted entry_cmp entries.now }
     requires interfaces { length root.now.addresses ≤ 63 }
@@ -233,7 +233,7 @@ fn add_networks(
     Ok(())
 }
 
-fn is_listed(entry: &Entry, router: RouterId) -> bool
+fn is_listed(entry: &AdvertisedLink, router: RouterId) -> bool
     ensures { IsTrue result ↔ ((entry.now.router ≡ router)
         × (entry.now.kind ≡ EntryKind.Attached)) }
 {
@@ -243,11 +243,11 @@ fn is_listed(entry: &Entry, router: RouterId) -> bool
 // Adds the links to the network whose list the entry is from.
 fn add_network(
     root: &Root,
-    entries: &[Entry],
+    entries: &[AdvertisedLink],
     router: RouterId,
     lsa: &RouterLsa,
-    entry: &Entry,
-    links: &mut Vec<Link>,
+    entry: &AdvertisedLink,
+    links: &mut Vec<VertexLink>,
 ) -> Result<(), AllocError>
     requires sorted { IsSorted entry_cmp entries.now }
     requires interfaces { length root.now.addresses ≤ 63 }
@@ -268,7 +268,7 @@ fn add_own_transits(
     lsa: &RouterLsa,
     id: u32,
     to: usize,
-    links: &mut Vec<Link>,
+    links: &mut Vec<VertexLink>,
 ) -> Result<(), AllocError>
     requires { length root.now.addresses ≤ 63 }
     ensures adds { OnOk result (Adds (OfEach (IsOwnTransit root.now id to) lsa.now.links)
@@ -294,10 +294,10 @@ fn is_transit_to(told: &ToldLink, id: u32) -> bool
 // Adds one link to a network: of several transit links to its Link State ID only the cheapest can
 // be on a least-cost walk.
 fn add_cheapest(
-    entries: &[Entry],
+    entries: &[AdvertisedLink],
     router: RouterId,
-    entry: &Entry,
-    links: &mut Vec<Link>,
+    entry: &AdvertisedLink,
+    links: &mut Vec<VertexLink>,
 ) -> Result<(), AllocError>
     requires { IsSorted entry_cmp entries.now }
     ensures adds { OnOk result (Adds (IsCheapest entries.now router entry.now) links.old.items
@@ -305,7 +305,7 @@ fn add_cheapest(
     ensures fits { OnOk result (All CostFits links.old.items → All CostFits links.new.items) }
 {
     if let Some(cost) = least_metric(entries, router, EntryKind::Transit, entry.id, 1) {
-        links.push(Link {
+        links.push(VertexLink {
             to: entry.place,
             cost,
             interface: 0,
@@ -319,10 +319,10 @@ fn add_cheapest(
 // Adds the links of the network with this Link State ID to the routers that its LSA lists and that
 // have a link back.
 fn add_listed(
-    area: &Area<'_>,
+    area: &AreaTopology<'_>,
     id: LinkStateId,
     lsa: &NetworkLsa,
-    links: &mut Vec<Link>,
+    links: &mut Vec<VertexLink>,
 ) -> Result<(), AllocError>
     requires { AreOrdered area.now.nodes.now area.now.entries.now }
     ensures adds { OnOk result (Adds (OfEach (IsToListed area.now.nodes.now area.now.entries.now id)
@@ -332,7 +332,7 @@ fn add_listed(
 {
     for router in lsa.attached.as_slice() {
         if let Some(to) = neighbor_at(area, *router, EntryKind::Transit, id.number()) {
-            links.push(Link {
+            links.push(VertexLink {
                 to,
                 cost: 0,
                 interface: 0,

@@ -3,9 +3,9 @@ ghost use Rattle.std.specs.Prelude.{◌≡◌, ◌<◌, ◌≤◌, ◌↔◌, �
 ghost use Rattle.std.specs.List.Sorted.{IsSorted};
 ghost use Rattle.std.specs.declared.cmp.Ordering.TheVariants.{Less};
 ghost use Rattle.area_graph.specs.Entries.{HasEntry, IsLeastMetric, entry_cmp};
-ghost use Rattle.area_graph.specs.declared.entry.Entry.{Entry as EntryValue};
+ghost use Rattle.area_graph.specs.declared.entry.AdvertisedLink.{AdvertisedLink as EntryValue};
 
-use crate::entry::{Entry, EntryKind, compare, is_before, is_beside, is_of};
+use crate::entry::{AdvertisedLink, EntryKind, compare, is_before, is_beside, is_of};
 use words::RouterId;
 
 // The number of indices that are tried before a binary search.
@@ -23,7 +23,7 @@ pub fn few_from(place: usize, length: usize) -> usize
 }
 
 /// The index of the first entry that isn't before this one; their number if all are.
-pub fn first_at(entries: &[Entry], entry: &Entry) -> usize
+pub fn first_at(entries: &[AdvertisedLink], entry: &AdvertisedLink) -> usize
     requires { IsSorted entry_cmp entries.now }
     ensures within { result ≤ length entries.now }
     ensures before { (k : ℕ) (other : EntryValue) → slice_get entries.now k ≡ Some other
@@ -35,7 +35,7 @@ pub fn first_at(entries: &[Entry], entry: &Entry) -> usize
 }
 
 /// The same, tried at this index first, which is usually right.
-pub fn first_at_near(entries: &[Entry], place: usize, entry: &Entry) -> usize
+pub fn first_at_near(entries: &[AdvertisedLink], place: usize, entry: &AdvertisedLink) -> usize
     requires { IsSorted entry_cmp entries.now }
     ensures within { result ≤ length entries.now }
     ensures before { (k : ℕ) (other : EntryValue) → slice_get entries.now k ≡ Some other
@@ -50,7 +50,7 @@ pub fn first_at_near(entries: &[Entry], place: usize, entry: &Entry) -> usize
 }
 
 // Whether exactly the entries below this index are before this one.
-fn is_first(entries: &[Entry], place: usize, entry: &Entry) -> bool
+fn is_first(entries: &[AdvertisedLink], place: usize, entry: &AdvertisedLink) -> bool
     requires sorted { IsSorted entry_cmp entries.now }
     requires within { place ≤ length entries.now }
     ensures before { IsTrue result → (k : ℕ) (other : EntryValue)
@@ -66,7 +66,7 @@ fn is_first(entries: &[Entry], place: usize, entry: &Entry) -> bool
 }
 
 // Whether the entries below this index are before this one.
-fn are_before(entries: &[Entry], place: usize, entry: &Entry) -> bool
+fn are_before(entries: &[AdvertisedLink], place: usize, entry: &AdvertisedLink) -> bool
     requires sorted { IsSorted entry_cmp entries.now }
     requires within { place ≤ length entries.now }
     ensures { IsTrue result → (k : ℕ) (other : EntryValue)
@@ -80,7 +80,7 @@ fn are_before(entries: &[Entry], place: usize, entry: &Entry) -> bool
 }
 
 // Whether no entry from this index on is before this one.
-fn are_not_before(entries: &[Entry], place: usize, entry: &Entry) -> bool
+fn are_not_before(entries: &[AdvertisedLink], place: usize, entry: &AdvertisedLink) -> bool
     requires sorted { IsSorted entry_cmp entries.now }
     requires within { place ≤ length entries.now }
     ensures { IsTrue result → (k : ℕ) (other : EntryValue)
@@ -98,7 +98,7 @@ fn are_not_before(entries: &[Entry], place: usize, entry: &Entry) -> bool
 
 /// The least metric, at least `from`, of the entries with this router, kind and ID.
 pub fn least_metric(
-    entries: &[Entry],
+    entries: &[AdvertisedLink],
     router: RouterId,
     kind: EntryKind,
     id: u32,
@@ -107,7 +107,7 @@ pub fn least_metric(
     requires { IsSorted entry_cmp entries.now }
     ensures { IsLeastMetric entries.now router kind id from result }
 {
-    let least = Entry {
+    let least = AdvertisedLink {
         router,
         kind,
         id,
@@ -129,7 +129,7 @@ pub fn least_metric(
 /// Whether a router has an entry of this kind and ID. The search begins at `place`, the index at
 /// which the router's entries are expected to begin.
 pub fn has_entry_near(
-    entries: &[Entry],
+    entries: &[AdvertisedLink],
     place: usize,
     router: RouterId,
     kind: EntryKind,
@@ -148,7 +148,7 @@ pub fn has_entry_near(
 }
 
 // Whether a router has an entry of this kind and ID.
-fn has_entry(entries: &[Entry], router: RouterId, kind: EntryKind, id: u32) -> bool
+fn has_entry(entries: &[AdvertisedLink], router: RouterId, kind: EntryKind, id: u32) -> bool
     requires { IsSorted entry_cmp entries.now }
     ensures { IsTrue result ↔ HasEntry entries.now router kind id }
 {

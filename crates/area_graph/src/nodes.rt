@@ -8,7 +8,7 @@ ghost use Rattle.routes.specs.declared.node.Node.{Node};
 ghost use Rattle.std.specs.declared.cmp.Ordering.TheVariants.{Less};
 
 use crate::advertised::NETWORK_LSA;
-use lsa::Body;
+use lsa::LsaBody;
 use lsdb::Lsdb;
 use routes::Node;
 use std::alloc::{AllocError, Global};
@@ -35,19 +35,19 @@ pub fn nodes_of(alloc: Global, db: &Lsdb, moment: Second) -> Result<Vec<Node>, A
 }
 
 // The node of the LSA with this key and body; `None` if it has none.
-fn node_of(key: &Key, body: &Body) -> Option<Node>
+fn node_of(key: &Key, body: &LsaBody) -> Option<Node>
     ensures { result ≡ node_of (key.now, body.now) }
 {
     let router = key.advertising_router;
     if key.ls_type == 1 && key.link_state_id.number() == router.number() {
         return match body {
-            Body::Router(_) => Some(Node::ARouter(router)),
+            LsaBody::Router(_) => Some(Node::ARouter(router)),
             _ => None,
         };
     }
     if key.ls_type == NETWORK_LSA {
         return match body {
-            Body::Network(_) => Some(Node::ANetwork(key.link_state_id, router)),
+            LsaBody::Network(_) => Some(Node::ANetwork(key.link_state_id, router)),
             _ => None,
         };
     }

@@ -1,7 +1,7 @@
 //! Where the entries of each router begin, as hints for searches. Only the time of a search depends
 //! on them.
 
-use crate::entry::{Entry, EntryKind, compare, of_list};
+use crate::entry::{AdvertisedLink, EntryKind, compare, of_list};
 use routes::Node;
 use std::alloc::{AllocError, Global};
 use words::{LinkStateId, RouterId};
@@ -20,7 +20,7 @@ pub struct Start {
 pub fn starts_of(
     alloc: Global,
     nodes: &[Node],
-    entries: &[Entry],
+    entries: &[AdvertisedLink],
 ) -> Result<Vec<Start>, AllocError> {
     let mut starts = Vec::with_capacity(alloc, nodes.len())?;
     let mut at = 0;
@@ -42,8 +42,8 @@ pub fn start_at(starts: &[Start], place: usize) -> Start {
     }
 }
 
-fn start_from(entries: &[Entry], from: usize, router: RouterId) -> Start {
-    let first = Entry {
+fn start_from(entries: &[AdvertisedLink], from: usize, router: RouterId) -> Start {
+    let first = AdvertisedLink {
         router,
         kind: EntryKind::PointToPoint,
         id: 0,
@@ -56,7 +56,7 @@ fn start_from(entries: &[Entry], from: usize, router: RouterId) -> Start {
 }
 
 // The index of the first entry, from `from` on, that isn't before this one.
-fn first_from(entries: &[Entry], from: usize, entry: &Entry) -> usize {
+fn first_from(entries: &[AdvertisedLink], from: usize, entry: &AdvertisedLink) -> usize {
     for at in from..entries.len() {
         if !compare(&entries[at], entry).is_lt() {
             return at;

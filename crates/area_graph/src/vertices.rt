@@ -9,11 +9,11 @@ ghost use Rattle.area_graph.specs.Nodes.{AreNodes};
 
 use crate::advertised::{Advertised, NETWORK_LSA};
 use crate::entries::entries_of;
-use crate::links::{Area, links_from};
+use crate::links::{AreaTopology, links_from};
 use crate::slots::Slots;
 use crate::starts::starts_of;
 use lsdb::Lsdb;
-use routes::{Kind, Node, Root, Vertex};
+use routes::{Node, Root, Vertex, VertexKind};
 use std::alloc::{AllocError, Global};
 use words::Second;
 
@@ -53,7 +53,7 @@ pub fn graph_of(
     };
     let entries = entries_of(alloc, &told, nodes)?;
     let starts = starts_of(alloc, nodes, &entries)?;
-    let area = Area {
+    let area = AreaTopology {
         nodes,
         entries: &entries,
         slots,
@@ -68,7 +68,7 @@ fn vertices_of(
     alloc: Global,
     told: &Advertised<'_>,
     root: &Root,
-    area: &Area<'_>,
+    area: &AreaTopology<'_>,
 ) -> Result<Vec<Vertex>, AllocError>
     requires area { IsArea (said_at told.now.moment told.now.db.now.present) told.now.bodies.now
         area.now.nodes.now area.now.entries.now }
@@ -90,7 +90,7 @@ fn vertex_of(
     alloc: Global,
     told: &Advertised<'_>,
     root: &Root,
-    area: &Area<'_>,
+    area: &AreaTopology<'_>,
     node: &Node,
     place: usize,
 ) -> Result<Vertex, AllocError>
@@ -105,11 +105,11 @@ fn vertex_of(
     Ok(Vertex { kind, links })
 }
 
-fn kind_of(node: &Node) -> Kind
+fn kind_of(node: &Node) -> VertexKind
     ensures { result ≡ kind_of node.now }
 {
     match node {
-        Node::ARouter(_) => Kind::Router,
-        Node::ANetwork(..) => Kind::Network,
+        Node::ARouter(_) => VertexKind::Router,
+        Node::ANetwork(..) => VertexKind::Network,
     }
 }

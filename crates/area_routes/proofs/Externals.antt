@@ -6,20 +6,20 @@ use Rattle.std.specs.Global.{Vec}
 use Rattle.words.specs.Numbers.{Moment, RouterNumber}
 use Rattle.flooding.specs.received.Links.{Area}
 use Rattle.candidates.specs.Externals.{AreExternals}
-use Rattle.candidates.specs.declared.externals.External.{External}
+use Rattle.candidates.specs.declared.externals.ExternalAdvertisement.{ExternalAdvertisement}
 use Rattle.routes.specs.Said.{Said}
 use Rattle.candidates.specs.declared.graph.AreaGraph.{AreaGraph}
 use Rattle.area_routes.specs.Kept.{AreOffersOf, ExternalsSayTheSame, KeptRoutes, KnowsExternals}
 
 -- it is unchanged while they say the same
-externals_stay : (old new : Said) (told : List External) → ExternalsSayTheSame old new
+externals_stay : (old new : Said) (told : List ExternalAdvertisement) → ExternalsSayTheSame old new
     → AreExternals old told → AreExternals new told
 externals_stay old new told same are e = (
   (λ t. let p = (are e).0 t in (p.0, sym (same p.0.0 p.2.is_type) ∙ p.1, p.2)),
   (λ p. (are e).1 (p.0, same p.0.0 p.2.is_type ∙ p.1, p.2)),
 )
 
-carried : (old new : Said) (kept : Option (Vec External)) → ExternalsSayTheSame old new
+carried : (old new : Said) (kept : Option (Vec ExternalAdvertisement)) → ExternalsSayTheSame old new
     → IfSome kept (λ told. AreExternals old told.items)
     → IfSome kept (λ told. AreExternals new told.items)
 carried old new None same are = are
@@ -32,15 +32,17 @@ pub externals_after : (old new : Said) (stay : Bool) (kept next last : KeptRoute
     → KnowsExternals old kept → KnowsExternals new last
 externals_after old new true kept next last same followed stays forgotten knows =
     let is : last.externals ≡ kept.externals = stays refl ∙ followed in
-    subst (λ (o : Option (Vec External)). IfSome o (λ told. AreExternals new told.items)) (sym is)
+    subst (λ (o : Option (Vec ExternalAdvertisement)). IfSome o
+    (λ told. AreExternals new told.items)) (sym is)
     (carried old new kept.externals (same refl) knows)
 externals_after old new false kept next last same followed stays forgotten knows =
-    subst (λ (o : Option (Vec External)). IfSome o (λ told. AreExternals new told.items))
+    subst (λ (o : Option (Vec ExternalAdvertisement)). IfSome o
+    (λ told. AreExternals new told.items))
     (sym (forgotten refl)) tt
 
 -- candidates and walk don't depend on what is kept of them, nor on the graph
 pub same_but : (router : RouterNumber) (area : Area) (moment : Moment) (kept : KeptRoutes)
-    (externals : Option (Vec External)) (graph : Option AreaGraph)
+    (externals : Option (Vec ExternalAdvertisement)) (graph : Option AreaGraph)
     → AreOffersOf router area moment kept → AreOffersOf router area moment (record kept {
       externals = externals;
       graph = graph;
@@ -58,7 +60,7 @@ pub both_else : (kept next last : KeptRoutes) → next ≡ record kept {
     → last ≡ record kept { externals = last.externals; graph = last.graph }
 both_else kept next last one other =
     other ∙ ap (λ (k : KeptRoutes). record k { graph = last.graph }) one
-    ∙ ap (λ (e : Option (Vec External)). record kept {
+    ∙ ap (λ (e : Option (Vec ExternalAdvertisement)). record kept {
       externals = e;
       graph = last.graph;
     }) (sym (ap (λ (k : KeptRoutes). k.externals) other))

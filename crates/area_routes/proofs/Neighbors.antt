@@ -4,7 +4,7 @@ use Rattle.std.proofs.Common.{Some, refl, sym, subst, ◌∙◌, ap, arith}
 use Rattle.std.proofs.lemmas.Bool.{cases_lt}
 use Rattle.std.proofs.lemmas.Option.{none-some, same_Some}
 use Rattle.std.specs.List.{Contains}
-use Rattle.lsa.specs.declared.body.Link.{Link as Told}
+use Rattle.lsa.specs.declared.body.RouterLink.{RouterLink as Told}
 use Rattle.lsa.specs.declared.body.LinkKind.{LinkKind}
 use Rattle.lsa.specs.declared.body.LinkKind.TheVariants.{PointToPoint, Transit}
 use Rattle.lsa.specs.declared.body.NetworkLsa.{NetworkLsa}
@@ -21,7 +21,7 @@ use Rattle.area_routes.specs.GraphLinks.{IsToNetwork, IsToNetworkAt}
 use Rattle.routes.proofs.Lists.{of_empty}
 use Rattle.routes.specs.Links.{Counts, IsRouterLsa, LeadsTo, LinksBack, ListsRouter}
 use Rattle.routes.specs.Said.{Said}
-use Rattle.routes.specs.declared.graph.Link.{Link}
+use Rattle.routes.specs.declared.graph.VertexLink.{VertexLink}
 use Rattle.routes.specs.declared.node.Node.{Node}
 use Rattle.routes.specs.declared.node.Node.TheVariants.{ANetwork, ARouter}
 use Rattle.routes.specs.declared.root.Root.{Root}
@@ -92,11 +92,12 @@ is_no_point told p q = is_no_transit told q p
 -- ---- one link to a router
 
 module _ (said : Said) (root : Root) (nodes : List Node) (router : ℕ) (told : Told) where
-  pub no_neighbor : (xs : List Link) → IsNeighbor said nodes told.link_id PointToPoint router None
+  pub no_neighbor : (xs : List VertexLink)
+      → IsNeighbor said nodes told.link_id PointToPoint router None
       → Adds (IsToNeighbor said root nodes router told) xs xs
   no_neighbor xs none = adds_none (IsToNeighbor said root nodes router told) xs (λ x t. none t.back)
 
-  pub to_neighbor : (to : ℕ) (xs ys : List Link) → Ascend nodes → told.kind ≡ PointToPoint
+  pub to_neighbor : (to : ℕ) (xs ys : List VertexLink) → Ascend nodes → told.kind ≡ PointToPoint
       → 0 < told.metric → IsNeighbor said nodes told.link_id PointToPoint router (Some to)
       → Adds (IsExitTo root router to told.metric told.link_data) xs ys
       → Adds (IsToNeighbor said root nodes router told) xs ys
@@ -121,13 +122,13 @@ module _ (said : Said) (root : Root) (nodes : List Node) (router : ℕ) (told : 
   -- ---- or to networks
 
   module _ (place : ℕ) where
-    pub no_network : (xs : List Link) → (IsListedAt said nodes router told.link_id place → ⊥)
+    pub no_network : (xs : List VertexLink) → (IsListedAt said nodes router told.link_id place → ⊥)
         → Adds (IsToNetworkAt said root nodes router told place) xs xs
     no_network xs none =
         adds_none (IsToNetworkAt said root nodes router told place) xs
         (λ x t. none (subst (IsListedAt said nodes router told.link_id) t.0 t.1.listed))
 
-    pub to_network : (xs ys : List Link) → told.kind ≡ Transit → 0 < told.metric
+    pub to_network : (xs ys : List VertexLink) → told.kind ≡ Transit → 0 < told.metric
         → IsListedAt said nodes router told.link_id place
         → Adds (IsExitTo root router place told.metric told.link_data) xs ys
         → Adds (IsToNetworkAt said root nodes router told place) xs ys
@@ -146,17 +147,17 @@ module _ (said : Said) (root : Root) (nodes : List Node) (router : ℕ) (told : 
         (λ x t. (t.0, t.1.leads.1, t.1.leads.2)) a
 
   -- to a network below this index
-  abbrev pub IsToNetworkBelow : ℕ → Link → Type 0
+  abbrev pub IsToNetworkBelow : ℕ → VertexLink → Type 0
   IsToNetworkBelow place link = (link.to < place) × IsToNetwork said root nodes router told link
 
-  pub none_below : (first : ℕ) (xs : List Link) → ((by place : ℕ)
+  pub none_below : (first : ℕ) (xs : List VertexLink) → ((by place : ℕ)
       → StandsAt nodes (ANetwork told.link_id by) place → first ≤ place)
       → Adds (IsToNetworkBelow first) xs xs
   none_below first xs earliest =
       adds_none (IsToNetworkBelow first) xs
       (λ x t. omega (arith, t.0, earliest t.1.listed.0 x.to t.1.listed.1))
 
-  pub one_more : (place : ℕ) (xs ys zs : List Link) → Adds (IsToNetworkBelow place) xs ys
+  pub one_more : (place : ℕ) (xs ys zs : List VertexLink) → Adds (IsToNetworkBelow place) xs ys
       → Adds (IsToNetworkAt said root nodes router told place) ys zs
       → Adds (IsToNetworkBelow (place + 1)) xs zs
   one_more place xs ys zs a b =
@@ -169,7 +170,7 @@ module _ (said : Said) (root : Root) (nodes : List Node) (router : ℕ) (told : 
       (λ x t. (omega (arith, t.0), t.1))
       (λ x t. (omega (arith, t.0), t.1))
 
-  pub all_below : (place end : ℕ) (xs ys : List Link) → ((by place : ℕ)
+  pub all_below : (place end : ℕ) (xs ys : List VertexLink) → ((by place : ℕ)
       → StandsAt nodes (ANetwork told.link_id by) place → place < end) → end ≤ place
       → Adds (IsToNetworkBelow place) xs ys → Adds (IsToNetwork said root nodes router told) xs ys
   all_below place end xs ys last done a =
@@ -179,26 +180,26 @@ module _ (said : Said) (root : Root) (nodes : List Node) (router : ℕ) (told : 
 
   -- ---- what the link leads to
 
-  pub no_end : (xs : List Link) → (0 < told.metric → ⊥)
+  pub no_end : (xs : List VertexLink) → (0 < told.metric → ⊥)
       → Adds (IsToEnd said root nodes router told) xs xs
   no_end xs never =
       adds_none (IsToEnd said root nodes router told) xs
       (λ x t. elim t [ inl n ↦ never n.counts | inr n ↦ never n.counts ])
 
-  pub other_end : (xs : List Link) → (told.kind ≡ PointToPoint → ⊥) → (told.kind ≡ Transit → ⊥)
-      → Adds (IsToEnd said root nodes router told) xs xs
+  pub other_end : (xs : List VertexLink) → (told.kind ≡ PointToPoint → ⊥)
+      → (told.kind ≡ Transit → ⊥) → Adds (IsToEnd said root nodes router told) xs xs
   other_end xs point transit =
       adds_none (IsToEnd said root nodes router told) xs
       (λ x t. elim t [ inl n ↦ point n.is_kind | inr n ↦ transit n.is_kind ])
 
-  pub router_end : (xs ys : List Link) → (told.kind ≡ Transit → ⊥)
+  pub router_end : (xs ys : List VertexLink) → (told.kind ≡ Transit → ⊥)
       → Adds (IsToNeighbor said root nodes router told) xs ys
       → Adds (IsToEnd said root nodes router told) xs ys
   router_end xs ys other a =
       adds_same (IsToNeighbor said root nodes router told) (IsToEnd said root nodes router told) xs
       ys (λ x n. inl n) (λ x t. elim t [ inl n ↦ n | inr n ↦ absurd (other n.is_kind) ]) a
 
-  pub network_end : (xs ys : List Link) → (told.kind ≡ PointToPoint → ⊥)
+  pub network_end : (xs ys : List VertexLink) → (told.kind ≡ PointToPoint → ⊥)
       → Adds (IsToNetwork said root nodes router told) xs ys
       → Adds (IsToEnd said root nodes router told) xs ys
   network_end xs ys other a =
@@ -210,7 +211,7 @@ module _ (said : Said) (root : Root) (nodes : List Node) (router : ℕ) (told : 
 module _ (said : Said) (root : Root) (nodes : List Node) (router : ℕ) (lsa : RouterLsa)
     (is : router_lsa said router ≡ Some lsa) where
   counted : (told : Told) → Contains lsa.links told → (kind : LinkKind) → told.kind ≡ kind
-      → 0 < told.metric → (x : Link) → IsExitTo root router x.to told.metric told.link_data x
+      → 0 < told.metric → (x : VertexLink) → IsExitTo root router x.to told.metric told.link_data x
       → Counts said root router kind told.link_id x.cost x.interface
   counted told among kind is_kind counts x leads = record {
     link = told;
@@ -223,7 +224,7 @@ module _ (said : Said) (root : Root) (nodes : List Node) (router : ℕ) (lsa : R
     elsewhere = leads.2.elsewhere;
   }
 
-  to_link : (x : Link) → OfEach (IsToEnd said root nodes router) lsa.links x
+  to_link : (x : VertexLink) → OfEach (IsToEnd said root nodes router) lsa.links x
       → IsLinkFrom said root nodes (ARouter router) x
   to_link x o =
       elim o.2 [
@@ -244,7 +245,7 @@ module _ (said : Said) (root : Root) (nodes : List Node) (router : ℕ) (lsa : R
   among_its link other says among =
       subst (λ (l : RouterLsa). Contains l.links link) (the_lsa said router lsa is other says) among
 
-  exit_of : (kind : LinkKind) (id : ℕ) (x : Link)
+  exit_of : (kind : LinkKind) (id : ℕ) (x : VertexLink)
       → (c : Counts said root router kind id x.cost x.interface)
       → IsExitTo root router x.to c.link.metric c.link.link_data x
   exit_of kind id x c = (
@@ -256,7 +257,7 @@ module _ (said : Said) (root : Root) (nodes : List Node) (router : ℕ) (lsa : R
     },
   )
 
-  of_link : (x : Link) (to : Node) → StandsAt nodes to x.to
+  of_link : (x : VertexLink) (to : Node) → StandsAt nodes to x.to
       → LeadsTo said root (ARouter router) to x.cost x.interface
       → OfEach (IsToEnd said root nodes router) lsa.links x
   of_link x (ARouter b) stands l =
@@ -286,7 +287,7 @@ module _ (said : Said) (root : Root) (nodes : List Node) (router : ℕ) (lsa : R
         }),
       )
 
-  pub router_links : (links : List Link)
+  pub router_links : (links : List VertexLink)
       → Adds (OfEach (IsToEnd said root nodes router) lsa.links) [] links
       → AreLinksFrom said root nodes (ARouter router) links
   router_links links adds = record {
@@ -306,11 +307,11 @@ module _ (said : Said) (root : Root) (nodes : List Node) (router : ℕ) (lsa : R
 -- ---- from a network
 
 module _ (said : Said) (nodes : List Node) (id router : ℕ) where
-  pub not_attached : (xs : List Link) → IsNeighbor said nodes router Transit id None
+  pub not_attached : (xs : List VertexLink) → IsNeighbor said nodes router Transit id None
       → Adds (IsAttached said nodes id router) xs xs
   not_attached xs none = adds_none (IsAttached said nodes id router) xs (λ x t. none t.back)
 
-  pub to_attached : (to : ℕ) (xs : List Link) → Ascend nodes
+  pub to_attached : (to : ℕ) (xs : List VertexLink) → Ascend nodes
       → IsNeighbor said nodes router Transit id (Some to)
       → Adds (IsAttached said nodes id router) xs (xs ++ record {
         to = to;
@@ -318,7 +319,7 @@ module _ (said : Said) (nodes : List Node) (id router : ℕ) where
         interface = 0;
       } ∷ [])
   to_attached to xs ascend at =
-      let link : Link = record { to = to; cost = 0; interface = 0 } in
+      let link : VertexLink = record { to = to; cost = 0; interface = 0 } in
       adds_one (IsAttached said nodes id router) xs link (record {
         stands = at.0;
         back = at.1;
@@ -333,7 +334,7 @@ module _ (said : Said) (nodes : List Node) (id router : ℕ) where
 
 module _ (said : Said) (root : Root) (nodes : List Node) (id by : ℕ) (lsa : NetworkLsa)
     (is : network_lsa said id by ≡ Some lsa) where
-  to_router : (x : Link) → OfEach (IsAttached said nodes id) lsa.attached x
+  to_router : (x : VertexLink) → OfEach (IsAttached said nodes id) lsa.attached x
       → IsLinkFrom said root nodes (ANetwork id by) x
   to_router x o = record {
     target = ARouter o.0;
@@ -341,7 +342,7 @@ module _ (said : Said) (root : Root) (nodes : List Node) (id by : ℕ) (lsa : Ne
     leads = (lists_is said id by o.0 lsa is o.1, o.2.back, o.2.free, o.2.exit);
   }
 
-  from_network : (x : Link) (to : Node) → StandsAt nodes to x.to
+  from_network : (x : VertexLink) (to : Node) → StandsAt nodes to x.to
       → LeadsTo said root (ANetwork id by) to x.cost x.interface
       → OfEach (IsAttached said nodes id) lsa.attached x
   from_network x (ARouter b) stands l = (
@@ -356,7 +357,7 @@ module _ (said : Said) (root : Root) (nodes : List Node) (id by : ℕ) (lsa : Ne
   )
   from_network x (ANetwork other from) stands l = absurd l
 
-  pub network_links : (links : List Link)
+  pub network_links : (links : List VertexLink)
       → Adds (OfEach (IsAttached said nodes id) lsa.attached) [] links
       → AreLinksFrom said root nodes (ANetwork id by) links
   network_links links adds = record {

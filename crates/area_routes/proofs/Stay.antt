@@ -5,9 +5,9 @@ use Rattle.std.proofs.Common.{length, slice_get, sym, subst, ◌∙◌, ap, arit
 use Rattle.std.proofs.lemmas.Bool.{cases_eq}
 use Rattle.std.proofs.lemmas.List.Elements.{Contains-push_cases}
 use Rattle.std.specs.List.{Contains}
-use Rattle.lsa.specs.declared.body.Body.{Body}
-use Rattle.lsa.specs.declared.body.Body.TheVariants as body
-use Rattle.lsa.specs.declared.body.Link.{Link as Told}
+use Rattle.lsa.specs.declared.body.LsaBody.{LsaBody}
+use Rattle.lsa.specs.declared.body.LsaBody.TheVariants as body
+use Rattle.lsa.specs.declared.body.RouterLink.{RouterLink as Told}
 use Rattle.lsa.specs.declared.body.LinkKind.{LinkKind}
 use Rattle.lsa.specs.declared.body.LinkKind.TheVariants.{PointToPoint, Transit}
 use Rattle.lsa.specs.declared.body.NetworkLsa.{NetworkLsa}
@@ -30,13 +30,13 @@ use Rattle.routes.specs.declared.node.Node.TheVariants.{ANetwork, ARouter}
 use Rattle.routes.specs.declared.root.Root.{Root}
 use Rattle.words.specs.declared.key.Key.{Key}
 
-same_router : (a b : RouterLsa) → ◌≡◌ {A = Option Body} (Some (body.Router a))
+same_router : (a b : RouterLsa) → ◌≡◌ {A = Option LsaBody} (Some (body.Router a))
     (Some (body.Router b))
     → a ≡ b
 same_router a b e = cc
 
 same_network : (a b : NetworkLsa)
-    → ◌≡◌ {A = Option Body} (Some (body.Network a)) (Some (body.Network b)) → a ≡ b
+    → ◌≡◌ {A = Option LsaBody} (Some (body.Network a)) (Some (body.Network b)) → a ≡ b
 same_network a b e = cc
 
 -- each vertex is one of what LSAs say now, or, if its index isn't among these, of what they said
@@ -53,7 +53,7 @@ abbrev pub AllCovered : Said → Said → List Node → List ℕ → Type 0
 AllCovered old new nodes places = (key : Key) → key.ls_type ≤ 2 → IsCovered old new nodes places key
 
 -- what is recorded is so in both directions
-router_back : (said says : Option Body) (nodes : List Node) (places : List ℕ) (router : ℕ)
+router_back : (said says : Option LsaBody) (nodes : List Node) (places : List ℕ) (router : ℕ)
     → IsRouterNoted said says nodes places router → IsRouterNoted says said nodes places router
 router_back said says nodes places router n = record {
   was = n.is;
@@ -65,7 +65,7 @@ router_back said says nodes places router n = record {
   ends = n.ends_before;
 }
 
-network_back : (said says : Option Body) (nodes : List Node) (places : List ℕ) (network : Node)
+network_back : (said says : Option LsaBody) (nodes : List Node) (places : List ℕ) (network : Node)
     → IsNetworkNoted said says nodes places network → IsNetworkNoted says said nodes places network
 network_back said says nodes places network n = record {
   was = n.is;

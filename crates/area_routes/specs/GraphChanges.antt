@@ -2,9 +2,9 @@
 -- section 16.1): their own, and those that they name or named.
 use Rattle.std.specs.Prelude.{◌≡◌, ◌≤◌, ◌⊎◌, ℕ, List, Option, Some}
 use Rattle.std.specs.List.{Contains}
-use Rattle.lsa.specs.declared.body.Body.{Body}
-use Rattle.lsa.specs.declared.body.Body.TheVariants as body
-use Rattle.lsa.specs.declared.body.Link.{Link}
+use Rattle.lsa.specs.declared.body.LsaBody.{LsaBody}
+use Rattle.lsa.specs.declared.body.LsaBody.TheVariants as body
+use Rattle.lsa.specs.declared.body.RouterLink.{RouterLink}
 use Rattle.lsa.specs.declared.body.LinkKind.TheVariants.{PointToPoint, Transit}
 use Rattle.lsa.specs.declared.body.NetworkLsa.{NetworkLsa}
 use Rattle.lsa.specs.declared.body.RouterLsa.{RouterLsa}
@@ -26,14 +26,14 @@ AreNetworksAmong nodes places id = (by : RouterNumber) → IsAmong nodes places 
 
 -- so are those of the nodes that the link may lead to: the router that a point-to-point link names,
 -- the networks that have a transit link's Link ID as Link State ID
-pub record IsEndAmong (nodes : List Node) (places : List ℕ) (link : Link) : Type 0 where
+pub record IsEndAmong (nodes : List Node) (places : List ℕ) (link : RouterLink) : Type 0 where
   pub router : link.kind ≡ PointToPoint → IsAmong nodes places (ARouter link.link_id)
   pub networks : link.kind ≡ Transit → AreNetworksAmong nodes places link.link_id
 
 -- and of all links of the LSA
 abbrev pub AreEndsAmong : List Node → (places : List ℕ) → RouterLsa → Type 0
 AreEndsAmong nodes places lsa =
-    (link : Link) → Contains lsa.links link → IsEndAmong nodes places link
+    (link : RouterLink) → Contains lsa.links link → IsEndAmong nodes places link
 
 -- so are those of the routers that the LSA lists
 abbrev pub AreListedAmong : List Node → (places : List ℕ) → NetworkLsa → Type 0
@@ -43,7 +43,7 @@ AreListedAmong nodes places lsa =
 
 -- a router's LSA says something before and after, and the router is recorded, with all that its
 -- links led to or lead to
-pub record IsRouterNoted (said : Option Body) (says : Option Body) (nodes : List Node)
+pub record IsRouterNoted (said : Option LsaBody) (says : Option LsaBody) (nodes : List Node)
     (places : List ℕ) (router : RouterNumber) : Type 0 where
   pub was : RouterLsa
   pub is : RouterLsa
@@ -55,7 +55,7 @@ pub record IsRouterNoted (said : Option Body) (says : Option Body) (nodes : List
 
 -- a network's LSA says something before and after, and the network is recorded, with all routers
 -- that were or are listed
-pub record IsNetworkNoted (said : Option Body) (says : Option Body) (nodes : List Node)
+pub record IsNetworkNoted (said : Option LsaBody) (says : Option LsaBody) (nodes : List Node)
     (places : List ℕ) (network : Node) : Type 0 where
   pub was : NetworkLsa
   pub is : NetworkLsa

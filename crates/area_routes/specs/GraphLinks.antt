@@ -2,7 +2,7 @@
 -- 2328, section 16.1).
 use Rattle.std.specs.Prelude.{◌≡◌, ◌<◌, ◌⊎◌, ℕ, List, Option, None, Some}
 use Rattle.std.specs.List.{Contains}
-use Rattle.lsa.specs.declared.body.Link.{Link as Told}
+use Rattle.lsa.specs.declared.body.RouterLink.{RouterLink as Told}
 use Rattle.lsa.specs.declared.body.LinkKind.{LinkKind}
 use Rattle.lsa.specs.declared.body.LinkKind.TheVariants.{PointToPoint, Transit}
 use Rattle.lsa.specs.declared.body.RouterLsa.{RouterLsa}
@@ -11,7 +11,7 @@ use Rattle.area_graph.specs.Graphs.{StandsAt}
 use Rattle.area_graph.specs.Links.{IsExitTo}
 use Rattle.routes.specs.Links.{LinksBack}
 use Rattle.routes.specs.Said.{Said}
-use Rattle.routes.specs.declared.graph.Link.{Link}
+use Rattle.routes.specs.declared.graph.VertexLink.{VertexLink}
 use Rattle.routes.specs.declared.node.Node.{Node}
 use Rattle.routes.specs.declared.node.Node.TheVariants.{ANetwork, ARouter}
 use Rattle.routes.specs.declared.root.Root.{Root}
@@ -35,7 +35,7 @@ IsNeighbor said nodes router kind id (Some at) =
 
 -- to the router at the far end of a point-to-point link that may count, which has a link back
 pub record IsToNeighbor (said : Said) (root : Root) (nodes : List Node) (router : RouterNumber)
-    (told : Told) (link : Link) : Type 0 where
+    (told : Told) (link : VertexLink) : Type 0 where
   pub is_kind : told.kind ≡ PointToPoint
   pub counts : 0 < told.metric
   pub stands : StandsAt nodes (ARouter told.link_id) link.to
@@ -44,27 +44,27 @@ pub record IsToNeighbor (said : Said) (root : Root) (nodes : List Node) (router 
 
 -- to a network with the Link ID of a transit link that may count, which lists the router
 pub record IsToNetwork (said : Said) (root : Root) (nodes : List Node) (router : RouterNumber)
-    (told : Told) (link : Link) : Type 0 where
+    (told : Told) (link : VertexLink) : Type 0 where
   pub is_kind : told.kind ≡ Transit
   pub counts : 0 < told.metric
   pub listed : IsListedAt said nodes router told.link_id link.to
   pub leads : IsExitTo root router link.to told.metric told.link_data link
 
 -- to the network at this index
-abbrev pub IsToNetworkAt : Said → Root → List Node → RouterNumber → Told → (place : ℕ) → Link
+abbrev pub IsToNetworkAt : Said → Root → List Node → RouterNumber → Told → (place : ℕ) → VertexLink
     → Type 0
 IsToNetworkAt said root nodes router told place link =
     (link.to ≡ place) × IsToNetwork said root nodes router told link
 
 -- to a node that the link of the router's LSA leads to
-abbrev pub IsToEnd : Said → Root → List Node → RouterNumber → Told → Link → Type 0
+abbrev pub IsToEnd : Said → Root → List Node → RouterNumber → Told → VertexLink → Type 0
 IsToEnd said root nodes router told link =
     IsToNeighbor said root nodes router told link ⊎ IsToNetwork said root nodes router told link
 
 -- from a network with this Link State ID to a router that it lists and that has a link back, at
 -- cost 0
 pub record IsAttached (said : Said) (nodes : List Node) (id : ℕ) (router : RouterNumber)
-    (link : Link) : Type 0 where
+    (link : VertexLink) : Type 0 where
   pub stands : StandsAt nodes (ARouter router) link.to
   pub back : LinksBack said router Transit id
   pub free : link.cost ≡ 0

@@ -14,7 +14,7 @@ use Rattle.kept_routes.specs.Externals.{LeaveCandidates}
 use Rattle.kept_routes.specs.Kept.{IsWalkOf, KeptWalk}
 use Rattle.kept_routes.specs.Sameness.{AreLeft}
 use Rattle.candidates.specs.Externals.{AreExternals}
-use Rattle.candidates.specs.declared.externals.External.{External}
+use Rattle.candidates.specs.declared.externals.ExternalAdvertisement.{ExternalAdvertisement}
 use Rattle.routes.specs.Candidates.{AreCandidates}
 use Rattle.routes.specs.Said.{Said, said_at}
 use Rattle.routes.specs.Tables.{Answers, IsStale}
@@ -36,7 +36,7 @@ pub record KeptRoutes : Type 0 where
   -- changed
   pub inner : Option InnerRoutes
   -- what AS-external-LSAs advertise, if read since one of them changed
-  pub externals : Option (Vec External)
+  pub externals : Option (Vec ExternalAdvertisement)
   -- whether each candidate is known to be among the answers
   pub answered : Bool
 

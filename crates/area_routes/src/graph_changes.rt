@@ -6,7 +6,7 @@ ghost use Rattle.area_graph.specs.Nodes.{Ascend};
 ghost use Rattle.area_routes.specs.GraphChanges.{AreCovered, AreEndsAmong, AreListedAmong};
 ghost use Rattle.area_routes.specs.GraphChanges.{AreNetworksAmong, IsAmong, IsCovered, IsEndAmong};
 ghost use Rattle.area_routes.specs.GraphChanges.{IsNetworkNoted, IsRouterNoted};
-ghost use Rattle.lsa.specs.declared.body.Body.TheVariants as body;
+ghost use Rattle.lsa.specs.declared.body.LsaBody.TheVariants as body;
 ghost use Rattle.lsa.specs.declared.body.NetworkLsa.{NetworkLsa as NetworkValue};
 ghost use Rattle.lsa.specs.declared.body.RouterLsa.{RouterLsa as RouterValue};
 ghost use Rattle.routes.specs.Links.{network_key, router_key};
@@ -16,7 +16,7 @@ use crate::lookups::SPARE;
 use crate::surroundings::{Surroundings, places_of};
 use area_graph::NETWORK_LSA;
 use candidates::find;
-use lsa::{Body, Link, LinkKind, NetworkLsa, RouterLsa};
+use lsa::{LinkKind, LsaBody, NetworkLsa, RouterLink, RouterLsa};
 use routes::Node;
 use std::alloc::{AllocError, Global};
 use words::{Key, LinkStateId, RouterId, Second};
@@ -53,7 +53,11 @@ fn note_networks(
 }
 
 // Records the indices of the nodes that a link may lead to.
-fn note_end(at: &Surroundings<'_>, link: &Link, places: &mut Vec<usize>) -> Result<(), AllocError>
+fn note_end(
+    at: &Surroundings<'_>,
+    link: &RouterLink,
+    places: &mut Vec<usize>,
+) -> Result<(), AllocError>
     requires { Ascend at.now.nodes.now }
     ensures kept { OnOk result ((place : ℕ) → Contains places.old.items place
         → Contains places.new.items place) }
@@ -115,25 +119,25 @@ fn note_listed(
 }
 
 // The router-LSA in the body, if it is one.
-fn router_of(says: Option<&Body>) -> Option<&RouterLsa>
+fn router_of(says: Option<&LsaBody>) -> Option<&RouterLsa>
     ensures { MatchOption result ((lsa : RouterValue)
         → option_copied says.entry ≡ Some (body.Router lsa) → ⊥) (λ lsa.
         option_copied says.entry ≡ Some (body.Router lsa.now)) }
 {
     match says? {
-        Body::Router(lsa) => Some(lsa),
+        LsaBody::Router(lsa) => Some(lsa),
         _ => None,
     }
 }
 
 // The network-LSA in the body, if it is one.
-fn network_of(says: Option<&Body>) -> Option<&NetworkLsa>
+fn network_of(says: Option<&LsaBody>) -> Option<&NetworkLsa>
     ensures { MatchOption result ((lsa : NetworkValue)
         → option_copied says.entry ≡ Some (body.Network lsa) → ⊥) (λ lsa.
         option_copied says.entry ≡ Some (body.Network lsa.now)) }
 {
     match says? {
-        Body::Network(lsa) => Some(lsa),
+        LsaBody::Network(lsa) => Some(lsa),
         _ => None,
     }
 }
@@ -143,8 +147,8 @@ fn network_of(says: Option<&Body>) -> Option<&NetworkLsa>
 fn note_router(
     at: &Surroundings<'_>,
     router: RouterId,
-    was: Option<&Body>,
-    is: Option<&Body>,
+    was: Option<&LsaBody>,
+    is: Option<&LsaBody>,
     places: &mut Vec<usize>,
 ) -> Result<bool, AllocError>
     requires { Ascend at.now.nodes.now }
@@ -175,8 +179,8 @@ fn note_router(
 fn note_network(
     at: &Surroundings<'_>,
     node: &Node,
-    was: Option<&Body>,
-    is: Option<&Body>,
+    was: Option<&LsaBody>,
+    is: Option<&LsaBody>,
     places: &mut Vec<usize>,
 ) -> Result<bool, AllocError>
     requires { Ascend at.now.nodes.now }

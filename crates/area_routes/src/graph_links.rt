@@ -15,8 +15,8 @@ ghost use Rattle.routes.specs.declared.node.Node.TheVariants.{ANetwork};
 use crate::surroundings::{Surroundings, has_link_to, network_lsa, places_of, router_lsa};
 use area_graph::add_exits;
 use candidates::find;
-use lsa::{Link as ToldLink, LinkKind, NetworkLsa, RouterLsa};
-use routes::{Kind, Link, Node, Root, Vertex};
+use lsa::{LinkKind, NetworkLsa, RouterLink as ToldLink, RouterLsa};
+use routes::{Node, Root, Vertex, VertexKind, VertexLink};
 use std::alloc::{AllocError, Global};
 use words::{LinkStateId, RouterId};
 
@@ -44,7 +44,7 @@ fn add_neighbor(
     root: &Root,
     router: RouterId,
     told: &ToldLink,
-    links: &mut Vec<Link>,
+    links: &mut Vec<VertexLink>,
 ) -> Result<(), AllocError>
     requires nodes { AreNodes (said_at at.now.moment at.now.db.now.present) at.now.nodes.now }
     requires interfaces { length root.now.addresses ≤ 63 }
@@ -130,7 +130,7 @@ fn add_network(
     router: RouterId,
     told: &ToldLink,
     place: usize,
-    links: &mut Vec<Link>,
+    links: &mut Vec<VertexLink>,
 ) -> Result<(), AllocError>
     requires nodes { AreNodes (said_at at.now.moment at.now.db.now.present) at.now.nodes.now }
     requires interfaces { length root.now.addresses ≤ 63 }
@@ -153,7 +153,7 @@ fn add_networks(
     root: &Root,
     router: RouterId,
     told: &ToldLink,
-    links: &mut Vec<Link>,
+    links: &mut Vec<VertexLink>,
 ) -> Result<(), AllocError>
     requires nodes { AreNodes (said_at at.now.moment at.now.db.now.present) at.now.nodes.now }
     requires interfaces { length root.now.addresses ≤ 63 }
@@ -185,7 +185,7 @@ fn add_ends(
     root: &Root,
     router: RouterId,
     told: &ToldLink,
-    links: &mut Vec<Link>,
+    links: &mut Vec<VertexLink>,
 ) -> Result<(), AllocError>
     requires nodes { AreNodes (said_at at.now.moment at.now.db.now.present) at.now.nodes.now }
     requires interfaces { length root.now.addresses ≤ 63 }
@@ -211,7 +211,7 @@ fn add_all(
     root: &Root,
     router: RouterId,
     lsa: &RouterLsa,
-    links: &mut Vec<Link>,
+    links: &mut Vec<VertexLink>,
 ) -> Result<(), AllocError>
     requires nodes { AreNodes (said_at at.now.moment at.now.db.now.present) at.now.nodes.now }
     requires interfaces { length root.now.addresses ≤ 63 }
@@ -232,7 +232,7 @@ fn add_attached(
     at: &Surroundings<'_>,
     id: LinkStateId,
     lsa: &NetworkLsa,
-    links: &mut Vec<Link>,
+    links: &mut Vec<VertexLink>,
 ) -> Result<(), AllocError>
     requires { AreNodes (said_at at.now.moment at.now.db.now.present) at.now.nodes.now }
     ensures adds { OnOk result (Adds (OfEach (IsAttached
@@ -242,7 +242,7 @@ fn add_attached(
 {
     for router in lsa.attached.as_slice() {
         if let Some(to) = neighbor_at(at, *router, LinkKind::Transit, id.number()) {
-            links.push(Link {
+            links.push(VertexLink {
                 to,
                 cost: 0,
                 interface: 0,
@@ -258,7 +258,7 @@ fn links_of(
     at: &Surroundings<'_>,
     root: &Root,
     node: &Node,
-) -> Result<Vec<Link>, AllocError>
+) -> Result<Vec<VertexLink>, AllocError>
     requires nodes { AreNodes (said_at at.now.moment at.now.db.now.present) at.now.nodes.now }
     requires interfaces { length root.now.addresses ≤ 63 }
     ensures links { IfOk result (λ links. AreLinksFrom
@@ -282,12 +282,12 @@ fn links_of(
     Ok(links)
 }
 
-fn kind_of(node: &Node) -> Kind
+fn kind_of(node: &Node) -> VertexKind
     ensures { result ≡ kind_of node.now }
 {
     match node {
-        Node::ARouter(_) => Kind::Router,
-        Node::ANetwork(..) => Kind::Network,
+        Node::ARouter(_) => VertexKind::Router,
+        Node::ANetwork(..) => VertexKind::Network,
     }
 }
 

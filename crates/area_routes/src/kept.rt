@@ -19,7 +19,7 @@ ghost use Rattle.routes.specs.Tables.{Answers};
 use crate::following::followed;
 use crate::graphs::{graph_after, graph_at, walk_by};
 use crate::root::{is_root_of, root_of};
-use candidates::{AreaGraph, Calculated, External, InnerRoutes, externals_at};
+use candidates::{AreaGraph, Calculated, ExternalAdvertisement, InnerRoutes, externals_at};
 use external_updates::changed_keys;
 use external_updates::laws::inner_routes_are_kept;
 use flooding::Area;
@@ -64,7 +64,7 @@ pub struct AreaRoutes {
     // the results from the LSAs of types 1 to 4, if calculated since one of these changed
     inner: Option<InnerRoutes>,
     // what AS-external-LSAs advertise, if read since one of these changed
-    externals: Option<Vec<External>>,
+    externals: Option<Vec<ExternalAdvertisement>>,
     // each candidate is known to be among the answers
     answered: bool,
 }
@@ -153,7 +153,11 @@ fn are_of_others(keys: &[Key]) -> bool
 }
 
 // What the AS-external-LSAs advertise at the moment.
-fn externals_now(alloc: Global, area: &Area, moment: Second) -> Result<Vec<External>, AllocError>
+fn externals_now(
+    alloc: Global,
+    area: &Area,
+    moment: Second,
+) -> Result<Vec<ExternalAdvertisement>, AllocError>
     ensures { IfOk result (λ told. AreExternals
         (said_at moment area.now.present.database) told.items) }
 {
@@ -168,7 +172,7 @@ fn calculate_by(
     area: &Area,
     walk: &Routes,
     moment: Second,
-    externals: &[External],
+    externals: &[ExternalAdvertisement],
 ) -> Result<Calculated, AllocError>
     requires walk { IsWalkOf (said_at moment area.now.present.database) walk.now }
     requires externals { AreExternals (said_at moment area.now.present.database) externals.now }
@@ -186,7 +190,7 @@ fn calculate_by(
 #[derive(Drop)]
 struct Made {
     calculated: Calculated,
-    told: Option<Vec<External>>,
+    told: Option<Vec<ExternalAdvertisement>>,
 }
 
 // The candidates by this walk. `kept` is what AS-external-LSAs advertise, if that is known.
@@ -195,7 +199,7 @@ fn calculated(
     area: &Area,
     walk: &Routes,
     moment: Second,
-    kept: &Option<Vec<External>>,
+    kept: &Option<Vec<ExternalAdvertisement>>,
 ) -> Result<Made, AllocError>
     requires walk { IsWalkOf (said_at moment area.now.present.database) walk.now }
     requires externals { IfSome kept.now (λ told. AreExternals
@@ -227,7 +231,10 @@ fn calculated(
 }
 
 // What was kept of what AS-external-LSAs advertise, or else the new list.
-fn kept_or(kept: Option<Vec<External>>, made: Option<Vec<External>>) -> Option<Vec<External>>
+fn kept_or(
+    kept: Option<Vec<ExternalAdvertisement>>,
+    made: Option<Vec<ExternalAdvertisement>>,
+) -> Option<Vec<ExternalAdvertisement>>
     ensures { (said : Said) → IfSome kept (λ told. AreExternals said told.items)
         → IfSome made (λ told. AreExternals said told.items)
         → IfSome result (λ told. AreExternals said told.items) }

@@ -2,14 +2,14 @@
 ghost use Rattle.area_graph.specs.Nodes.{Ascend};
 
 use crate::surroundings::{Surroundings, network_lsa, places_of, router_lsa};
-use lsa::{Link, LinkKind, RouterLsa};
+use lsa::{LinkKind, RouterLink, RouterLsa};
 use routes::Node;
 use words::LinkStateId;
 
 /// A graph is rebuilt if recalculating vertices takes this many lookups more than it has nodes.
 pub const SPARE: usize = 64;
 
-fn is_transit_to(link: &Link, id: u32) -> bool {
+fn is_transit_to(link: &RouterLink, id: u32) -> bool {
     link.kind == LinkKind::Transit && link.link_id == id
 }
 
@@ -30,7 +30,7 @@ fn has_several(lsa: &RouterLsa, id: u32) -> bool {
 // The lookups for one link of a router's LSA: one for each node that it may lead to. They count as
 // too many if another link leads to the same networks: of such links a graph that is rebuilt has
 // only the cheapest, so that they take no more memory than their LSA.
-fn lookups_for(at: &Surroundings<'_>, lsa: &RouterLsa, link: &Link) -> usize
+fn lookups_for(at: &Surroundings<'_>, lsa: &RouterLsa, link: &RouterLink) -> usize
     requires { Ascend at.now.nodes.now }
 {
     match link.kind {

@@ -7,7 +7,7 @@ ghost use Rattle.routes.specs.Said.{said_at};
 ghost use Rattle.routes.specs.declared.node.Node.TheVariants.{ANetwork};
 
 use area_graph::Slots;
-use lsa::{Body, Link, LinkKind, NetworkLsa, RouterLsa};
+use lsa::{LinkKind, LsaBody, NetworkLsa, RouterLink, RouterLsa};
 use routes::{Lsdb, Node};
 use words::{Key, LinkStateId, RouterId, Second};
 
@@ -31,7 +31,7 @@ pub fn router_lsa<'a>(at: &Surroundings<'a>, router: RouterId) -> Option<&'a Rou
         advertising_router: router,
     };
     match at.db.body_at(at.moment, &key) {
-        Some(Body::Router(lsa)) => Some(lsa),
+        Some(LsaBody::Router(lsa)) => Some(lsa),
         _ => None,
     }
 }
@@ -51,12 +51,12 @@ pub fn network_lsa<'a>(
         advertising_router: by,
     };
     match at.db.body_at(at.moment, &key) {
-        Some(Body::Network(lsa)) => Some(lsa),
+        Some(LsaBody::Network(lsa)) => Some(lsa),
         _ => None,
     }
 }
 
-fn is_to(link: &Link, kind: LinkKind, id: u32) -> bool
+fn is_to(link: &RouterLink, kind: LinkKind, id: u32) -> bool
     ensures { IsTrue result ↔ ((link.now.kind ≡ kind) × (link.now.link_id ≡ id)) }
 {
     link.kind == kind && link.link_id == id

@@ -16,8 +16,8 @@ use Rattle.std.proofs.lemmas.Option.{get_or_from_slice_get, slice_get-get_or, sl
 use Rattle.isa.specs.declared.hook.Hook.{Hook}
 use Rattle.isa.specs.declared.code.Slot.{Slot}
 use Rattle.isa.specs.Code.{slots_of}
-use Rattle.object.specs.declared.kind.Kind.{Kind}
-use Rattle.object.specs.declared.kind.Kind.TheVariants as kinds
+use Rattle.object.specs.declared.kind.StatedKind.{StatedKind}
+use Rattle.object.specs.declared.kind.StatedKind.TheVariants as kinds
 use Rattle.object.specs.declared.rank.Rank.{Rank}
 use Rattle.object.specs.Numbers.{Term, Numbers, IsNumbers}
 use Rattle.object.specs.Statements.{StatementParts, IsStatement, IsKind, IsRank, IsTermOrNone}
@@ -120,25 +120,26 @@ offset_within most n offset e =
     let c = chosen (nat_le n most) n offset e in
     subst (λ (x : ℕ). x ≤ most) c.1 (leb-true n most c.0)
 
-is_kind : (content : RegisterContent) (kind : Kind) → kind_of content ≡ Some kind → IsKind kind
+is_kind : (content : RegisterContent) (kind : StatedKind) → kind_of content ≡ Some kind
+    → IsKind kind
 is_kind (contents.Number range) kind e =
     let n = found_from (numbers_of range) _ kind e in
-    subst (λ (k : Kind). IsKind k) (some_same (kinds.Number n.0) kind n.2)
+    subst (λ (k : StatedKind). IsKind k) (some_same (kinds.Number n.0) kind n.2)
     (are_numbers range n.0 n.1)
 is_kind (contents.Context offset) kind e =
     let n = found_from (natural_in (2 ^ 32) offset) _ kind e in
     let o = found_from (at_most 64 n.0) _ kind n.2 in
-    subst (λ (k : Kind). IsKind k) (some_same (kinds.Context o.0) kind o.2)
+    subst (λ (k : StatedKind). IsKind k) (some_same (kinds.Context o.0) kind o.2)
     (offset_within 64 n.0 o.0 o.1)
 is_kind (contents.Stack offset) kind e =
     let n = found_from (natural_in (2 ^ 32) offset) _ kind e in
     let o = found_from (at_most 512 n.0) _ kind n.2 in
-    subst (λ (k : Kind). IsKind k) (some_same (kinds.Stack o.0) kind o.2)
+    subst (λ (k : StatedKind). IsKind k) (some_same (kinds.Stack o.0) kind o.2)
     (offset_within 512 n.0 o.0 o.1)
 is_kind (contents.Map map range) kind e =
     let m = found_from (map_of map) _ kind e in
     let n = found_from (numbers_of range) _ kind m.2 in
-    subst (λ (k : Kind). IsKind k) (some_same (kinds.MapValue m.0 n.0) kind n.2)
+    subst (λ (k : StatedKind). IsKind k) (some_same (kinds.MapValue m.0 n.0) kind n.2)
     (are_numbers range n.0 n.1)
 
 -- ---- ranks
@@ -153,10 +154,10 @@ term_cases false first true true t o e = inr (refl, refl, refl, sym (some_same (
 term_cases false first true false t o e = cc
 term_cases false first false small t o e = cc
 
-abbrev IsTermBehind : List Kind → List (Option AssemblyLine) → Option Term → Type 0
+abbrev IsTermBehind : List StatedKind → List (Option AssemblyLine) → Option Term → Type 0
 IsTermBehind ks rest o = IsTermOrNone o × IsTermSoon ks rest o
 
-term_soon : (ks : List Kind) (rest : List (Option AssemblyLine)) (register coefficient : ℕ)
+term_soon : (ks : List StatedKind) (rest : List (Option AssemblyLine)) (register coefficient : ℕ)
     (o : Option Term) → coefficient < 2 ^ 32 → term_in rest register coefficient ≡ Some o
     → IsTermBehind ks rest o
 term_soon ks rest register coefficient o fits e =
@@ -177,16 +178,16 @@ term_soon ks rest register coefficient o fits e =
     above_none zero e = absurd (false≢true (sym e))
     above_none (suc n) e = omega arith
 
-term_of_soon : (ks : List Kind) (rest : List (Option AssemblyLine)) (t : LineTerm) (o : Option Term)
-    → term_of rest t ≡ Some o → IsTermBehind ks rest o
+term_of_soon : (ks : List StatedKind) (rest : List (Option AssemblyLine)) (t : LineTerm)
+    (o : Option Term) → term_of rest t ≡ Some o → IsTermBehind ks rest o
 term_of_soon ks rest t o e =
     let c = found_from (natural_in (2 ^ 32) t.coefficient) _ o e in
     term_soon ks rest t.register c.0 o (natural_below (2 ^ 32) t.coefficient c.0 c.1) c.2
 
-abbrev IsRankBehind : List Kind → List (Option AssemblyLine) → Rank → Type 0
+abbrev IsRankBehind : List StatedKind → List (Option AssemblyLine) → Rank → Type 0
 IsRankBehind ks rest r = IsRank r × IsTermSoon ks rest r.first × IsTermSoon ks rest r.second
 
-rank_made : (ks : List Kind) (rest : List (Option AssemblyLine)) (c : ℕ) (a b : Option Term)
+rank_made : (ks : List StatedKind) (rest : List (Option AssemblyLine)) (c : ℕ) (a b : Option Term)
     (r : Rank) → c < 2 ^ 32 → IsTermBehind ks rest a → IsTermBehind ks rest b
     → Some (record { constant = c; first = a; second = b }) ≡ Some r → IsRankBehind ks rest r
 rank_made ks rest c a b r fits first second e =
@@ -196,7 +197,7 @@ rank_made ks rest c a b r fits first second e =
       second = b;
     }) r e) (record { constant = fits; first = first.0; second = second.0 }, first.1, second.1)
 
-rank_soon : (ks : List Kind) (rest : List (Option AssemblyLine)) (constant : Numeral)
+rank_soon : (ks : List StatedKind) (rest : List (Option AssemblyLine)) (constant : Numeral)
     (found : Terms) (r : Rank) → rank_of constant found rest ≡ Some r → IsRankBehind ks rest r
 rank_soon ks rest constant terms.None r e =
     let c = found_from (natural_in (2 ^ 32) constant) _ r e in
@@ -220,8 +221,8 @@ rank_soon ks rest constant (terms.Two t u) r e =
 abbrev StateNone : List (Option AssemblyLine) → Type 0
 StateNone xs = (register : ℕ) → is_stated_number xs register ≡ false
 
-term_closed : (ks : List Kind) (xs : List (Option AssemblyLine)) (o : Option Term) → StateNone xs
-    → IsTermSoon ks xs o → IsTermOver ks o
+term_closed : (ks : List StatedKind) (xs : List (Option AssemblyLine)) (o : Option Term)
+    → StateNone xs → IsTermSoon ks xs o → IsTermOver ks o
 term_closed ks xs None none h = tt
 term_closed ks xs (Some t) none h =
     ⊎_elim (λ x. x) (λ e. absurd (false≢true (sym (none t.register) ∙ e))) h
@@ -279,7 +280,7 @@ above_last before (Some m) slot l e is =
     let above : m.slot < slot = omega (arith, other, high) in
     subst (λ (x : StatementParts). x.slot < slot) (some_same m l is) above
 
-all_empty : (k : ℕ) (d : Kind) → k < 10 → IsKind (get_or (replicate 10 kinds.Empty) k d)
+all_empty : (k : ℕ) (d : StatedKind) → k < 10 → IsKind (get_or (replicate 10 kinds.Empty) k d)
 all_empty k d h = subst IsKind (sym (get_or-replicate 10 k kinds.Empty d h)) tt
 
 bare_open : (rest : List (Option AssemblyLine)) (slot : ℕ) (r : Rank)
@@ -328,7 +329,7 @@ state_keeps s t target constant found place rest is e =
 
 -- ---- the other lines of a statement
 
-soon_map : (ks ls : List Kind) (xs ys : List (Option AssemblyLine)) (o : Option Term)
+soon_map : (ks ls : List StatedKind) (xs ys : List (Option AssemblyLine)) (o : Option Term)
     → ((r : ℕ) → IsNumberAt ks r → IsNumberAt ls r)
     → ((r : ℕ) → is_stated_number xs r ≡ true
     → IsNumberAt ls r ⊎ (is_stated_number ys r ≡ true)) → IsTermSoon ks xs o
@@ -408,7 +409,7 @@ next_keeps s t xs ys step n keeps is =
     })
 
 -- the line states its own register as a number, and no other
-says_number : (register : ℕ) (content : RegisterContent) (kind : Kind)
+says_number : (register : ℕ) (content : RegisterContent) (kind : StatedKind)
     (rest : List (Option AssemblyLine)) (r : ℕ) → kind_of content ≡ Some kind
     → is_stated_number (Some (lines.With register content) ∷ rest) r
     ≡ true → ((register ≡ r) × ((numbers : Numbers) × (kind ≡ kinds.Number numbers)))
@@ -427,8 +428,8 @@ says_number register (contents.Context offset) kind rest r e h = inr h
 says_number register (contents.Stack offset) kind rest r e h = inr h
 says_number register (contents.Map map range) kind rest r e h = inr h
 
-number_put : (ks : List Kind) (register : ℕ) (kind : Kind) (r : ℕ) → register < length ks
-    → (register ≡ r) × ((numbers : Numbers) × (kind ≡ kinds.Number numbers))
+number_put : (ks : List StatedKind) (register : ℕ) (kind : StatedKind) (r : ℕ)
+    → register < length ks → (register ≡ r) × ((numbers : Numbers) × (kind ≡ kinds.Number numbers))
     → IsNumberAt (set ks register kind) r
 number_put ks register kind r h n =
     let there : register < length (set ks register kind) =
@@ -436,10 +437,10 @@ number_put ks register kind r h n =
     subst (IsNumberAt (set ks register kind)) n.0 (
       n.1.0,
       slice_get-get_or (set ks register kind) register kind there
-          ∙ ap (λ (k : Kind). Some k) (get_or-set_same ks register kind kind h ∙ n.1.1),
+          ∙ ap (λ (k : StatedKind). Some k) (get_or-set_same ks register kind kind h ∙ n.1.1),
     )
 
-number_kept : (ks : List Kind) (register : ℕ) (kind : Kind) (r : ℕ)
+number_kept : (ks : List StatedKind) (register : ℕ) (kind : StatedKind) (r : ℕ)
     → is_empty (get_or ks register kinds.Empty) ≡ true → IsNumberAt ks r
     → IsNumberAt (set ks register kind) r
 number_kept ks register kind r empty n =
@@ -451,10 +452,12 @@ number_kept ks register kind r empty n =
     subst (λ (m : ℕ). r < m) (sym (length-set ks register kind)) h in (
       n.0,
       slice_get-get_or (set ks register kind) r kinds.Empty there
-          ∙ ap (λ (k : Kind). Some k) (get_or-set_other ks register r kind kinds.Empty other ∙ was),
+          ∙ ap (λ (k : StatedKind). Some k)
+          (get_or-set_other ks register r kind kinds.Empty other ∙ was),
     )
 
-kind_kept : (p q : StatementParts) (register : ℕ) (kind : Kind) → kind_step p register kind ≡ Ok q
+kind_kept : (p q : StatementParts) (register : ℕ) (kind : StatedKind)
+    → kind_step p register kind ≡ Ok q
     → (register < 10) × (is_empty (get_or p.kinds register kinds.Empty) ≡ true) × (record p {
       kinds = set p.kinds register kind;
     } ≡ q)

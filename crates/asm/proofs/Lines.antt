@@ -11,7 +11,7 @@ use Rattle.isa.specs.declared.hook.Hook.{Hook}
 use Rattle.isa.specs.declared.code.Slot.{Slot}
 use Rattle.isa.specs.declared.code.Slot.TheVariants.{Start, SecondHalf}
 use Rattle.isa.specs.declared.instruction.Instruction.{Instruction}
-use Rattle.object.specs.declared.kind.Kind.{Kind}
+use Rattle.object.specs.declared.kind.StatedKind.{StatedKind}
 use Rattle.object.specs.declared.rank.Rank.{Rank}
 use Rattle.object.specs.Statements.{StatementParts}
 use Rattle.object.specs.Objects.{ObjectParts}
@@ -85,35 +85,35 @@ code_written text whole slots at h inv =
 
 -- ---- registers
 
-pub kind_written : (old new whole : List ℕ) (ks : List Kind) (at : ℕ) (k : Kind)
+pub kind_written : (old new whole : List ℕ) (ks : List StatedKind) (at : ℕ) (k : StatedKind)
     (content : RegisterContent) → at < length ks → get_or ks at k ≡ k → the_content k ≡ Some content
     → new ≡ old ++ line_text (lines.With at content) []
     → old ++ text_of (with_lines at (drop at ks)) ≡ whole
     → new ++ text_of (with_lines (at + 1) (drop (at + 1) ks)) ≡ whole
 kind_written old new whole ks at k content h g ec e inv =
     let here : drop at ks ≡ k ∷ drop (at + 1) ks =
-    drop_more ks at k h ∙ ap (λ (x : Kind). x ∷ drop (at + 1) ks) g in
+    drop_more ks at k h ∙ ap (λ (x : StatedKind). x ∷ drop (at + 1) ks) g in
     line_written old new whole (lines.With at content) (with_lines (at + 1) (drop (at + 1) ks)) e
     (ap (λ (o : Option RegisterContent). old ++ text_of
     (with_line at o ++ with_lines (at + 1) (drop (at + 1) ks))) (sym ec)
-    ∙ ap (λ (xs : List Kind). old ++ text_of (with_lines at xs)) (sym here) ∙ inv)
+    ∙ ap (λ (xs : List StatedKind). old ++ text_of (with_lines at xs)) (sym here) ∙ inv)
 
-pub empty_written : (old whole : List ℕ) (ks : List Kind) (at : ℕ) (k : Kind) → at < length ks
-    → get_or ks at k ≡ k → the_content k ≡ None
+pub empty_written : (old whole : List ℕ) (ks : List StatedKind) (at : ℕ) (k : StatedKind)
+    → at < length ks → get_or ks at k ≡ k → the_content k ≡ None
     → old ++ text_of (with_lines at (drop at ks)) ≡ whole
     → old ++ text_of (with_lines (at + 1) (drop (at + 1) ks)) ≡ whole
 empty_written old whole ks at k h g ec inv =
     let here : drop at ks ≡ k ∷ drop (at + 1) ks =
-    drop_more ks at k h ∙ ap (λ (x : Kind). x ∷ drop (at + 1) ks) g in
+    drop_more ks at k h ∙ ap (λ (x : StatedKind). x ∷ drop (at + 1) ks) g in
     ap (λ (o : Option RegisterContent). old ++ text_of
     (with_line at o ++ with_lines (at + 1) (drop (at + 1) ks))) (sym ec)
-    ∙ ap (λ (xs : List Kind). old ++ text_of (with_lines at xs)) (sym here) ∙ inv
+    ∙ ap (λ (xs : List StatedKind). old ++ text_of (with_lines at xs)) (sym here) ∙ inv
 
-pub kinds_written : (text whole : List ℕ) (ks : List Kind) (at : ℕ) → length ks ≤ at
+pub kinds_written : (text whole : List ℕ) (ks : List StatedKind) (at : ℕ) → length ks ≤ at
     → text ++ text_of (with_lines at (drop at ks)) ≡ whole → text ≡ whole
 kinds_written text whole ks at h inv =
     all_written text whole (with_lines at (drop at ks))
-    (ap (λ (xs : List Kind). with_lines at xs) (drop_all at ks h)) inv
+    (ap (λ (xs : List StatedKind). with_lines at xs) (drop_all at ks h)) inv
 
 -- ---- ranges of stack bytes
 
@@ -230,7 +230,7 @@ parts_written a b c d l ks ss eb ec ed =
     ∙ append_assoc a (line_text l []) (text_of (ks ++ ss))
 
 pub statement_written : (a b c d : List ℕ) (s : StatementParts) (n m : Numeral) (t : Terms)
-    (rank : Rank) (ks : List Kind) (stack : List Bool) → rank ≡ s.rank → ks ≡ s.kinds
+    (rank : Rank) (ks : List StatedKind) (stack : List Bool) → rank ≡ s.rank → ks ≡ s.kinds
     → stack ≡ s.stack → n ≡ Natural s.slot → m ≡ Natural rank.constant
     → t ≡ the_terms rank.first rank.second
     → b ≡ a ++ line_text (lines.State (targets.Number n) m t) []
@@ -248,7 +248,7 @@ statement_written a b c d s n m t rank ks stack er ek es en em et eb ec ed =
     parts_written a b c d (state_line s) (with_lines 0 s.kinds)
     (map bytes_line (longest_ranges 0 s.stack))
     (eb ∙ ap (λ (l : AssemblyLine). a ++ line_text l []) line)
-    (ec ∙ ap (λ (xs : List Kind). b ++ text_of (with_lines 0 xs)) ek)
+    (ec ∙ ap (λ (xs : List StatedKind). b ++ text_of (with_lines 0 xs)) ek)
     (ed ∙ ap (λ (xs : List Bool). c ++ text_of (map bytes_line (longest_ranges 0 xs))) es)
 
 pub one_more_written : (old new whole : List ℕ) (ss : List StatementParts) (at : ℕ)

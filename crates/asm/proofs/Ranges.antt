@@ -6,7 +6,7 @@ use Rattle.std.specs.Prelude.{Ok, nat_le, replicate}
 use Rattle.std.proofs.lemmas.Bool.{cond-true, and_from}
 use Rattle.std.proofs.lemmas.List.{take_more, take_all, length-take-le, take_at, drop_at}
 use Rattle.std.proofs.lemmas.List.{drop-replicate, replicate_more, replicate-append-replicate}
-use Rattle.object.specs.declared.kind.Kind.{Kind}
+use Rattle.object.specs.declared.kind.StatedKind.{StatedKind}
 use Rattle.object.specs.declared.rank.Rank.{Rank}
 use Rattle.object.specs.Statements.{StatementParts}
 use Rattle.object.specs.Sets.{has_byte, with_range}
@@ -46,7 +46,7 @@ range_more stack start end long lt h e all =
 abbrev pub bytes_up_to : List Bool → ℕ → List Bool
 bytes_up_to stack at = take at stack ++ replicate (512 - at) false
 
-abbrev pub filling : Front → ℕ → Rank → List Kind → List Bool → Sketch
+abbrev pub filling : Front → ℕ → Rank → List StatedKind → List Bool → Sketch
 filling f slot rank ks stack = sketch_of f (Some (record {
   slot = slot;
   rank = rank;
@@ -54,7 +54,7 @@ filling f slot rank ks stack = sketch_of f (Some (record {
   stack = stack;
 }))
 
-pub skip_step : (text : List ℕ) (f : Front) (slot : ℕ) (rank : Rank) (ks : List Kind)
+pub skip_step : (text : List ℕ) (f : Front) (slot : ℕ) (rank : Rank) (ks : List StatedKind)
     (stack : List Bool) (at : ℕ) → length stack ≡ 512 → at < 512 → has_byte stack at ≡ false
     → Listed text (filling f slot rank ks (bytes_up_to stack at)) Any
     → Listed text (filling f slot rank ks (bytes_up_to stack (at + 1))) Any
@@ -102,7 +102,7 @@ bytes_are start end lt le =
     (and_from (nat_le start end) (nat_le end 512) (le-leb start end (omega (arith, lt)))
     (le-leb end 512 le))
 
-pub bytes_line : (old new : List ℕ) (f : Front) (slot : ℕ) (rank : Rank) (ks : List Kind)
+pub bytes_line : (old new : List ℕ) (f : Front) (slot : ℕ) (rank : Rank) (ks : List StatedKind)
     (stack : List Bool) (start end : ℕ) → length stack ≡ 512 → start < end → end ≤ 512
     → AllIn stack start end → AddsLine old new
     (lines.Bytes (numerals.Natural start) (numerals.Natural end))
@@ -123,7 +123,7 @@ bytes_line old new f slot rank ks stack start end long lt le all adds listed =
     ∙ ap (λ (b : List Bool). Ok (filling f slot rank ks b))
     (range_taken stack start end long lt le all))
 
-pub bytes_end : (text : List ℕ) (f : Front) (slot : ℕ) (rank : Rank) (ks : List Kind)
+pub bytes_end : (text : List ℕ) (f : Front) (slot : ℕ) (rank : Rank) (ks : List StatedKind)
     (stack : List Bool) → length stack ≡ 512
     → Listed text (filling f slot rank ks (bytes_up_to stack 512)) Any
     → Listed text (filling f slot rank ks stack) Any

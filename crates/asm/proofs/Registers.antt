@@ -7,8 +7,8 @@ use Rattle.std.specs.Prelude.{Result, Ok, Err, nat_lt, ◌==◌, replicate, slic
 use Rattle.std.proofs.lemmas.Bool.{cond-true, cond-false, cond_both, false≢true, cases_eq, cases_lt}
 use Rattle.std.proofs.lemmas.List.{take_more, take_all, set_at, length-take-le}
 use Rattle.std.proofs.lemmas.Option.{slice_get_within}
-use Rattle.object.specs.declared.kind.Kind.{Kind}
-use Rattle.object.specs.declared.kind.Kind.TheVariants as kinds
+use Rattle.object.specs.declared.kind.StatedKind.{StatedKind}
+use Rattle.object.specs.declared.kind.StatedKind.TheVariants as kinds
 use Rattle.object.specs.declared.rank.Rank.{Rank}
 use Rattle.object.specs.Numbers.{Term}
 use Rattle.object.specs.Statements.{StatementParts, IsTermOver}
@@ -28,10 +28,10 @@ use Rattle.asm.specs.Listed.{is_number, gives_number}
 use Rattle.asm.proofs.Pushed.{listed_push, listed_same}
 
 -- what the first registers hold, of those that are stated so far
-abbrev pub kinds_up_to : List Kind → ℕ → List Kind
+abbrev pub kinds_up_to : List StatedKind → ℕ → List StatedKind
 kinds_up_to ks at = take at ks ++ replicate (10 - at) kinds.Empty
 
-abbrev pub stating : Front → ℕ → Rank → List Kind → Sketch
+abbrev pub stating : Front → ℕ → Rank → List StatedKind → Sketch
 stating f slot rank ks = sketch_of f (Some (record {
   slot = slot;
   rank = rank;
@@ -61,11 +61,11 @@ says_number (contents.Context offset) register rest e = absurd (false≢true e)
 says_number (contents.Stack offset) register rest e = absurd (false≢true e)
 says_number (contents.Map map offset) register rest e = absurd (false≢true e)
 
-abbrev is_there : Option Kind → Bool
+abbrev is_there : Option StatedKind → Bool
 is_there (Some k) = true
 is_there None = false
 
-abbrev the : Kind → Option Kind → Kind
+abbrev the : StatedKind → Option StatedKind → StatedKind
 the d (Some k) = k
 the d None = d
 
@@ -73,28 +73,30 @@ above : (at register : ℕ) → at ≤ register → (at ≡ register → ⊥) �
 above at register h ne = ⊎_elim (λ l. omega (arith, l)) (λ l. absurd (ne (omega (arith, l, h))))
     (cases_lt at register)
 
-get_at : (p : List Kind) (k : Kind) (ks : List Kind) (d : Kind) (n : ℕ) → length p ≡ n
-    → slice_index_or (p ++ k ∷ ks) n d ≡ k
+get_at : (p : List StatedKind) (k : StatedKind) (ks : List StatedKind) (d : StatedKind) (n : ℕ)
+    → length p ≡ n → slice_index_or (p ++ k ∷ ks) n d ≡ k
 get_at [] k ks d zero e = refl
 get_at [] k ks d (suc n) e = absurd (omega (arith, e))
 get_at (x ∷ p) k ks d zero e = absurd (omega (arith, e))
 get_at (x ∷ p) k ks d (suc n) e = get_at p k ks d n (omega (arith, e))
 
-got : (ks : List Kind) (at : ℕ) (k d : Kind) → slice_get ks at ≡ Some k → get_or ks at d ≡ k
+got : (ks : List StatedKind) (at : ℕ) (k d : StatedKind) → slice_get ks at ≡ Some k
+    → get_or ks at d ≡ k
 got [] at k d e = absurd (false≢true (ap is_there e))
 got (x ∷ ks) zero k d e = ap (the k) e
 got (x ∷ ks) (suc at) k d e = got ks at k d e
 
 -- a register that isn't a number needs no line
-pub stated_past : (ks : List Kind) (at : ℕ) (d : Kind) → is_number (get_or ks at d) ≡ false
-    → (rest : List (Option AssemblyLine)) → AreStated ks (at + 1) rest → AreStated ks at rest
+pub stated_past : (ks : List StatedKind) (at : ℕ) (d : StatedKind)
+    → is_number (get_or ks at d) ≡ false → (rest : List (Option AssemblyLine))
+    → AreStated ks (at + 1) rest → AreStated ks at rest
 stated_past ks at d none rest later = λ register from is. ⊎_elim
     (λ e. absurd (false≢true (sym none
     ∙ ap is_number (ap (λ n. get_or ks n d) e ∙ got ks register (kinds.Number is.0) d is.1))))
     (λ ne. later register (above at register from ne) is) (cases_eq at register)
 
 -- a line of the register comes first
-pub stated_by : (ks : List Kind) (at : ℕ) (d : Kind) (content : RegisterContent)
+pub stated_by : (ks : List StatedKind) (at : ℕ) (d : StatedKind) (content : RegisterContent)
     → is_number (get_or ks at d) ≡ gives_number (Some content) → (rest : List (Option AssemblyLine))
     → AreStated ks (at + 1) rest → AreStated ks at (Some (lines.With at content) ∷ rest)
 stated_by ks at d content same rest later = λ register from is. ⊎_elim
@@ -104,77 +106,78 @@ stated_by ks at d content same rest later = λ register from is. ⊎_elim
     (λ ne. still_says content register at rest (later register (above at register from ne) is))
     (cases_eq at register)
 
-pub stated_all : (ks : List Kind) (rest : List (Option AssemblyLine)) → length ks ≡ 10
+pub stated_all : (ks : List StatedKind) (rest : List (Option AssemblyLine)) → length ks ≡ 10
     → AreStated ks 10 rest
 stated_all ks rest e = λ register from is. absurd
     (omega (arith, e, from, slice_get_within ks register (kinds.Number is.0) is.1))
 
 -- the rank's registers
-pub stated_term : (ks : List Kind) (term : Option Term) (rest : List (Option AssemblyLine))
+pub stated_term : (ks : List StatedKind) (term : Option Term) (rest : List (Option AssemblyLine))
     → IsTermOver ks term → AreStated ks 0 rest → is_stated rest term ≡ true
 stated_term ks None rest over are = refl
 stated_term ks (Some term) rest over are = are term.register (omega arith) over
 
 -- ---- one more line
 
-up_to_more : (ks : List Kind) (at : ℕ) (k : Kind) → length ks ≡ 10 → at < 10 → get_or ks at k ≡ k
-    → take at ks ++ k ∷ replicate (10 - (at + 1)) kinds.Empty ≡ kinds_up_to ks (at + 1)
+up_to_more : (ks : List StatedKind) (at : ℕ) (k : StatedKind) → length ks ≡ 10 → at < 10
+    → get_or ks at k ≡ k → take at ks ++ k ∷ replicate (10 - (at + 1)) kinds.Empty
+    ≡ kinds_up_to ks (at + 1)
 up_to_more ks at k long h g =
     sym (append_assoc (take at ks) (k ∷ []) (replicate (10 - (at + 1)) kinds.Empty))
-    ∙ ap (λ (xs : List Kind). xs ++ replicate (10 - (at + 1)) kinds.Empty)
-    (ap (λ (x : Kind). take at ks ++ x ∷ []) (sym g)
+    ∙ ap (λ (xs : List StatedKind). xs ++ replicate (10 - (at + 1)) kinds.Empty)
+    (ap (λ (x : StatedKind). take at ks ++ x ∷ []) (sym g)
     ∙ sym (take_more ks at k (omega (arith, long, h))))
 
-up_to_here : (ks : List Kind) (at : ℕ) → at < 10
+up_to_here : (ks : List StatedKind) (at : ℕ) → at < 10
     → kinds_up_to ks at ≡ take at ks ++ kinds.Empty ∷ replicate (10 - (at + 1)) kinds.Empty
 up_to_here ks at h =
     let more : 10 - at ≡ suc (10 - (at + 1)) = omega (arith, h) in
     ap (λ (n : ℕ). take at ks ++ replicate n kinds.Empty) more
 
-pub empty_step : (text : List ℕ) (f : Front) (slot : ℕ) (rank : Rank) (ks : List Kind) (at : ℕ)
-    → length ks ≡ 10 → at < 10 → get_or ks at kinds.Empty ≡ kinds.Empty
+pub empty_step : (text : List ℕ) (f : Front) (slot : ℕ) (rank : Rank) (ks : List StatedKind)
+    (at : ℕ) → length ks ≡ 10 → at < 10 → get_or ks at kinds.Empty ≡ kinds.Empty
     → Listed text (stating f slot rank (kinds_up_to ks at)) (AreStated ks at)
     → Listed text (stating f slot rank (kinds_up_to ks (at + 1))) (AreStated ks (at + 1))
 empty_step text f slot rank ks at long h g listed =
     listed_same text (stating f slot rank (kinds_up_to ks at))
     (stating f slot rank (kinds_up_to ks (at + 1))) (AreStated ks at) (AreStated ks (at + 1))
-    (ap (λ (xs : List Kind). stating f slot rank xs)
+    (ap (λ (xs : List StatedKind). stating f slot rank xs)
     (up_to_here ks at h ∙ up_to_more ks at kinds.Empty long h g))
     (stated_past ks at kinds.Empty (ap is_number g)) listed
 
-with_steps : (f : Front) (slot : ℕ) (rank : Rank) (ks : List Kind) (at : ℕ) (k : Kind)
+with_steps : (f : Front) (slot : ℕ) (rank : Rank) (ks : List StatedKind) (at : ℕ) (k : StatedKind)
     (content : RegisterContent) (n : ℕ) (place : Option Place) (rest : List (Option AssemblyLine))
     → length ks ≡ 10 → at < 10 → get_or ks at k ≡ k → kind_of content ≡ Some k
     → line_step (stating f slot rank (kinds_up_to ks at)) (lines.With at content) n place
     rest ≡ Ok (stating f slot rank (kinds_up_to ks (at + 1)))
 with_steps f slot rank ks at k content n place rest long h g again =
-    let now : List Kind = kinds_up_to ks at in
+    let now : List StatedKind = kinds_up_to ks at in
     let p : StatementParts = record { slot = slot; rank = rank; kinds = now; stack = no_bytes } in
     let front : length (take at ks) ≡ at = length-take-le at ks (omega (arith, long, h)) in
     let tail = replicate (10 - (at + 1)) kinds.Empty in
     let empty : slice_index_or now at kinds.Empty ≡ kinds.Empty =
-    ap (λ (xs : List Kind). slice_index_or xs at kinds.Empty) (up_to_here ks at h)
+    ap (λ (xs : List StatedKind). slice_index_or xs at kinds.Empty) (up_to_here ks at h)
     ∙ get_at (take at ks) kinds.Empty tail kinds.Empty at front in
     let set : slice_set now at k ≡ kinds_up_to ks (at + 1) =
-    ap (λ (xs : List Kind). slice_set xs at k) (up_to_here ks at h)
+    ap (λ (xs : List StatedKind). slice_set xs at k) (up_to_here ks at h)
     ∙ set_at (take at ks) kinds.Empty tail k at front ∙ up_to_more ks at k long h g in
-    ap (λ (o : Option Kind). or_range_fault o >>= kind_step p at >>= with_last
+    ap (λ (o : Option StatedKind). or_range_fault o >>= kind_step p at >>= with_last
     (stating f slot rank now)) again
     ∙ ap (λ (r : Result StatementParts AsmFault). r >>= with_last (stating f slot rank now))
     (cond-false (nat_lt 9 at) (Err faults.Range) _ (le-ltb 9 at (omega (arith, h)))
     ∙ cond-true (is_empty (slice_index_or now at kinds.Empty)) (Ok (record p {
       kinds = slice_set now at k;
     })) (Err faults.Twice) (ap is_empty empty)
-    ∙ ap (λ (xs : List Kind). Ok (record {
+    ∙ ap (λ (xs : List StatedKind). Ok (record {
       slot = slot;
       rank = rank;
       kinds = xs;
       stack = no_bytes;
     })) set)
 
-pub kind_line : (old new : List ℕ) (f : Front) (slot : ℕ) (rank : Rank) (ks : List Kind) (at : ℕ)
-    (k : Kind) (content : RegisterContent) → length ks ≡ 10 → at < 10 → get_or ks at k ≡ k
-    → kind_of content ≡ Some k → is_number k ≡ gives_number (Some content)
+pub kind_line : (old new : List ℕ) (f : Front) (slot : ℕ) (rank : Rank) (ks : List StatedKind)
+    (at : ℕ) (k : StatedKind) (content : RegisterContent) → length ks ≡ 10 → at < 10
+    → get_or ks at k ≡ k → kind_of content ≡ Some k → is_number k ≡ gives_number (Some content)
     → AddsLine old new (lines.With at content)
     → Listed old (stating f slot rank (kinds_up_to ks at)) (AreStated ks at)
     → Listed new (stating f slot rank (kinds_up_to ks (at + 1)))
@@ -186,12 +189,12 @@ kind_line old new f slot rank ks at k content long h g again same adds listed =
     (stated_by ks at k content (ap is_number g ∙ same))
     (λ n place rest d. with_steps f slot rank ks at k content n place rest long h g again)
 
-pub kinds_end : (text : List ℕ) (f : Front) (slot : ℕ) (rank : Rank) (ks : List Kind)
+pub kinds_end : (text : List ℕ) (f : Front) (slot : ℕ) (rank : Rank) (ks : List StatedKind)
     → length ks ≡ 10 → Listed text (stating f slot rank (kinds_up_to ks 10)) (AreStated ks 10)
     → Listed text (stating f slot rank ks) Any
 kinds_end text f slot rank ks long listed =
     listed_same text (stating f slot rank (kinds_up_to ks 10)) (stating f slot rank ks)
     (AreStated ks 10) Any
-    (ap (λ (xs : List Kind). stating f slot rank xs)
+    (ap (λ (xs : List StatedKind). stating f slot rank xs)
     (append-nil (take 10 ks) ∙ take_all 10 ks (omega (arith, long))))
     (λ rest d. stated_all ks rest long) listed

@@ -7,7 +7,7 @@ use Rattle.std.proofs.lemmas.Bool.{cond-false, or_from, lt-leb}
 use Rattle.std.proofs.lemmas.List.{take_more, drop_more}
 use Rattle.isa.specs.declared.hook.Hook.{Hook}
 use Rattle.isa.specs.declared.code.Slot.{Slot}
-use Rattle.object.specs.declared.kind.Kind.{Kind}
+use Rattle.object.specs.declared.kind.StatedKind.{StatedKind}
 use Rattle.object.specs.declared.rank.Rank.{Rank}
 use Rattle.object.specs.Statements.{StatementParts, IsStatement}
 use Rattle.object.specs.Objects.{AreStatements}
@@ -71,7 +71,7 @@ state_line old new f last s n m t en em is within order again adds listed =
     (stated_term s.kinds s.rank.second rest is.rank.second d)))
 
 pub statement_listed : (a b c d : List ℕ) (f : Front) (last : Option StatementParts)
-    (s : StatementParts) (n m : Numeral) (t : Terms) (rank : Rank) (ks : List Kind)
+    (s : StatementParts) (n m : Numeral) (t : Terms) (rank : Rank) (ks : List StatedKind)
     (stack : List Bool) → rank ≡ s.rank → ks ≡ s.kinds → stack ≡ s.stack
     → n ≡ numerals.Natural s.slot → m ≡ numerals.Natural rank.constant → IsStatement s
     → s.slot < length f.code → order_fault f.before last s.slot ≡ None
@@ -87,7 +87,12 @@ statement_listed a b c d f last s n m t rank ks stack er ek es en em is within o
     let p : StatementParts = record { slot = s.slot; rank = rank; kinds = ks; stack = stack } in
     let same : p ≡ s =
     ap (λ (r : Rank). record { slot = s.slot; rank = r; kinds = ks; stack = stack }) er
-    ∙ ap (λ (xs : List Kind). record { slot = s.slot; rank = s.rank; kinds = xs; stack = stack }) ek
+    ∙ ap (λ (xs : List StatedKind). record {
+      slot = s.slot;
+      rank = s.rank;
+      kinds = xs;
+      stack = stack;
+    }) ek
     ∙ ap (λ (xs : List Bool). record {
       slot = s.slot;
       rank = s.rank;

@@ -7,8 +7,8 @@ use Rattle.std.specs.Str.{bytes_eq}
 use Rattle.isa.specs.declared.hook.Hook.{Hook}
 use Rattle.isa.specs.declared.code.Slot.{Slot}
 use Rattle.isa.specs.Spelling as spelling
-use Rattle.object.specs.declared.kind.Kind.{Kind}
-use Rattle.object.specs.declared.kind.Kind.TheVariants as kinds
+use Rattle.object.specs.declared.kind.StatedKind.{StatedKind}
+use Rattle.object.specs.declared.kind.StatedKind.TheVariants as kinds
 use Rattle.object.specs.declared.rank.Rank.{Rank}
 use Rattle.object.specs.Statements.{StatementParts}
 use Rattle.object.specs.Objects.{ObjectParts, IsObject, AreStatements}
@@ -124,12 +124,12 @@ abbrev pub state_step : Sketch → LabelOrNumber → Numeral → Terms → Optio
 state_step s slot constant found place rest = slot_of slot place
     >>= state_at s (rank_of constant found rest)
 
-abbrev pub is_empty : Kind → Bool
+abbrev pub is_empty : StatedKind → Bool
 is_empty kinds.Empty = true
 is_empty other = false
 
 -- the last statement with this register stated
-abbrev pub kind_step : StatementParts → ℕ → Kind → Result StatementParts AsmFault
+abbrev pub kind_step : StatementParts → ℕ → StatedKind → Result StatementParts AsmFault
 kind_step p register kind = if nat_lt 9 register then Err faults.Range
     else (if is_empty (slice_index_or p.kinds register kinds.Empty)
     then Ok (record p { kinds = slice_set p.kinds register kind }) else Err faults.Twice)

@@ -4,7 +4,7 @@ use Rattle.std.specs.Prelude.{None}
 use Rattle.std.specs.List.{All}
 use Rattle.isa.specs.declared.hook.Hook.{Hook}
 use Rattle.isa.specs.declared.code.Slot.{Slot}
-use Rattle.object.specs.declared.kind.Kind.{Kind}
+use Rattle.object.specs.declared.kind.StatedKind.{StatedKind}
 use Rattle.object.specs.Numbers.{Term}
 use Rattle.object.specs.Statements.{StatementParts, IsKind, IsRank, IsNumberAt}
 use Rattle.object.specs.Objects.{AreStatements}
@@ -20,7 +20,7 @@ IsFront None (Some rank) code = ⊥
 IsFront (Some hook) (Some rank) code = rank < 2 ^ 32
 
 -- A term's register is stated as a number, here or by a line that follows.
-abbrev pub IsTermSoon : List Kind → List (Option AssemblyLine) → Option Term → Type 0
+abbrev pub IsTermSoon : List StatedKind → List (Option AssemblyLine) → Option Term → Type 0
 IsTermSoon registers rest None = Unit {0}
 IsTermSoon registers rest (Some term) = IsNumberAt registers term.register
     ⊎ (is_stated_number rest term.register ≡ true)

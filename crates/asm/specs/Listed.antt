@@ -3,8 +3,8 @@ use Rattle.std.specs.Prelude.{◌≡◌, ◌≤◌, ◌<◌, ℕ, Bool, true, fa
 use Rattle.std.specs.Prelude.{Option, Some, None}
 use Rattle.isa.specs.declared.hook.Hook.{Hook}
 use Rattle.isa.specs.declared.code.Slot.{Slot}
-use Rattle.object.specs.declared.kind.Kind.{Kind}
-use Rattle.object.specs.declared.kind.Kind.TheVariants as kinds
+use Rattle.object.specs.declared.kind.StatedKind.{StatedKind}
+use Rattle.object.specs.declared.kind.StatedKind.TheVariants as kinds
 use Rattle.object.specs.declared.rank.Rank.{Rank}
 use Rattle.object.specs.Numbers.{Term}
 use Rattle.object.specs.Statements.{StatementParts, IsNumberAt}
@@ -77,7 +77,7 @@ pub record ListedAll (text : List ℕ) (hook : Hook) (rank : ℕ) (code : List S
 -- ---- statements
 
 -- From this register on, the lines that follow state each number as one.
-abbrev pub AreStated : List Kind → ℕ → List (Option AssemblyLine) → Type 0
+abbrev pub AreStated : List StatedKind → ℕ → List (Option AssemblyLine) → Type 0
 AreStated registers from rest = (register : ℕ) → from ≤ register → IsNumberAt registers register
     → is_stated_number rest register ≡ true
 
@@ -86,7 +86,7 @@ abbrev pub is_stated : List (Option AssemblyLine) → Option Term → Bool
 is_stated rest None = true
 is_stated rest (Some term) = is_stated_number rest term.register
 
-abbrev pub is_number : Kind → Bool
+abbrev pub is_number : StatedKind → Bool
 is_number (kinds.Number numbers) = true
 is_number other = false
 
@@ -100,7 +100,7 @@ abbrev pub AddsCode : List ℕ → List ℕ → List Slot → Type 0
 AddsCode old new code = (hook : Hook) (rank : ℕ) → Listed old (code_sketch hook rank []) Any
     → Listed new (code_sketch hook rank code) Any
 
-abbrev pub statement_parts : ℕ → Rank → List Kind → List Bool → StatementParts
+abbrev pub statement_parts : ℕ → Rank → List StatedKind → List Bool → StatementParts
 statement_parts slot rank kinds stack = record {
   slot = slot;
   rank = rank;
@@ -108,13 +108,13 @@ statement_parts slot rank kinds stack = record {
   stack = stack;
 }
 
-abbrev pub AddsKinds : List ℕ → List ℕ → List Kind → Type 0
+abbrev pub AddsKinds : List ℕ → List ℕ → List StatedKind → Type 0
 AddsKinds old new kinds = (f : Front) (slot : ℕ) (rank : Rank)
     → Listed old (sketch_of f (Some (bare slot rank))) (AreStated kinds 0)
     → Listed new (sketch_of f (Some (statement_parts slot rank kinds no_bytes))) Any
 
 abbrev pub AddsStack : List ℕ → List ℕ → List Bool → Type 0
-AddsStack old new stack = (f : Front) (slot : ℕ) (rank : Rank) (kinds : List Kind)
+AddsStack old new stack = (f : Front) (slot : ℕ) (rank : Rank) (kinds : List StatedKind)
     → Listed old (sketch_of f (Some (statement_parts slot rank kinds no_bytes))) Any
     → Listed new (sketch_of f (Some (statement_parts slot rank kinds stack))) Any
 

@@ -11,8 +11,8 @@ use Rattle.isa.specs.declared.instruction.Instruction.TheVariants as instruction
 use Rattle.isa.specs.declared.instruction.Source.{Source}
 use Rattle.isa.specs.declared.instruction.Source.TheVariants as sources
 use Rattle.isa.specs.Spelling.{Spells}
-use Rattle.object.specs.declared.kind.Kind.{Kind}
-use Rattle.object.specs.declared.kind.Kind.TheVariants as kinds
+use Rattle.object.specs.declared.kind.StatedKind.{StatedKind}
+use Rattle.object.specs.declared.kind.StatedKind.TheVariants as kinds
 use Rattle.object.specs.Numbers.{Numbers}
 use Rattle.object.specs.Numbers as object_numbers
 use Rattle.object.specs.Statements.{StatementParts}
@@ -88,7 +88,7 @@ the_range n =
       value = Natural n.value;
     }
 
-abbrev pub the_content : Kind → Option RegisterContent
+abbrev pub the_content : StatedKind → Option RegisterContent
 the_content kinds.Empty = None
 the_content (kinds.Number numbers) = Some (contents.Number (the_range numbers))
 the_content (kinds.Context offset) = Some (contents.Context (Natural offset))
@@ -102,7 +102,7 @@ with_line register (Some content) = lines.With register content ∷ []
 with_line register None = []
 
 -- the registers from this one on, ascending
-abbrev pub with_lines : ℕ → List Kind → List AssemblyLine
+abbrev pub with_lines : ℕ → List StatedKind → List AssemblyLine
 with_lines register [] = []
 with_lines register (kind ∷ kinds) = with_line register (the_content kind)
     ++ with_lines (register + 1) kinds

@@ -3,8 +3,8 @@ use Rattle.std.specs.Prelude.{ℕ, ◌^◌, Bool, true, false, List, [], ◌∷�
 use Rattle.std.specs.Prelude.{Ok, Err, if◌then◌else◌, nat_le, ◌==◌, ◌&&◌, bit_and}
 use Rattle.isa.specs.declared.map.Map.{Map}
 use Rattle.isa.specs.declared.map.Map.TheVariants as maps
-use Rattle.object.specs.declared.kind.Kind.{Kind}
-use Rattle.object.specs.declared.kind.Kind.TheVariants as kinds
+use Rattle.object.specs.declared.kind.StatedKind.{StatedKind}
+use Rattle.object.specs.declared.kind.StatedKind.TheVariants as kinds
 use Rattle.object.specs.declared.rank.Rank.{Rank}
 use Rattle.object.specs.Numbers as object_numbers
 use Rattle.asm_words.specs.declared.numeral.Numeral.{Numeral}
@@ -90,7 +90,7 @@ map_of n = natural_in (2 ^ 32) n and_then map_at
 abbrev pub at_most : ℕ → ℕ → Option ℕ
 at_most most n = if nat_le n most then Some n else None
 
-abbrev pub kind_of : RegisterContent → Option Kind
+abbrev pub kind_of : RegisterContent → Option StatedKind
 kind_of (contents.Number range) = numbers_of range and_then λ numbers. Some (kinds.Number numbers)
 kind_of (contents.Context offset) = natural_in (2 ^ 32) offset and_then λ n.
     at_most 64 n and_then λ bytes. Some (kinds.Context bytes)

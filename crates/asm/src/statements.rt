@@ -12,7 +12,7 @@ use asm_lines::{AssemblyLine, LabelOrNumber, Range, RegisterContent, Term, Terms
 use asm_words::Numeral;
 use isa::{Map, Register};
 use object::{
-    ContextOffset, Kind, Rank, RankTerm, StackBytes, StackOffset, StatedNumber, Statement,
+    ContextOffset, Rank, RankTerm, StackBytes, StackOffset, StatedKind, StatedNumber, Statement,
 };
 use std::alloc::{AllocError, Global};
 
@@ -133,28 +133,28 @@ fn map_of(map: Numeral) -> Option<Map>
 }
 
 /// What a `with` line says of its register; `None` if no object can hold it.
-pub(crate) fn kind_of(content: RegisterContent) -> Option<Kind>
+pub(crate) fn kind_of(content: RegisterContent) -> Option<StatedKind>
     ensures { result ≡ kind_of content }
 {
     match content {
         RegisterContent::Number(range) => {
             let numbers = numbers_of(range)?;
-            Some(Kind::Number(numbers))
+            Some(StatedKind::Number(numbers))
         }
         RegisterContent::Context(offset) => {
             let offset = natural_32(offset)?;
             let offset = ContextOffset::new(offset)?;
-            Some(Kind::Context(offset))
+            Some(StatedKind::Context(offset))
         }
         RegisterContent::Stack(offset) => {
             let offset = natural_32(offset)?;
             let offset = StackOffset::new(offset)?;
-            Some(Kind::Stack(offset))
+            Some(StatedKind::Stack(offset))
         }
         RegisterContent::Map { map, offset } => {
             let map = map_of(map)?;
             let numbers = numbers_of(offset)?;
-            Some(Kind::MapValue(map, numbers))
+            Some(StatedKind::MapValue(map, numbers))
         }
     }
 }
@@ -178,15 +178,15 @@ pub(crate) fn bytes_of(start: Numeral, end: Numeral) -> Option<(usize, usize)>
 pub(crate) struct OpenStatement {
     pub slot: u32,
     pub rank: Rank,
-    pub kinds: [Kind; 10],
+    pub kinds: [StatedKind; 10],
     pub stack: StackBytes,
 }
 
 /// Whether nothing is stated of the register yet.
-fn is_empty(kind: Kind) -> bool
+fn is_empty(kind: StatedKind) -> bool
     ensures { result ≡ is_empty kind }
 {
-    matches!(kind, Kind::Empty)
+    matches!(kind, StatedKind::Empty)
 }
 
 impl OpenStatement {
@@ -201,7 +201,7 @@ impl OpenStatement {
         OpenStatement {
             slot,
             rank,
-            kinds: [Kind::Empty; 10],
+            kinds: [StatedKind::Empty; 10],
             stack: StackBytes::new(),
         }
     }
@@ -270,7 +270,7 @@ pub(crate) fn push_open(
 {
     // Names the types of a statement's parts; the generated proof has to know their modules.
     let _rank: Option<(Rank, RankTerm, StackBytes)> = None;
-    let _kind: Option<(Kind, StatedNumber, ContextOffset, StackOffset, Map)> = None;
+    let _kind: Option<(StatedKind, StatedNumber, ContextOffset, StackOffset, Map)> = None;
     match last {
         Some(open) => match before.push(open) {
             Ok(()) => Ok(()),

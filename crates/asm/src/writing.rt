@@ -5,7 +5,7 @@ ghost use Rattle.std.specs.Prelude.{MatchOption, string_bytes};
 ghost use Rattle.std.specs.List.{flat_map};
 ghost use Rattle.isa.specs.declared.code.Slot.{Slot};
 ghost use Rattle.isa.specs.Spelling.{Spells};
-ghost use Rattle.object.specs.declared.kind.Kind.{Kind};
+ghost use Rattle.object.specs.declared.kind.StatedKind.{StatedKind};
 ghost use Rattle.object.specs.Sets.{has_byte};
 ghost use Rattle.asm_lines.specs.declared.line.AssemblyLine.{AssemblyLine};
 ghost use Rattle.asm_words.specs.declared.numeral.Numeral.{Numeral};
@@ -27,7 +27,7 @@ use crate::instructions::line_of;
 use asm_lines::{AssemblyLine, LabelOrNumber, Range, RegisterContent, Term, Terms, write_line};
 use asm_words::Numeral;
 use isa::{Code, DecodeFault, Hook, Register, Slot, decode};
-use object::{Kind, Object, Rank, RankTerm, StackBytes, StatedNumber, Statement};
+use object::{Object, Rank, RankTerm, StackBytes, StatedKind, StatedNumber, Statement};
 use std::alloc::{AllocError, Global};
 
 /// Writes a line that neither defines nor uses a label.
@@ -94,18 +94,18 @@ fn range_of(numbers: StatedNumber) -> Range
 }
 
 /// What a `with` line says of a register of this kind; `None` for an empty one.
-fn content_of(kind: Kind) -> Option<RegisterContent>
+fn content_of(kind: StatedKind) -> Option<RegisterContent>
     ensures line { result ≡ the_content kind }
-    ensures again { MatchOption result (kind ≡ Kind.Empty) (λ content. kind_of content
+    ensures again { MatchOption result (kind ≡ StatedKind.Empty) (λ content. kind_of content
         ≡ Some kind) }
     ensures numbers { is_number kind ≡ gives_number result }
 {
     match kind {
-        Kind::Empty => None,
-        Kind::Number(numbers) => Some(RegisterContent::Number(range_of(numbers))),
-        Kind::Context(offset) => Some(RegisterContent::Context(number(offset.bytes()))),
-        Kind::Stack(offset) => Some(RegisterContent::Stack(number(offset.bytes()))),
-        Kind::MapValue(map, numbers) => Some(RegisterContent::Map {
+        StatedKind::Empty => None,
+        StatedKind::Number(numbers) => Some(RegisterContent::Number(range_of(numbers))),
+        StatedKind::Context(offset) => Some(RegisterContent::Context(number(offset.bytes()))),
+        StatedKind::Stack(offset) => Some(RegisterContent::Stack(number(offset.bytes()))),
+        StatedKind::MapValue(map, numbers) => Some(RegisterContent::Map {
             map: number(u32::from(map.number())),
             offset: range_of(numbers),
         }),
@@ -141,7 +141,7 @@ fn write_code(text: &mut String, code: &Code) -> Result<(), AllocError>
 }
 
 /// A `with` line for each register that isn't empty, ascending.
-fn write_kinds(text: &mut String, kinds: &[Kind]) -> Result<(), AllocError>
+fn write_kinds(text: &mut String, kinds: &[StatedKind]) -> Result<(), AllocError>
     requires { length kinds.now ≡ 10 }
     ensures says { OnOk result (AddsKinds (string_bytes text.old) (string_bytes text.new)
         kinds.now) }

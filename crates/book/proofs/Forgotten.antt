@@ -12,7 +12,7 @@ use Rattle.events.specs.Routers.{Occurrence, Router}
 use Rattle.flood.specs.declared.event.Event.{Event}
 use Rattle.flood.specs.declared.event.Event.TheVariants as event
 use Rattle.flood.specs.Occurrences.{brings_answers, occurrence_of, words_of}
-use Rattle.book.specs.declared.entry.Entry.{Entry}
+use Rattle.book.specs.declared.entry.JournalEntry.{JournalEntry}
 use Rattle.book.specs.Bytes.{bytes_of, with_event}
 use Rattle.book.specs.Replay.{IsInstalledLast, IsLightened, Replays, entry_occurrence, forgotten_at}
 use Rattle.book.specs.Replay.{step_occurrence}
@@ -22,14 +22,14 @@ use Rattle.book.proofs.Unheeded.{installed, overlooked, replaced, told}
 -- ---- the first event of a journal
 
 -- what the first event leaves, from where the others lead on
-record Begins (start : Router) (moment : Moment) (event : Occurrence) (rest : List Entry)
+record Begins (start : Router) (moment : Moment) (event : Occurrence) (rest : List JournalEntry)
     (now : Router) : Type 0 where
   outs : List Out
   middle : Router
   happens : Happens start moment event outs middle
   others : Replays middle rest now
 
-begun : (start : Router) (e : Entry) (rest : List Entry) (now : Router)
+begun : (start : Router) (e : JournalEntry) (rest : List JournalEntry) (now : Router)
     → Replays start (e ∷ rest) now → Begins start e.moment (occurrence_of e.event) rest now
 begun start e rest now (steps, same, run) = from steps same run
   where
@@ -46,7 +46,7 @@ begun start e rest now (steps, same, run) = from steps same run
           others = (steps, cc, more);
         }
 
-goes_on : (start : Router) (e : Entry) (rest : List Entry) (now : Router)
+goes_on : (start : Router) (e : JournalEntry) (rest : List JournalEntry) (now : Router)
     → Begins start e.moment (occurrence_of e.event) rest now → Replays start (e ∷ rest) now
 goes_on start e rest now it = (
   record { moment = e.moment; event = occurrence_of e.event; outs = it.outs } ∷ it.others.0,
@@ -57,8 +57,9 @@ goes_on start e rest now it = (
 -- ---- a router with other answers
 
 -- before a journal that ends with an Install the answers make no difference
-with_answers : (answers : List (Route × ℕ)) (journal : List Entry) (e : Entry) (start now : Router)
-    → brings_answers (occurrence_of e.event) ≡ true → Replays start (journal ++ e ∷ []) now
+with_answers : (answers : List (Route × ℕ)) (journal : List JournalEntry) (e : JournalEntry)
+    (start now : Router) → brings_answers (occurrence_of e.event) ≡ true
+    → Replays start (journal ++ e ∷ []) now
     → Replays (told answers start) (journal ++ e ∷ []) now
 with_answers answers [] e start now is run =
     let it = begun start e [] now run in
@@ -95,7 +96,7 @@ with_answers answers (d ∷ journal) e start now is run =
 
 -- ---- an Install without its answers
 
-first_forgotten : (moment : Moment) (first : Event) (journal : List Entry) (e : Entry)
+first_forgotten : (moment : Moment) (first : Event) (journal : List JournalEntry) (e : JournalEntry)
     (start now : Router)
     → brings_answers (occurrence_of e.event) ≡ true
     → Begins start moment (occurrence_of first) (journal ++ e ∷ []) now
@@ -113,8 +114,9 @@ first_forgotten moment (event.Install answers) journal e start now is it = recor
 first_forgotten moment (event.LinkDown number) journal e start now is it = it
 
 -- the journal, which ends with an Install, replays to the same
-forgotten_replays : (journal : List Entry) (place : ℕ) (e : Entry) (start now : Router)
-    → brings_answers (occurrence_of e.event) ≡ true → Replays start (journal ++ e ∷ []) now
+forgotten_replays : (journal : List JournalEntry) (place : ℕ) (e : JournalEntry)
+    (start now : Router) → brings_answers (occurrence_of e.event) ≡ true
+    → Replays start (journal ++ e ∷ []) now
     → Replays start (forgotten_at journal place ++ e ∷ []) now
 forgotten_replays [] place e start now is run = run
 forgotten_replays (d ∷ journal) zero e start now is run =
@@ -141,21 +143,21 @@ weighs_the_same bytes (event.Withdraw prefix) = refl
 weighs_the_same bytes (event.Install answers) = refl
 weighs_the_same bytes (event.LinkDown number) = refl
 
-abbrev added : ℕ → Entry → ℕ
+abbrev added : ℕ → JournalEntry → ℕ
 added bytes e = with_event bytes e.event
 
-forgotten_weighs : (bytes : ℕ) (journal : List Entry) (place : ℕ)
+forgotten_weighs : (bytes : ℕ) (journal : List JournalEntry) (place : ℕ)
     → fold added bytes (forgotten_at journal place) ≡ fold added bytes journal
 forgotten_weighs bytes [] place = refl
 forgotten_weighs bytes (e ∷ journal) zero =
     ap (λ n. fold added n journal) (weighs_the_same bytes e.event)
 forgotten_weighs bytes (e ∷ journal) (suc place) = forgotten_weighs (added bytes e) journal place
 
-pub forgotten_bytes : (journal : List Entry) (place : ℕ)
+pub forgotten_bytes : (journal : List JournalEntry) (place : ℕ)
     → bytes_of (forgotten_at journal place) ≡ bytes_of journal
 forgotten_bytes journal place = forgotten_weighs 0 journal place
 
-pub forgotten_length : (journal : List Entry) (place : ℕ)
+pub forgotten_length : (journal : List JournalEntry) (place : ℕ)
     → length (forgotten_at journal place) ≡ length journal
 forgotten_length [] place = refl
 forgotten_length (e ∷ journal) zero = refl
@@ -164,12 +166,12 @@ forgotten_length (e ∷ journal) (suc place) = ap (λ n. suc n) (forgotten_lengt
 -- ---- the last entry
 
 -- a journal and its last entry
-record Ends (journal : List Entry) (last : ℕ) (e : Entry) : Type 0 where
-  before : List Entry
+record Ends (journal : List JournalEntry) (last : ℕ) (e : JournalEntry) : Type 0 where
+  before : List JournalEntry
   whole : journal ≡ before ++ e ∷ []
   long : length before ≡ last
 
-ends : (journal : List Entry) (last : ℕ) (e : Entry) → length journal ≡ suc last
+ends : (journal : List JournalEntry) (last : ℕ) (e : JournalEntry) → length journal ≡ suc last
     → e ≡ get_or journal last e → Ends journal last e
 ends [] last e long is = absurd cc
 ends (d ∷ []) zero e long is = record {
@@ -183,20 +185,21 @@ ends (d ∷ c ∷ journal) (suc last) e long is =
     let fewer : length (c ∷ journal) ≡ suc last = cc in
     let it = ends (c ∷ journal) last e fewer is in record {
       before = d ∷ it.before;
-      whole = ap (λ (l : List Entry). d ∷ l) it.whole;
+      whole = ap (λ (l : List JournalEntry). d ∷ l) it.whole;
       long = ap (λ (n : ℕ). suc n) it.long;
     }
 
 -- a place before the last one
-before_the_last : (before : List Entry) (e : Entry) (place : ℕ) → place < length before
-    → forgotten_at (before ++ e ∷ []) place ≡ forgotten_at before place ++ e ∷ []
+before_the_last : (before : List JournalEntry) (e : JournalEntry) (place : ℕ)
+    → place < length before → forgotten_at (before ++ e ∷ []) place ≡ forgotten_at before place ++ e
+    ∷ []
 before_the_last [] e place within = absurd (omega (arith, within))
 before_the_last (d ∷ before) e zero within = refl
 before_the_last (d ∷ before) e (suc place) within =
     ap (λ l. d ∷ l) (before_the_last before e place (omega (arith, within)))
 
 -- what a journal that ends with an Install becomes
-pub lightened : (journal : List Entry) (last place : ℕ) → IsInstalledLast journal last
+pub lightened : (journal : List JournalEntry) (last place : ℕ) → IsInstalledLast journal last
     → place < last → IsLightened journal (forgotten_at journal place)
 lightened journal last place (long, (e, is, brings)) within =
     let it = ends journal last e long is in
@@ -206,52 +209,53 @@ lightened journal last place (long, (e, is, brings)) within =
       place,
       it.whole,
       brings,
-      ap (λ (l : List Entry). forgotten_at l place) it.whole
+      ap (λ (l : List JournalEntry). forgotten_at l place) it.whole
           ∙ before_the_last it.before e place (omega (arith, it.long, within)),
     )
 
-pub lightened_replays : (old new : List Entry) (start now : Router) → IsLightened old new
+pub lightened_replays : (old new : List JournalEntry) (start now : Router) → IsLightened old new
     → Replays start old now → Replays start new now
 lightened_replays old new start now (inl same) run =
-    subst (λ (l : List Entry). Replays start l now) (sym same) run
+    subst (λ (l : List JournalEntry). Replays start l now) (sym same) run
 lightened_replays old new start now (inr (before, e, place, whole, brings, is)) run =
     let from : Replays start (before ++ e ∷ []) now =
-    subst (λ (l : List Entry). Replays start l now) whole run in
-    subst (λ (l : List Entry). Replays start l now) (sym is)
+    subst (λ (l : List JournalEntry). Replays start l now) whole run in
+    subst (λ (l : List JournalEntry). Replays start l now) (sym is)
     (forgotten_replays before place e start now brings from)
 
 -- a list that is written back over one of the same length
-filled : (new old : List Entry) (count : ℕ) → length new ≡ count
+filled : (new old : List JournalEntry) (count : ℕ) → length new ≡ count
     → take count (new ++ drop (length new) old) ≡ new
 filled new old count long =
     ap (λ n. take n (new ++ drop (length new) old)) (sym long)
     ∙ take-append_seam new (drop (length new) old)
 
 -- what the journal is after an Install at a place was told to forget
-pub written_back : (items lent made : List Entry) (count place : ℕ)
+pub written_back : (items lent made : List JournalEntry) (count place : ℕ)
     → lent ≡ items → length lent ≡ count → made ≡ forgotten_at lent place
     → take count (made ++ drop (length made) items) ≡ forgotten_at items place
 written_back items lent made count place same long is =
     filled made items count (ap length is ∙ forgotten_length lent place ∙ long)
-    ∙ is ∙ ap (λ (l : List Entry). forgotten_at l place) same
+    ∙ is ∙ ap (λ (l : List JournalEntry). forgotten_at l place) same
 
 -- the event at a place, with another in its stead
-pub set_forgotten : (journal : List Entry) (place : ℕ) (e otherwise : Entry) (gone : Event)
-    → place < length journal → e ≡ get_or journal place otherwise → gone ≡ without_answers e.event
+pub set_forgotten : (journal : List JournalEntry) (place : ℕ) (e otherwise : JournalEntry)
+    (gone : Event) → place < length journal → e ≡ get_or journal place otherwise
+    → gone ≡ without_answers e.event
     → set journal place (record e { event = gone }) ≡ forgotten_at journal place
 set_forgotten [] place e otherwise gone within is same = absurd (omega (arith, within))
 set_forgotten (d ∷ journal) zero e otherwise gone within is same =
-    ap (λ (x : Entry). x ∷ journal)
+    ap (λ (x : JournalEntry). x ∷ journal)
     (ap (λ (v : Event). record e {
       event = v;
-    }) same ∙ ap (λ (x : Entry). record x { event = without_answers x.event }) is)
+    }) same ∙ ap (λ (x : JournalEntry). record x { event = without_answers x.event }) is)
 set_forgotten (d ∷ journal) (suc place) e otherwise gone within is same =
-    ap (λ (l : List Entry). d ∷ l) (set_forgotten journal place e otherwise gone
+    ap (λ (l : List JournalEntry). d ∷ l) (set_forgotten journal place e otherwise gone
     (omega (arith, within)) is same)
 
-pub beyond : (journal : List Entry) (place : ℕ) → length journal ≤ place
+pub beyond : (journal : List JournalEntry) (place : ℕ) → length journal ≤ place
     → journal ≡ forgotten_at journal place
 beyond [] place far = refl
 beyond (e ∷ journal) zero far = absurd (omega (arith, far))
 beyond (e ∷ journal) (suc place) far =
-    ap (λ (l : List Entry). e ∷ l) (beyond journal place (omega (arith, far)))
+    ap (λ (l : List JournalEntry). e ∷ l) (beyond journal place (omega (arith, far)))

@@ -13,7 +13,7 @@ use Rattle.events.specs.Routers.{Occurrence, Router}
 use Rattle.flood.specs.Early.{early_refusal}
 use Rattle.flood.specs.declared.event.Event.{Event}
 use Rattle.flood.specs.Occurrences.{brings_answers, occurrence_of}
-use Rattle.book.specs.declared.entry.Entry.{Entry}
+use Rattle.book.specs.declared.entry.JournalEntry.{JournalEntry}
 use Rattle.book.specs.declared.error.BookError.{BookError}
 use Rattle.book.specs.declared.error.BookError.TheVariants as refusing
 use Rattle.book.specs.Refusals.{AnswersAnew, IsRefusedEarly, IsSpent}
@@ -21,7 +21,8 @@ use Rattle.book.specs.Replay.{BookView, EndsWith, IsLightened, IsNoted, IsNotedA
 use Rattle.book.specs.Replay.{IsSameOrAnew, IsSameOrMarked, entry, forgotten_at, marked_book}
 
 -- two lists with one entry behind them
-same_ends : (xs ys : List Entry) (x y : Entry) → xs ++ x ∷ [] ≡ ys ++ y ∷ [] → (xs ≡ ys) × (x ≡ y)
+same_ends : (xs ys : List JournalEntry) (x y : JournalEntry) → xs ++ x ∷ [] ≡ ys ++ y ∷ []
+    → (xs ≡ ys) × (x ≡ y)
 same_ends [] [] x y same = (refl, cc)
 same_ends [] (b ∷ []) x y same = absurd cc
 same_ends [] (b ∷ c ∷ ys) x y same = absurd cc
@@ -33,7 +34,7 @@ same_ends (a ∷ xs) (b ∷ ys) x y same =
     (ap (λ e. e ∷ xs) first ∙ ap (λ l. b ∷ l) others.0, others.1)
 
 -- a journal with one more entry, then lightened
-pub noted_in : (before grown new : BookView) (e : Entry)
+pub noted_in : (before grown new : BookView) (e : JournalEntry)
     → grown ≡ record before {
       journal = before.journal ++ e ∷ [];
       current = grown.current;
@@ -53,9 +54,9 @@ noted_in before grown new e is same light =
         let ends = same_ends front before.journal last e (sym whole ∙ long) in
         inr (
           place,
-          subst (λ (x : Entry). brings_answers (occurrence_of x.event) ≡ true) ends.1 brings,
-          gone ∙ ap (λ (l : List Entry). forgotten_at l place ++ last ∷ []) ends.0
-              ∙ ap (λ (x : Entry). forgotten_at before.journal place ++ x ∷ []) ends.1,
+          subst (λ (x : JournalEntry). brings_answers (occurrence_of x.event) ≡ true) ends.1 brings,
+          gone ∙ ap (λ (l : List JournalEntry). forgotten_at l place ++ last ∷ []) ends.0
+              ∙ ap (λ (x : JournalEntry). forgotten_at before.journal place ++ x ∷ []) ends.1,
         )
 
 pub same_or_anew : (old new : BookView) → IsSameOrMarked old new → IsSameOrAnew old new
@@ -85,7 +86,7 @@ pub left_marked : (old between middle new : BookView) → IsSameOrMarked old bet
 left_marked old between middle new first is second =
     marked_anew old between new first (subst (λ (b : BookView). IsSameOrMarked b new) is second)
 
-pub at_last : (old new : BookView) (e : Entry) → IsNoted old e new → IsNotedAtLast old e new
+pub at_last : (old new : BookView) (e : JournalEntry) → IsNoted old e new → IsNotedAtLast old e new
 at_last old new e (before, is, ends) = (before, same_or_anew old before is, ends)
 
 -- what is noted after a mark for want of memory

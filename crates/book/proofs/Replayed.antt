@@ -6,11 +6,11 @@ use Rattle.events.specs.declared.model.Out.{Out}
 use Rattle.events.specs.Events.{Happens, Run, Step}
 use Rattle.events.specs.Routers.{Router}
 use Rattle.flood.specs.Occurrences.{occurrence_of}
-use Rattle.book.specs.declared.entry.Entry.{Entry}
+use Rattle.book.specs.declared.entry.JournalEntry.{JournalEntry}
 use Rattle.book.specs.Bytes.{bytes_of, with_event}
 use Rattle.book.specs.Replay.{Leads, Replays, entry_occurrence, step_occurrence}
 
-abbrev step : Entry → List Out → Step
+abbrev step : JournalEntry → List Out → Step
 step e outs = record { moment = e.moment; event = occurrence_of e.event; outs = outs }
 
 run_on : (steps : List Step) (old middle new : Router) (s : Step) → Run old steps middle
@@ -20,7 +20,7 @@ run_on [] old middle new s same now =
 run_on (x ∷ steps) old middle new s earlier now =
     (earlier.0, earlier.1, run_on steps earlier.0 middle new s earlier.2 now)
 
-same_on : (steps : List Step) (journal : List Entry) (s : Step) (e : Entry)
+same_on : (steps : List Step) (journal : List JournalEntry) (s : Step) (e : JournalEntry)
     → map step_occurrence steps ≡ map entry_occurrence journal
     → step_occurrence s ≡ entry_occurrence e
     → map step_occurrence (steps ++ s ∷ []) ≡ map entry_occurrence (journal ++ e ∷ [])
@@ -29,8 +29,8 @@ same_on steps journal s e same one =
     ∙ ap (λ x. map entry_occurrence journal ++ x ∷ []) one
     ∙ sym (map-append entry_occurrence journal (e ∷ []))
 
-pub replays_on : (start : Router) (journal : List Entry) (before after : Router) (e : Entry)
-    (outs : List Out) → Replays start journal before
+pub replays_on : (start : Router) (journal : List JournalEntry) (before after : Router)
+    (e : JournalEntry) (outs : List Out) → Replays start journal before
     → Happens before e.moment (occurrence_of e.event) outs after
     → Replays start (journal ++ e ∷ []) after
 replays_on start journal before after e outs (steps, same, run) now = (
@@ -40,8 +40,9 @@ replays_on start journal before after e outs (steps, same, run) now = (
 )
 
 -- one event more leads on
-pub leads_on : (origin : Router) (taken : ℕ) (before after : Router) (e : Entry) (outs : List Out)
-    → Leads origin taken before → Happens before e.moment (occurrence_of e.event) outs after
+pub leads_on : (origin : Router) (taken : ℕ) (before after : Router) (e : JournalEntry)
+    (outs : List Out) → Leads origin taken before
+    → Happens before e.moment (occurrence_of e.event) outs after
     → Leads origin (taken + 1) after
 leads_on origin taken before after e outs (steps, run, many) now = (
   steps ++ step e outs ∷ [],
@@ -50,7 +51,7 @@ leads_on origin taken before after e outs (steps, run, many) now = (
 )
 
 -- the bytes of a journal with one more event
-pub bytes_with : (journal : List Entry) (e : Entry)
+pub bytes_with : (journal : List JournalEntry) (e : JournalEntry)
     → bytes_of (journal ++ e ∷ []) ≡ with_event (bytes_of journal) e.event
-bytes_with journal e = fold-append (λ bytes (x : Entry). with_event bytes x.event) 0 journal
+bytes_with journal e = fold-append (λ bytes (x : JournalEntry). with_event bytes x.event) 0 journal
     (e ∷ [])

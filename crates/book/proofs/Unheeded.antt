@@ -11,10 +11,10 @@ use Rattle.words.specs.declared.key.Key.{Key}
 use Rattle.words.specs.declared.route.External.{External}
 use Rattle.words.specs.declared.route.Route.{Route}
 use Rattle.lsa.specs.Reading.{lsa_in}
-use Rattle.lsa.specs.declared.body.Body.{Body as LsaBody}
+use Rattle.lsa.specs.declared.body.LsaBody.{LsaBody}
 use Rattle.lsdb.specs.Headers.{Lsa, lsa_key}
-use Rattle.packet.specs.declared.model.Body.{Body}
-use Rattle.packet.specs.declared.model.Body.TheVariants as body
+use Rattle.packet.specs.declared.model.PacketBody.{PacketBody}
+use Rattle.packet.specs.declared.model.PacketBody.TheVariants as body
 use Rattle.packet.specs.declared.model.Packet.{Packet}
 use Rattle.received.specs.Cases.{Case}
 use Rattle.received.specs.Links.{Link, neighbor_at}
@@ -166,7 +166,7 @@ module _ (answers : List (Route × ℕ)) where
       (same_case moment number (lsa_in bytes) p)
 
   from_its_neighbor : (moment : Moment) (number : InterfaceNumber) (from : ℕ) (in_exchange : Bool)
-      (says : Body) → Overlooks (from_neighbor moment number from in_exchange says)
+      (says : PacketBody) → Overlooks (from_neighbor moment number from in_exchange says)
   from_its_neighbor moment number from in_exchange (body.Hello h) p = refl
   from_its_neighbor moment number from in_exchange (body.Description d) p = refl
   from_its_neighbor moment number from true (body.Request keys) p = refl

@@ -2,7 +2,7 @@
 use Rattle.std.specs.Prelude.{ℕ, ◌+◌, ◌*◌, List, fold, length, min}
 use Rattle.flood.specs.declared.event.Event.{Event}
 use Rattle.flood.specs.declared.event.Event.TheVariants as event
-use Rattle.book.specs.declared.entry.Entry.{Entry}
+use Rattle.book.specs.declared.entry.JournalEntry.{JournalEntry}
 
 -- what an event holds outside of its entry and keeps in the journal: the bytes of a packet. The
 -- answers of an Install don't count: at the next Install they are dropped
@@ -19,8 +19,8 @@ abbrev pub with_event : ℕ → Event → ℕ
 with_event bytes e = min (bytes + held_by e + 256) 18446744073709551615
 
 -- the bytes that a journal's events take
-abbrev pub bytes_of : List Entry → ℕ
-bytes_of journal = fold (λ bytes (e : Entry). with_event bytes e.event) 0 journal
+abbrev pub bytes_of : List JournalEntry → ℕ
+bytes_of journal = fold (λ bytes (e : JournalEntry). with_event bytes e.event) 0 journal
 
 -- the bytes that the journal of a router with so many LSAs may take: 256 KiB, and 256 for each
 abbrev pub allowed_for : (lsas : ℕ) → ℕ

@@ -2,7 +2,7 @@
 pub use Rattle.flood.specs.Occurrences
 pub use Rattle.flood.specs.Offers
 pub use Rattle.flood.specs.declared.event.Event
-pub use Rattle.adjacency.specs.declared.state.State
+pub use Rattle.adjacency.specs.declared.state.NeighborState
 pub mod Bytes
 pub mod Replay
 pub mod Refusals

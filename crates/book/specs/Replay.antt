@@ -8,21 +8,21 @@ use Rattle.events.specs.Routers.{Occurrence, Router}
 use Rattle.flood.specs.declared.event.Event.{Event}
 use Rattle.flood.specs.declared.event.Event.TheVariants as event
 use Rattle.flood.specs.Occurrences.{brings_answers, occurrence_of}
-use Rattle.book.specs.declared.entry.Entry.{Entry}
+use Rattle.book.specs.declared.entry.JournalEntry.{JournalEntry}
 use Rattle.book.specs.Bytes.{allowed_for, bytes_of}
 
-abbrev pub entry : Moment → Event → Entry
+abbrev pub entry : Moment → Event → JournalEntry
 entry moment event = record { moment = moment; event = event }
 
 -- what came, and when: of an entry, and of a step of a run
-abbrev pub entry_occurrence : Entry → Moment × Occurrence
+abbrev pub entry_occurrence : JournalEntry → Moment × Occurrence
 entry_occurrence e = (e.moment, occurrence_of e.event)
 
 abbrev pub step_occurrence : Step → Moment × Occurrence
 step_occurrence s = (s.moment, s.event)
 
 -- a run over just the journal's events, whatever they sent, leads from one router to the other
-abbrev pub Replays : (start : Router) → List Entry → (now : Router) → Type 0
+abbrev pub Replays : (start : Router) → List JournalEntry → (now : Router) → Type 0
 Replays start journal now =
     (steps : List Step) × (map step_occurrence steps ≡ map entry_occurrence journal)
     × Run start steps now
@@ -35,7 +35,7 @@ Leads origin taken now = (steps : List Step) × Run origin steps now × (length 
 pub record BookView : Type 0 where
   pub start : Router
   -- the events since the start, the oldest first
-  pub journal : List Entry
+  pub journal : List JournalEntry
   -- the router as it is now
   pub current : Router
   -- how many events were taken in all
@@ -66,31 +66,31 @@ without_answers (event.Install answers) = event.Install []
 without_answers (event.LinkDown number) = event.LinkDown number
 
 -- the journal ends with an Install, which stands at this place
-abbrev pub IsInstalledLast : List Entry → (last : ℕ) → Type 0
+abbrev pub IsInstalledLast : List JournalEntry → (last : ℕ) → Type 0
 IsInstalledLast journal last =
     (length journal ≡ suc last)
-    × ((e : Entry) × (e ≡ slice_index_or journal last e)
+    × ((e : JournalEntry) × (e ≡ slice_index_or journal last e)
     × (brings_answers (occurrence_of e.event) ≡ true))
 
 -- the journal, in which an Install at this place has lost its answers
-abbrev pub forgotten_at : List Entry → (place : ℕ) → List Entry
+abbrev pub forgotten_at : List JournalEntry → (place : ℕ) → List JournalEntry
 forgotten_at [] place = []
 forgotten_at (e ∷ rest) zero = record e { event = without_answers e.event } ∷ rest
 forgotten_at (e ∷ rest) (suc place) = e ∷ forgotten_at rest place
 
 -- the journal, which ends with this entry; where that is an Install, one before it may have lost
 -- its answers
-abbrev pub EndsWith : List Entry → Entry → List Entry → Type 0
+abbrev pub EndsWith : List JournalEntry → JournalEntry → List JournalEntry → Type 0
 EndsWith before e journal =
     (journal ≡ before ++ e ∷ [])
     ⊎ ((place : ℕ) × (brings_answers (occurrence_of e.event) ≡ true)
     × (journal ≡ forgotten_at before place ++ e ∷ []))
 
 -- the same journal, or one that ends with an Install, to which another one has lost its answers
-abbrev pub IsLightened : (old new : List Entry) → Type 0
+abbrev pub IsLightened : (old new : List JournalEntry) → Type 0
 IsLightened old new =
     (new ≡ old)
-    ⊎ ((before : List Entry) × (e : Entry) × (place : ℕ) × (old ≡ before ++ e ∷ [])
+    ⊎ ((before : List JournalEntry) × (e : JournalEntry) × (place : ℕ) × (old ≡ before ++ e ∷ [])
     × (brings_answers (occurrence_of e.event) ≡ true)
     × (new ≡ forgotten_at before place ++ e ∷ []))
 
@@ -112,20 +112,20 @@ IsSameOrMarked old new =
     ((IsDue old → ⊥) × (new ≡ old)) ⊎ (IsDue old × (new ≡ marked_book old))
 
 -- the entry stands last in the journal
-abbrev pub IsNotedIn : (before : BookView) → Entry → (new : BookView) → Type 0
+abbrev pub IsNotedIn : (before : BookView) → JournalEntry → (new : BookView) → Type 0
 IsNotedIn before e new = (new.start ≡ before.start) × EndsWith before.journal e new.journal
 
 -- the entry stands last in the journal, which goes on; or, where that was too much, alone in one
 -- that was emptied by a mark before
-abbrev pub IsNoted : (old : BookView) → Entry → (new : BookView) → Type 0
+abbrev pub IsNoted : (old : BookView) → JournalEntry → (new : BookView) → Type 0
 IsNoted old e new = (before : BookView) × IsSameOrMarked old before × IsNotedIn before e new
 
 -- the same in a book that may be marked for want of memory, too
-abbrev pub IsNotedAtLast : (old : BookView) → Entry → (new : BookView) → Type 0
+abbrev pub IsNotedAtLast : (old : BookView) → JournalEntry → (new : BookView) → Type 0
 IsNotedAtLast old e new = (before : BookView) × IsSameOrAnew old before × IsNotedIn before e new
 
 -- what holds of the fields of every book that began with this router; `total` is its ledger's
-pub record IsKept (origin : Router) (start : Router) (journal : List Entry) (now : Router)
+pub record IsKept (origin : Router) (start : Router) (journal : List JournalEntry) (now : Router)
     (noted taken total : ℕ) : Type 0 where
   pub replays : Replays start journal now
   pub leads : Leads origin taken now

@@ -3,7 +3,7 @@ ghost use Rattle.std.specs.Prelude.{◌≡◌, IfSome};
 ghost use Rattle.flood.specs.Occurrences.{brings_answers, occurrence_of};
 ghost use Rattle.book.specs.Replay.{IsInstalledLast, forgotten_at, without_answers};
 
-use crate::entry::Entry;
+use crate::entry::JournalEntry;
 use flood::Event;
 use std::mem::replace;
 use words::Sequence;
@@ -22,7 +22,7 @@ fn is_install(event: &Event) -> bool
 }
 
 /// The last place of a journal that ends with an Install.
-pub fn last_install(journal: &[Entry]) -> Option<usize>
+pub fn last_install(journal: &[JournalEntry]) -> Option<usize>
     ensures { IfSome result (λ last. IsInstalledLast journal.now last) }
 {
     let last = journal.len().checked_sub(1)?;
@@ -44,7 +44,7 @@ fn forget(event: &mut Event)
 }
 
 /// Drops the answers of the event at this place, if that is an Install. It takes no memory.
-pub fn forget_answers(journal: &mut [Entry], place: usize)
+pub fn forget_answers(journal: &mut [JournalEntry], place: usize)
     ensures { journal.new ≡ forgotten_at journal.old place }
 {
     if place < journal.len() {

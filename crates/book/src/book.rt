@@ -11,7 +11,7 @@ ghost use Rattle.book.specs.Replay.{IsSameOrMarked, Leads, Replays, entry, marke
 ghost use Rattle.book.specs.Replay.{started_book};
 
 use crate::answers::{forget_answers, last_install};
-use crate::entry::Entry;
+use crate::entry::JournalEntry;
 use crate::error::{BookError, Refused};
 use crate::origin::Origin;
 use crate::weight::{allowance, with_event};
@@ -43,7 +43,7 @@ pub struct Book<L: Origin> {
     // made when an event comes.
     start: Option<Core>,
     current: Core,
-    journal: Vec<Entry>,
+    journal: Vec<JournalEntry>,
     // The bytes that the journal's events take, without the answers of Installs.
     noted: u64,
     // The place of the last Install that was taken by `apply_anew` since the start.
@@ -206,7 +206,7 @@ impl<L: Origin> Book<L> {
         match self.current.step(moment, &event) {
             Ok(outs) => {
                 self.noted = with_event(self.noted, &event);
-                self.journal.push_reserved(Entry { moment, event });
+                self.journal.push_reserved(JournalEntry { moment, event });
                 self.total.add(mine, 1);
                 self.taken += 1;
                 Ok(outs)
@@ -315,8 +315,8 @@ impl<L: Origin> Book<L> {
     /// router after the later one tells them: so the journal holds the answers of one alone.
     ///
     /// A mark stands, whether the event is taken or not: so where it is refused for want of memory,
-    /// the book is marked. None is made where 2^63 events were taken, nor where the event is refused
-    /// for its moment or its interface.
+    /// the book is marked. None is made where 2^63 events were taken, nor where the event is
+    /// refused for its moment or its interface.
     pub fn apply_anew(
         &mut self,
         mine: &mut Share<L>,
@@ -412,7 +412,7 @@ impl<L: Origin> Book<L> {
 
     /// The events since the start, the oldest first. Replayed from there they give the router as it
     /// is now.
-    pub fn journal(&self) -> &[Entry]
+    pub fn journal(&self) -> &[JournalEntry]
         ensures journal { result.now ≡ self.now.journal }
         ensures replays { Replays self.now.start self.now.journal self.now.current }
         ensures room { length self.now.journal ≤ 65536 }

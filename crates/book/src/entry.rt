@@ -4,7 +4,7 @@ use words::Second;
 
 /// An event and the moment at which it came.
 #[derive(Debug, Drop)]
-pub struct Entry {
+pub struct JournalEntry {
     pub moment: Second,
     pub event: Event,
 }

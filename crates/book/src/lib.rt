@@ -14,8 +14,10 @@ mod origin;
 mod weight;
 
 pub use book::{Book, JOURNAL, TAKEN};
-pub use entry::Entry;
+pub use entry::JournalEntry;
 pub use error::BookError;
 pub use origin::Origin;
 // What a book keeps, takes and answers, and what makes the router that it begins with.
-pub use flood::{Config, ConfigError, Core, CoreError, Event, Interface, Offered, Out, State};
+pub use flood::{
+    Config, ConfigError, Core, CoreError, Event, Interface, NeighborState, Offered, Out,
+};

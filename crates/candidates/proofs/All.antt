@@ -4,7 +4,7 @@ use Rattle.std.specs.List.{Contains}
 use Rattle.std.specs.Prelude.{◌↔◌}
 use Rattle.words.specs.declared.key.Key.{Key}
 use Rattle.words.specs.declared.route.Route.{Route}
-use Rattle.lsa.specs.declared.body.Body.{Body}
+use Rattle.lsa.specs.declared.body.LsaBody.{LsaBody}
 use Rattle.routes.specs.Candidates.{AreCandidates, Offers}
 use Rattle.routes.specs.Candidates.Offers.{Between, External, Within}
 use Rattle.routes.specs.Routes.{AreRoutesAmong}
@@ -19,7 +19,7 @@ use Rattle.candidates.specs.Externals.{AreExternals, OfTold}
 use Rattle.candidates.specs.Gathering.{Adds, OfEach}
 use Rattle.candidates.specs.Sources.{IsInner, OfExternal}
 use Rattle.candidates.specs.Ways.{AreWays, Ways}
-use Rattle.candidates.specs.declared.externals.External.{External as ExternalTold}
+use Rattle.candidates.specs.declared.externals.ExternalAdvertisement.{ExternalAdvertisement as ExternalTold}
 use Rattle.candidates.specs.declared.flagged.Flagged.{Flagged}
 use Rattle.candidates.proofs.Gathered.{all_such, such}
 use Rattle.candidates.proofs.Carried.{inner_back, inner_forth}
@@ -31,7 +31,7 @@ module _ (said : Said) (root : Root) (ways : Ways) (are : AreWays said root ways
     (routers : List Flagged) (flagged : AreFlagged said ways routers) where
   -- ---- the results from the LSAs of types 1 to 4
 
-  module _ (bodies : List (Key × Body)) (have : HaveAll 4 said bodies) where
+  module _ (bodies : List (Key × LsaBody)) (have : HaveAll 4 said bodies) where
     pub of_inside : (first : List Offer) → Adds [] first (OfEach (IsInner root ways routers) bodies)
         → (o : Offer) → Contains first o ↔ OffersInside said root o
     of_inside first a o =

@@ -10,7 +10,7 @@ use Rattle.std.proofs.lemmas.Nat.Bits.{bit_at-zero}
 use Rattle.std.proofs.lemmas.Option.{same_Some}
 use Rattle.area_graph.proofs.Leads.{near_end}
 use Rattle.area_graph.specs.Nodes.{Ascend, HasLsa}
-use Rattle.lsa.specs.declared.body.Link.{Link}
+use Rattle.lsa.specs.declared.body.RouterLink.{RouterLink}
 use Rattle.lsa.specs.declared.body.LinkKind.{LinkKind}
 use Rattle.lsa.specs.declared.body.LinkKind.TheVariants.{PointToPoint, Transit}
 use Rattle.candidates.specs.Ways.{AreNear, AreWays}
@@ -81,13 +81,14 @@ pub without_lsa : (said : Said) (root : Root) → (HasLsa said (ARouter root.rou
 without_lsa said root none step leads = none (by_lsa said root root.router step leads)
 
 -- none of these links is of a kind that leads on
-passes : (links : List Link) (link : Link) (kind : LinkKind)
-    → list_all (λ (l : Link). leads_nowhere l.kind) links ≡ true → Contains links link
+passes : (links : List RouterLink) (link : RouterLink) (kind : LinkKind)
+    → list_all (λ (l : RouterLink). leads_nowhere l.kind) links ≡ true → Contains links link
     → link.kind ≡ kind → leads_nowhere kind ≡ true
 passes links link kind all among is =
     let P : LinkKind → Type 0 = λ k. leads_nowhere k ≡ true in
-    let each = AllPass-from_list_all (λ (l : Link). leads_nowhere l.kind) links all in
-    subst P is (All-contains (λ (l : Link). leads_nowhere l.kind ≡ true) links link each among)
+    let each = AllPass-from_list_all (λ (l : RouterLink). leads_nowhere l.kind) links all in
+    subst P is (All-contains (λ (l : RouterLink). leads_nowhere l.kind ≡ true) links link each
+    among)
 
 pub without_way_out : (said : Said) (root : Root) → HasNoWayOut said root.router
     → (step : Step Node) → Leads said root (ARouter root.router) step → ⊥

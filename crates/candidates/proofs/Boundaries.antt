@@ -2,7 +2,7 @@
 use Rattle.std.proofs.Common.{◌≡◌, ℕ, ◌+◌, ◌<◌, List, arith, Some, None, refl, sym, ◌∙◌, ap, subst}
 use Rattle.words.specs.Prefixes.{Network}
 use Rattle.words.specs.declared.route.Route.{Route}
-use Rattle.lsa.specs.declared.body.Body.{Body}
+use Rattle.lsa.specs.declared.body.LsaBody.{LsaBody}
 use Rattle.routes.specs.declared.graph.Way.{Way}
 use Rattle.candidates.specs.Borders.{AreBelow, AreCloseBy, IsBoundary, IsFound, IsListed, IsLongest}
 use Rattle.candidates.specs.Borders.{Tells, host, way_by}
@@ -58,7 +58,7 @@ module _ (routers : List Flagged) (told : List Route) (router : ℕ) where
 
 -- ---- what is advertised costs little
 
-pub told_below : (root : Root) (routers : List Flagged) (bodies : List (Key × Body))
+pub told_below : (root : Root) (routers : List Flagged) (bodies : List (Key × LsaBody))
     (routes : List Route) → AreCloseBy routers
     → AreRoutesAmong (OfEach (Tells root routers) bodies) routes → AreBelow routes
 told_below root routers bodies routes close all route among =

@@ -4,8 +4,8 @@ use Rattle.std.proofs.Common.{◌≡◌, ℕ, ◌+◌, ◌-◌, inl, inr, cond, 
 use Rattle.std.proofs.Common.{arith, refl, sym, ◌∙◌, ap, subst}
 use Rattle.words.specs.Prefixes.{Network}
 use Rattle.words.specs.declared.key.Key.{Key}
-use Rattle.lsa.specs.declared.body.Body.{Body}
-use Rattle.lsa.specs.declared.body.Body.TheVariants as body
+use Rattle.lsa.specs.declared.body.LsaBody.{LsaBody}
+use Rattle.lsa.specs.declared.body.LsaBody.TheVariants as body
 use Rattle.lsa.specs.declared.body.SummaryLsa.{SummaryLsa}
 use Rattle.routes.specs.Answers.{IsNodeAnswer}
 use Rattle.routes.specs.Links.{Leads, network_key, router_key}
@@ -145,7 +145,7 @@ module _ (said : Said) (root : Root) (ways : Ways) (are : AreWays said root ways
 
   -- ---- within and between areas
 
-  by_router : (key : Key) (says : Body) → said key ≡ Some says → (o : Offer)
+  by_router : (key : Key) (says : LsaBody) → said key ≡ Some says → (o : Offer)
       → OfRouter root ways (key, says) o → OffersWithin said root o
   by_router key says is o k =
       let router = key.advertising_router in
@@ -155,7 +155,7 @@ module _ (said : Said) (root : Root) (ways : Ways) (are : AreWays said root ways
         advertising_router = router;
       } in
       let its : said (router_key router) ≡ Some (body.Router k.lsa) =
-      ap said (sym here) ∙ is ∙ ap (λ (b : Body). Some b) k.its in
+      ap said (sym here) ∙ is ∙ ap (λ (b : LsaBody). Some b) k.its in
       let stub = k.offered.2 in
       record {
         node = ARouter router;
@@ -181,7 +181,7 @@ module _ (said : Said) (root : Root) (ways : Ways) (are : AreWays said root ways
             (leaving root router k.way).hops) (same_distance root router k.way);
       }
 
-  by_network : (key : Key) (says : Body) → said key ≡ Some says → (o : Offer)
+  by_network : (key : Key) (says : LsaBody) → said key ≡ Some says → (o : Offer)
       → OfNetwork ways (key, says) o → OffersWithin said root o
   by_network key says is o k =
       let id = key.link_state_id in
@@ -192,7 +192,7 @@ module _ (said : Said) (root : Root) (ways : Ways) (are : AreWays said root ways
         advertising_router = by;
       } in
       let its : said (network_key id by) ≡ Some (body.Network k.lsa) =
-      ap said (sym here) ∙ is ∙ ap (λ (b : Body). Some b) k.its in
+      ap said (sym here) ∙ is ∙ ap (λ (b : LsaBody). Some b) k.its in
       let none : k.way.distance ≡ k.way.distance + 0 = omega arith in
       record {
         node = ANetwork id by;
@@ -207,7 +207,7 @@ module _ (said : Said) (root : Root) (ways : Ways) (are : AreWays said root ways
         is = k.is ∙ ap (λ d. intra k.prefix d k.way.hops) none;
       }
 
-  by_summary : (key : Key) (says : Body) → said key ≡ Some says → (o : Offer)
+  by_summary : (key : Key) (says : LsaBody) → said key ≡ Some says → (o : Offer)
       → OfSummary root routers (key, says) o → OffersBetween said root o
   by_summary key says is o k =
       let id = key.link_state_id in
@@ -221,7 +221,7 @@ module _ (said : Said) (root : Root) (ways : Ways) (are : AreWays said root ways
         id = id;
         originator = by;
         lsa = k.lsa;
-        its = ap said (sym here) ∙ is ∙ ap (λ (b : Body). Some b) k.its;
+        its = ap said (sym here) ∙ is ∙ ap (λ (b : LsaBody). Some b) k.its;
         border = as_way k.border;
         counts = counted_forth by k.lsa k.border k.counts;
         prefix = k.prefix;

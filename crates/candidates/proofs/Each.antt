@@ -2,7 +2,7 @@
 -- types.
 use Rattle.std.proofs.Common.{◌≤◌, ℕ, List, None, Some, arith}
 use Rattle.words.specs.declared.key.Key.{Key}
-use Rattle.lsa.specs.declared.body.Body.{Body}
+use Rattle.lsa.specs.declared.body.LsaBody.{LsaBody}
 use Rattle.lsdb.specs.Bodies.{AreBodies}
 use Rattle.routes.specs.Said.{Said}
 use Rattle.routes.specs.declared.offer.Offer.{Offer}
@@ -14,14 +14,14 @@ use Rattle.candidates.specs.Gathering.{OfEach}
 use Rattle.candidates.specs.Sources.{IsInner}
 use Rattle.candidates.specs.Sources.IsInner.{ByNetwork, ByRouter, BySummary}
 use Rattle.candidates.specs.Ways.{Ways}
-use Rattle.candidates.specs.declared.externals.External.{External}
+use Rattle.candidates.specs.declared.externals.ExternalAdvertisement.{ExternalAdvertisement}
 use Rattle.candidates.specs.declared.flagged.Flagged.{Flagged}
 
 -- ---- which types offer
 
 -- only LSAs of the types up to this one offer something
-abbrev pub AreUpTo : ℕ → (Key × Body → Offer → Type 0) → Type 0
-AreUpTo last Q = (one : Key × Body) (o : Offer) → Q one o → one.0.ls_type ≤ last
+abbrev pub AreUpTo : ℕ → (Key × LsaBody → Offer → Type 0) → Type 0
+AreUpTo last Q = (one : Key × LsaBody) (o : Offer) → Q one o → one.0.ls_type ≤ last
 
 pub inner_up_to : (root : Root) (ways : Ways) (routers : List Flagged)
     → AreUpTo 4 (IsInner root ways routers)
@@ -34,15 +34,15 @@ told_up_to root routers one o k = omega (arith, k.is_type)
 
 -- ---- in both directions
 
-module _ (last : ℕ) (said : Said) (bodies : List (Key × Body)) (have : HaveAll last said bodies)
-    (Q : Key × Body → Offer → Type 0) where
+module _ (last : ℕ) (said : Said) (bodies : List (Key × LsaBody)) (have : HaveAll last said bodies)
+    (Q : Key × LsaBody → Offer → Type 0) where
   pub of_said : (o : Offer) → OfEach Q bodies o → OfSaid Q said o
   of_said o ((key, says), among, q) = ((key, says), have.each key says among, q)
 
   pub of_each : AreUpTo last Q → (o : Offer) → OfSaid Q said o → OfEach Q bodies o
   of_each up o ((key, says), is, q) = ((key, says), have.all key says (up (key, says) o q) is, q)
 
-pub up_to_bodies : (last : ℕ) (said : Said) (bodies : List (Key × Body))
+pub up_to_bodies : (last : ℕ) (said : Said) (bodies : List (Key × LsaBody))
     → AreBodies (Some last) said bodies → HaveAll last said bodies
 up_to_bodies last said bodies are = record {
   each = λ key says among. ((are.each key says).0 among).1;
@@ -51,14 +51,14 @@ up_to_bodies last said bodies are = record {
 
 -- what the LSAs of a list advertise about external destinations is what those of the database
 -- advertise
-pub all_external : (said : Said) (bodies : List (Key × Body)) (told : List External)
+pub all_external : (said : Said) (bodies : List (Key × LsaBody)) (told : List ExternalAdvertisement)
     → AreBodies None said bodies → AreToldBy bodies told → AreExternals said told
 all_external said bodies told are by e = (
   (λ t. let p = (by e).0 t in ((p.0.0, p.0.1), ((are.each p.0.0 p.0.1).0 p.1).1, p.2)),
   (λ p. (by e).1 ((p.0.0, p.0.1), (are.each p.0.0 p.0.1).1 (tt, p.1), p.2)),
 )
 
-pub fewer : (most last : ℕ) (said : Said) (bodies : List (Key × Body)) → last ≤ most
+pub fewer : (most last : ℕ) (said : Said) (bodies : List (Key × LsaBody)) → last ≤ most
     → HaveAll most said bodies → HaveAll last said bodies
 fewer most last said bodies low have = record {
   each = have.each;

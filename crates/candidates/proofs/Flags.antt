@@ -17,8 +17,8 @@ use Rattle.std.proofs.lemmas.List.Quantifiers.{all_pairs_push}
 use Rattle.std.proofs.lemmas.List.Sorted.{searchable_from_sorted}
 use Rattle.std.proofs.lemmas.Map.Lookups.{exact_unsigned}
 use Rattle.words.specs.declared.key.Key.{Key}
-use Rattle.lsa.specs.declared.body.Body.{Body}
-use Rattle.lsa.specs.declared.body.Body.TheVariants as body
+use Rattle.lsa.specs.declared.body.LsaBody.{LsaBody}
+use Rattle.lsa.specs.declared.body.LsaBody.TheVariants as body
 use Rattle.lsdb.specs.Keys.{key_cmp}
 use Rattle.routes.specs.Links.{router_key}
 use Rattle.routes.specs.Said.{Said}
@@ -163,7 +163,7 @@ ids_ascend a b before types one two =
     ]
 
 module _ (ways : Ways) where
-  pub routers_ascend : (a b : Key × Body) (r s : Flagged) → key_cmp a.0 b.0 ≡ Less
+  pub routers_ascend : (a b : Key × LsaBody) (r s : Flagged) → key_cmp a.0 b.0 ≡ Less
       → TellsFlags ways a r → TellsFlags ways b s → r.router < s.router
   routers_ascend a b r s before p q =
       omega (
@@ -173,7 +173,7 @@ module _ (ways : Ways) where
         q.its_router,
       )
 
-  pub are_close : (bodies : List (Key × Body)) (routers : List Flagged) → AreNear ways
+  pub are_close : (bodies : List (Key × LsaBody)) (routers : List Flagged) → AreNear ways
       → AreTold (TellsFlags ways) bodies routers → AreCloseBy routers
   are_close bodies routers near told r among = let p = (told.each r).0 among in
       near (ARouter p.0.0.advertising_router) r.way p.2.reached
@@ -183,7 +183,7 @@ module _ (ways : Ways) where
   has_one flags flag (inl e) is = inl (subst (λ f. bit_and flags f ≡ f) e is)
   has_one flags flag (inr e) is = inr (subst (λ f. bit_and flags f ≡ f) e is)
 
-  pub are_flagged : (said : Said) (bodies : List (Key × Body)) (routers : List Flagged)
+  pub are_flagged : (said : Said) (bodies : List (Key × LsaBody)) (routers : List Flagged)
       → HaveAll 1 said bodies → AreTold (TellsFlags ways) bodies routers
       → AreFlagged said ways routers
   are_flagged said bodies routers have told router flag way is_flag = (
@@ -223,7 +223,7 @@ module _ (ways : Ways) where
         } in
         record {
           lsa = tells.lsa;
-          its = ap said (sym at) ∙ have.each key p.0.1 p.1 ∙ ap (λ (b : Body). Some b) tells.its;
+          its = ap said (sym at) ∙ have.each key p.0.1 p.1 ∙ ap (λ (b : LsaBody). Some b) tells.its;
           has_flag = subst (λ f. bit_and f flag ≡ flag) tells.its_flags k.has_flag;
           reached = ap (λ r. ways (ARouter r)) (sym by) ∙ tells.reached
               ∙ ap (λ (w : Way). Some w) (sym k.its_way);

@@ -6,7 +6,7 @@ use Rattle.std.proofs.lemmas.List.{take_all, take_more}
 use Rattle.std.proofs.lemmas.List.Elements.{Contains-append_left, Contains-push}
 use Rattle.std.proofs.lemmas.List.Elements.{Contains-push_cases}
 use Rattle.words.specs.declared.key.Key.{Key}
-use Rattle.lsa.specs.declared.body.Body.{Body}
+use Rattle.lsa.specs.declared.body.LsaBody.{LsaBody}
 use Rattle.routes.specs.declared.offer.Offer.{Offer}
 use Rattle.routes.proofs.Lists.{of_empty}
 use Rattle.std.specs.Prelude.{IfSome}
@@ -106,12 +106,12 @@ module _ {X : Type 0} (Q : X → Offer → Type 0) where
       subst P (take_all i xs past) a
 
 -- the offers of one LSA, by its key and by what it says
-pub of_one : (Q : Key × Body → Offer → Type 0) (now next : List Offer) (one : Key × Body)
-    (key : Key) (says : Body) → key ≡ one.0 → says ≡ one.1 → Adds now next (Q (key, says))
+pub of_one : (Q : Key × LsaBody → Offer → Type 0) (now next : List Offer) (one : Key × LsaBody)
+    (key : Key) (says : LsaBody) → key ≡ one.0 → says ≡ one.1 → Adds now next (Q (key, says))
     → Adds now next (Q one)
 of_one Q now next one key says is_key is_says a =
     let same : (key, says) ≡ one = λ i. (is_key i, is_says i) in
-    subst (λ (x : Key × Body). Adds now next (Q x)) same a
+    subst (λ (x : Key × LsaBody). Adds now next (Q x)) same a
 
 pub adds_same : (xs ys : List Offer) (P R : Offer → Type 0) → ((o : Offer) → P o → R o)
     → ((o : Offer) → R o → P o) → Adds xs ys P → Adds xs ys R

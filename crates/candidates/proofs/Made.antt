@@ -2,9 +2,9 @@
 use Rattle.std.proofs.Common.{◌≡◌, ◌+◌, ◌⊎◌, inl, inr, List, Some, None, refl, sym, ◌∙◌, subst}
 use Rattle.words.specs.Prefixes.{Network}
 use Rattle.words.specs.declared.key.Key.{Key}
-use Rattle.lsa.specs.declared.body.Body.{Body}
-use Rattle.lsa.specs.declared.body.Body.TheVariants as body
-use Rattle.lsa.specs.declared.body.Link.{Link}
+use Rattle.lsa.specs.declared.body.LsaBody.{LsaBody}
+use Rattle.lsa.specs.declared.body.LsaBody.TheVariants as body
+use Rattle.lsa.specs.declared.body.RouterLink.{RouterLink}
 use Rattle.lsa.specs.declared.body.RouterLsa.{RouterLsa}
 use Rattle.lsa.specs.declared.body.SummaryLsa.{SummaryLsa}
 use Rattle.routes.specs.Offers.{IsPrefix}
@@ -21,17 +21,17 @@ use Rattle.candidates.specs.Ways.{Ways}
 use Rattle.candidates.specs.declared.flagged.Flagged.{Flagged}
 use Rattle.candidates.proofs.Gathered.{adds_both, adds_same}
 
-module _ (root : Root) (ways : Ways) (routers : List Flagged) (one : Key × Body) where
+module _ (root : Root) (ways : Ways) (routers : List Flagged) (one : Key × LsaBody) where
   -- ---- a router
 
-  pub of_router : (lsa : RouterLsa) (way leaves : Way) (links : List Link) → one.0.ls_type ≡ 1
+  pub of_router : (lsa : RouterLsa) (way leaves : Way) (links : List RouterLink) → one.0.ls_type ≡ 1
       → one.0.link_state_id ≡ one.0.advertising_router → one.1 ≡ body.Router lsa
       → ways (ARouter one.0.advertising_router) ≡ Some way
       → leaves ≡ leaving root one.0.advertising_router way → links ≡ lsa.links
       → (xs ys : List Offer) → Adds xs ys (OfEach (IsStub leaves) links)
       → Adds xs ys (OfRouter root ways one)
   of_router lsa way leaves links is_type own its reached left items xs ys a =
-      let Here : Way → List Link → Offer → Type 0 = λ w ls. OfEach (IsStub w) ls in
+      let Here : Way → List RouterLink → Offer → Type 0 = λ w ls. OfEach (IsStub w) ls in
       adds_same xs ys (Here leaves links) (OfRouter root ways one)
       (λ o t. record {
         is_type = is_type;

@@ -8,8 +8,8 @@ use Rattle.words.specs.Prefixes.{Network}
 use Rattle.words.specs.declared.key.Key.{Key}
 use Rattle.words.specs.declared.route.Route.{Route}
 use Rattle.words.specs.declared.route.RouteKind.TheVariants.{Inter}
-use Rattle.lsa.specs.declared.body.Body.{Body}
-use Rattle.lsa.specs.declared.body.Body.TheVariants as body
+use Rattle.lsa.specs.declared.body.LsaBody.{LsaBody}
+use Rattle.lsa.specs.declared.body.LsaBody.TheVariants as body
 use Rattle.lsa.specs.declared.body.ExternalLsa.{ExternalLsa}
 use Rattle.routes.specs.Candidates.{IsExternalWay, OffersExternal}
 use Rattle.routes.specs.Paths.{Way as WalkWay}
@@ -73,7 +73,7 @@ module _ (said : Said) (root : Root) (ways : Ways) (are : AreWays said root ways
         told = record {
           originator = by;
           lsa = k.lsa;
-          its = ap said (sym here) ∙ is ∙ ap (λ (b : Body). Some b) k.its;
+          its = ap said (sym here) ∙ is ∙ ap (λ (b : LsaBody). Some b) k.its;
           counts = counted_forth said root ways are routers flagged by k.lsa k.border k.counts;
           is = ap (λ (x : Offer). x.cost) k.is;
         };
@@ -285,7 +285,7 @@ module _ (said : Said) (root : Root) (ways : Ways) (are : AreWays said root ways
             id = id;
             originator = by;
             lsa = k.lsa;
-            its = ap said (sym here) ∙ is ∙ ap (λ (b : Body). Some b) k.its;
+            its = ap said (sym here) ∙ is ∙ ap (λ (b : LsaBody). Some b) k.its;
             reachable = k.reachable;
             of_another = k.of_another;
             prefix = k.prefix;

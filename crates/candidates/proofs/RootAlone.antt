@@ -8,8 +8,8 @@ use Rattle.std.specs.declared.cmp.Ordering.TheVariants.{Equal, Greater, Less}
 use Rattle.std.proofs.lemmas.Map.Lookups.{exact_unsigned}
 use Rattle.words.specs.declared.key.Key.{Key}
 use Rattle.words.specs.declared.route.Route.{Route}
-use Rattle.lsa.specs.declared.body.Body.{Body}
-use Rattle.lsa.specs.declared.body.Body.TheVariants as body
+use Rattle.lsa.specs.declared.body.LsaBody.{LsaBody}
+use Rattle.lsa.specs.declared.body.LsaBody.TheVariants as body
 use Rattle.lsa.specs.declared.body.SummaryLsa.{SummaryLsa}
 use Rattle.routes.proofs.Listed.{routes_among}
 use Rattle.routes.proofs.Lists.{of_cons, of_empty}
@@ -56,7 +56,8 @@ one_ascends (Some it) = λ i j d before within. absurd (omega (arith, before, wi
 
 -- ---- what one LSA tells
 
-module _ {R : Type 0} (Q : Key × Body → R → Type 0) (key : Key) (says : Body) (told : Option Body)
+module _ {R : Type 0} (Q : Key × LsaBody → R → Type 0) (key : Key) (says : LsaBody)
+    (told : Option LsaBody)
     (is : told ≡ Some says) where
   pub of_it : (r : R) → Q (key, says) r → OfOne Q key told r
   of_it r q = (says, is, q)
@@ -65,7 +66,7 @@ module _ {R : Type 0} (Q : Key × Body → R → Type 0) (key : Key) (says : Bod
   by_it r p =
       let both : Some p.0 ≡ Some says = sym p.1 ∙ is in
       let same : p.0 ≡ says = cc in
-      subst (λ (b : Body). Q (key, b) r) same p.2
+      subst (λ (b : LsaBody). Q (key, b) r) same p.2
 
   pub just_of_it : (o : Option R) → IsJust (Q (key, says)) o → IsJust (OfOne Q key told) o
   just_of_it None none = λ r p. none r (by_it r p)
@@ -104,7 +105,7 @@ module _ (root : Root) (ways : Ways)
   no_network id by way is =
       let it : None ≡ Some way = sym (are_alone (ANetwork id by)) ∙ is in cc
 
-  pub one_close : (key : Key) (told : Option Body) (o : Option Flagged) → AreNear ways
+  pub one_close : (key : Key) (told : Option LsaBody) (o : Option Flagged) → AreNear ways
       → IsJust (OfOne (TellsFlags ways) key told) o → AreCloseBy (list_of o)
   one_close key told o near just r among =
       let tells = its o just (of_list o r among) in
@@ -115,7 +116,7 @@ module _ (root : Root) (ways : Ways)
       its None j is = absurd (cc)
       its (Some it) j is = let same : r ≡ it = cc in (j r).1 same
 
-  module _ (said : Said) (told : Option Body) (own : told ≡ said (router_key root.router)) where
+  module _ (said : Said) (told : Option LsaBody) (own : told ≡ said (router_key root.router)) where
     abbrev its_key : Key
     its_key = router_key root.router
 
@@ -161,7 +162,7 @@ module _ (root : Root) (ways : Ways)
           record {
             lsa = tells.lsa;
             its = ap (λ n. said (router_key n)) (sym same) ∙ sym own ∙ t.1
-                ∙ ap (λ (b : Body). Some b) tells.its;
+                ∙ ap (λ (b : LsaBody). Some b) tells.its;
             has_flag = subst (λ f. bit_and f flag ≡ flag) tells.its_flags k.has_flag;
             reached = ap (λ n. ways (ARouter n)) (sym same) ∙ tells.reached
                 ∙ ap (λ (w : Way). Some w) (sym k.its_way);

@@ -11,8 +11,8 @@ use Rattle.words.specs.declared.route.ExternalType.{ExternalType}
 use Rattle.words.specs.declared.route.ExternalType.TheVariants.{Type1, Type2}
 use Rattle.words.specs.declared.route.Route.{Route}
 use Rattle.words.specs.declared.route.RouteKind.TheVariants.{External1, External2}
-use Rattle.lsa.specs.declared.body.Body.{Body}
-use Rattle.lsa.specs.declared.body.Body.TheVariants as body
+use Rattle.lsa.specs.declared.body.LsaBody.{LsaBody}
+use Rattle.lsa.specs.declared.body.LsaBody.TheVariants as body
 use Rattle.lsa.specs.declared.body.ExternalLsa.{ExternalLsa}
 use Rattle.routes.specs.Candidates.{external_offer}
 use Rattle.routes.specs.Offers.{IsPrefix}
@@ -24,12 +24,12 @@ use Rattle.candidates.specs.Borders.{IsOutwardBy}
 use Rattle.candidates.specs.Externals.{AreToldBy, OfTold, TellsExternal, offer_by}
 use Rattle.candidates.specs.Gathering.{IsJust}
 use Rattle.candidates.specs.Sources.{OfExternal}
-use Rattle.candidates.specs.declared.externals.External.{External}
+use Rattle.candidates.specs.declared.externals.ExternalAdvertisement.{ExternalAdvertisement}
 use Rattle.candidates.specs.declared.flagged.Flagged.{Flagged}
 
 -- ---- what one LSA advertises
 
-module _ (one : Key × Body) (lsa : ExternalLsa) (its : one.1 ≡ body.External lsa) where
+module _ (one : Key × LsaBody) (lsa : ExternalLsa) (its : one.1 ≡ body.External lsa) where
   pub no_network : IsJust (IsPrefix one.0.link_state_id lsa.mask) None
       → IsJust (TellsExternal one) None
   no_network none = λ e k.
@@ -38,7 +38,7 @@ module _ (one : Key × Body) (lsa : ExternalLsa) (its : one.1 ≡ body.External 
       none e.prefix (subst (λ (l : ExternalLsa). IsPrefix one.0.link_state_id l.mask e.prefix) same
       k.is_prefix)
 
-  pub tells : (made : External) → one.0.ls_type ≡ 5
+  pub tells : (made : ExternalAdvertisement) → one.0.ls_type ≡ 5
       → IsJust (IsPrefix one.0.link_state_id lsa.mask) (Some made.prefix)
       → made.originator ≡ one.0.advertising_router → made.kind ≡ lsa.kind
       → made.metric ≡ lsa.metric → made.forwarding ≡ lsa.forwarding → made.tag ≡ lsa.tag
@@ -101,7 +101,7 @@ alike Type2 p a b by w m g = λ i. record {
   originator = by;
 }
 
-abbrev lsa_by : External → ExternalLsa
+abbrev lsa_by : ExternalAdvertisement → ExternalLsa
 lsa_by e = record {
   mask = 0;
   kind = e.kind;
@@ -115,7 +115,7 @@ abbrev walk_way : Way → WalkWay
 walk_way w = record { distance = w.distance; hops = w.hops }
 
 module _ (root : Root) (routers : List Flagged) (told inner : List Route) where
-  module _ (e : External) where
+  module _ (e : ExternalAdvertisement) where
     pub no_way_out : IsJust (IsOutwardBy routers told inner e.originator e.forwarding) None
         → IsJust (OfTold root routers told inner e) None
     no_way_out none = λ o k. none k.way k.is_way
@@ -135,11 +135,11 @@ module _ (root : Root) (routers : List Flagged) (told inner : List Route) where
       },
     )
 
-  module _ (one : Key × Body) where
+  module _ (one : Key × LsaBody) where
     pub told_of : (o : Offer) → OfExternal root routers told inner one o
-        → (e : External) × TellsExternal one e × OfTold root routers told inner e o
+        → (e : ExternalAdvertisement) × TellsExternal one e × OfTold root routers told inner e o
     told_of o k =
-        let e : External = record {
+        let e : ExternalAdvertisement = record {
           prefix = k.prefix;
           originator = one.0.advertising_router;
           kind = k.lsa.kind;
@@ -169,7 +169,7 @@ module _ (root : Root) (routers : List Flagged) (told inner : List Route) where
           },
         )
 
-    pub of_told_one : (e : External) → TellsExternal one e → (o : Offer)
+    pub of_told_one : (e : ExternalAdvertisement) → TellsExternal one e → (o : Offer)
         → OfTold root routers told inner e o → OfExternal root routers told inner one o
     of_told_one e t o k =
         let by = one.0.advertising_router in
@@ -197,34 +197,38 @@ module _ (root : Root) (routers : List Flagged) (told inner : List Route) where
         → IsJust (OfExternal root routers told inner one) None
     by_none_told none = λ o k. let t = told_of o k in none t.0 t.1
 
-    pub by_told : (e : External) → IsJust (TellsExternal one) (Some e) → (given : Option Offer)
-        → IsJust (OfTold root routers told inner e) given
+    pub by_told : (e : ExternalAdvertisement) → IsJust (TellsExternal one) (Some e)
+        → (given : Option Offer) → IsJust (OfTold root routers told inner e) given
         → IsJust (OfExternal root routers told inner one) given
     by_told e just None none = λ o k.
         let t = told_of o k in
-        none o (subst (λ (x : External). OfTold root routers told inner x o) ((just t.0).0 t.1) t.2)
+        none o (subst (λ (x : ExternalAdvertisement). OfTold root routers told inner x o)
+        ((just t.0).0 t.1) t.2)
     by_told e just (Some it) its = λ o. (
       λ k. let t = told_of o k in (its o).0
-          (subst (λ (x : External). OfTold root routers told inner x o) ((just t.0).0 t.1) t.2),
+          (subst (λ (x : ExternalAdvertisement). OfTold root routers told inner x o)
+          ((just t.0).0 t.1) t.2),
       λ same. of_told_one e ((just e).1 refl) o ((its o).1 same),
     )
 
 -- ---- what LSAs advertise one after another
 
-abbrev IsTold : List (Key × Body) → External → Type 0
-IsTold bodies e = (one : Key × Body) × Contains bodies one × TellsExternal one e
+abbrev IsTold : List (Key × LsaBody) → ExternalAdvertisement → Type 0
+IsTold bodies e = (one : Key × LsaBody) × Contains bodies one × TellsExternal one e
 
-pub all_told : (bodies : List (Key × Body)) (i : ℕ) (told : List External) → length bodies ≤ i
-    → AreToldBy (take i bodies) told → AreToldBy bodies told
-all_told bodies i told past are = let P : List (Key × Body) → Type 0 = λ xs. AreToldBy xs told in
+pub all_told : (bodies : List (Key × LsaBody)) (i : ℕ) (told : List ExternalAdvertisement)
+    → length bodies ≤ i → AreToldBy (take i bodies) told → AreToldBy bodies told
+all_told bodies i told past are = let P : List (Key × LsaBody) → Type 0 = λ xs. AreToldBy xs told in
     subst P (take_all i bodies past) are
 
-module _ (bodies : List (Key × Body)) (i : ℕ) (one : Key × Body) (is : one ≡ get_or bodies i one)
-    (lt : i < length bodies) (told : List External) (are : AreToldBy (take i bodies) told) where
+module _ (bodies : List (Key × LsaBody)) (i : ℕ) (one : Key × LsaBody)
+    (is : one ≡ get_or bodies i one)
+    (lt : i < length bodies) (told : List ExternalAdvertisement)
+    (are : AreToldBy (take i bodies) told) where
   split : take (i + 1) bodies ≡ take i bodies ++ one ∷ []
-  split = take_more bodies i one lt ∙ ap (λ (y : Key × Body). take i bodies ++ y ∷ []) (sym is)
+  split = take_more bodies i one lt ∙ ap (λ (y : Key × LsaBody). take i bodies ++ y ∷ []) (sym is)
 
-  still : (e : External) → IsTold (take i bodies) e → IsTold (take (i + 1) bodies) e
+  still : (e : ExternalAdvertisement) → IsTold (take i bodies) e → IsTold (take (i + 1) bodies) e
   still e p = (
     p.0,
     subst (λ xs. Contains xs p.0) (sym split)
@@ -232,15 +236,15 @@ module _ (bodies : List (Key × Body)) (i : ℕ) (one : Key × Body) (is : one �
     p.2,
   )
 
-  here : (e : External) → TellsExternal one e → IsTold (take (i + 1) bodies) e
+  here : (e : ExternalAdvertisement) → TellsExternal one e → IsTold (take (i + 1) bodies) e
   here e q = (one, subst (λ xs. Contains xs one) (sym split) (Contains-push (take i bodies) one), q)
 
-  either : (e : External) → IsTold (take (i + 1) bodies) e
+  either : (e : ExternalAdvertisement) → IsTold (take (i + 1) bodies) e
       → IsTold (take i bodies) e ⊎ TellsExternal one e
   either e p =
       elim (Contains-push_cases (take i bodies) one p.0 (subst (λ xs. Contains xs p.0) split p.1)) [
         | inl old ↦ inl (p.0, old, p.2)
-        | inr same ↦ inr (subst (λ (y : Key × Body). TellsExternal y e) (sym same) p.2)
+        | inr same ↦ inr (subst (λ (y : Key × LsaBody). TellsExternal y e) (sym same) p.2)
       ]
 
   pub told_same : IsJust (TellsExternal one) None → AreToldBy (take (i + 1) bodies) told
@@ -253,7 +257,7 @@ module _ (bodies : List (Key × Body)) (i : ℕ) (one : Key × Body) (is : one �
         ]),
   )
 
-  pub told_more : (new : External) → IsJust (TellsExternal one) (Some new)
+  pub told_more : (new : ExternalAdvertisement) → IsJust (TellsExternal one) (Some new)
       → AreToldBy (take (i + 1) bodies) (told ++ new ∷ [])
   told_more new just e = (
     (λ t.

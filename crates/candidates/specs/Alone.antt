@@ -3,8 +3,8 @@
 use Rattle.std.specs.Prelude.{◌≡◌, ℕ, Bool, true, false, List, [], ◌∷◌, Option, None, Some}
 use Rattle.std.specs.List.{list_all}
 use Rattle.words.specs.declared.key.Key.{Key}
-use Rattle.lsa.specs.declared.body.Body.{Body}
-use Rattle.lsa.specs.declared.body.Link.{Link}
+use Rattle.lsa.specs.declared.body.LsaBody.{LsaBody}
+use Rattle.lsa.specs.declared.body.RouterLink.{RouterLink}
 use Rattle.lsa.specs.declared.body.LinkKind.{LinkKind}
 use Rattle.lsa.specs.declared.body.LinkKind.TheVariants.{PointToPoint, Stub, Transit, Virtual}
 use Rattle.lsa.specs.declared.body.RouterLsa.{RouterLsa}
@@ -20,11 +20,11 @@ leads_nowhere Virtual = true
 
 abbrev pub HasNoWayOut : Said → (router : ℕ) → Type 0
 HasNoWayOut said router = (lsa : RouterLsa) → IsRouterLsa said router lsa
-    → list_all (λ (link : Link). leads_nowhere link.kind) lsa.links ≡ true
+    → list_all (λ (link : RouterLink). leads_nowhere link.kind) lsa.links ≡ true
 
 -- what the LSA with this key tells, if there is one
-abbrev pub OfOne : {R : Type 0} → (Key × Body → R → Type 0) → Key → Option Body → R → Type 0
-OfOne {R} Q key body r = (says : Body) × (body ≡ Some says) × Q (key, says) r
+abbrev pub OfOne : {R : Type 0} → (Key × LsaBody → R → Type 0) → Key → Option LsaBody → R → Type 0
+OfOne {R} Q key body r = (says : LsaBody) × (body ≡ Some says) × Q (key, says) r
 
 abbrev pub list_of : {R : Type 0} → Option R → List R
 list_of {R} None = []

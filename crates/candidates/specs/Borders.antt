@@ -7,8 +7,8 @@ use Rattle.std.specs.List.{AllPairs, Contains}
 use Rattle.words.specs.Prefixes.{IsUnder, Network, network_address}
 use Rattle.words.specs.declared.key.Key.{Key}
 use Rattle.words.specs.declared.route.Route.{Route}
-use Rattle.lsa.specs.declared.body.Body.{Body}
-use Rattle.lsa.specs.declared.body.Body.TheVariants as body
+use Rattle.lsa.specs.declared.body.LsaBody.{LsaBody}
+use Rattle.lsa.specs.declared.body.LsaBody.TheVariants as body
 use Rattle.lsa.specs.declared.body.ExternalLsa.{ExternalLsa}
 use Rattle.lsa.specs.declared.body.RouterLsa.{RouterLsa}
 use Rattle.lsa.specs.declared.body.SummaryLsa.{SummaryLsa}
@@ -60,7 +60,7 @@ AreCloseBy routers =
     (router : Flagged) → Contains routers router → router.way.distance < 1073741824
 
 -- what the LSA with this key says of its router, if that is reachable and has a flag
-pub record TellsFlags (ways : Ways) (one : Key × Body) (router : Flagged) : Type 0 where
+pub record TellsFlags (ways : Ways) (one : Key × LsaBody) (router : Flagged) : Type 0 where
   pub is_type : one.0.ls_type ≡ 1
   pub own : one.0.link_state_id ≡ one.0.advertising_router
   pub lsa : RouterLsa
@@ -84,7 +84,7 @@ abbrev pub host : ℕ → Network
 host router = record { address = network_address 32 router; length = 32 }
 
 -- the summary-LSA with this key advertises an AS boundary router
-pub record Tells (root : Root) (routers : List Flagged) (one : Key × Body)
+pub record Tells (root : Root) (routers : List Flagged) (one : Key × LsaBody)
     (o : Offer) : Type 0 where
   pub is_type : one.0.ls_type ≡ 4
   pub lsa : SummaryLsa

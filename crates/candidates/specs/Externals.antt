@@ -4,8 +4,8 @@ use Rattle.std.specs.Prelude.{◌≡◌, ◌≢◌, ◌↔◌, ◌<◌, List, []
 use Rattle.std.specs.List.{Contains}
 use Rattle.words.specs.declared.key.Key.{Key}
 use Rattle.words.specs.declared.route.Route.{Route}
-use Rattle.lsa.specs.declared.body.Body.{Body}
-use Rattle.lsa.specs.declared.body.Body.TheVariants as body
+use Rattle.lsa.specs.declared.body.LsaBody.{LsaBody}
+use Rattle.lsa.specs.declared.body.LsaBody.TheVariants as body
 use Rattle.lsa.specs.declared.body.ExternalLsa.{ExternalLsa}
 use Rattle.routes.specs.Candidates.{external_offer}
 use Rattle.routes.specs.Offers.{IsPrefix}
@@ -14,11 +14,11 @@ use Rattle.routes.specs.declared.graph.Way.{Way}
 use Rattle.routes.specs.declared.offer.Offer.{Offer}
 use Rattle.routes.specs.declared.root.Root.{Root}
 use Rattle.candidates.specs.Borders.{IsOutwardBy}
-use Rattle.candidates.specs.declared.externals.External.{External}
+use Rattle.candidates.specs.declared.externals.ExternalAdvertisement.{ExternalAdvertisement}
 use Rattle.candidates.specs.declared.flagged.Flagged.{Flagged}
 
 -- the AS-external-LSA with this key advertises it
-pub record TellsExternal (one : Key × Body) (e : External) : Type 0 where
+pub record TellsExternal (one : Key × LsaBody) (e : ExternalAdvertisement) : Type 0 where
   pub is_type : one.0.ls_type ≡ 5
   pub lsa : ExternalLsa
   pub its : one.1 ≡ body.External lsa
@@ -30,19 +30,19 @@ pub record TellsExternal (one : Key × Body) (e : External) : Type 0 where
   pub tag : e.tag ≡ lsa.tag
 
 -- exactly what these LSAs advertise
-abbrev pub AreToldBy : List (Key × Body) → List External → Type 0
+abbrev pub AreToldBy : List (Key × LsaBody) → List ExternalAdvertisement → Type 0
 AreToldBy bodies told =
-    (e : External) → Contains told e
-    ↔ ((one : Key × Body) × Contains bodies one × TellsExternal one e)
+    (e : ExternalAdvertisement) → Contains told e
+    ↔ ((one : Key × LsaBody) × Contains bodies one × TellsExternal one e)
 
 -- exactly what the LSAs of the database advertise
-abbrev pub AreExternals : Said → List External → Type 0
+abbrev pub AreExternals : Said → List ExternalAdvertisement → Type 0
 AreExternals said told =
-    (e : External) → Contains told e
-    ↔ ((one : Key × Body) × (said one.0 ≡ Some one.1) × TellsExternal one e)
+    (e : ExternalAdvertisement) → Contains told e
+    ↔ ((one : Key × LsaBody) × (said one.0 ≡ Some one.1) × TellsExternal one e)
 
 -- the offer with this way to the originator or forwarding address
-abbrev pub offer_by : External → Way → Offer
+abbrev pub offer_by : ExternalAdvertisement → Way → Offer
 offer_by e way =
     external_offer e.kind e.prefix
     (record {
@@ -56,7 +56,8 @@ offer_by e way =
     e.originator (record { distance = way.distance; hops = way.hops })
 
 -- the offer of an external destination: of another router, with a metric below LSInfinity
-pub record OfTold (root : Root) (routers : List Flagged) (told inner : List Route) (e : External)
+pub record OfTold (root : Root) (routers : List Flagged) (told inner : List Route)
+    (e : ExternalAdvertisement)
     (o : Offer) : Type 0 where
   pub reachable : e.metric < 16777215
   pub of_another : e.originator ≢ root.router

@@ -4,10 +4,10 @@ use Rattle.std.specs.Prelude.{◌≡◌, ◌≢◌, ℕ, ◌+◌, ◌<◌, List,
 use Rattle.words.specs.Prefixes.{Network}
 use Rattle.words.specs.declared.key.Key.{Key}
 use Rattle.words.specs.declared.route.Route.{Route}
-use Rattle.lsa.specs.declared.body.Body.{Body}
-use Rattle.lsa.specs.declared.body.Body.TheVariants as body
+use Rattle.lsa.specs.declared.body.LsaBody.{LsaBody}
+use Rattle.lsa.specs.declared.body.LsaBody.TheVariants as body
 use Rattle.lsa.specs.declared.body.ExternalLsa.{ExternalLsa}
-use Rattle.lsa.specs.declared.body.Link.{Link}
+use Rattle.lsa.specs.declared.body.RouterLink.{RouterLink}
 use Rattle.lsa.specs.declared.body.LinkKind.TheVariants.{Stub}
 use Rattle.lsa.specs.declared.body.NetworkLsa.{NetworkLsa}
 use Rattle.lsa.specs.declared.body.RouterLsa.{RouterLsa}
@@ -27,7 +27,7 @@ use Rattle.candidates.specs.declared.flagged.Flagged.{Flagged}
 -- ---- within the area (section 16.1)
 
 -- the offer of a stub link, given the way to its router
-pub record IsStub (way : Way) (link : Link) (o : Offer) : Type 0 where
+pub record IsStub (way : Way) (link : RouterLink) (o : Offer) : Type 0 where
   pub is_stub : link.kind ≡ Stub
   pub prefix : Network
   pub is_prefix : IsPrefix link.link_id link.link_data prefix
@@ -37,7 +37,7 @@ pub record IsStub (way : Way) (link : Link) (o : Offer) : Type 0 where
 abbrev pub leaving : Root → ℕ → Way → Way
 leaving root router way = if nat_eq router root.router then record way { hops = 1 } else way
 
-pub record OfRouter (root : Root) (ways : Ways) (one : Key × Body) (o : Offer) : Type 0 where
+pub record OfRouter (root : Root) (ways : Ways) (one : Key × LsaBody) (o : Offer) : Type 0 where
   pub is_type : one.0.ls_type ≡ 1
   pub own : one.0.link_state_id ≡ one.0.advertising_router
   pub lsa : RouterLsa
@@ -46,7 +46,7 @@ pub record OfRouter (root : Root) (ways : Ways) (one : Key × Body) (o : Offer) 
   pub reached : ways (ARouter one.0.advertising_router) ≡ Some way
   pub offered : OfEach (IsStub (leaving root one.0.advertising_router way)) lsa.links o
 
-pub record OfNetwork (ways : Ways) (one : Key × Body) (o : Offer) : Type 0 where
+pub record OfNetwork (ways : Ways) (one : Key × LsaBody) (o : Offer) : Type 0 where
   pub is_type : one.0.ls_type ≡ 2
   pub lsa : NetworkLsa
   pub its : one.1 ≡ body.Network lsa
@@ -58,7 +58,7 @@ pub record OfNetwork (ways : Ways) (one : Key × Body) (o : Offer) : Type 0 wher
 
 -- ---- between areas (section 16.2)
 
-pub record OfSummary (root : Root) (routers : List Flagged) (one : Key × Body)
+pub record OfSummary (root : Root) (routers : List Flagged) (one : Key × LsaBody)
     (o : Offer) : Type 0 where
   pub is_type : one.0.ls_type ≡ 3
   pub lsa : SummaryLsa
@@ -70,7 +70,7 @@ pub record OfSummary (root : Root) (routers : List Flagged) (one : Key × Body)
   pub is : o ≡ inter prefix (border.distance + lsa.metric) border.hops
 
 -- what the LSA with a key offers within the area and between areas
-pub data IsInner (root : Root) (ways : Ways) (routers : List Flagged) (one : Key × Body)
+pub data IsInner (root : Root) (ways : Ways) (routers : List Flagged) (one : Key × LsaBody)
     (o : Offer) : Type 0 where
   ByRouter : OfRouter root ways one o → IsInner root ways routers one o
   ByNetwork : OfNetwork ways one o → IsInner root ways routers one o
@@ -79,7 +79,7 @@ pub data IsInner (root : Root) (ways : Ways) (routers : List Flagged) (one : Key
 -- ---- external destinations (section 16.4)
 
 pub record OfExternal (root : Root) (routers : List Flagged) (told inner : List Route)
-    (one : Key × Body) (o : Offer) : Type 0 where
+    (one : Key × LsaBody) (o : Offer) : Type 0 where
   pub is_type : one.0.ls_type ≡ 5
   pub lsa : ExternalLsa
   pub its : one.1 ≡ body.External lsa

@@ -11,12 +11,12 @@ use crate::flagged::Flagged;
 use crate::gathering::{network_of, network_under, push_offer};
 use crate::offer::{inter, intra};
 use crate::ways::Ways;
-use lsa::{Body, Link, LinkKind};
+use lsa::{LinkKind, LsaBody, RouterLink};
 use routes::{Node, Offer, Root, Way};
 use std::alloc::AllocError;
 use words::{Address, Key, RouterId};
 
-fn stub_offer(link: &Link, way: Way) -> Option<Offer>
+fn stub_offer(link: &RouterLink, way: Way) -> Option<Offer>
     requires { way.distance < 1073741824 }
     ensures just { IsJust (IsStub way link.now) result }
     ensures few { IfSome result (λ o. o.cost < 2147483648) }
@@ -28,7 +28,7 @@ fn stub_offer(link: &Link, way: Way) -> Option<Offer>
     Some(intra(prefix, way.distance + u32::from(link.metric), way.hops))
 }
 
-fn push_stubs(links: &[Link], way: Way, offers: &mut Vec<Offer>) -> Result<(), AllocError>
+fn push_stubs(links: &[RouterLink], way: Way, offers: &mut Vec<Offer>) -> Result<(), AllocError>
     requires { way.distance < 1073741824 }
     ensures adds { OnOk result (Adds offers.old.items offers.new.items
         (OfEach (IsStub way) links.now)) }
@@ -59,7 +59,7 @@ fn push_router<W: Ways>(
     root: &Root,
     ways: &W,
     key: &Key,
-    body: &Body,
+    body: &LsaBody,
     offers: &mut Vec<Offer>,
 ) -> Result<(), AllocError>
     requires { AreNear (W.ways ways.now) }
@@ -70,7 +70,7 @@ fn push_router<W: Ways>(
     if key.ls_type != 1 || key.link_state_id.number() != key.advertising_router.number() {
         return Ok(());
     }
-    let Body::Router(lsa) = body else {
+    let LsaBody::Router(lsa) = body else {
         return Ok(());
     };
     let Some(way) = ways.way_to(&Node::ARouter(key.advertising_router)) else {
@@ -84,14 +84,14 @@ fn push_router<W: Ways>(
     Ok(())
 }
 
-fn network_offer<W: Ways>(ways: &W, key: &Key, body: &Body) -> Option<Offer>
+fn network_offer<W: Ways>(ways: &W, key: &Key, body: &LsaBody) -> Option<Offer>
     ensures just { IsJust (OfNetwork (W.ways ways.now) (key.now, body.now)) result }
     ensures few { AreNear (W.ways ways.now) → IfSome result (λ o. o.cost < 2147483648) }
 {
     if key.ls_type != 2 {
         return None;
     }
-    let Body::Network(lsa) = body else {
+    let LsaBody::Network(lsa) = body else {
         return None;
     };
     let way = ways.way_to(&Node::ANetwork(key.link_state_id, key.advertising_router))?;
@@ -99,7 +99,7 @@ fn network_offer<W: Ways>(ways: &W, key: &Key, body: &Body) -> Option<Offer>
     Some(intra(prefix, way.distance, way.hops))
 }
 
-fn summary_offer(root: &Root, routers: &[Flagged], key: &Key, body: &Body) -> Option<Offer>
+fn summary_offer(root: &Root, routers: &[Flagged], key: &Key, body: &LsaBody) -> Option<Offer>
     requires ascend { AscendByRouter routers.now }
     requires close { AreCloseBy routers.now }
     ensures just { IsJust (OfSummary root.now routers.now (key.now, body.now)) result }
@@ -108,7 +108,7 @@ fn summary_offer(root: &Root, routers: &[Flagged], key: &Key, body: &Body) -> Op
     if key.ls_type != 3 {
         return None;
     }
-    let Body::NetworkSummary(lsa) = body else {
+    let LsaBody::NetworkSummary(lsa) = body else {
         return None;
     };
     let border = counted_border(root, routers, key.advertising_router, lsa)?;
@@ -125,7 +125,7 @@ pub fn push_inner<W: Ways>(
     ways: &W,
     routers: &[Flagged],
     key: &Key,
-    body: &Body,
+    body: &LsaBody,
     offers: &mut Vec<Offer>,
 ) -> Result<(), AllocError>
     requires near { AreNear (W.ways ways.now) }

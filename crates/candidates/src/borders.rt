@@ -15,7 +15,7 @@ ghost use Rattle.candidates.specs.Gathering.{IsJust};
 use crate::flagged::{BORDER, BOUNDARY, Flagged, flagged_way};
 use crate::offer::{host, inter, way_by};
 use crate::search::find;
-use lsa::{Body, SummaryLsa};
+use lsa::{LsaBody, SummaryLsa};
 use routes::{Offer, Root, Way};
 use words::{Key, Route, RouterId};
 
@@ -43,7 +43,7 @@ pub fn counted_border(
 
 /// What the summary-LSA with this key advertises about an AS boundary router, as an offer for the
 /// router's host prefix (RFC 2328, section 16.4).
-pub fn told_offer(root: &Root, routers: &[Flagged], key: &Key, body: &Body) -> Option<Offer>
+pub fn told_offer(root: &Root, routers: &[Flagged], key: &Key, body: &LsaBody) -> Option<Offer>
     requires ascend { AscendByRouter routers.now }
     requires close { AreCloseBy routers.now }
     ensures { IsJust (Tells root.now routers.now (key.now, body.now)) result }
@@ -51,7 +51,7 @@ pub fn told_offer(root: &Root, routers: &[Flagged], key: &Key, body: &Body) -> O
     if key.ls_type != 4 {
         return None;
     }
-    let Body::RouterSummary(lsa) = body else {
+    let LsaBody::RouterSummary(lsa) = body else {
         return None;
     };
     let border = counted_border(root, routers, key.advertising_router, lsa)?;

@@ -10,7 +10,7 @@ ghost use Rattle.routes.specs.Said.{Said, said_at};
 ghost use Rattle.candidates.specs.Externals.{AreExternals};
 ghost use Rattle.candidates.specs.Ways.{AreNear, AreWays, Ways as WaysTo};
 
-use crate::externals::{External, Inner};
+use crate::externals::{ExternalAdvertisement, Inner};
 use crate::inner::{InnerRoutes, inner_of};
 use crate::laws::every_offer_has_a_candidate;
 use crate::order::routes_of_offers;
@@ -85,7 +85,11 @@ pub struct Calculated {
 ///
 /// # Errors
 /// `AllocError` if an allocation is refused.
-pub fn externals_at(alloc: Global, db: &Lsdb, moment: Second) -> Result<Vec<External>, AllocError>
+pub fn externals_at(
+    alloc: Global,
+    db: &Lsdb,
+    moment: Second,
+) -> Result<Vec<ExternalAdvertisement>, AllocError>
     ensures { IfOk result (λ told. AreExternals (said_at moment db.now.present) told.items) }
 {
     let bodies = db.bodies_at(alloc, None, moment)?;
@@ -104,7 +108,7 @@ pub fn calculate<W: Ways>(
     root: &Root,
     moment: Second,
     ways: &W,
-    externals: &[External],
+    externals: &[ExternalAdvertisement],
 ) -> Result<Calculated, AllocError>
     requires near { AreNear (W.ways ways.now) }
     requires ways { AreWays (said_at moment db.now.present) root.now (W.ways ways.now) }
@@ -148,7 +152,7 @@ fn with_externals(
     alloc: Global,
     root: &Root,
     inner: &InnerRoutes,
-    externals: &[External],
+    externals: &[ExternalAdvertisement],
 ) -> Result<Vec<Route>, AllocError>
     requires { AreSearchable inner.now }
     ensures { IfOk result (λ routes. (said : Said) (ways : WaysTo) → AreWays said root.now ways

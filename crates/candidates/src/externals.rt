@@ -18,7 +18,7 @@ use crate::gathering::network_of;
 use crate::offer::{external, way_by};
 use crate::places::expected_at;
 use crate::search::longest_match;
-use lsa::Body;
+use lsa::LsaBody;
 use routes::{Offer, Root, Way};
 use words::{Address, ExternalType, Key, Prefix, Route, RouterId};
 
@@ -38,7 +38,7 @@ pub struct Inner<'a> {
 
 /// What an AS-external-LSA advertises about a destination (RFC 2328, section A.4.5).
 #[derive(Clone, Copy, Debug)]
-pub struct External {
+pub struct ExternalAdvertisement {
     pub prefix: Prefix,
     pub originator: RouterId,
     pub kind: ExternalType,
@@ -50,17 +50,17 @@ pub struct External {
 }
 
 /// What the AS-external-LSA with this key advertises, if it is one and its mask gives a network.
-pub fn told_external(key: &Key, body: &Body) -> Option<External>
+pub fn told_external(key: &Key, body: &LsaBody) -> Option<ExternalAdvertisement>
     ensures { IsJust (TellsExternal (key.now, body.now)) result }
 {
     if key.ls_type != 5 {
         return None;
     }
-    let Body::External(lsa) = body else {
+    let LsaBody::External(lsa) = body else {
         return None;
     };
     let prefix = network_of(key, lsa.mask)?;
-    Some(External {
+    Some(ExternalAdvertisement {
         prefix,
         originator: key.advertising_router,
         kind: lsa.kind,
@@ -96,7 +96,12 @@ fn outward_way(
 
 /// The offer of an AS-external-LSA that advertises this. The search for its originator begins at
 /// its index in `places`.
-pub fn offer_told(root: &Root, inner: &Inner<'_>, places: &[u16], told: &External) -> Option<Offer>
+pub fn offer_told(
+    root: &Root,
+    inner: &Inner<'_>,
+    places: &[u16],
+    told: &ExternalAdvertisement,
+) -> Option<Offer>
     requires flagged { AscendByRouter inner.now.flagged.now × AreCloseBy inner.now.flagged.now }
     requires routers { Ascend inner.now.routers.now × AreBelow inner.now.routers.now }
     requires networks { Ascend inner.now.networks.now × AreBelow inner.now.networks.now }
@@ -113,7 +118,7 @@ pub fn offer_told(root: &Root, inner: &Inner<'_>, places: &[u16], told: &Externa
 }
 
 /// What an AS-external-LSA offers.
-pub fn external_offer(root: &Root, inner: &Inner<'_>, key: &Key, body: &Body) -> Option<Offer>
+pub fn external_offer(root: &Root, inner: &Inner<'_>, key: &Key, body: &LsaBody) -> Option<Offer>
     requires flagged { AscendByRouter inner.now.flagged.now × AreCloseBy inner.now.flagged.now }
     requires routers { Ascend inner.now.routers.now × AreBelow inner.now.routers.now }
     requires networks { Ascend inner.now.networks.now × AreBelow inner.now.networks.now }

@@ -16,7 +16,7 @@ ghost use Rattle.candidates.specs.Ways.{AreNear};
 ghost use Rattle.routes.specs.Said.{Said};
 
 use crate::ways::Ways;
-use lsa::Body;
+use lsa::LsaBody;
 use lsdb::KeyedBody;
 use routes::{Node, Way};
 use std::alloc::{AllocError, Global};
@@ -37,13 +37,13 @@ pub const BORDER: u8 = 1;
 pub const BOUNDARY: u8 = 2;
 
 /// The router whose LSA has this key, if it has a flag and is reachable.
-pub fn flagged_at<W: Ways>(ways: &W, key: &Key, body: &Body) -> Option<Flagged>
+pub fn flagged_at<W: Ways>(ways: &W, key: &Key, body: &LsaBody) -> Option<Flagged>
     ensures { IsJust (TellsFlags (W.ways ways.now) (key.now, body.now)) result }
 {
     if key.ls_type != 1 || key.link_state_id.number() != key.advertising_router.number() {
         return None;
     }
-    let Body::Router(lsa) = body else {
+    let LsaBody::Router(lsa) = body else {
         return None;
     };
     if lsa.flags & BORDER != BORDER && lsa.flags & BOUNDARY != BOUNDARY {

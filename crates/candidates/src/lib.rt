@@ -24,7 +24,7 @@ mod way_out;
 mod ways;
 
 pub use calculation::{Calculated, calculate, candidates, externals_at, routes_of};
-pub use externals::{External, Inner, external_offer};
+pub use externals::{ExternalAdvertisement, Inner, external_offer};
 pub use gathering::{network_of, push_offer};
 pub use graph::{AreaGraph, copy_of};
 pub use inner::InnerRoutes;

@@ -5,7 +5,7 @@ ghost use Rattle.routes.specs.Summaries.{inter};
 ghost use Rattle.candidates.specs.Borders.{host, way_by};
 ghost use Rattle.candidates.specs.Externals.{offer_by};
 
-use crate::externals::External;
+use crate::externals::ExternalAdvertisement;
 use routes::{Offer, Way};
 use words::{Address, ExternalType, Hops, Prefix, Route, RouteKind, RouterId};
 
@@ -40,7 +40,7 @@ pub fn inter(prefix: Prefix, cost: u32, hops: u64) -> Offer
 }
 
 /// An offer of an AS boundary router. The way leads to it or to the forwarding address.
-pub fn external(told: &External, way: Way) -> Offer
+pub fn external(told: &ExternalAdvertisement, way: Way) -> Offer
     requires near { way.distance < 2147483648 }
     requires metric { told.now.metric < 16777215 }
     ensures { result ≡ offer_by told.now way }

@@ -16,7 +16,7 @@ ghost use Rattle.candidates.specs.Ways.{AreNear};
 
 use crate::area::push_inner;
 use crate::borders::told_offer;
-use crate::externals::{External, Inner, offer_told, told_external};
+use crate::externals::{ExternalAdvertisement, Inner, offer_told, told_external};
 use crate::flagged::Flagged;
 use crate::gathering::push_offer;
 use crate::order::routes_of_offers;
@@ -85,7 +85,10 @@ pub fn inner_offers<W: Ways>(
 ///
 /// # Errors
 /// `AllocError` if an allocation is refused.
-pub fn externals_of(alloc: Global, bodies: &[KeyedBody<'_>]) -> Result<Vec<External>, AllocError>
+pub fn externals_of(
+    alloc: Global,
+    bodies: &[KeyedBody<'_>],
+) -> Result<Vec<ExternalAdvertisement>, AllocError>
     ensures { IfOk result (λ told. AreToldBy bodies.now told.items) }
 {
     let mut all = Vec::new(alloc);
@@ -105,7 +108,7 @@ pub fn push_externals(
     alloc: Global,
     root: &Root,
     inner: &Inner<'_>,
-    externals: &[External],
+    externals: &[ExternalAdvertisement],
     offers: &mut Vec<Offer>,
 ) -> Result<(), AllocError>
     requires flagged { AscendByRouter inner.now.flagged.now × AreCloseBy inner.now.flagged.now }

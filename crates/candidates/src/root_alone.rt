@@ -18,7 +18,7 @@ use crate::inner::InnerRoutes;
 use crate::order::routes_of_offers;
 use crate::search::lengths_of;
 use crate::ways::Ways;
-use lsa::Body;
+use lsa::LsaBody;
 use lsdb::Lsdb;
 use routes::{Offer, Root};
 use std::alloc::{AllocError, Global};
@@ -36,7 +36,7 @@ fn own_key(root: &Root) -> Key
 }
 
 // The router whose LSA has this key and body, if it has a flag and is reachable.
-fn flagged_by<W: Ways>(ways: &W, key: &Key, body: Option<&Body>) -> Option<Flagged>
+fn flagged_by<W: Ways>(ways: &W, key: &Key, body: Option<&LsaBody>) -> Option<Flagged>
     ensures { IsJust (OfOne (TellsFlags (W.ways ways.now)) key.now (option_copied body.entry))
         result }
 {
@@ -63,7 +63,7 @@ fn push_by<W: Ways>(
     ways: &W,
     routers: &[Flagged],
     key: &Key,
-    body: Option<&Body>,
+    body: Option<&LsaBody>,
     offers: &mut Vec<Offer>,
 ) -> Result<(), AllocError>
     requires near { AreNear (W.ways ways.now) }

@@ -4,13 +4,13 @@ ghost use Rattle.std.specs.List.{list_all};
 ghost use Rattle.routes.specs.Said.{said_at};
 ghost use Rattle.candidates.specs.Alone.{HasNoWayOut, leads_nowhere};
 
-use lsa::{Body, Link, LinkKind, RouterLsa};
+use lsa::{LinkKind, LsaBody, RouterLink, RouterLsa};
 use lsdb::Lsdb;
 use routes::Root;
 use words::{Key, LinkStateId, Second};
 
 // Whether the link leads to neither a router nor a transit network.
-fn leads_nowhere(link: &Link) -> bool
+fn leads_nowhere(link: &RouterLink) -> bool
     ensures { result ≡ leads_nowhere link.now.kind }
 {
     match link.kind {
@@ -37,7 +37,7 @@ pub fn has_no_way_out(db: &Lsdb, root: &Root, moment: Second) -> bool
         advertising_router: root.router,
     };
     match db.body_at(moment, &key) {
-        Some(Body::Router(lsa)) => all_lead_nowhere(lsa),
+        Some(LsaBody::Router(lsa)) => all_lead_nowhere(lsa),
         _ => false,
     }
 }

@@ -1,8 +1,8 @@
 //! Objects that are built, written and read again.
 use isa::{Hook, Map};
 use object::{
-    ContextOffset, Kind, Object, Rank, StackBytes, StackOffset, StatedNumber, Statement, read,
-    write,
+    ContextOffset, Object, Rank, StackBytes, StackOffset, StatedKind, StatedNumber, Statement,
+    read, write,
 };
 use std::alloc::Global;
 use std::process::Abort;
@@ -33,10 +33,10 @@ fn packed_statement() -> Option<Statement> {
         first: None,
         second: None,
     };
-    let mut kinds = [Kind::Empty; 10];
-    kinds[1] = Kind::Context(ContextOffset::new(0)?);
-    kinds[2] = Kind::Stack(StackOffset::new(512)?);
-    kinds[9] = Kind::MapValue(Map::Cells, StatedNumber::new(0, 504, 0, 0)?);
+    let mut kinds = [StatedKind::Empty; 10];
+    kinds[1] = StatedKind::Context(ContextOffset::new(0)?);
+    kinds[2] = StatedKind::Stack(StackOffset::new(512)?);
+    kinds[9] = StatedKind::MapValue(Map::Cells, StatedNumber::new(0, 504, 0, 0)?);
     Statement::new(0, rank, kinds, stack)
 }
 

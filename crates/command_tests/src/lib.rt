@@ -1,5 +1,5 @@
-//! Tests of `command_line` and `commands`, and of `sockets`, `operator` and `daemon`, by their public
-//! calls. They stand above, since a crate is proved once more for its tests.
+//! Tests of `command_line` and `commands`, and of `sockets`, `operator` and `daemon`, by their
+//! public calls. They stand above, since a crate is proved once more for its tests.
 #![tactic(auto)]
 
 #[cfg(test)]

@@ -1,4 +1,5 @@
-//! Routers that run: what `sockets`, `operator` and `daemon` do with sockets, threads and a console.
+//! Routers that run: what `sockets`, `operator` and `daemon` do with sockets, threads and a
+//! console.
 
 mod failing_sockets;
 mod networks;

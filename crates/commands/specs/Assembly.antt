@@ -2,7 +2,7 @@
 use Rattle.std.specs.Prelude.{◌≡◌, ℕ, ◌⊎◌, List, [], ◌∷◌, ◌++◌, false, codes, decimal, string_bytes}
 use Rattle.isa.specs.declared.decoding.DecodeError.{DecodeError}
 use Rattle.isa.specs.Refusals as code
-use Rattle.object.specs.declared.error.ReadError.{ReadError}
+use Rattle.object.specs.declared.error.ObjectError.{ObjectError}
 use Rattle.object.specs.Objects.{ObjectParts, slots_of}
 use Rattle.object.specs.Spelling.{Spells}
 use Rattle.object.specs.Refusals as objects
@@ -41,7 +41,7 @@ pub record IsListing (bytes : List ℕ) (report : CommandOutput) : Type 0 where
 
 -- the refusal of bytes that are no object file
 pub record IsObjectRefused (bytes : List ℕ) (fault : CommandError) : Type 0 where
-  pub error : ReadError
+  pub error : ObjectError
   pub refuses : objects.Refuses bytes error
   pub told : fault ≡ fault_of_object error
 

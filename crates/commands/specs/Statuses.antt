@@ -8,8 +8,8 @@ use Rattle.isa.specs.declared.decoding.DecodeError.{DecodeError}
 use Rattle.isa.specs.declared.decoding.DecodeFault.{DecodeFault}
 use Rattle.isa.specs.declared.decoding.DecodeFault.TheVariants as decoding
 use Rattle.isa.specs.Refusals.{fault_number}
-use Rattle.object.specs.declared.error.ReadError.{ReadError}
-use Rattle.object.specs.declared.error.ReadError.TheVariants as reading
+use Rattle.object.specs.declared.error.ObjectError.{ObjectError}
+use Rattle.object.specs.declared.error.ObjectError.TheVariants as reading
 use Rattle.object.specs.Refusals.{error_number}
 use Rattle.object_runs.specs.declared.error.RunError.{RunError}
 use Rattle.object_runs.specs.declared.error.RunError.TheVariants as running
@@ -53,7 +53,7 @@ abbrev pub fault_of_refusal : DecodeError → CommandError
 fault_of_refusal error = fault_of_kind error.kind error.slot
 
 -- What is told of bytes that are no object file: the number of the refusal, or want of memory.
-abbrev pub fault_of_object : ReadError → CommandError
+abbrev pub fault_of_object : ObjectError → CommandError
 fault_of_object reading.Memory = faults.Memory
 fault_of_object error = faults.Object (error_number error)
 

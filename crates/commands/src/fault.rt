@@ -7,7 +7,7 @@ use asm::{AsmError, AsmFault};
 use clap::error::ErrorKind;
 use isa::DecodeError;
 use maps::MapsError;
-use object::ReadError;
+use object::ObjectError;
 use object_runs::RunError;
 use std::alloc::{AllocError, AllocFailed};
 use thiserror::Error;
@@ -83,12 +83,12 @@ impl<'a> From<DecodeError> for CommandError<'a> {
     }
 }
 
-impl<'a> From<ReadError> for CommandError<'a> {
+impl<'a> From<ObjectError> for CommandError<'a> {
     ghost from_gives = { λ error fault. fault ≡ fault_of_object error };
 
-    fn from(error: ReadError) -> CommandError<'a> {
+    fn from(error: ObjectError) -> CommandError<'a> {
         match error {
-            ReadError::Memory => CommandError::Memory,
+            ObjectError::Memory => CommandError::Memory,
             error => CommandError::Object {
                 number: error.number(),
             },

@@ -8,8 +8,9 @@ use Rattle.words.specs.Text.{dotted_address, prefix_text}
 use Rattle.words.specs.declared.route.Route.{Route}
 use Rattle.words.specs.declared.route.RouteKind.{RouteKind}
 use Rattle.words.specs.declared.route.RouteKind.TheVariants.{Intra, Inter, External1, External2}
-use Rattle.adjacency.specs.declared.state.State.{State}
-use Rattle.adjacency.specs.declared.state.State.TheVariants.{Init, ExStart, Exchange, Loading, Full}
+use Rattle.adjacency.specs.declared.state.NeighborState.{NeighborState}
+use Rattle.adjacency.specs.declared.state.NeighborState.TheVariants.{Init, ExStart, Exchange}
+use Rattle.adjacency.specs.declared.state.NeighborState.TheVariants.{Loading, Full}
 
 -- ---- the routing table
 
@@ -49,7 +50,7 @@ table_text routes = route_lines routes ++ codes "end\n"
 
 -- ---- the neighbors
 
-abbrev pub state_name : State → List ℕ
+abbrev pub state_name : NeighborState → List ℕ
 state_name Init = codes "Init"
 state_name ExStart = codes "ExStart"
 state_name Exchange = codes "Exchange"
@@ -57,19 +58,19 @@ state_name Loading = codes "Loading"
 state_name Full = codes "Full"
 
 -- the neighbor of this interface, by its Router ID and its state; there is no line if it is Down
-abbrev pub neighbor_line : InterfaceNumber → Option (RouterNumber × State) → List ℕ
+abbrev pub neighbor_line : InterfaceNumber → Option (RouterNumber × NeighborState) → List ℕ
 neighbor_line interface None = []
 neighbor_line interface (Some (router, state)) =
     codes "neighbor " ++ (decimal interface ++ (codes " " ++ (dotted_address router ++ (codes " "
     ++ (state_name state ++ 10 ∷ [])))))
 
-abbrev pub neighbor_lines : InterfaceNumber → List (Option (RouterNumber × State)) → List ℕ
+abbrev pub neighbor_lines : InterfaceNumber → List (Option (RouterNumber × NeighborState)) → List ℕ
 neighbor_lines interface [] = []
 neighbor_lines interface (neighbor ∷ neighbors) =
     neighbor_line interface neighbor ++ neighbor_lines (interface + 1) neighbors
 
 -- the neighbors of all interfaces, numbered from 1
-abbrev pub neighbors_text : List (Option (RouterNumber × State)) → List ℕ
+abbrev pub neighbors_text : List (Option (RouterNumber × NeighborState)) → List ℕ
 neighbors_text neighbors = neighbor_lines 1 neighbors ++ codes "end\n"
 
 -- ---- the counters

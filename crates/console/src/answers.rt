@@ -6,7 +6,7 @@ ghost use Rattle.console.specs.Answers.{interfaces_below, kind_name, neighbor_li
 ghost use Rattle.console.specs.Answers.{neighbors_text, numbers_text, route_line, route_lines};
 ghost use Rattle.console.specs.Answers.{route_text, state_name, table_text};
 
-use adjacency::State;
+use adjacency::NeighborState;
 use std::alloc::{AllocError, Global};
 use std::fmt::Write;
 use words::{Hops, Route, RouteKind, RouterId};
@@ -102,15 +102,15 @@ pub fn table_text(alloc: Global, routes: &[Route]) -> Result<String, AllocError>
     Ok(text)
 }
 
-fn state_name(state: State) -> &'static str
+fn state_name(state: NeighborState) -> &'static str
     ensures { result.now ≡ state_name state }
 {
     match state {
-        State::Init => "Init",
-        State::ExStart => "ExStart",
-        State::Exchange => "Exchange",
-        State::Loading => "Loading",
-        State::Full => "Full",
+        NeighborState::Init => "Init",
+        NeighborState::ExStart => "ExStart",
+        NeighborState::Exchange => "Exchange",
+        NeighborState::Loading => "Loading",
+        NeighborState::Full => "Full",
     }
 }
 
@@ -118,7 +118,7 @@ fn state_name(state: State) -> &'static str
 fn push_neighbor(
     text: &mut String,
     interface: usize,
-    neighbor: Option<(RouterId, State)>,
+    neighbor: Option<(RouterId, NeighborState)>,
 ) -> Result<(), AllocError>
     ensures { OnOk result (string_bytes text.new
         ≡ string_bytes text.old ++ neighbor_line interface neighbor) }
@@ -133,7 +133,7 @@ fn push_neighbor(
 /// Appends the lines of neighbors, the first of which is that of interface 1.
 fn push_neighbors(
     text: &mut String,
-    neighbors: &[Option<(RouterId, State)>],
+    neighbors: &[Option<(RouterId, NeighborState)>],
 ) -> Result<(), AllocError>
     ensures { OnOk result (string_bytes text.new
         ≡ string_bytes text.old ++ neighbor_lines 1 neighbors.now) }
@@ -150,7 +150,7 @@ fn push_neighbors(
 /// Errors with `AllocError` if an allocation is refused.
 pub fn neighbors_text(
     alloc: Global,
-    neighbors: &[Option<(RouterId, State)>],
+    neighbors: &[Option<(RouterId, NeighborState)>],
 ) -> Result<String, AllocError>
     ensures { IfOk result (λ text. string_bytes text ≡ neighbors_text neighbors.now) }
 {

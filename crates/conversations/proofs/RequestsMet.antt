@@ -3,16 +3,16 @@ use Rattle.std.proofs.Common.{◌≡◌, ℤ, pos, Bool, true, false, None, Some
 use Rattle.std.specs.FinMap as finite
 use Rattle.std.specs.FinSet as set
 use Rattle.lsdb.proofs.Keys.{keys_total}
-use Rattle.lsa.specs.declared.body.Body.{Body}
+use Rattle.lsa.specs.declared.body.LsaBody.{LsaBody}
 use Rattle.adjacency.specs.Neighbors.{Neighbor, is_exchange_or_loading, is_exchange_or_later}
-use Rattle.adjacency.specs.declared.state.State.{State}
-use Rattle.adjacency.specs.declared.state.State.TheVariants.{Exchange, Full, Loading}
+use Rattle.adjacency.specs.declared.state.NeighborState.{NeighborState}
+use Rattle.adjacency.specs.declared.state.NeighborState.TheVariants.{Exchange, Full, Loading}
 use Rattle.received.specs.Links.{Link}
 use Rattle.conversations.specs.RequestsMet.{IsSentOn, RequestsAreMetByFlooding, RequestsCountIn}
 use Rattle.conversations.specs.RequestsMet.{flooded_on, instance, its_key}
 use Rattle.conversations.proofs.WorkedUpdates.{inserted, taken_off}
 
-on_list : (b : Body) (sequence : ℤ) (n : Neighbor)
+on_list : (b : LsaBody) (sequence : ℤ) (n : Neighbor)
     → finite.get (finite.insert (finite.remove n.retransmissions (its_key b)) (its_key b) (record {
       header = (instance b sequence).header;
       at = 100;
@@ -23,8 +23,8 @@ on_list b sequence n = inserted (finite.remove n.retransmissions (its_key b)) (i
   at = 100;
 })
 
-counts : (state : State) → is_exchange_or_later state ≡ true → is_exchange_or_loading state ≡ true
-    → RequestsCountIn state
+counts : (state : NeighborState) → is_exchange_or_later state ≡ true
+    → is_exchange_or_loading state ≡ true → RequestsCountIn state
 counts state part busy = record {
   less_recent = λ b link n is. (
     rw (is.is_in, part, busy, is.is_requested) is.is_requested,
@@ -69,7 +69,8 @@ counts state part busy = record {
   );
 }
 
-not_asked_by : (b : Body) (sequence : ℤ) (link : Link) (n : Neighbor) → is_exchange_or_later n.state
+not_asked_by : (b : LsaBody) (sequence : ℤ) (link : Link) (n : Neighbor)
+    → is_exchange_or_later n.state
     ≡ true → finite.get n.requests (its_key b) ≡ None → (busy : Bool)
     → is_exchange_or_loading n.state ≡ busy
     → IsSentOn b (instance b sequence) (flooded_on b sequence link n)
@@ -80,7 +81,7 @@ not_asked_by b sequence link n part none true is = (
 not_asked_by b sequence link n part none false is =
     (rw (part, is) refl, rw (part, is) (on_list b sequence n))
 
-full_gets_it : (b : Body) (sequence : ℤ) (link : Link) (n : Neighbor) → n.state ≡ Full
+full_gets_it : (b : LsaBody) (sequence : ℤ) (link : Link) (n : Neighbor) → n.state ≡ Full
     → IsSentOn b (instance b sequence) (flooded_on b sequence link n)
 full_gets_it b sequence link n is = (rw is refl, rw is (on_list b sequence n))
 

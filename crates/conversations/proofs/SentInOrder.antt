@@ -10,10 +10,10 @@ use Rattle.std.proofs.lemmas.List.{map-append}
 use Rattle.std.proofs.lemmas.List.Concat.{flat_map-append}
 use Rattle.words.specs.declared.key.Key.{Key}
 use Rattle.lsa.specs.Text.{text}
-use Rattle.lsa.specs.declared.body.Body.{Body as LsaBody}
+use Rattle.lsa.specs.declared.body.LsaBody.{LsaBody}
 use Rattle.lsdb.specs.Headers.{Header, Lsa, key_of, lsa_key}
-use Rattle.packet.specs.declared.model.Body.{Body}
-use Rattle.packet.specs.declared.model.Body.TheVariants as body
+use Rattle.packet.specs.declared.model.PacketBody.{PacketBody}
+use Rattle.packet.specs.declared.model.PacketBody.TheVariants as body
 use Rattle.packet.specs.declared.model.Description.{Description}
 use Rattle.packet.specs.declared.model.Hello.{Hello}
 use Rattle.adjacency.specs.Contents.{Content}
@@ -72,37 +72,40 @@ module _ {X : Type 0} (key : X → Key) where
 
 -- ---- the contents of packets
 
-module _ {Y : Type 0} (f : Body → List Y) where
-  abbrev TellsNothing : Option Body → Type 0
+module _ {Y : Type 0} (f : PacketBody → List Y) where
+  abbrev TellsNothing : Option PacketBody → Type 0
   TellsNothing None = Unit {0}
   TellsNothing (Some b) = f b ≡ []
 
-  none_chosen : (h : Content → Option Body) → ((c : Content) → TellsNothing (h c))
+  none_chosen : (h : Content → Option PacketBody) → ((c : Content) → TellsNothing (h c))
       → (cs : List Content) → flat_map f (filter_map h cs) ≡ []
   none_chosen h none [] = refl
   none_chosen h none (c ∷ cs) = none_first (h c) (none c) (filter_map h cs) (none_chosen h none cs)
     where
-      none_first : (o : Option Body) → TellsNothing o → (bs : List Body) → flat_map f bs ≡ []
-          → flat_map f (cons_option o bs) ≡ []
+      none_first : (o : Option PacketBody) → TellsNothing o → (bs : List PacketBody)
+          → flat_map f bs ≡ [] → flat_map f (cons_option o bs) ≡ []
       none_first None e bs rest = rest
       none_first (Some b) e bs rest = ap (λ l. l ++ flat_map f bs) e ∙ rest
 
-  none_mapped : {X : Type 0} (g : X → Body) → ((x : X) → f (g x) ≡ []) → (xs : List X)
+  none_mapped : {X : Type 0} (g : X → PacketBody) → ((x : X) → f (g x) ≡ []) → (xs : List X)
       → flat_map f (map g xs) ≡ []
   none_mapped g none [] = refl
   none_mapped g none (x ∷ xs) = ap (λ l. l ++ flat_map f (map g xs)) (none x)
       ∙ none_mapped g none xs
 
-  none_before : (xs ys : List Body) → flat_map f xs ≡ [] → flat_map f (xs ++ ys) ≡ flat_map f ys
+  none_before : (xs ys : List PacketBody) → flat_map f xs ≡ []
+      → flat_map f (xs ++ ys) ≡ flat_map f ys
   none_before xs ys none = flat_map-append f xs ys ∙ ap (λ l. l ++ flat_map f ys) none
 
-  none_behind : (xs ys : List Body) → flat_map f ys ≡ [] → flat_map f (xs ++ ys) ≡ flat_map f xs
+  none_behind : (xs ys : List PacketBody) → flat_map f ys ≡ []
+      → flat_map f (xs ++ ys) ≡ flat_map f xs
   none_behind xs ys none = flat_map-append f xs ys ∙ ap (λ l. flat_map f xs ++ l) none
       ∙ append-nil (flat_map f xs)
 
   -- each packet contains its list
-  each_told : {X : Type 0} (g : List X → Body) (F : X → Y) → ((xs : List X) → f (g xs) ≡ map F xs)
-      → (xss : List (List X)) → flat_map f (map g xss) ≡ map F (flat_map (λ p. p) xss)
+  each_told : {X : Type 0} (g : List X → PacketBody) (F : X → Y)
+      → ((xs : List X) → f (g xs) ≡ map F xs) → (xss : List (List X))
+      → flat_map f (map g xss) ≡ map F (flat_map (λ p. p) xss)
   each_told g F is [] = refl
   each_told g F is (xs ∷ xss) = (λ i. is xs i ++ each_told g F is xss i)
       ∙ sym (map-append F xs (flat_map (λ p. p) xss))
@@ -131,17 +134,17 @@ module _ (delay : ℕ) (cs : List Content) where
   abbrev headers : List Header
   headers = in_key_order key_of (filter_map acknowledgments cs)
 
-  abbrev asking : List Body
+  abbrev asking : List PacketBody
   asking = map body.Request (in_key_order first_key (filter_map requests cs))
 
-  abbrev updating : List Body
+  abbrev updating : List PacketBody
   updating = map (update_of delay) (packed_groups lsa_size 28 lsas)
 
-  abbrev acknowledging : List Body
+  abbrev acknowledging : List PacketBody
   acknowledging = map body.Acknowledgment (packed_groups header_size 24 headers)
 
   -- Hellos, Database Descriptions and Link State Requests contain none
-  none_of_three : {Y : Type 0} (f : Body → List Y) → ((h : Hello) → f (body.Hello h) ≡ [])
+  none_of_three : {Y : Type 0} (f : PacketBody → List Y) → ((h : Hello) → f (body.Hello h) ≡ [])
       → ((d : Description) → f (body.Description d) ≡ [])
       → ((keys : List Key) → f (body.Request keys) ≡ [])
       → flat_map f (filter_map hellos cs ++ filter_map descriptions cs ++ asking) ≡ []

@@ -2,7 +2,7 @@
 use Rattle.std.proofs.Common.{◌≡◌, ℕ, ◌%◌, ◌^◌, ◌==◌, true, false, cond, not, ◌&&◌, ◌||◌, List, []}
 use Rattle.std.proofs.Common.{◌∷◌, None, Some, refl, ap, ◌∙◌}
 use Rattle.std.specs.FinSet as set
-use Rattle.packet.specs.declared.model.Body.TheVariants as body
+use Rattle.packet.specs.declared.model.PacketBody.TheVariants as body
 use Rattle.packet.specs.declared.model.Description.{Description}
 use Rattle.packet.specs.declared.model.Hello.{Hello}
 use Rattle.packet.specs.declared.model.Packet.{Packet}
@@ -15,7 +15,7 @@ use Rattle.adjacency.specs.Contents as contents
 use Rattle.adjacency.specs.Descriptions.{Verdict, act, judge, repeat}
 use Rattle.adjacency.specs.Neighbors.{Neighbor, fresh}
 use Rattle.adjacency.specs.Requests.{next_request}
-use Rattle.adjacency.specs.declared.state.State.TheVariants.{ExStart, Full, Loading}
+use Rattle.adjacency.specs.declared.state.NeighborState.TheVariants.{ExStart, Full, Loading}
 use Rattle.received.specs.Links.{Link, neighbor_at}
 use Rattle.received.specs.Outcomes.{one_neighbor}
 use Rattle.events.specs.declared.model.Out.{Out}

@@ -11,7 +11,7 @@ use Rattle.std.specs.Ordering.{is_eq}
 use Rattle.std.specs.Prelude.{◌==◌}
 use Rattle.words.specs.declared.key.Key.{Key}
 use Rattle.lsa.specs.Text.{body_text}
-use Rattle.lsa.specs.declared.body.Body.{Body}
+use Rattle.lsa.specs.declared.body.LsaBody.{LsaBody}
 use Rattle.lsdb.specs.Copies.{DatabaseCopy, has_just_aged_out, is_aged_out, lsa_now}
 use Rattle.lsdb.proofs.Keys.{keys_exact, keys_total}
 use Rattle.adjacency.specs.Adjacencies.{loading_done_in, requests_nothing}
@@ -19,8 +19,9 @@ use Rattle.adjacency.specs.Contents.{no_sends}
 use Rattle.adjacency.specs.Contents as contents
 use Rattle.adjacency.specs.Neighbors.{Neighbor, is_exchange_or_loading}
 use Rattle.adjacency.specs.Requests.{next_request, request_next}
-use Rattle.adjacency.specs.declared.state.State.{State}
-use Rattle.adjacency.specs.declared.state.State.TheVariants.{Init, ExStart, Exchange, Loading, Full}
+use Rattle.adjacency.specs.declared.state.NeighborState.{NeighborState}
+use Rattle.adjacency.specs.declared.state.NeighborState.TheVariants.{Init, ExStart, Exchange}
+use Rattle.adjacency.specs.declared.state.NeighborState.TheVariants.{Loading, Full}
 use Rattle.received.specs.Links.{Link, any_has_retransmission, any_exchange_or_loading}
 use Rattle.received.specs.Links.{neighbor_is_exchange_or_loading}
 use Rattle.received.specs.Outcomes.{Outcome, on_database}
@@ -68,7 +69,8 @@ no_time_passes moment (x ∷ es) = λ i. not_both_ways (is_aged_out moment x.1) 
 
 -- ---- no neighbor becomes Full
 
-filled_in_rest : (s : State) (n : Neighbor) → is_exchange_or_loading s ≡ false → loading_done_in s n
+filled_in_rest : (s : NeighborState) (n : Neighbor) → is_exchange_or_loading s ≡ false
+    → loading_done_in s n
     ≡ n
 filled_in_rest Init n e = refl
 filled_in_rest ExStart n e = refl
@@ -98,7 +100,7 @@ none_filled p e = λ i. record p {
 
 -- ---- the router-LSA stays the same
 
-same_itself : (b : Body) → same_body b b ≡ true
+same_itself : (b : LsaBody) → same_body b b ≡ true
 same_itself b = ap is_eq (tied_itself nat_list_cmp_total (body_text b))
 
 pub differ_not : (a b : List Link) → router_body a ≡ router_body b → links_differ a b ≡ false

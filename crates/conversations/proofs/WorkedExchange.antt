@@ -9,7 +9,7 @@ use Rattle.lsdb.specs.Headers.{Header, key_of}
 use Rattle.lsdb.specs.Instances.{ListEntry}
 use Rattle.lsdb.specs.Keys.{ByKey, key_cmp}
 use Rattle.lsdb.proofs.Keys.{keys_total}
-use Rattle.packet.specs.declared.model.Body.TheVariants as body
+use Rattle.packet.specs.declared.model.PacketBody.TheVariants as body
 use Rattle.packet.specs.declared.model.Description.{Description}
 use Rattle.packet.specs.declared.model.Packet.{Packet}
 use Rattle.packet.proofs.Whole.{one_packet}
@@ -21,7 +21,7 @@ use Rattle.adjacency.specs.Descriptions.{is_wanted, judge, as_received, negotiat
 use Rattle.adjacency.specs.Descriptions.{young_copies}
 use Rattle.adjacency.specs.Neighbors.{Neighbor}
 use Rattle.adjacency.specs.Requests.{next_request}
-use Rattle.adjacency.specs.declared.state.State.TheVariants.{Exchange, Full, Loading}
+use Rattle.adjacency.specs.declared.state.NeighborState.TheVariants.{Exchange, Full, Loading}
 use Rattle.received.specs.Links.{Link}
 use Rattle.received.specs.Outcomes.{one_neighbor}
 use Rattle.events.specs.declared.model.Out.{Out}

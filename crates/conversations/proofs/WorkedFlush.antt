@@ -11,7 +11,7 @@ use Rattle.lsdb.specs.Copies.{newer_than_copy}
 use Rattle.lsdb.specs.Headers.{Header, Lsa, header_aged, key_of, lsa_aged, lsa_key}
 use Rattle.lsdb.specs.Instances.{ListEntry}
 use Rattle.lsdb.specs.Order.{age_at, compare_ages, is_max_age}
-use Rattle.packet.specs.declared.model.Body.TheVariants as body
+use Rattle.packet.specs.declared.model.PacketBody.TheVariants as body
 use Rattle.packet.specs.declared.model.Packet.{Packet}
 use Rattle.packet.proofs.Whole.{one_packet}
 use Rattle.adjacency.specs.Neighbors.{Neighbor}

@@ -5,8 +5,8 @@ use Rattle.std.proofs.Common.{◌∷◌, ◌++◌, map, Option, None, Some, refl
 use Rattle.std.proofs.Common.{true≢false, arith}
 use Rattle.std.specs.List.{enumerate_from, flat_map, fold, list_any}
 use Rattle.std.proofs.lemmas.List.{append-nil}
-use Rattle.lsa.specs.declared.body.Body.TheVariants as body
-use Rattle.lsa.specs.declared.body.Link.{Link as RouterLink}
+use Rattle.lsa.specs.declared.body.LsaBody.TheVariants as body
+use Rattle.lsa.specs.declared.body.RouterLink.{RouterLink}
 use Rattle.lsa.specs.declared.body.LinkKind.TheVariants.{PointToPoint}
 use Rattle.lsdb.specs.Copies.{Database}
 use Rattle.lsdb.specs.Headers.{Header, Lsa, lsa_key}
@@ -16,7 +16,7 @@ use Rattle.adjacency.specs.Neighbors.{is_exchange_or_later}
 use Rattle.adjacency.specs.Requests.{without_request}
 use Rattle.adjacency.specs.Retransmissions.{add_retransmission, remove_retransmission}
 use Rattle.adjacency.specs.declared.interface.Interface.{Interface}
-use Rattle.adjacency.specs.declared.state.State.{State}
+use Rattle.adjacency.specs.declared.state.NeighborState.{NeighborState}
 use Rattle.received.specs.Flooding.{flood_to, gets, meets, request_of, without_met_request}
 use Rattle.received.specs.Links.{Link, acknowledge_later, any_exchange_or_loading, change_link}
 use Rattle.received.specs.Links.{link_at, neighbor_is_exchange_or_loading}
@@ -35,10 +35,10 @@ right_false false b e = e
 
 -- ---- the neighbors
 
-abbrev pub seen : Link → Interface × Option (ℕ × State)
+abbrev pub seen : Link → Interface × Option (ℕ × NeighborState)
 seen link = (link.interface, id_and_state link.neighbor)
 
-abbrev pub told_of : Interface → Option (ℕ × State) → List RouterLink
+abbrev pub told_of : Interface → Option (ℕ × NeighborState) → List RouterLink
 told_of i None = []
 told_of i (Some n) = cond (is_full n.1) (record {
   link_id = n.0;
@@ -48,7 +48,7 @@ told_of i (Some n) = cond (is_full n.1) (record {
   tos = [];
 } ∷ []) []
 
-abbrev pub told : Interface × Option (ℕ × State) → List RouterLink
+abbrev pub told : Interface × Option (ℕ × NeighborState) → List RouterLink
 told x = told_of x.0 x.1 ++ stub x.0 ∷ []
 
 told_on : (i : Interface) (o : Option Neighbor) → point_to_point i o ≡ told_of i (id_and_state o)
@@ -66,11 +66,11 @@ same_router xs ys e =
     ∙ sym (all_told ys) in
     λ i. body.Router (record { flags = 2; links = links i })
 
-abbrev pub is_busy_of : Option (ℕ × State) → Bool
+abbrev pub is_busy_of : Option (ℕ × NeighborState) → Bool
 is_busy_of None = false
 is_busy_of (Some n) = is_exchange_or_loading n.1
 
-abbrev pub is_busy : Interface × Option (ℕ × State) → Bool
+abbrev pub is_busy : Interface × Option (ℕ × NeighborState) → Bool
 is_busy x = is_busy_of x.1
 
 busy_on : (o : Option Neighbor) → neighbor_is_exchange_or_loading o ≡ is_busy_of (id_and_state o)
@@ -87,18 +87,19 @@ same_rest xs ys e = any_busy xs ∙ ap (list_any is_busy) e ∙ sym (any_busy ys
 
 -- ---- steps that don't change the neighbors
 
-abbrev pub who : Neighbor → ℕ × State
+abbrev pub who : Neighbor → ℕ × NeighborState
 who n = (n.router, n.state)
 
 abbrev pub Keeps : Stepping → Type 0
 Keeps f = (number : ℕ) (link : Link) (n : Neighbor) → who (f number link n).neighbor ≡ who n
 
-pub chosen_step : (b : Bool) (s t : Step) (w : ℕ × State) → who s.neighbor ≡ w → who t.neighbor ≡ w
-    → who (cond b s t).neighbor ≡ w
+pub chosen_step : (b : Bool) (s t : Step) (w : ℕ × NeighborState) → who s.neighbor ≡ w
+    → who t.neighbor ≡ w → who (cond b s t).neighbor ≡ w
 chosen_step true s t w p q = p
 chosen_step false s t w p q = q
 
-chosen_who : (b : Bool) (m n : Neighbor) (w : ℕ × State) → who m ≡ w → who n ≡ w → who (cond b m n)
+chosen_who : (b : Bool) (m n : Neighbor) (w : ℕ × NeighborState) → who m ≡ w → who n ≡ w
+    → who (cond b m n)
     ≡ w
 chosen_who true m n w p q = p
 chosen_who false m n w p q = q

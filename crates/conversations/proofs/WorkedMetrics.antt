@@ -5,7 +5,7 @@ use Rattle.std.specs.FinMap as finite
 use Rattle.words.specs.declared.key.Key.{Key}
 use Rattle.words.specs.declared.route.External.{External}
 use Rattle.lsa.specs.Origination.{sealed_lsa}
-use Rattle.lsa.specs.declared.body.Body.{Body}
+use Rattle.lsa.specs.declared.body.LsaBody.{LsaBody}
 use Rattle.lsdb.specs.Copies.{DatabaseCopy}
 use Rattle.lsdb.specs.Headers.{Lsa, lsa_key}
 use Rattle.received.specs.Flooding.{flood_to}
@@ -60,7 +60,7 @@ announces : (old new : Router) (moment tag : ℕ) (e : External) (outs : List Ou
 announces old new moment tag e outs rest may event =
     let key : Key = external_key old.id e.prefix in
     let x : External = answered_external e tag 16777214 in
-    let says : Body = external_body x in
+    let says : LsaBody = external_body x in
     let lsa : Lsa = first_external old e tag 16777214 in
     let p : EventState = start old in
     let q : EventState = on_router (announce key x) p in

@@ -8,7 +8,7 @@ use Rattle.std.specs.Cmp.{tied_itself}
 use Rattle.std.specs.Ordering.{eq_by_cmp, is_eq}
 use Rattle.words.specs.declared.key.Key.{Key}
 use Rattle.lsa.specs.Origination.{sealed_lsa}
-use Rattle.lsa.specs.declared.body.Body.{Body}
+use Rattle.lsa.specs.declared.body.LsaBody.{LsaBody}
 use Rattle.lsdb.specs.Copies.{Database, DatabaseCopy, install_flooded}
 use Rattle.lsdb.specs.Headers.{Lsa, lsa_key}
 use Rattle.lsdb.specs.Instances.{ListEntry}
@@ -17,7 +17,7 @@ use Rattle.lsdb.proofs.Keys.{keys_total}
 use Rattle.adjacency.specs.Neighbors.{Neighbor}
 use Rattle.adjacency.specs.Requests.{requested_entry, without_request}
 use Rattle.adjacency.specs.Retransmissions.{remove_retransmission}
-use Rattle.adjacency.specs.declared.state.State.TheVariants.{Full}
+use Rattle.adjacency.specs.declared.state.NeighborState.TheVariants.{Full}
 use Rattle.received.specs.Flooding.{meets}
 use Rattle.received.specs.Links.{Link, acknowledge_later}
 use Rattle.received.specs.Updates.{install}
@@ -125,7 +125,7 @@ describes : (over : Bool) (moment : ℕ) (own : DatabaseCopy) (p : EventState)
     → originate_or_wait moment (router_key p.router.id) p ≡ described over moment own p
 describes over moment own p there counts may =
     let key : Key = router_key p.router.id in
-    let says : Body = router_body p.router.area.links in
+    let says : LsaBody = router_body p.router.area.links in
     let room : has_room key p.router ≡ true =
     ap (λ o. is_some o || (nat_lt (finite.len p.router.area.database) 16384 &&
     (not (is_own_external p.router.id key) || nat_lt

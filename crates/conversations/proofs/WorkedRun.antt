@@ -6,7 +6,7 @@ use Rattle.lsdb.specs.Keys.{key_cmp}
 use Rattle.adjacency.specs.Adjacencies.{initial_description, enter_exstart}
 use Rattle.adjacency.specs.Descriptions.{Verdict, young_copies}
 use Rattle.adjacency.specs.Neighbors.{Neighbor, fresh}
-use Rattle.adjacency.specs.declared.state.State.TheVariants.{Exchange}
+use Rattle.adjacency.specs.declared.state.NeighborState.TheVariants.{Exchange}
 use Rattle.received.specs.Links.{Link}
 use Rattle.events.specs.Events.{Happens}
 use Rattle.events.specs.Packing.{outs_of}

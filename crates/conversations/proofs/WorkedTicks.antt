@@ -6,7 +6,7 @@ use Rattle.std.specs.FinMap as finite
 use Rattle.std.specs.FinSet as set
 use Rattle.words.specs.declared.key.Key.{Key}
 use Rattle.lsa.specs.Origination.{sealed_lsa}
-use Rattle.lsa.specs.declared.body.Body.{Body}
+use Rattle.lsa.specs.declared.body.LsaBody.{LsaBody}
 use Rattle.lsdb.specs.Copies.{Database, DatabaseCopy}
 use Rattle.lsdb.specs.Headers.{Lsa}
 use Rattle.lsdb.proofs.Keys.{keys_exact}
@@ -102,7 +102,7 @@ originates : (moment : ℕ) (copy : Option DatabaseCopy) (p : EventState)
     → originate_or_wait moment (router_key p.router.id) p ≡ told moment copy p
 originates moment copy p there counts room may =
     let key : Key = router_key p.router.id in
-    let says : Body = router_body p.router.area.links in
+    let says : LsaBody = router_body p.router.area.links in
     (λ i. originate_body (room i) moment key (wanted p.router i) p)
     ∙ (λ i. cond (has_max_sequence (there i)) (flush moment key p)
     (cond (true && may i) (on_router (as_originated moment key)

@@ -4,11 +4,11 @@ use Rattle.std.specs.Prelude.{◌≡◌, ◌≤◌, ◌<◌, ℕ, ◌+◌, pos, 
 use Rattle.std.specs.List.{AllByRecursion, filter, filter_map, flat_map}
 use Rattle.words.specs.declared.key.Key.{Key}
 use Rattle.lsa.specs.Text.{text}
-use Rattle.lsa.specs.declared.body.Body.{Body as LsaBody}
+use Rattle.lsa.specs.declared.body.LsaBody.{LsaBody}
 use Rattle.lsdb.specs.Headers.{Header, Lsa, key_of, lsa_key}
 use Rattle.lsdb.specs.Keys.{same_key}
-use Rattle.packet.specs.declared.model.Body.{Body}
-use Rattle.packet.specs.declared.model.Body.TheVariants as body
+use Rattle.packet.specs.declared.model.PacketBody.{PacketBody}
+use Rattle.packet.specs.declared.model.PacketBody.TheVariants as body
 use Rattle.packet.specs.declared.model.Description.{Description}
 use Rattle.packet.specs.declared.model.Hello.{Hello}
 use Rattle.adjacency.specs.Contents.{Content}
@@ -37,7 +37,7 @@ pub record AreInOrder {X : Type 0} (key : X → Key) (xs sorted : List X) : Type
 -- ---- the contents of the packets, in turn
 
 -- the bytes of the LSAs of Link State Updates
-abbrev pub lsas_told : Body → List (List ℕ)
+abbrev pub lsas_told : PacketBody → List (List ℕ)
 lsas_told (body.Hello h) = []
 lsas_told (body.Description d) = []
 lsas_told (body.Request keys) = []
@@ -45,7 +45,7 @@ lsas_told (body.Update texts) = texts
 lsas_told (body.Acknowledgment headers) = []
 
 -- the headers of Link State Acknowledgments
-abbrev pub headers_told : Body → List Header
+abbrev pub headers_told : PacketBody → List Header
 headers_told (body.Hello h) = []
 headers_told (body.Description d) = []
 headers_told (body.Request keys) = []

@@ -6,7 +6,7 @@ use Rattle.words.specs.declared.key.Key.{Key}
 use Rattle.words.specs.declared.route.External.{External}
 use Rattle.words.specs.declared.route.ExternalType.TheVariants.{Type2}
 use Rattle.words.specs.declared.route.Route.{Route}
-use Rattle.lsa.specs.declared.body.Body.{Body}
+use Rattle.lsa.specs.declared.body.LsaBody.{LsaBody}
 use Rattle.lsdb.specs.Copies.{DatabaseCopy}
 use Rattle.lsdb.specs.Headers.{Lsa, lsa_aged}
 use Rattle.events.specs.declared.model.CoreError.TheVariants as error
@@ -69,7 +69,7 @@ pub record WorkedEvents : Type 0 where
   pub young : (lsa : Lsa) → is_stale 1799 (Some (flooded_copy (lsa_aged 0 lsa) 0)) ≡ false
   pub renewed : (lsa : Lsa) → is_stale 1800 (Some (flooded_copy (lsa_aged 0 lsa) 0)) ≡ true
   -- a copy with MaxSequenceNumber is flushed before its LSA is originated again
-  pub wraps : (may_now : Bool) (moment : ℕ) (key : Key) (says : Body) (c : DatabaseCopy)
+  pub wraps : (may_now : Bool) (moment : ℕ) (key : Key) (says : LsaBody) (c : DatabaseCopy)
       (p : EventState) → finite.get p.router.area.database key ≡ Some c
       → c.lsa.header.sequence ≡ pos 2147483647 → originate_body may_now moment key (Some says) p
       ≡ flush moment key p

@@ -8,7 +8,7 @@ use Rattle.lsdb.specs.Headers.{Lsa, lsa_key}
 use Rattle.adjacency.specs.Contents.{Content}
 use Rattle.adjacency.specs.Neighbors.{Neighbor}
 use Rattle.adjacency.specs.Requests.{requested_entry}
-use Rattle.adjacency.specs.declared.state.State.TheVariants.{Loading}
+use Rattle.adjacency.specs.declared.state.NeighborState.TheVariants.{Loading}
 use Rattle.received.specs.Links.{Link, link_at, neighbor_at}
 use Rattle.events.specs.declared.model.Out.{Out}
 use Rattle.events.specs.Events.{Happens}

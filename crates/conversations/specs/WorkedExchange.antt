@@ -8,13 +8,13 @@ use Rattle.lsa.specs.Reading.{is_known_type}
 use Rattle.lsdb.specs.Headers.{Header, key_of}
 use Rattle.lsdb.specs.Instances.{ListEntry, aged_header}
 use Rattle.lsdb.specs.Keys.{ByKey}
-use Rattle.packet.specs.declared.model.Body.TheVariants as body
+use Rattle.packet.specs.declared.model.PacketBody.TheVariants as body
 use Rattle.packet.specs.declared.model.Description.{Description}
 use Rattle.packet.specs.Text.{PacketText}
 use Rattle.adjacency.specs.Adjacencies.{initial_description, requests_nothing}
 use Rattle.adjacency.specs.Contents.{Content}
 use Rattle.adjacency.specs.Descriptions.{Verdict, is_wanted, verdict, young_copies}
-use Rattle.adjacency.specs.declared.state.State.TheVariants.{Exchange, ExStart, Loading}
+use Rattle.adjacency.specs.declared.state.NeighborState.TheVariants.{Exchange, ExStart, Loading}
 use Rattle.adjacency.specs.Neighbors.{Neighbor}
 use Rattle.received.specs.Links.{Link}
 use Rattle.events.specs.declared.model.Out.{Out}

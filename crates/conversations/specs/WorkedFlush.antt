@@ -8,9 +8,9 @@ use Rattle.lsdb.specs.Copies.{DatabaseCopy, has_just_aged_out, installed_just_no
 use Rattle.lsdb.specs.Copies.{newer_than_copy}
 use Rattle.lsdb.specs.Headers.{Header, Lsa, header_aged, key_of, lsa_aged, lsa_key}
 use Rattle.lsdb.specs.Instances.{ListEntry, same_as_listed}
-use Rattle.packet.specs.declared.model.Body.TheVariants as body
+use Rattle.packet.specs.declared.model.PacketBody.TheVariants as body
 use Rattle.packet.specs.Text.{PacketText}
-use Rattle.adjacency.specs.declared.state.State.TheVariants.{Full}
+use Rattle.adjacency.specs.declared.state.NeighborState.TheVariants.{Full}
 use Rattle.adjacency.specs.Neighbors.{Neighbor}
 use Rattle.received.specs.Links.{Link, neighbor_at}
 use Rattle.events.specs.declared.model.Out.{Out}

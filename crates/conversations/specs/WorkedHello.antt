@@ -4,7 +4,7 @@ use Rattle.std.specs.Prelude.{◌≡◌, ℕ, ◌%◌, ◌^◌, List, [], ◌∷
 use Rattle.packet.specs.declared.model.Hello.{Hello}
 use Rattle.adjacency.specs.Adjacencies.{initial_description}
 use Rattle.adjacency.specs.Contents.{Content}
-use Rattle.adjacency.specs.declared.state.State.TheVariants.{ExStart}
+use Rattle.adjacency.specs.declared.state.NeighborState.TheVariants.{ExStart}
 use Rattle.received.specs.Links.{Link, link_at}
 use Rattle.events.specs.declared.model.Out.{Out}
 use Rattle.events.specs.Events.{Happens}

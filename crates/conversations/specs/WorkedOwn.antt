@@ -8,7 +8,7 @@ use Rattle.std.specs.List.{list_any}
 use Rattle.lsdb.specs.Copies.{DatabaseCopy, has_just_aged_out}
 use Rattle.lsdb.specs.Headers.{Lsa, lsa_key}
 use Rattle.adjacency.specs.Contents.{Content}
-use Rattle.adjacency.specs.declared.state.State.TheVariants.{Full, Loading}
+use Rattle.adjacency.specs.declared.state.NeighborState.TheVariants.{Full, Loading}
 use Rattle.adjacency.specs.Neighbors.{Neighbor}
 use Rattle.adjacency.specs.Requests.{requested_entry}
 use Rattle.received.specs.Flooding.{meets}

@@ -1,12 +1,12 @@
 -- A worked run of a router with one interface: a Hello starts an adjacency, and the exchange
 -- follows in the next event (RFC 2328, sections 10.5, 10.6 and 10.8).
 use Rattle.std.specs.Prelude.{◌≡◌, ℕ, ◌%◌, ◌^◌, true, nat_lt, List, [], ◌∷◌, Some}
-use Rattle.packet.specs.declared.model.Body.TheVariants as body
+use Rattle.packet.specs.declared.model.PacketBody.TheVariants as body
 use Rattle.packet.specs.declared.model.Hello.{Hello}
 use Rattle.packet.specs.Text.{PacketText}
 use Rattle.adjacency.specs.Adjacencies.{initial_description}
 use Rattle.adjacency.specs.Descriptions.{young_copies}
-use Rattle.adjacency.specs.declared.state.State.TheVariants.{Exchange, ExStart}
+use Rattle.adjacency.specs.declared.state.NeighborState.TheVariants.{Exchange, ExStart}
 use Rattle.received.specs.Links.{Link}
 use Rattle.events.specs.declared.model.Out.{Out}
 use Rattle.events.specs.Events.{Run, Step}

@@ -6,10 +6,10 @@ use Rattle.std.specs.List.{list_any}
 use Rattle.lsa.specs.Reading.{lsa_in}
 use Rattle.lsdb.specs.Copies.{has_just_aged_out}
 use Rattle.lsdb.specs.Headers.{Lsa, lsa_key}
-use Rattle.packet.specs.declared.model.Body.TheVariants as body
+use Rattle.packet.specs.declared.model.PacketBody.TheVariants as body
 use Rattle.packet.specs.Text.{PacketText}
 use Rattle.adjacency.specs.Contents.{Content}
-use Rattle.adjacency.specs.declared.state.State.TheVariants.{Full}
+use Rattle.adjacency.specs.declared.state.NeighborState.TheVariants.{Full}
 use Rattle.adjacency.specs.Neighbors.{Neighbor}
 use Rattle.adjacency.specs.Requests.{requested_entry}
 use Rattle.received.specs.Links.{Link, any_exchange_or_loading, link_at}

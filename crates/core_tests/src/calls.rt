@@ -2,7 +2,7 @@
 //! plays.
 use crate::member::begun;
 use flood::{ConfigError, Core, CoreError, Event};
-use packet::Fault;
+use packet::PacketFault;
 use std::alloc::{AllocError, Global};
 use std::test::Fail;
 use words::{Address, Prefix, Route, Second};
@@ -52,7 +52,10 @@ fn each_call_answers(rt: HostRuntime) -> Result<(), Fail> {
 
 #[test]
 fn refusals_have_texts(rt: HostRuntime) -> Result<(), Fail> {
-    let (core, config) = (CoreError::BadPacket(Fault::Short), ConfigError::Interface);
+    let (core, config) = (
+        CoreError::BadPacket(PacketFault::Short),
+        ConfigError::Interface,
+    );
     let text = format!(in rt.alloc(); "{core}; {config}")?;
     let wanted = "the packet is too short; the configuration is not in the profile";
     assert!(rt; text.as_str() == wanted, "{text}");

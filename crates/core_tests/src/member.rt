@@ -1,7 +1,7 @@
 //! A router, and the instances that it knows.
 use crate::flooded::Flooded;
 use crate::named::{Named, PacketKind, first_place, header_in, kind_of, place_behind};
-use flood::{Config, Core, CoreError, Event, Interface, Out, State};
+use flood::{Config, Core, CoreError, Event, Interface, NeighborState, Out};
 use lsa::Header;
 use std::alloc::Global;
 use words::{Address, RouterId, Second, Sequence};
@@ -211,7 +211,7 @@ impl TestRouter {
     fn sends_again(&mut self, moment: u64, event: &Event) -> bool {
         for interface in 1..=2u16 {
             match self.core.neighbor(interface) {
-                Some((_, State::Full)) => {}
+                Some((_, NeighborState::Full)) => {}
                 _ => self.flooded.forgets(interface),
             }
         }

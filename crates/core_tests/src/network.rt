@@ -13,7 +13,7 @@
 //! flooded to a neighbor that has been Full since also shows what is on its list: a Tick sends it
 //! again once RxmtInterval has passed, unless the neighbor has acknowledged it.
 use crate::member::{TestRouter, begun, router_at};
-use flood::{Core, Event, Out, State};
+use flood::{Core, Event, NeighborState, Out};
 use simulated_networks::{holds_the_same, prefix};
 use std::alloc::{AllocFailed, Global};
 use std::mem::replace;
@@ -339,7 +339,13 @@ impl TestNetwork {
 
     // Whether the router has the one at the other end as a neighbor in this state; `None` is Down.
     // True if one of them doesn't exist.
-    fn sees(&self, place: usize, interface: u16, other: usize, state: Option<State>) -> bool {
+    fn sees(
+        &self,
+        place: usize,
+        interface: u16,
+        other: usize,
+        state: Option<NeighborState>,
+    ) -> bool {
         let Some(member) = self.members.get(place) else {
             return true;
         };
@@ -353,7 +359,7 @@ impl TestNetwork {
         }
     }
 
-    fn all_see(&self, state: Option<State>) -> bool {
+    fn all_see(&self, state: Option<NeighborState>) -> bool {
         for end in &ENDS {
             let (place, interface, other) = *end;
             if !self.sees(place, interface, other, state) {
@@ -394,7 +400,7 @@ impl TestNetwork {
 
     fn shows(&self, act: Act) -> bool {
         match act {
-            Act::Full => self.all_see(Some(State::Full)),
+            Act::Full => self.all_see(Some(NeighborState::Full)),
             Act::Apart => self.all_see(None),
             Act::Same => self.are_the_same(),
             Act::Holds(place, count) => self.holds(place, count),

@@ -1,6 +1,6 @@
 -- What a worker has done when it brings its port back.
 use Rattle.std.specs.Prelude.{ℕ, List}
-use Rattle.hooks.specs.declared.operation.Operation.{Operation}
+use Rattle.hooks.specs.declared.operation.LoaderOperation.{LoaderOperation}
 use Rattle.worker.specs.Lives.{HasLived, HasLivedOn, Hears, Reads, Senses, Shows, Standing}
 use Rattle.worker.specs.Lives.{senses_of, standing}
 use Rattle.worker.specs.Sending.{Gives}
@@ -18,7 +18,7 @@ senses_at gives hears shows origin number =
 -- It lived some rounds from this flag and this standing on, until it found the flag set. Its port
 -- knows such operations then, and has given the router so many events.
 abbrev pub HasServed : {Link Clock Flag : Type 0} → Senses Link Clock → Reads Flag
-    → (begun : Flag) → (start : Standing Link Clock) → (known : List Operation) → (events : ℕ)
+    → (begun : Flag) → (start : Standing Link Clock) → (known : List LoaderOperation) → (events : ℕ)
     → Type 0
 HasServed {Link = Link} {Clock = Clock} {Flag = Flag} senses reads begun start known events =
     (told : Flag) × (link : Link) × (clock : Clock)

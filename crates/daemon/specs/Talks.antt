@@ -4,7 +4,7 @@ use Rattle.std.specs.Prelude.{Option, None, Some, Result, Ok, Err, string_bytes}
 use Rattle.std.specs.Io.KnownBytes.{Appends}
 use mathlib.Core.List.{IsPrefix}
 use Rattle.maps.specs.Words.{SeatView}
-use Rattle.hooks.specs.declared.operation.Operation.{Operation}
+use Rattle.hooks.specs.declared.operation.LoaderOperation.{LoaderOperation}
 use Rattle.worker.specs.TurnError.{TurnError}
 use Rattle.worker.specs.Turns.{Offers, Refuses, Took}
 use Rattle.worker.specs.Work.TheVariants.{Tick}
@@ -23,14 +23,14 @@ use Rattle.daemon.specs.declared.talk.Parting.TheVariants.{Done, Deaf, Mute}
 -- that the port knows, whether a refresh is due, how many events count, and the port's seat.
 pub record Place (Input : Type 0) : Type 0 where
   pub input : Input
-  pub operations : List Operation
-  pub known : List Operation
+  pub operations : List LoaderOperation
+  pub known : List LoaderOperation
   pub due : Bool
   pub events : ℕ
   pub seat : SeatView
 
-abbrev pub place : {Input : Type 0} → Input → (operations known : List Operation) → (due : Bool)
-    → (events : ℕ) → SeatView → Place Input
+abbrev pub place : {Input : Type 0} → Input → (operations known : List LoaderOperation)
+    → (due : Bool) → (events : ℕ) → SeatView → Place Input
 place input operations known due events seat = record {
   input = input;
   operations = operations;
@@ -46,7 +46,7 @@ place input operations known due events seat = record {
 abbrev pub IsObeyedFrom : {Input : Type 0} → Sources → (interfaces : ℕ) → (before : Place Input)
     → (line : List ℕ) → Option Told → (after : Place Input) → Type 0
 IsObeyedFrom s interfaces before line answer after =
-    (still : Bool) × (knew : List Operation) × (counted : ℕ) × (seat : SeatView)
+    (still : Bool) × (knew : List LoaderOperation) × (counted : ℕ) × (seat : SeatView)
     × IsMadeUp s.offers s.took s.refuses before.due still before.known knew before.events counted
     before.seat seat
     × IsObeyed s interfaces
@@ -122,7 +122,7 @@ pub record HasTalked {Input : Type 0} (gives : Gives Input) (fails : Fails Input
 
 -- a turn for a Tick was taken, and just what it gave the router counts; or it was refused, and
 -- nothing counts
-abbrev pub IsTicked : Offers → Took → Refuses → (known now : List Operation)
+abbrev pub IsTicked : Offers → Took → Refuses → (known now : List LoaderOperation)
     → (counted counts : ℕ) → Type 0
 IsTicked offers took refuses known now counted counts =
     IsDone offers took refuses known now Tick counted counts
@@ -133,7 +133,7 @@ IsTicked offers took refuses known now counted counts =
 pub record Converses {Input : Type 0} (gives : Gives Input) (fails : Fails Input) (s : Sources)
     (interfaces : ℕ) (begun : Place Input) (old : Option (List ℕ)) (parting : Parting)
     (now : Place Input) (new : Option (List ℕ)) : Type 0 where
-  pub known : List Operation
+  pub known : List LoaderOperation
   pub events : ℕ
   pub seat : SeatView
   pub learnt : IsPrefix begun.known known

@@ -5,7 +5,7 @@ ghost use Rattle.sockets.specs.Ends.{has_failed};
 ghost use Rattle.worker.specs.Lives.{standing};
 ghost use Rattle.daemon.specs.Labors.{HasServed, HasServedOn, senses_at};
 
-use links::{Link, Seconds};
+use links::{Seconds, Transport};
 use log::{Level, Log, Logged, warn};
 use sockets::{DatagramSocket, LinkEnd, Sockets, Waits};
 use std::alloc::Global;
@@ -63,13 +63,13 @@ pub fn work<
     requires { port.number ≡ link.own }
     ensures number { result.0.number ≡ port.number }
     ensures lived { has_failed result.1.end ≡ false → HasServed
-        (senses_at ⟦<Sockets<'x, S, E> as Link>⟧.gives
-        ⟦<Sockets<'x, S, E> as Link>⟧.hears C.shows L.origin port.number)
+        (senses_at ⟦<Sockets<'x, S, E> as Transport>⟧.gives
+        ⟦<Sockets<'x, S, E> as Transport>⟧.hears C.shows L.origin port.number)
         F.reads quit (standing link.entry clock (known_to port.asker) port.share.amount)
         (known_to result.0.asker) result.0.share.amount }
     ensures lived_on { has_failed result.1.end ≡ true → link.entry.faults ≡ 0 → HasServedOn
-        (senses_at ⟦<Sockets<'x, S, E> as Link>⟧.gives
-        ⟦<Sockets<'x, S, E> as Link>⟧.hears C.shows L.origin port.number)
+        (senses_at ⟦<Sockets<'x, S, E> as Transport>⟧.gives
+        ⟦<Sockets<'x, S, E> as Transport>⟧.hears C.shows L.origin port.number)
         F.reads quit (standing link.entry clock (known_to port.asker) port.share.amount) }
 {
     let (mut port, mut link, mut clock, mut quit) = (port, link, clock, quit);

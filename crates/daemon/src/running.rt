@@ -259,7 +259,8 @@ pub fn operate<
     Ok(ran)
 }
 
-// Runs it over links that are all at the same sockets, one for each, and of which no call has failed.
+// Runs it over links that are all at the same sockets, one for each, and of which no call has
+// failed.
 fn operate_at_same<
     'x,
     R: Threads + Wait + Clock + Log + Files + AllocGlobal + Sync + Drop,

@@ -20,7 +20,7 @@ ghost use Rattle.daemon.specs.Talks.{
 };
 
 use crate::lines::{Given, ReadsBytes, next_line};
-use links::{Link, Seconds};
+use links::{Seconds, Transport};
 use operator::{Desk, Outlet, Told};
 use std::io::Write;
 use std::rt::Files;
@@ -69,7 +69,7 @@ impl Parted {
 }
 
 // Before the first line: a Tick's turn.
-fn tick<L: Site, B: Taker<L>, R: Wait, K: Link + Drop, C: Seconds + Drop>(
+fn tick<L: Site, B: Taker<L>, R: Wait, K: Transport + Drop, C: Seconds + Drop>(
     rt: &R,
     hub: &Hub<L, B>,
     port: &mut Port<L>,
@@ -103,7 +103,7 @@ fn answer_next<
     B: Taker<L>,
     S: Wait + Files + AllocGlobal,
     Q: Wait + Drop,
-    K: Link + Drop,
+    K: Transport + Drop,
     C: Seconds + Drop,
     I: ReadsBytes,
     O: Write,
@@ -138,7 +138,7 @@ fn obey_next<
     B: Taker<L>,
     S: Wait + Files + AllocGlobal,
     Q: Wait + Drop,
-    K: Link + Drop,
+    K: Transport + Drop,
     C: Seconds + Drop,
     I: ReadsBytes,
     O: Write,
@@ -184,7 +184,7 @@ fn answer_all<
     B: Taker<L>,
     S: Wait + Files + AllocGlobal,
     Q: Wait + Drop,
-    K: Link + Drop,
+    K: Transport + Drop,
     C: Seconds + Drop,
     I: ReadsBytes,
     O: Write,
@@ -220,7 +220,7 @@ pub fn talk<
     B: Taker<L>,
     S: Wait + Files + AllocGlobal,
     Q: Wait + Drop,
-    K: Link + Drop,
+    K: Transport + Drop,
     C: Seconds + Drop,
     I: ReadsBytes,
     O: Write,

@@ -36,7 +36,7 @@ use Rattle.events.specs.Ticks.{again, run_out, settled_exchange, with_hello_sent
 use Rattle.events.specs.Ticks.{without_acknowledgments}
 use Rattle.flood_laws.proofs.Leaving.{each_kept_at, numbered_kept, stepped_kept}
 use Rattle.agreement_laws.specs.Exchanged.{Conversation}
-use Rattle.packet.specs.declared.model.Body.TheVariants as body
+use Rattle.packet.specs.declared.model.PacketBody.TheVariants as body
 use Rattle.packet.specs.declared.model.Description.{Description}
 use Rattle.packet.specs.declared.model.Packet.{Packet}
 use Rattle.adjacency.specs.Descriptions.{after_description}

@@ -5,17 +5,17 @@ use Rattle.std.specs.Prelude.{◌==◌, nat_lt}
 use Rattle.std.specs.FinMap as finite
 use Rattle.std.proofs.lemmas.Bool.{eq-eqb, eqb-true}
 use Rattle.words.specs.declared.key.Key.{Key}
-use Rattle.lsa.specs.declared.body.Body.{Body as LsaBody}
+use Rattle.lsa.specs.declared.body.LsaBody.{LsaBody}
 use Rattle.lsdb.specs.Copies.{Database, DatabaseCopy, age_out, install_originated, is_aged_out}
 use Rattle.lsdb.specs.Headers.{Lsa, lsa_aged}
-use Rattle.packet.specs.declared.model.Body.{Body}
-use Rattle.packet.specs.declared.model.Body.TheVariants as body
+use Rattle.packet.specs.declared.model.PacketBody.{PacketBody}
+use Rattle.packet.specs.declared.model.PacketBody.TheVariants as body
 use Rattle.packet.specs.declared.model.Description.{Description}
 use Rattle.packet.specs.declared.model.Packet.{Packet}
 use Rattle.packet.specs.Text.{PacketText}
 use Rattle.packet.proofs.Whole.{one_packet}
-use Rattle.adjacency.specs.declared.state.State.{State}
-use Rattle.adjacency.specs.declared.state.State.TheVariants.{Exchange}
+use Rattle.adjacency.specs.declared.state.NeighborState.{NeighborState}
+use Rattle.adjacency.specs.declared.state.NeighborState.TheVariants.{Exchange}
 use Rattle.adjacency.specs.Adjacencies.{mismatch_step, two_way_received, two_way_received_in}
 use Rattle.adjacency.specs.Contents.{Step, no_sends}
 use Rattle.adjacency.specs.Descriptions.{Verdict, accept, act, after_description, announced_more}
@@ -168,8 +168,8 @@ module _ (own moment : ℕ) (db : Database) (d : Description) (n : Neighbor) (is
   step_moves =
       chosen Moves (nat_lt 8192 d.mtu) (no_sends n) (in_state n.state own moment db d n)
       (λ big. let no : true ≡ false = sym big ∙ passes.0 in absurd cc)
-      (λ fits. subst (λ (s : State). Moves (in_state s own moment db d n)) (sym is)
-      (subst (λ (s : State). Moves (act (verdict_in s own n d) moment db d n)) (sym is)
+      (λ fits. subst (λ (s : NeighborState). Moves (in_state s own moment db d n)) (sym is)
+      (subst (λ (s : NeighborState). Moves (act (verdict_in s own n d) moment db d n)) (sym is)
       (subst (λ (v : Verdict). Moves (act v moment db d n)) (sym tests.1) is_accepted)))
 
 -- ---- the end of an event leaves it
@@ -312,7 +312,7 @@ module _ (old : Router) (moment : ℕ) (event : Occurrence) (order : IsInOrder o
   is_taken after own = by_packet (subst (λ (e : Occurrence). OwnPart moment e begins after) a.is
       own)
     where
-      of_body : (says : Body) → says ≡ body.Description d → (o : Option Neighbor) → o ≡ Some n
+      of_body : (says : PacketBody) → says ≡ body.Description d → (o : Option Neighbor) → o ≡ Some n
           → cond (is_foreign old.id a.packet.router && (is_hello says || is_from a.packet.router o))
           (from_neighbor moment number a.packet.router (is_in_exchange o) says begins) begins
           ≡ on_area (describe_to old.id moment number d) begins

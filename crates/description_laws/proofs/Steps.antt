@@ -8,8 +8,9 @@ use Rattle.std.specs.FinSet as set
 use Rattle.lsdb.specs.Copies.{Database}
 use Rattle.lsdb.specs.Headers.{Header, Lsa, key_of, lsa_key}
 use Rattle.packet.specs.declared.model.Description.{Description}
-use Rattle.adjacency.specs.declared.state.State.{State}
-use Rattle.adjacency.specs.declared.state.State.TheVariants.{Init, ExStart, Exchange, Loading, Full}
+use Rattle.adjacency.specs.declared.state.NeighborState.{NeighborState}
+use Rattle.adjacency.specs.declared.state.NeighborState.TheVariants.{Init, ExStart, Exchange}
+use Rattle.adjacency.specs.declared.state.NeighborState.TheVariants.{Loading, Full}
 use Rattle.adjacency.specs.Adjacencies.{after_hello, enter_exstart, has_passed, loading_done}
 use Rattle.adjacency.specs.Adjacencies.{loading_done_in, mismatch_step, requests_nothing}
 use Rattle.adjacency.specs.Adjacencies.{two_way_received_in, with_hello_heard}
@@ -88,7 +89,7 @@ module _ (n : Neighbor) where
       (not from && passes moment lsa (request_of m lsa)) got not_got (λ e. so) (λ e. so))
       (λ before. h)
 
-  same_filled_in : (s : State) (m : Neighbor) → IsSame m → IsSame (loading_done_in s m)
+  same_filled_in : (s : NeighborState) (m : Neighbor) → IsSame m → IsSame (loading_done_in s m)
   same_filled_in Init m h = h
   same_filled_in ExStart m h = h
   same_filled_in Exchange m h = h
@@ -118,7 +119,7 @@ module _ (n : Neighbor) where
   mismatched moment m h = chosen OfStep (is_exchange_or_later m.state) (enter_exstart moment m)
       (no_sends m) (λ e. inl (λ on same. absurd cc)) (λ e. h)
 
-  two_way : (moment : ℕ) (s : State) (m : Neighbor) → Standing m
+  two_way : (moment : ℕ) (s : NeighborState) (m : Neighbor) → Standing m
       → Standing (two_way_received_in s moment m).neighbor
   two_way moment Init m h = inl (λ on same. absurd cc)
   two_way moment ExStart m h = h
@@ -152,7 +153,7 @@ module _ (n : Neighbor) where
   acknowledged moment (x ∷ xs) m h =
       acknowledged moment xs (acknowledged_neighbor moment m x) (acknowledged_one moment x m h)
 
-  filled_in : (s : State) (m : Neighbor) → Standing (record m {
+  filled_in : (s : NeighborState) (m : Neighbor) → Standing (record m {
     state = s;
   }) → Standing (loading_done_in s (record m { state = s }))
   filled_in Init m h = h

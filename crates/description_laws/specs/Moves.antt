@@ -2,7 +2,7 @@
 -- Descriptions, and nothing else while the conversation goes on.
 use Rattle.std.specs.Prelude.{◌≡◌, ℕ, List, Some}
 use Rattle.words.specs.Numbers.{InterfaceNumber, Moment, RouterNumber}
-use Rattle.packet.specs.declared.model.Body.TheVariants as body
+use Rattle.packet.specs.declared.model.PacketBody.TheVariants as body
 use Rattle.packet.specs.declared.model.Description.{Description}
 use Rattle.packet.specs.declared.model.Packet.{Packet}
 use Rattle.packet.specs.Text.{PacketText}

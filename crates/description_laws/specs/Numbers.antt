@@ -4,7 +4,7 @@
 use Rattle.std.specs.Prelude.{◌≡◌, ◌⊎◌, ◌+◌, ◌%◌, ◌^◌, true, false, List, Some}
 use Rattle.words.specs.Numbers.{InterfaceNumber, Moment}
 use Rattle.packet.specs.declared.model.Description.{Description}
-use Rattle.adjacency.specs.declared.state.State.TheVariants.{Exchange}
+use Rattle.adjacency.specs.declared.state.NeighborState.TheVariants.{Exchange}
 use Rattle.adjacency.specs.Descriptions.{as_received, expected_sequence}
 use Rattle.adjacency.specs.Neighbors.{Neighbor}
 use Rattle.received.specs.Links.{neighbor_at}

@@ -11,11 +11,11 @@ use Rattle.words.specs.declared.route.External.{External}
 use Rattle.words.specs.Fields.{field, fields}
 use Rattle.words.specs.Records.{records}
 use Rattle.words.proofs.Records.{IsWide, length-records_text}
-use Rattle.lsa.specs.declared.body.Body.{Body}
-use Rattle.lsa.specs.declared.body.Body.TheVariants as body
-use Rattle.lsa.specs.declared.body.Link.{Link as RouterLink}
+use Rattle.lsa.specs.declared.body.LsaBody.{LsaBody}
+use Rattle.lsa.specs.declared.body.LsaBody.TheVariants as body
+use Rattle.lsa.specs.declared.body.RouterLink.{RouterLink}
 use Rattle.lsa.specs.declared.body.LinkKind.TheVariants.{PointToPoint}
-use Rattle.lsa.specs.declared.fault.Fault.{Fault}
+use Rattle.lsa.specs.declared.fault.LsaFault.{LsaFault}
 use Rattle.lsa.specs.Headers.{header_at, header_text}
 use Rattle.lsa.specs.Origination.{sealed_lsa}
 use Rattle.lsa.specs.Reading.{attached_at, body_fills, body_of, external_fills, external_of}
@@ -30,8 +30,8 @@ use Rattle.lsa.specs.Text.{summary_tos_text, text}
 use Rattle.received.specs.lsdb.Copies.{DatabaseCopy}
 use Rattle.received.specs.lsdb.Headers.{Lsa}
 use Rattle.received.specs.lsdb.Keys.{same_key}
-use Rattle.packet.specs.declared.model.Body.{Body as PacketBody}
-use Rattle.packet.specs.declared.model.Body.TheVariants as packets
+use Rattle.packet.specs.declared.model.PacketBody.{PacketBody}
+use Rattle.packet.specs.declared.model.PacketBody.TheVariants as packets
 use Rattle.packet.specs.declared.model.Packet.{Packet}
 use Rattle.packet.specs.Checksum.{packet_checksum}
 use Rattle.packet.specs.Text as packet_text
@@ -55,7 +55,7 @@ not_false : (b : Bool) → not b ≡ false → b ≡ true
 not_false true e = refl
 not_false false e = absurd cc
 
-all_fail : (ts : List (Bool × Fault)) → first_of ts ≡ None → AllByRecursion (λ t. t.0 ≡ false) ts
+all_fail : (ts : List (Bool × LsaFault)) → first_of ts ≡ None → AllByRecursion (λ t. t.0 ≡ false) ts
 all_fail [] e = tt
 all_fail (t ∷ ts) e = by_test t.0 refl e (all_fail ts)
   where
@@ -210,14 +210,14 @@ abbrev pub FitsIfRead : Option Lsa → Type 0
 FitsIfRead None = Unit {0}
 FitsIfRead (Some lsa) = Fits lsa
 
-abbrev read_unless : List ℕ → Option Fault → Option Lsa
+abbrev read_unless : List ℕ → Option LsaFault → Option Lsa
 read_unless bytes None = Some (lsa_of bytes)
 read_unless bytes (Some f) = None
 
 pub read_fits : (bytes : List ℕ) → 28 + length bytes ≤ 8192 → FitsIfRead (lsa_in bytes)
 read_fits bytes short = by_fault (fault_of bytes) refl
   where
-    by_fault : (o : Option Fault) → fault_of bytes ≡ o → FitsIfRead (read_unless bytes o)
+    by_fault : (o : Option LsaFault) → fault_of bytes ≡ o → FitsIfRead (read_unless bytes o)
     by_fault None e = let sizes = read_length bytes e in
         (sizes.0 ∙ sym sizes.1, omega (arith, short, sizes.1))
     by_fault (Some f) e = tt
@@ -268,11 +268,11 @@ packet_short bytes p is =
 -- ---- self-originated LSAs
 
 -- the body of a new instance fits
-abbrev pub IsFewIfAny : Option Body → Type 0
+abbrev pub IsFewIfAny : Option LsaBody → Type 0
 IsFewIfAny None = Unit {0}
 IsFewIfAny (Some says) = length (body_text says) ≤ 8144
 
-pub originated_fits : (key : Key) (copy : Option DatabaseCopy) (says : Body)
+pub originated_fits : (key : Key) (copy : Option DatabaseCopy) (says : LsaBody)
     → length (body_text says) ≤ 8144 → Fits (new_instance key copy says)
 unfolding sealed_lsa
 originated_fits key copy says few = (

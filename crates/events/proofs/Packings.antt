@@ -12,7 +12,7 @@ use Rattle.words.specs.declared.key.Key.{Key}
 use Rattle.received.specs.lsdb.Headers.{Header}
 use Rattle.received.specs.lsdb.Keys.{key_cmp, same_key}
 use Rattle.received.proofs.lsdb.Keys.{keys_exact, keys_total}
-use Rattle.packet.specs.declared.model.Body.{Body}
+use Rattle.packet.specs.declared.model.PacketBody.{PacketBody}
 use Rattle.received.specs.Links.{Link}
 use Rattle.received.specs.Outcomes.{Send}
 use Rattle.events.specs.declared.model.Out.{Out}
@@ -268,7 +268,7 @@ module _ {X : Type 0} (size : X → ℕ) (start : ℕ) where
 -- ---- interfaces
 
 module _ (own : ℕ) (sends : List Send) where
-  from_interface : (k n : ℕ) (link : Link) → k ≤ n → (bs : List Body)
+  from_interface : (k n : ℕ) (link : Link) → k ≤ n → (bs : List PacketBody)
       → AllByRecursion (λ (o : Out). k ≤ o.interface) (map (out_of own n) bs)
   from_interface k n link le [] = tt
   from_interface k n link le (b ∷ bs) = (le, from_interface k n link le bs)
@@ -290,7 +290,7 @@ module _ (own : ℕ) (sends : List Send) where
       (from_interface k n link le (bodies link.interface.delay (filter_map (at_interface n) sends)))
       (all_from k (n + 1) links more)
 
-  in_front : (n : ℕ) (bs : List Body) (outs : List Out)
+  in_front : (n : ℕ) (bs : List PacketBody) (outs : List Out)
       → AllByRecursion (λ (o : Out). n ≤ o.interface) outs → AreByInterface outs
       → AreByInterface (map (out_of own n) bs ++ outs)
   in_front n [] outs from by = by
@@ -300,7 +300,7 @@ module _ (own : ℕ) (sends : List Send) where
         in_front n bs outs from by,
       )
     where
-      same_interface : (cs : List Body) → n ≤ n
+      same_interface : (cs : List PacketBody) → n ≤ n
           → AllByRecursion (λ (o : Out). n ≤ o.interface) (map (out_of own n) cs)
       same_interface [] le = tt
       same_interface (c ∷ cs) le = (le, same_interface cs le)

@@ -11,8 +11,8 @@ use Rattle.lsa.specs.Headers.{IsHeader, header_at, header_text}
 use Rattle.lsa.specs.Text as lsa_text
 use Rattle.lsa.proofs.Headers.{header-wide}
 use Rattle.received.specs.lsdb.Headers.{Header, Lsa, key_of, lsa_key}
-use Rattle.packet.specs.declared.model.Body.{Body}
-use Rattle.packet.specs.declared.model.Body.TheVariants as body
+use Rattle.packet.specs.declared.model.PacketBody.{PacketBody}
+use Rattle.packet.specs.declared.model.PacketBody.TheVariants as body
 use Rattle.packet.specs.declared.model.Packet.{Packet}
 use Rattle.packet.specs.Checksum.{packet_checksum}
 use Rattle.packet.specs.Reading.{key_at, router_at}
@@ -230,8 +230,8 @@ acknowledgment_bytes hs p = record {
 bodies_few : (delay : ℕ) (cs : List Content) → AllByRecursion HasRoom cs
     → AllByRecursion HasPacketRoom (bodies delay cs)
 bodies_few delay cs rooms =
-    let hs : List Body = filter_map hellos cs in
-    let ds : List Body = filter_map descriptions cs in
+    let hs : List PacketBody = filter_map hellos cs in
+    let ds : List PacketBody = filter_map descriptions cs in
     let keys : List (List Key) = in_key_order first_key (filter_map requests cs) in
     let lsas : List Lsa = in_key_order lsa_key (filter_map updates cs) in
     let headers : List Header = in_key_order key_of (filter_map acknowledgments cs) in
@@ -270,7 +270,7 @@ there n (s ∷ sends) p = by_number (s.number == n) (there n sends p.1)
     by_number true rest = (p.0, rest)
     by_number false rest = rest
 
-out_few : (own n : ℕ) (b : Body) → HasPacketRoom b → length (out_of own n b).bytes ≤ 8192
+out_few : (own n : ℕ) (b : PacketBody) → HasPacketRoom b → length (out_of own n b).bytes ≤ 8192
 out_few own n b few = subst (λ k. k ≤ 8192) (sym (canonical_length (packet_of own b))) few.bytes
 
 outs_few : (own : ℕ) (sends : List Send) → AllByRecursion (λ (s : Send). HasRoom s.content) sends

@@ -15,14 +15,14 @@ use Rattle.std.proofs.lemmas.Bool.{leb-true}
 use Rattle.std.proofs.lemmas.List.{length-map}
 use Rattle.words.specs.declared.key.Key.{Key}
 use Rattle.lsa.specs.Reading.{lsa_in}
-use Rattle.lsa.specs.declared.body.Body.{Body as LsaBody}
+use Rattle.lsa.specs.declared.body.LsaBody.{LsaBody}
 use Rattle.received.specs.lsdb.Copies.{Database, DatabaseCopy, age_out, has_just_aged_out}
 use Rattle.received.specs.lsdb.Copies.{install_originated, lsa_now}
 use Rattle.received.specs.lsdb.Headers.{Header, Lsa, lsa_aged, lsa_key}
 use Rattle.received.specs.lsdb.Keys.{key_cmp}
 use Rattle.received.proofs.lsdb.Keys.{keys_exact, keys_total}
-use Rattle.packet.specs.declared.model.Body.{Body}
-use Rattle.packet.specs.declared.model.Body.TheVariants as body
+use Rattle.packet.specs.declared.model.PacketBody.{PacketBody}
+use Rattle.packet.specs.declared.model.PacketBody.TheVariants as body
 use Rattle.packet.specs.declared.model.Hello.{Hello}
 use Rattle.received.specs.adjacency.Adjacencies as adjacencies
 use Rattle.received.specs.adjacency.Contents.{Content, Step as NeighborStep, no_sends}
@@ -242,7 +242,7 @@ texts_fit (bytes ∷ rest) short = (
     if_read None fits = tt
     if_read (Some lsa) fits = fits
 
-brought_fits : (b : Body) → BringsShort b → OfBrought Fits b
+brought_fits : (b : PacketBody) → BringsShort b → OfBrought Fits b
 brought_fits (body.Hello h) short = tt
 brought_fits (body.Description d) short = tt
 brought_fits (body.Request keys) short = tt

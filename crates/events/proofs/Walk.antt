@@ -11,12 +11,12 @@ use Rattle.words.specs.Prefixes.{Network}
 use Rattle.words.specs.declared.key.Key.{Key}
 use Rattle.words.specs.declared.route.External.{External}
 use Rattle.lsa.specs.Reading.{lsa_in}
-use Rattle.lsa.specs.declared.body.Body.{Body as LsaBody}
+use Rattle.lsa.specs.declared.body.LsaBody.{LsaBody}
 use Rattle.received.specs.lsdb.Copies.{DatabaseCopy, age_out, is_aged_out}
 use Rattle.received.specs.lsdb.Headers.{Header, Lsa, lsa_aged, lsa_key}
 use Rattle.received.specs.lsdb.Keys.{ByKey}
-use Rattle.packet.specs.declared.model.Body.{Body}
-use Rattle.packet.specs.declared.model.Body.TheVariants as body
+use Rattle.packet.specs.declared.model.PacketBody.{PacketBody}
+use Rattle.packet.specs.declared.model.PacketBody.TheVariants as body
 use Rattle.packet.specs.declared.model.Description.{Description}
 use Rattle.packet.specs.declared.model.Hello.{Hello}
 use Rattle.packet.specs.declared.model.Packet.{Packet}
@@ -88,7 +88,7 @@ IfRead P (Some lsa) = P lsa
 abbrev pub OfBytes : (Lsa → Type 0) → List ℕ → Type 0
 OfBytes P bytes = IfRead P (lsa_in bytes)
 
-abbrev pub OfBrought : (Lsa → Type 0) → Body → Type 0
+abbrev pub OfBrought : (Lsa → Type 0) → PacketBody → Type 0
 OfBrought P (body.Hello h) = Unit {0}
 OfBrought P (body.Description d) = Unit {0}
 OfBrought P (body.Request keys) = Unit {0}
@@ -289,8 +289,8 @@ module _ (i : Invariant) (kept : IsKeptByParts i) where
       (one_neighbor moment number (adjacencies.mismatch_step moment) o)
       (λ is. kept.requested moment number keys o h) (λ is. kept.mismatch moment number o h)
 
-  from_neighbor_kept : (moment number from : ℕ) (in_exchange : Bool) (b : Body) (p : EventState)
-      → OfBrought i.of_lsa b → InProgress p
+  from_neighbor_kept : (moment number from : ℕ) (in_exchange : Bool) (b : PacketBody)
+      (p : EventState) → OfBrought i.of_lsa b → InProgress p
       → InProgress (from_neighbor moment number from in_exchange b p)
   from_neighbor_kept moment number from in_exchange (body.Hello hello) p so h =
       on_area_kept (after_hello p.router.id moment number from hello) p

@@ -8,7 +8,7 @@ use Rattle.std.specs.Ordering.{is_eq, nat_cmp}
 use Rattle.words.specs.Numbers.{Moment}
 use Rattle.words.specs.declared.key.Key.{Key}
 use Rattle.lsa.specs.Text.{body_text}
-use Rattle.lsa.specs.declared.body.Body.{Body}
+use Rattle.lsa.specs.declared.body.LsaBody.{LsaBody}
 use Rattle.received.specs.lsdb.Copies.{DatabaseCopy, has_just_aged_out, is_aged_out, lsa_now}
 use Rattle.received.specs.adjacency.Adjacencies as adjacencies
 use Rattle.received.specs.adjacency.Neighbors.{Neighbor}
@@ -49,7 +49,7 @@ loading_done p = on_area (on_links (map link_loading_done)) p
 
 -- ---- the router-LSA (section 12.4.1)
 
-abbrev pub same_body : Body → Body → Bool
+abbrev pub same_body : LsaBody → LsaBody → Bool
 same_body a b = is_eq (slice_cmp nat_cmp (body_text a) (body_text b))
 
 -- whether the bodies of the router-LSA differ
@@ -60,7 +60,7 @@ abbrev pub is_at : Moment → Option Moment → Bool
 is_at moment None = false
 is_at moment (Some at) = at == moment
 
-abbrev pub copy_has_body : Body → Option DatabaseCopy → Bool
+abbrev pub copy_has_body : LsaBody → Option DatabaseCopy → Bool
 copy_has_body says None = false
 copy_has_body says (Some c) = same_body c.lsa.body says
 

@@ -6,7 +6,7 @@ use Rattle.std.specs.List.{list_any}
 use Rattle.words.specs.Numbers.{Moment, RouterNumber, Seconds}
 use Rattle.words.specs.Prefixes.{mask_of}
 use Rattle.words.specs.Constants.{e_bit}
-use Rattle.packet.specs.declared.model.Body.TheVariants as body
+use Rattle.packet.specs.declared.model.PacketBody.TheVariants as body
 use Rattle.packet.specs.declared.model.Hello.{Hello}
 use Rattle.packet.specs.declared.model.Packet.{Packet}
 use Rattle.received.specs.adjacency.Adjacencies.{has_passed}

@@ -4,8 +4,8 @@ use Rattle.std.specs.List.{filter_map}
 use Rattle.words.specs.declared.key.Key.{Key}
 use Rattle.lsa.specs.Reading.{lsa_in}
 use Rattle.received.specs.lsdb.Headers.{Header, Lsa, key_of}
-use Rattle.packet.specs.declared.model.Body.{Body}
-use Rattle.packet.specs.declared.model.Body.TheVariants as body
+use Rattle.packet.specs.declared.model.PacketBody.{PacketBody}
+use Rattle.packet.specs.declared.model.PacketBody.TheVariants as body
 
 -- an instance of an LSA, whatever its age
 pub record LsaInstance : Type 0 where
@@ -24,7 +24,7 @@ abbrev pub instances_in_update : List (List ℕ) → List LsaInstance
 instances_in_update lsas = map instance_of_lsa (filter_map lsa_in lsas)
 
 -- the instances that a Link State Update contains
-abbrev pub instances_received : Body → List LsaInstance
+abbrev pub instances_received : PacketBody → List LsaInstance
 instances_received (body.Hello h) = []
 instances_received (body.Description d) = []
 instances_received (body.Request keys) = []
@@ -32,7 +32,7 @@ instances_received (body.Update lsas) = instances_in_update lsas
 instances_received (body.Acknowledgment headers) = []
 
 -- the instances that a Link State Update or Acknowledgment identifies
-abbrev pub instances_advertised : Body → List LsaInstance
+abbrev pub instances_advertised : PacketBody → List LsaInstance
 instances_advertised (body.Hello h) = []
 instances_advertised (body.Description d) = []
 instances_advertised (body.Request keys) = []

@@ -1,7 +1,7 @@
 -- The numbers of the refusals, and the refusal of a packet that can't be parsed.
 use Rattle.std.specs.Prelude.{ℕ}
-use Rattle.packet.specs.declared.refusal.ReadError.{ReadError}
-use Rattle.packet.specs.declared.refusal.ReadError.TheVariants as reading
+use Rattle.packet.specs.declared.refusal.PacketError.{PacketError}
+use Rattle.packet.specs.declared.refusal.PacketError.TheVariants as reading
 use Rattle.events.specs.declared.model.ConfigError.{ConfigError}
 use Rattle.events.specs.declared.model.ConfigError.TheVariants as configuring
 use Rattle.events.specs.declared.model.CoreError.{CoreError}
@@ -20,6 +20,6 @@ core_error_number refusing.Full = 5
 core_error_number refusing.Memory = 6
 
 -- the router's error for a packet that can't be parsed
-abbrev pub core_error_of : ReadError → CoreError
+abbrev pub core_error_of : PacketError → CoreError
 core_error_of (reading.Fault f) = refusing.BadPacket f
 core_error_of reading.Memory = refusing.Memory

@@ -13,9 +13,9 @@ use Rattle.words.specs.Numbers.{Moment, RouterNumber}
 use Rattle.words.specs.Prefixes.{Network, mask_of, network_address}
 use Rattle.words.specs.declared.key.Key.{Key}
 use Rattle.words.specs.declared.route.External.{External}
-use Rattle.lsa.specs.declared.body.Body.{Body}
-use Rattle.lsa.specs.declared.body.Body.TheVariants as body
-use Rattle.lsa.specs.declared.body.Link.{Link as RouterLink}
+use Rattle.lsa.specs.declared.body.LsaBody.{LsaBody}
+use Rattle.lsa.specs.declared.body.LsaBody.TheVariants as body
+use Rattle.lsa.specs.declared.body.RouterLink.{RouterLink}
 use Rattle.lsa.specs.declared.body.LinkKind.TheVariants.{PointToPoint, Stub}
 use Rattle.lsa.specs.Origination.{sealed_lsa}
 use Rattle.received.specs.lsdb.Copies.{DatabaseCopy, age_now, age_out, install_originated}
@@ -71,11 +71,11 @@ links_of link = point_to_point link.interface link.neighbor ++ stub link.interfa
 
 -- the body of the router-LSA: only bit E is set, and it has the links of each interface in order
 -- (section 12.4.1)
-abbrev pub router_body : List Link → Body
+abbrev pub router_body : List Link → LsaBody
 router_body links = body.Router (record { flags = 2; links = flat_map links_of links })
 
 -- the AS-external-LSA of an announced destination (section 12.4.4)
-abbrev pub external_body : External → Body
+abbrev pub external_body : External → LsaBody
 external_body e =
     body.External (record {
       mask = mask_of e.prefix.length;
@@ -86,12 +86,12 @@ external_body e =
       tos = [];
     })
 
-abbrev pub announced_body : Option External → Option Body
+abbrev pub announced_body : Option External → Option LsaBody
 announced_body None = None
 announced_body (Some e) = Some (external_body e)
 
 -- the body that the self-originated LSA of this key should have, if it is wanted
-abbrev pub wanted_body : Router → Key → Option Body
+abbrev pub wanted_body : Router → Key → Option LsaBody
 wanted_body r key =
     if same_key key (router_key r.id) then Some (router_body r.area.links)
     else announced_body (finite.get r.announced key)
@@ -112,7 +112,7 @@ has_max_sequence None = false
 has_max_sequence (Some c) = is_eq (int_cmp c.lsa.header.sequence max_sequence_number)
 
 -- with age 0; its LS type, length and checksum are computed from the body
-abbrev pub new_instance : Key → Option DatabaseCopy → Body → Lsa
+abbrev pub new_instance : Key → Option DatabaseCopy → LsaBody → Lsa
 new_instance key copy says = sealed_lsa (record {
   header = record {
     age = 0;
@@ -138,7 +138,7 @@ as_originated moment key r = record r {
   originated = finite.insert r.originated key moment;
 }
 
-abbrev pub originate : Moment → Key → Body → EventState → EventState
+abbrev pub originate : Moment → Key → LsaBody → EventState → EventState
 originate moment key says p =
     on_router (as_originated moment key)
     (on_area (install_and_flood moment
@@ -175,7 +175,7 @@ wait key r = record r { waiting = set.insert r.waiting key }
 
 -- at once, if `may_now` and MinLSInterval allow it, else at a Tick; after MaxSequenceNumber the
 -- copy is flushed first, and the LSA is originated when the copy has been removed from the database
-abbrev pub originate_body : Bool → Moment → Key → Option Body → EventState → EventState
+abbrev pub originate_body : Bool → Moment → Key → Option LsaBody → EventState → EventState
 originate_body may_now moment key None p = p
 originate_body may_now moment key (Some says) p =
     if has_max_sequence (finite.get p.router.area.database key) then flush moment key p
@@ -222,7 +222,7 @@ forget_originations moment r =
 
 -- ---- received self-originated LSAs (section 13.4)
 
-abbrev pub is_wanted : Option Body → Bool
+abbrev pub is_wanted : Option LsaBody → Bool
 is_wanted None = false
 is_wanted (Some says) = true
 

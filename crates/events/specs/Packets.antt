@@ -8,8 +8,8 @@ use Rattle.words.specs.declared.key.Key.{Key}
 use Rattle.lsa.specs.Reading.{lsa_in}
 use Rattle.received.specs.lsdb.Copies.{Database}
 use Rattle.received.specs.lsdb.Headers.{Header, Lsa}
-use Rattle.packet.specs.declared.model.Body.{Body}
-use Rattle.packet.specs.declared.model.Body.TheVariants as body
+use Rattle.packet.specs.declared.model.PacketBody.{PacketBody}
+use Rattle.packet.specs.declared.model.PacketBody.TheVariants as body
 use Rattle.packet.specs.declared.model.Description.{Description}
 use Rattle.packet.specs.declared.model.Hello.{Hello}
 use Rattle.packet.specs.declared.model.Packet.{Packet}
@@ -122,7 +122,7 @@ acknowledged_by moment number headers o =
 
 -- a packet that is heard: a Hello of any other router, or another packet from the interface's
 -- neighbor; Link State Requests, Updates and Acknowledgments are ignored before Exchange
-abbrev pub from_neighbor : Moment → InterfaceNumber → RouterNumber → Bool → Body → EventState
+abbrev pub from_neighbor : Moment → InterfaceNumber → RouterNumber → Bool → PacketBody → EventState
     → EventState
 from_neighbor moment number from in_exchange (body.Hello h) p =
     on_area (after_hello p.router.id moment number from h) p
@@ -135,7 +135,7 @@ from_neighbor moment number from in_exchange (body.Update lsas) p =
 from_neighbor moment number from in_exchange (body.Acknowledgment headers) p =
     if in_exchange then on_area (acknowledged_by moment number headers) p else p
 
-abbrev pub is_hello : Body → Bool
+abbrev pub is_hello : PacketBody → Bool
 is_hello (body.Hello h) = true
 is_hello (body.Description d) = false
 is_hello (body.Request keys) = false

@@ -10,8 +10,8 @@ use Rattle.words.specs.declared.key.Key.{Key}
 use Rattle.lsa.specs.Text.{text}
 use Rattle.received.specs.lsdb.Headers.{Header, Lsa, key_of, lsa_aged, lsa_key}
 use Rattle.received.specs.lsdb.Keys.{key_cmp}
-use Rattle.packet.specs.declared.model.Body.{Body}
-use Rattle.packet.specs.declared.model.Body.TheVariants as body
+use Rattle.packet.specs.declared.model.PacketBody.{PacketBody}
+use Rattle.packet.specs.declared.model.PacketBody.TheVariants as body
 use Rattle.packet.specs.declared.model.Packet.{Packet}
 use Rattle.packet.specs.Text.{canonical}
 use Rattle.received.specs.adjacency.Contents.{Content}
@@ -50,14 +50,14 @@ packed_groups size start (x ∷ xs) = fill_on size start (start + size x) (x ∷
 
 -- ---- the packets of one interface by their types
 
-abbrev pub hellos : Content → Option Body
+abbrev pub hellos : Content → Option PacketBody
 hellos (Content.SendsHello h) = Some (body.Hello h)
 hellos (Content.Describes d) = None
 hellos (Content.Requests keys) = None
 hellos (Content.Updates lsa) = None
 hellos (Content.Acknowledges h) = None
 
-abbrev pub descriptions : Content → Option Body
+abbrev pub descriptions : Content → Option PacketBody
 descriptions (Content.SendsHello h) = None
 descriptions (Content.Describes d) = Some (body.Description d)
 descriptions (Content.Requests keys) = None
@@ -101,12 +101,12 @@ abbrev pub header_size : Header → ℕ
 header_size h = 20
 
 -- the LSAs as one Link State Update
-abbrev pub update_of : Seconds → List Lsa → Body
+abbrev pub update_of : Seconds → List Lsa → PacketBody
 update_of delay lsas = body.Update (map (λ (l : Lsa). text (sent_lsa delay l)) lsas)
 
 -- the bodies of all packets, by packet type: a Link State Update has 28 bytes before its first LSA,
 -- a Link State Acknowledgment 24 before its first header
-abbrev pub bodies : Seconds → List Content → List Body
+abbrev pub bodies : Seconds → List Content → List PacketBody
 bodies delay contents =
     filter_map hellos contents
     ++ filter_map descriptions contents
@@ -121,10 +121,10 @@ bodies delay contents =
 abbrev pub at_interface : InterfaceNumber → Send → Option Content
 at_interface number s = if s.number == number then Some s.content else None
 
-abbrev pub packet_of : RouterNumber → Body → Packet
+abbrev pub packet_of : RouterNumber → PacketBody → Packet
 packet_of own says = record { router = own; body = says }
 
-abbrev pub out_of : RouterNumber → InterfaceNumber → Body → Out
+abbrev pub out_of : RouterNumber → InterfaceNumber → PacketBody → Out
 out_of own number says = record { interface = number; bytes = canonical (packet_of own says) }
 
 abbrev pub outs_at : RouterNumber → List Send → InterfaceNumber → Link → List Out

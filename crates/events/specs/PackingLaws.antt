@@ -4,7 +4,7 @@ use Rattle.std.specs.List.{AllByRecursion, filter, flat_map}
 use Rattle.words.specs.declared.key.Key.{Key}
 use Rattle.received.specs.lsdb.Headers.{Header, Lsa, key_of, lsa_key}
 use Rattle.received.specs.lsdb.Keys.{same_key}
-use Rattle.packet.specs.declared.model.Body.{Body}
+use Rattle.packet.specs.declared.model.PacketBody.{PacketBody}
 use Rattle.packet.specs.Text.{body_text, closed_fields, lsa_count}
 use Rattle.received.specs.adjacency.Contents.{Content}
 pub use Rattle.received.specs.adjacency.Rooms.{HasRoom}
@@ -58,7 +58,7 @@ pub record IsPacking {X : Type 0} (size : X → ℕ) (start : ℕ) (xs : List X)
   pub full : AreFull size start packets
 
 -- the body fits into a packet after the header of 24 bytes, and the number of LSAs into its field
-pub record HasPacketRoom (says : Body) : Type 0 where
+pub record HasPacketRoom (says : PacketBody) : Type 0 where
   pub bytes : 24 + length (body_text closed_fields says) ≤ 8192
   pub count : lsa_count says ≤ 8192
 

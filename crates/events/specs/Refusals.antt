@@ -4,7 +4,7 @@ use Rattle.std.specs.Prelude.{if◌then◌else◌, List, length, Option, None, S
 use Rattle.std.specs.FinMap as finite
 use Rattle.words.specs.Constants.{clock_end}
 use Rattle.words.specs.Numbers.{InterfaceNumber, Moment}
-use Rattle.packet.specs.declared.refusal.Fault.{Fault}
+use Rattle.packet.specs.declared.refusal.PacketFault.{PacketFault}
 use Rattle.packet.specs.Reading.{fault_of}
 use Rattle.words.specs.Prefixes.{Network}
 use Rattle.words.specs.declared.route.External.{External}
@@ -21,7 +21,7 @@ use Rattle.events.specs.Routers.{Occurrence, Router}
 abbrev pub is_clock_back : Moment → Router → Bool
 is_clock_back moment old = nat_lt moment old.moment || nat_le clock_end moment
 
-abbrev pub bad_packet : Option Fault → Option CoreError
+abbrev pub bad_packet : Option PacketFault → Option CoreError
 bad_packet None = None
 bad_packet (Some f) = Some (error.BadPacket f)
 

@@ -9,4 +9,4 @@ pub mod laws;
 mod model;
 
 pub use model::{Config, ConfigError, CoreError, Out};
-pub use received::{Interface, State};
+pub use received::{Interface, NeighborState};

@@ -2,7 +2,7 @@
 ghost use Rattle.std.specs.Prelude.{◌≡◌, IfOk};
 ghost use Rattle.events.specs.Numbers.{config_error_number, core_error_number, core_error_of};
 
-use packet::{Fault, ReadError};
+use packet::{PacketError, PacketFault};
 use received::Interface;
 use std::alloc::{AllocError, AllocFailed};
 use thiserror::Error;
@@ -95,7 +95,7 @@ impl<T: Drop> From<AllocFailed<T>> for ConfigError {
 pub enum CoreError {
     /// The bytes encode no packet, because of this fault.
     #[error("{0}")]
-    BadPacket(Fault),
+    BadPacket(PacketFault),
     /// There is no interface with this number.
     #[error("there is no such interface")]
     NoInterface,
@@ -151,13 +151,13 @@ impl<T: Drop> From<AllocFailed<T>> for CoreError {
     }
 }
 
-impl From<ReadError> for CoreError {
+impl From<PacketError> for CoreError {
     ghost from_gives = { λ r e. e ≡ core_error_of r };
 
-    fn from(e: ReadError) -> CoreError {
+    fn from(e: PacketError) -> CoreError {
         match e {
-            ReadError::Fault(fault) => CoreError::BadPacket(fault),
-            ReadError::Memory => CoreError::Memory,
+            PacketError::Fault(fault) => CoreError::BadPacket(fault),
+            PacketError::Memory => CoreError::Memory,
         }
     }
 }

@@ -13,8 +13,9 @@ use Rattle.lsdb.specs.Instances.{ListEntry, instance_of, listed_now, older_than_
 use Rattle.lsdb.specs.Keys.{same_key}
 use Rattle.lsdb.specs.declared.order.Instance.{Instance}
 use Rattle.packet.specs.declared.model.Description.{Description}
-use Rattle.adjacency.specs.declared.state.State.{State}
-use Rattle.adjacency.specs.declared.state.State.TheVariants.{Init, ExStart, Exchange, Loading, Full}
+use Rattle.adjacency.specs.declared.state.NeighborState.{NeighborState}
+use Rattle.adjacency.specs.declared.state.NeighborState.TheVariants.{Init, ExStart, Exchange}
+use Rattle.adjacency.specs.declared.state.NeighborState.TheVariants.{Loading, Full}
 use Rattle.adjacency.specs.Adjacencies.{after_hello, enter_exstart, has_passed, loading_done}
 use Rattle.adjacency.specs.Adjacencies.{loading_done_in, mismatch_step, requests_nothing}
 use Rattle.adjacency.specs.Adjacencies.{two_way_received_in, with_hello_heard}
@@ -124,7 +125,7 @@ module _ (ranks : RanksFollowTheComparison) (key : Key) (moment : ℕ) (first : 
   mismatched may m h = chosen OfStep (is_exchange_or_later m.state) (enter_exstart moment m)
       (no_sends m) (λ e. inl (may, λ on same. absurd cc)) (λ e. h)
 
-  two_way : May → (s : State) (m : Neighbor) → Asking m
+  two_way : May → (s : NeighborState) (m : Neighbor) → Asking m
       → Asking (two_way_received_in s moment m).neighbor
   two_way may Init m h = inl (may, λ on same. absurd cc)
   two_way may ExStart m h = h
@@ -158,7 +159,7 @@ module _ (ranks : RanksFollowTheComparison) (key : Key) (moment : ℕ) (first : 
   acknowledged (x ∷ xs) m h = acknowledged xs (acknowledged_neighbor moment m x)
       (acknowledged_one x m h)
 
-  filled_in : (s : State) (m : Neighbor) → Asking (record m {
+  filled_in : (s : NeighborState) (m : Neighbor) → Asking (record m {
     state = s;
   }) → Asking (loading_done_in s (record m { state = s }))
   filled_in Init m h = h

@@ -16,8 +16,9 @@ use Rattle.lsdb.specs.Keys.{ByKey, same_key}
 use Rattle.lsdb.specs.declared.order.Instance.{Instance}
 use Rattle.lsdb.proofs.Keys.{keys_total}
 use Rattle.packet.specs.declared.model.Description.{Description}
-use Rattle.adjacency.specs.declared.state.State.{State}
-use Rattle.adjacency.specs.declared.state.State.TheVariants.{Init, ExStart, Exchange, Loading, Full}
+use Rattle.adjacency.specs.declared.state.NeighborState.{NeighborState}
+use Rattle.adjacency.specs.declared.state.NeighborState.TheVariants.{Init, ExStart, Exchange}
+use Rattle.adjacency.specs.declared.state.NeighborState.TheVariants.{Loading, Full}
 use Rattle.adjacency.specs.Adjacencies.{mismatch_step, two_way_received, two_way_received_in}
 use Rattle.adjacency.specs.Contents.{Step, no_sends}
 use Rattle.adjacency.specs.Descriptions.{Verdict, accept, act, after_description, announced_more}
@@ -153,19 +154,20 @@ module _ (own moment : ℕ) (db : Database) (d : Description) where
       → HasRequested m (judge own moment db d m)
   judged known m e = by_verdict known m (verdict own m d) e
 
-  as_it_is : (m : Neighbor) (s : State) → m.state ≡ s
+  as_it_is : (m : Neighbor) (s : NeighborState) → m.state ≡ s
       → is_accepting (verdict own (two_way_received moment m).neighbor d) ≡ true
       → is_accepting (verdict own (two_way_received_in s moment m).neighbor d) ≡ true
-  as_it_is m s is e = subst (λ (x : State). is_accepting
+  as_it_is m s is e = subst (λ (x : NeighborState). is_accepting
       (verdict own (two_way_received_in x moment m).neighbor d) ≡ true) is e
 
-  in_it : knows_types d ≡ true → (m : Neighbor) (s : State) → m.state ≡ s
+  in_it : knows_types d ≡ true → (m : Neighbor) (s : NeighborState) → m.state ≡ s
       → HasRequested (two_way_received_in s moment m).neighbor (judge own moment db d m)
       → HasRequested (two_way_received moment m).neighbor (judge own moment db d m)
-  in_it known m s is = subst (λ (x : State). HasRequested (two_way_received_in x moment m).neighbor
+  in_it known m s is = subst (λ (x : NeighborState). HasRequested
+      (two_way_received_in x moment m).neighbor
       (judge own moment db d m)) (sym is)
 
-  in_its_state : knows_types d ≡ true → (m : Neighbor) (s : State) → m.state ≡ s
+  in_its_state : knows_types d ≡ true → (m : Neighbor) (s : NeighborState) → m.state ≡ s
       → is_accepting (verdict own (two_way_received moment m).neighbor d) ≡ true
       → HasRequested (two_way_received moment m).neighbor (in_state s own moment db d m)
   in_its_state known m Init is e = let h = judged known (two_way_received moment m).neighbor e in
@@ -303,7 +305,7 @@ module _ (ranks : RanksFollowTheComparison) (key : Key) (moment : ℕ) (first : 
     any_verdict m Verdict.Mismatch at =
         inl (mismatched ranks key moment first entry low with_it May may m (inr at))
 
-    any_state : (s : State) (m : Neighbor) → is_exchange_or_later s ≡ true → IsIt m
+    any_state : (s : NeighborState) (m : Neighbor) → is_exchange_or_later s ≡ true → IsIt m
         → Gone (verdict own m d) (in_state s own moment db d m).neighbor
     any_state Init m on at = absurd cc
     any_state ExStart m on at = absurd cc
@@ -311,7 +313,7 @@ module _ (ranks : RanksFollowTheComparison) (key : Key) (moment : ℕ) (first : 
     any_state Loading m on at = any_verdict m (verdict own m d) at
     any_state Full m on at = any_verdict m (verdict own m d) at
 
-    stays_put : (s : State) (m : Neighbor) → is_exchange_or_later s ≡ true
+    stays_put : (s : NeighborState) (m : Neighbor) → is_exchange_or_later s ≡ true
         → (two_way_received_in s moment m).neighbor ≡ m
     stays_put Init m on = absurd cc
     stays_put ExStart m on = refl

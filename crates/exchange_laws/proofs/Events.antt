@@ -7,15 +7,15 @@ use Rattle.std.specs.FinMap as finite
 use Rattle.std.specs.List.{Contains}
 use Rattle.std.proofs.lemmas.Bool.{eq-eqb, eqb-true}
 use Rattle.words.specs.declared.key.Key.{Key}
-use Rattle.lsa.specs.declared.body.Body.{Body as LsaBody}
+use Rattle.lsa.specs.declared.body.LsaBody.{LsaBody}
 use Rattle.lsdb.specs.Copies.{DatabaseCopy, age_out, copy_now, install_flooded, install_originated}
 use Rattle.lsdb.specs.Copies.{is_aged_out, lsa_now, newer_than_copy}
 use Rattle.lsdb.specs.Headers.{Header, Lsa, key_of, lsa_aged, lsa_key}
 use Rattle.lsdb.specs.Instances.{ListEntry, instance_of, listed_now}
 use Rattle.lsdb.specs.Keys.{ByKey, key_cmp, same_key}
 use Rattle.lsdb.specs.declared.order.Instance.{Instance}
-use Rattle.packet.specs.declared.model.Body.{Body}
-use Rattle.packet.specs.declared.model.Body.TheVariants as body
+use Rattle.packet.specs.declared.model.PacketBody.{PacketBody}
+use Rattle.packet.specs.declared.model.PacketBody.TheVariants as body
 use Rattle.packet.specs.declared.model.Description.{Description}
 use Rattle.packet.specs.declared.model.Hello.{Hello}
 use Rattle.packet.specs.declared.model.Packet.{Packet}
@@ -775,7 +775,7 @@ module _ (ranks : RanksFollowTheComparison) (old : Router) (moment : ℕ) (event
   is_taken after own = by_packet (subst (λ (e : Occurrence). OwnPart moment e begins after) a.is
       own)
     where
-      of_body : (b : Body) → b ≡ body.Description d → (o : Option Neighbor) → o ≡ Some n
+      of_body : (b : PacketBody) → b ≡ body.Description d → (o : Option Neighbor) → o ≡ Some n
           → cond (is_foreign old.id a.packet.router && (is_hello b || is_from a.packet.router o))
           (from_neighbor moment number a.packet.router (is_in_exchange o) b begins) begins
           ≡ on_area (describe_to old.id moment number d) begins

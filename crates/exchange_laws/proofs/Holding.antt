@@ -15,7 +15,7 @@ use Rattle.std.proofs.lemmas.Cmp.{int_ranked}
 use Rattle.std.proofs.lemmas.Int.{ints}
 use Rattle.words.specs.declared.key.Key.{Key}
 use Rattle.lsa.specs.Origination.{sealed_lsa}
-use Rattle.lsa.specs.declared.body.Body.{Body as LsaBody}
+use Rattle.lsa.specs.declared.body.LsaBody.{LsaBody}
 use Rattle.lsdb.specs.Copies.{Database, DatabaseCopy, age_now, age_out, copy_now, install_flooded}
 use Rattle.lsdb.specs.Copies.{install_originated, installed_just_now, is_aged_out, newer_than_copy}
 use Rattle.lsdb.specs.Copies.{same_as_copy, sent_just_now}

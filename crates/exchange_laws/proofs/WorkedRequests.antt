@@ -10,7 +10,7 @@ use Rattle.lsdb.specs.Instances.{ListEntry}
 use Rattle.lsdb.specs.Keys.{ByKey}
 use Rattle.lsdb.specs.declared.order.Instance.{Instance}
 use Rattle.packet.specs.declared.model.Description.{Description}
-use Rattle.adjacency.specs.declared.state.State.TheVariants.{Full, Loading}
+use Rattle.adjacency.specs.declared.state.NeighborState.TheVariants.{Full, Loading}
 use Rattle.adjacency.specs.Adjacencies.{two_way_received, two_way_received_in}
 use Rattle.adjacency.specs.Descriptions.{Verdict, is_duplicate, is_kept, is_wanted, knows_types}
 use Rattle.adjacency.specs.Descriptions.{verdict, verdict_in, with_request}

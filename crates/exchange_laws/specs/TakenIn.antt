@@ -7,7 +7,7 @@ use Rattle.lsdb.specs.Headers.{Header, key_of}
 use Rattle.lsdb.specs.Instances.{instance_of}
 use Rattle.lsdb.specs.declared.order.Instance.{Instance}
 use Rattle.packet.specs.declared.model.Description.{Description}
-use Rattle.adjacency.specs.declared.state.State.TheVariants.{Full}
+use Rattle.adjacency.specs.declared.state.NeighborState.TheVariants.{Full}
 use Rattle.adjacency.specs.Neighbors.{Neighbor}
 use Rattle.received.specs.Links.{neighbor_at}
 use Rattle.events.specs.declared.model.Config.{Config}

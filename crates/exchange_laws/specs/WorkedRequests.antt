@@ -8,7 +8,7 @@ use Rattle.lsdb.specs.Copies.{Database}
 use Rattle.lsdb.specs.Headers.{Header, key_of}
 use Rattle.lsdb.specs.declared.order.Instance.{Instance}
 use Rattle.packet.specs.declared.model.Description.{Description}
-use Rattle.adjacency.specs.declared.state.State.TheVariants.{Full, Loading}
+use Rattle.adjacency.specs.declared.state.NeighborState.TheVariants.{Full, Loading}
 use Rattle.adjacency.specs.Descriptions.{is_wanted, knows_types, with_requests}
 use Rattle.adjacency.specs.Neighbors.{Neighbor}
 use Rattle.events.specs.Routers.{Router}

@@ -6,7 +6,7 @@ use crate::text::Text;
 use inference::copy_of;
 use inference::memory::Memory;
 use isa::{Hook, Instruction};
-use kinds::{Fact, State, Target, kind_within};
+use kinds::{AbstractState, Fact, SegmentStart, kind_within};
 use object::{Rank, RankTerm};
 use segments::edge::enter;
 use segments::follow::Operands;
@@ -19,8 +19,8 @@ use verifier::Rule;
 /// What is known of the register, and what is stated there, unless the former is within the latter.
 fn push_register_outside(
     out: &mut Text,
-    target: &Target<'_, Value>,
-    state: &State<Value>,
+    target: &SegmentStart<'_, Value>,
+    state: &AbstractState<Value>,
     register: usize,
 ) {
     let known = known_at(&state.kinds, register);
@@ -38,7 +38,11 @@ fn push_register_outside(
 }
 
 /// A line for the first byte of the stack that isn't within the statement.
-fn push_byte_outside(out: &mut Text, target: &Target<'_, Value>, state: &State<Value>) {
+fn push_byte_outside(
+    out: &mut Text,
+    target: &SegmentStart<'_, Value>,
+    state: &AbstractState<Value>,
+) {
     let stated = target.statement.stack();
     for place in 0..512usize {
         if stated.contains(place) & !is_byte(&state.entries, place) {
@@ -53,7 +57,7 @@ fn push_byte_outside(out: &mut Text, target: &Target<'_, Value>, state: &State<V
 
 /// A line for each register that isn't within the statement, and for the first such byte of the
 /// stack.
-fn push_outside(out: &mut Text, target: &Target<'_, Value>, state: &State<Value>) {
+fn push_outside(out: &mut Text, target: &SegmentStart<'_, Value>, state: &AbstractState<Value>) {
     for register in 0..10usize {
         push_register_outside(out, target, state, register);
     }
@@ -61,7 +65,7 @@ fn push_outside(out: &mut Text, target: &Target<'_, Value>, state: &State<Value>
 }
 
 /// A line for the register of a rank's term, and how it relates to the statement above.
-fn push_term(out: &mut Text, state: &State<Value>, term: Option<RankTerm>) {
+fn push_term(out: &mut Text, state: &AbstractState<Value>, term: Option<RankTerm>) {
     if let Some(term) = term {
         let register = term.register() as usize;
         push_register(
@@ -84,10 +88,10 @@ fn push_term(out: &mut Text, state: &State<Value>, term: Option<RankTerm>) {
 /// The rank at the edge's target, and what it should be.
 fn push_ranks(
     out: &mut Text,
-    target: &Target<'_, Value>,
+    target: &SegmentStart<'_, Value>,
     is_back: bool,
-    segment: &Target<'_, Value>,
-    state: &State<Value>,
+    segment: &SegmentStart<'_, Value>,
+    state: &AbstractState<Value>,
 ) {
     let there = target.statement.rank();
     let Rank { first, second, .. } = there;
@@ -105,9 +109,9 @@ fn push_ranks(
 
 /// What is stated at a slot.
 pub(crate) fn target_at<'t, 'a>(
-    targets: &'t [Option<Target<'a, Value>>],
+    targets: &'t [Option<SegmentStart<'a, Value>>],
     slot: usize,
-) -> Option<&'t Target<'a, Value>> {
+) -> Option<&'t SegmentStart<'a, Value>> {
     stated_at(targets, slot)
 }
 
@@ -115,9 +119,9 @@ pub(crate) fn target_at<'t, 'a>(
 #[derive(Clone, Copy)]
 pub(crate) struct Ways<'a> {
     pub memory: &'a Memory,
-    pub targets: &'a [Option<Target<'a, Value>>],
+    pub targets: &'a [Option<SegmentStart<'a, Value>>],
     /// The statement of the slot's segment.
-    pub segment: &'a Target<'a, Value>,
+    pub segment: &'a SegmentStart<'a, Value>,
     /// `None` at the entry.
     pub slot: Option<usize>,
 }
@@ -136,7 +140,7 @@ impl Ways<'_> {
 
     /// What is wrong on the edge to the slot. Returns whether the slot is stated and something is
     /// wrong.
-    pub fn push_to(&self, out: &mut Text, to: usize, state: &State<Value>) -> bool {
+    pub fn push_to(&self, out: &mut Text, to: usize, state: &AbstractState<Value>) -> bool {
         if let Some(target) = target_at(self.targets, to) {
             let is_back = match self.slot {
                 Some(slot) => to <= slot,
@@ -162,7 +166,7 @@ impl Ways<'_> {
         operands: &Operands,
         values: Option<(Value, Value)>,
         to: usize,
-        state: &State<Value>,
+        state: &AbstractState<Value>,
     ) -> bool {
         match values {
             Some(values) => {
@@ -181,7 +185,7 @@ impl Ways<'_> {
         instruction: &Instruction,
         to: usize,
         next: usize,
-        state: &State<Value>,
+        state: &AbstractState<Value>,
     ) {
         match *instruction {
             Instruction::Branch {
@@ -217,7 +221,7 @@ impl Ways<'_> {
         hook: Hook,
         slot: usize,
         instruction: &Instruction,
-        state: &State<Value>,
+        state: &AbstractState<Value>,
     )
         requires { slot < 4096 }
     {

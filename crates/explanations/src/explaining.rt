@@ -15,8 +15,8 @@ use inference::entry_state;
 use inference::liveness::live_registers;
 use inference::memory::Memory;
 use isa::{Code, DecodeError, decode};
-use kinds::Target;
-use object::{Object, ReadError};
+use kinds::SegmentStart;
+use object::{Object, ObjectError};
 use object_verdicts::{VerifyError, verify_object};
 use segments::target::targets_of;
 use std::alloc::{AllocError, Global};
@@ -38,7 +38,7 @@ pub struct Explanation {
 /// Why there is no explanation.
 #[derive(Clone, Copy)]
 pub enum ExplainError {
-    Object(ReadError),
+    Object(ObjectError),
     Code(DecodeError),
     Memory,
 }
@@ -133,7 +133,7 @@ fn push_entered<'a>(
     memory: &'a Memory,
     object: &'a Object,
     code: &'a Code,
-    entry: Target<'a, Value>,
+    entry: SegmentStart<'a, Value>,
     refusal: Option<Refusal>,
 ) {
     if object.slots() == code.len() {
@@ -161,7 +161,7 @@ fn push_object(
     refusal: Option<Refusal>,
 ) {
     if let Some(statement) = entry_statement(object.entry_rank()) {
-        let entry = Target {
+        let entry = SegmentStart {
             statement: &statement,
             kinds: entry_state(memory, 0).kinds,
         };

@@ -4,7 +4,7 @@ use crate::text::Text;
 use absdom::Domain;
 pub(crate) use inference::Value;
 use inference::memory::element_or;
-use kinds::{Entry, Fact, Kind, Place};
+use kinds::{Fact, Kind, PointerPlace, StackEntry};
 use object::{Rank, RankTerm};
 
 /// A mask of the bits of the numbers from 0 to `high`: its highest set bit, and all below.
@@ -57,11 +57,11 @@ fn push_number(out: &mut Text, value: Value) {
 }
 
 /// The place that a pointer points to.
-pub(crate) fn push_place(out: &mut Text, place: Place<Value>) {
+pub(crate) fn push_place(out: &mut Text, place: PointerPlace<Value>) {
     match place {
-        Place::Context(at) => out.numbered("context, byte ", at, ""),
-        Place::Stack(at) => out.numbered("stack, byte ", at, ""),
-        Place::Map(map, value) => {
+        PointerPlace::Context(at) => out.numbered("context, byte ", at, ""),
+        PointerPlace::Stack(at) => out.numbered("stack, byte ", at, ""),
+        PointerPlace::Map(map, value) => {
             out.numbered("map ", map.number() as u64, ", offset ");
             push_numbers(out, value)
         }
@@ -131,17 +131,17 @@ pub(crate) fn push_rank(out: &mut Text, before: &str, rank: Rank, behind: &str) 
 }
 
 /// What is known of the stack from this place on.
-fn entry_at(entries: &[Entry<Value>], place: usize) -> Entry<Value> {
-    element_or(entries, place, Entry::Unknown)
+fn entry_at(entries: &[StackEntry<Value>], place: usize) -> StackEntry<Value> {
+    element_or(entries, place, StackEntry::Unknown)
 }
 
 /// Whether the byte at this place of the stack is known to be one of a number.
-pub(crate) fn is_byte(entries: &[Entry<Value>], place: usize) -> bool {
-    matches!(entry_at(entries, place), Entry::Byte)
+pub(crate) fn is_byte(entries: &[StackEntry<Value>], place: usize) -> bool {
+    matches!(entry_at(entries, place), StackEntry::Byte)
 }
 
 /// The end of the range of bytes that begins at this place.
-pub(crate) fn end_of(entries: &[Entry<Value>], start: usize) -> usize {
+pub(crate) fn end_of(entries: &[StackEntry<Value>], start: usize) -> usize {
     for place in start..entries.len() {
         if !is_byte(entries, place) {
             return place;
@@ -152,26 +152,26 @@ pub(crate) fn end_of(entries: &[Entry<Value>], start: usize) -> usize {
 
 /// A line for the bytes or the pointer that begin at this place of the stack. Returns the end of
 /// the bytes, if there are any.
-fn push_entry(out: &mut Text, entries: &[Entry<Value>], place: usize) -> usize {
+fn push_entry(out: &mut Text, entries: &[StackEntry<Value>], place: usize) -> usize {
     match entry_at(entries, place) {
-        Entry::Byte => {
+        StackEntry::Byte => {
             let end = end_of(entries, place);
             let last = end.saturating_sub(1);
             out.fill("    stack {}..{}: bytes\n", &[place as u128, last as u128]);
             end
         }
-        Entry::Kept(kept) => {
+        StackEntry::Kept(kept) => {
             out.numbered("    stack ", place as u64, ": ");
             push_place(out, kept);
             out.push("\n");
             place
         }
-        Entry::Unknown | Entry::Filled => place,
+        StackEntry::Unknown | StackEntry::Filled => place,
     }
 }
 
 /// What is known of the stack, a line for each range of bytes and each pointer.
-pub(crate) fn push_stack(out: &mut Text, entries: &[Entry<Value>]) {
+pub(crate) fn push_stack(out: &mut Text, entries: &[StackEntry<Value>]) {
     let mut done = 0;
     for place in 0..entries.len() {
         if place >= done {

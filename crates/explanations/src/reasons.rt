@@ -6,7 +6,7 @@ use crate::rules::rule_words;
 use crate::text::Text;
 use inference::liveness::{has, reads};
 use isa::{Hook, Instruction, Operation, Register, Width};
-use kinds::{Entry, Kind, Place, State, kind_at};
+use kinds::{AbstractState, Kind, PointerPlace, StackEntry, kind_at};
 use segments::places::jump_of;
 use transfer::load::{load_length, map_length};
 use transfer::place::reached;
@@ -102,7 +102,7 @@ fn behind_register(rule: Rule, register: usize) -> &'static str {
 fn push_registers(
     out: &mut Text,
     hook: Hook,
-    state: &State<Value>,
+    state: &AbstractState<Value>,
     instruction: &Instruction,
     rule: Rule,
 ) {
@@ -117,8 +117,13 @@ fn push_registers(
 }
 
 /// The first byte of an access to the stack that isn't known to be a byte of a number.
-fn push_unknown(out: &mut Text, entries: &[Entry<Value>], place: Place<Value>, length: u64) {
-    if let Place::Stack(start) = place {
+fn push_unknown(
+    out: &mut Text,
+    entries: &[StackEntry<Value>],
+    place: PointerPlace<Value>,
+    length: u64,
+) {
+    if let PointerPlace::Stack(start) = place {
         let byte = end_of(entries, start as usize) as u64;
         if (byte < 512) & (byte.wrapping_sub(start) < length) {
             out.numbered("  stack ", byte, ": may be empty, or a part of a pointer\n");
@@ -127,7 +132,7 @@ fn push_unknown(out: &mut Text, entries: &[Entry<Value>], place: Place<Value>, l
 }
 
 /// The bytes of an access, as `8 bytes at r6 + 4: map 1, offset 4`.
-fn push_bytes(out: &mut Text, access: &Access, place: Place<Value>) {
+fn push_bytes(out: &mut Text, access: &Access, place: PointerPlace<Value>) {
     let (length, base) = (access.length as u128, access.base.index() as u128);
     out.fill("  {} bytes at r{} + ", &[length, base]);
     out.signed(access.offset as i64);
@@ -136,16 +141,16 @@ fn push_bytes(out: &mut Text, access: &Access, place: Place<Value>) {
     out.push("\n")
 }
 
-fn length_of(place: Place<Value>) -> u64 {
+fn length_of(place: PointerPlace<Value>) -> u64 {
     match place {
-        Place::Context(_) => 64,
-        Place::Stack(_) => 512,
-        Place::Map(map, _) => map_length(map),
+        PointerPlace::Context(_) => 64,
+        PointerPlace::Stack(_) => 512,
+        PointerPlace::Map(map, _) => map_length(map),
     }
 }
 
 /// What is wrong with the bytes of the access; if they are out of bounds, also the allowed offsets.
-fn push_access(out: &mut Text, state: &State<Value>, access: &Access, rule: Rule) {
+fn push_access(out: &mut Text, state: &AbstractState<Value>, access: &Access, rule: Rule) {
     if let Ok(place) = reached(kind_at(state, access.base), access.offset) {
         match rule {
             Rule::Empty => push_unknown(out, &state.entries, place, access.length),
@@ -187,7 +192,7 @@ pub(crate) fn push_reason(
     hook: Hook,
     slot: usize,
     instruction: &Instruction,
-    state: &State<Value>,
+    state: &AbstractState<Value>,
     rule: Rule,
 )
     requires { slot < 4096 }

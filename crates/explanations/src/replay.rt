@@ -2,8 +2,8 @@
 
 use crate::phrases::{Value, followed_at, known_at, push_fact, push_register};
 use crate::text::Text;
-use kinds::State;
-use object::{Kind as Stated, Rank, StackBytes, Statement};
+use kinds::AbstractState;
+use object::{Rank, StackBytes, StatedKind as Stated, Statement};
 
 pub(crate) fn entry_statement(rank: u32) -> Option<Statement> {
     let constant = Rank {
@@ -18,7 +18,7 @@ pub(crate) fn entry_statement(rank: u32) -> Option<Statement> {
 pub(crate) fn push_live(
     out: &mut Text,
     begun: Option<usize>,
-    state: &State<Value>,
+    state: &AbstractState<Value>,
     register: usize,
 ) {
     let kind = known_at(&state.kinds, register);

@@ -12,7 +12,7 @@ use inference::liveness::{Registers, has};
 use inference::memory::{Memory, element_or};
 use inference::{copy_of, entry_state};
 use isa::{Code, Hook, Instruction, Slot};
-use kinds::{State, Target, reset};
+use kinds::{AbstractState, SegmentStart, reset};
 use segments::follow::follow;
 use segments::known::Known;
 use segments::places::check_places;
@@ -25,16 +25,16 @@ pub(crate) struct Program<'a> {
     pub code: &'a Code,
     pub hook: Hook,
     pub live: Vec<Registers>,
-    pub targets: Vec<Option<Target<'a, Value>>>,
+    pub targets: Vec<Option<SegmentStart<'a, Value>>>,
     /// The statement of the entry.
-    pub entry: Target<'a, Value>,
+    pub entry: SegmentStart<'a, Value>,
     /// The slot and the rule by which the verifier refuses it, if it does.
     pub refusal: Option<Refusal>,
 }
 
 impl<'a> Program<'a> {
     /// The statement of the segment that begins at the slot, or at the entry.
-    fn segment(&self, begun: Option<usize>) -> &Target<'a, Value> {
+    fn segment(&self, begun: Option<usize>) -> &SegmentStart<'a, Value> {
         match begun {
             Some(slot) => target_at(&self.targets, slot).unwrap_or(&self.entry),
             None => &self.entry,
@@ -60,7 +60,7 @@ pub(crate) struct Here {
 
 impl Here {
     /// At the entry.
-    pub fn new(state: State<Value>) -> Here {
+    pub fn new(state: AbstractState<Value>) -> Here {
         Here {
             begun: None,
             known: Known {

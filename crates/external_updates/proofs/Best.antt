@@ -5,7 +5,7 @@ use Rattle.std.specs.FinMap as finite
 use Rattle.std.specs.List.{Contains}
 use Rattle.std.specs.Prelude.{IfSome, slice_get}
 use Rattle.std.proofs.lemmas.Option.{same_Some}
-use Rattle.lsa.specs.declared.body.Body.{Body}
+use Rattle.lsa.specs.declared.body.LsaBody.{LsaBody}
 use Rattle.routes.specs.lsdb.Copies.{Database, DatabaseCopy, said_by}
 use Rattle.words.specs.Prefixes.{Network}
 use Rattle.words.specs.declared.key.Key.{Key}
@@ -28,13 +28,13 @@ use Rattle.external_updates.specs.Destinations.{HaveAllUnder, IsBestTo, IsTo, Kn
 use Rattle.external_updates.specs.Destinations.{OffersTo, SaysTo}
 use Rattle.external_updates.proofs.Staying.{its_prefix}
 
-has_copy : (moment : ℕ) (copy : Option DatabaseCopy) (says : Body) → said_by moment copy ≡ Some says
-    → is_some copy ≡ true
+has_copy : (moment : ℕ) (copy : Option DatabaseCopy) (says : LsaBody)
+    → said_by moment copy ≡ Some says → is_some copy ≡ true
 has_copy moment None says e = absurd (cc)
 has_copy moment (Some copy) says e = refl
 
 -- the Link State ID of an LSA with an offer to the destination is in the destination
-pub lies : (root : Root) (inner : InnerRoutes) (prefix : Network) (one : Key × Body) (o : Offer)
+pub lies : (root : Root) (inner : InnerRoutes) (prefix : Network) (one : Key × LsaBody) (o : Offer)
     → SaysTo root inner prefix one o → LiesUnder prefix one.0
 lies root inner prefix one o (q, e) =
     let key = one.0 in
@@ -176,14 +176,14 @@ just_to P prefix offer o just to =
     (λ x t. ((just x).1 t.0, t.1)) to
 
 pub just_its : (moment : ℕ) (db : Database) (root : Root) (inner : InnerRoutes) (prefix : Network)
-    (key : Key) (says : Body) (o : Option Offer) → said_at moment db key ≡ Some says
+    (key : Key) (says : LsaBody) (o : Option Offer) → said_at moment db key ≡ Some says
     → IsJust (SaysTo root inner prefix (key, says)) o
     → IsJust (OffersTo (said_at moment db) root inner prefix key) o
 just_its moment db root inner prefix key says o is just =
     just_such (OffersTo (said_at moment db) root inner prefix key)
     (SaysTo root inner prefix (key, says)) o
     (λ x k. let same : k.says ≡ says = same_Some k.says says (sym k.its ∙ is) in
-    subst (λ (b : Body). SaysTo root inner prefix (key, b) x) same k.offers)
+    subst (λ (b : LsaBody). SaysTo root inner prefix (key, b) x) same k.offers)
     (λ x k. record { says = says; its = is; offers = k })
     just
 

@@ -1,6 +1,6 @@
 -- What is unchanged while only AS-external-LSAs change.
 use Rattle.std.proofs.Common.{◌≡◌, ℕ, inl, inr, List, refl, arith, sym, ap, subst, ◌∙◌}
-use Rattle.lsa.specs.declared.body.Body.TheVariants as body
+use Rattle.lsa.specs.declared.body.LsaBody.TheVariants as body
 use Rattle.lsa.specs.declared.body.ExternalLsa.{ExternalLsa}
 use Rattle.words.specs.Prefixes.{Network}
 use Rattle.words.specs.declared.key.Key.{Key}

@@ -1,7 +1,7 @@
 -- What an AS-external-LSA advertises.
 use Rattle.std.proofs.Common.{◌≡◌, Option, None, Some, ap, sym}
-use Rattle.lsa.specs.declared.body.Body.{Body}
-use Rattle.lsa.specs.declared.body.Body.TheVariants as body
+use Rattle.lsa.specs.declared.body.LsaBody.{LsaBody}
+use Rattle.lsa.specs.declared.body.LsaBody.TheVariants as body
 use Rattle.lsa.specs.declared.body.ExternalLsa.{ExternalLsa}
 use Rattle.candidates.specs.Gathering.{IsJust}
 
@@ -10,5 +10,5 @@ just_is P None x none p = absurd (none x p)
 just_is {X} P (Some it) x just p = ap (λ (y : X). Some y) (sym ((just x).0 p))
 
 pub same_body : (a b : ExternalLsa)
-    → ◌≡◌ {A = Option Body} (Some (body.External a)) (Some (body.External b)) → a ≡ b
+    → ◌≡◌ {A = Option LsaBody} (Some (body.External a)) (Some (body.External b)) → a ≡ b
 same_body a b e = cc

@@ -1,7 +1,7 @@
 -- The destinations that changed AS-external-LSAs advertise (RFC 2328, section 16.6).
 use Rattle.std.specs.Prelude.{◌≡◌, ◌⊎◌, List, Some}
 use Rattle.std.specs.List.{Contains}
-use Rattle.lsa.specs.declared.body.Body.TheVariants as body
+use Rattle.lsa.specs.declared.body.LsaBody.TheVariants as body
 use Rattle.lsa.specs.declared.body.ExternalLsa.{ExternalLsa}
 use Rattle.routes.specs.Offers.{IsPrefix}
 use Rattle.routes.specs.Said.{Said}

@@ -4,7 +4,7 @@ use Rattle.std.specs.FinMap as finite
 use Rattle.std.specs.List.{Contains}
 use Rattle.candidates.specs.Inner.{AreInner, AreSearchable}
 use Rattle.candidates.specs.declared.inner.InnerRoutes.{InnerRoutes}
-use Rattle.lsa.specs.declared.body.Body.{Body}
+use Rattle.lsa.specs.declared.body.LsaBody.{LsaBody}
 use Rattle.routes.specs.lsdb.Copies.{Database}
 use Rattle.candidates.specs.Sources.{OfExternal}
 use Rattle.candidates.specs.Ways.{AreWays, Ways}
@@ -46,7 +46,7 @@ abbrev pub IsTo : Network → Offer → Offer → Type 0
 IsTo prefix one o = (o ≡ one) × (o.prefix ≡ prefix)
 
 -- an AS-external-LSA with this body makes the offer, to the destination
-abbrev pub SaysTo : Root → InnerRoutes → Network → Key × Body → Offer → Type 0
+abbrev pub SaysTo : Root → InnerRoutes → Network → Key × LsaBody → Offer → Type 0
 SaysTo root inner prefix one o =
     OfExternal root inner.flagged.items inner.told.items inner.networks.items one o
     × (o.prefix ≡ prefix)
@@ -54,7 +54,7 @@ SaysTo root inner prefix one o =
 -- the AS-external-LSA with this key does
 pub record OffersTo (said : Said) (root : Root) (inner : InnerRoutes) (prefix : Network)
     (key : Key) (o : Offer) : Type 0 where
-  pub says : Body
+  pub says : LsaBody
   pub its : said key ≡ Some says
   pub offers : SaysTo root inner prefix (key, says) o
 

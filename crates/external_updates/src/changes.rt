@@ -3,14 +3,14 @@ ghost use Rattle.std.specs.Prelude.{◌≡◌, ◌↔◌, ◌≤◌, IfOk, IsTru
 ghost use Rattle.std.specs.Prelude.{option_copied};
 ghost use Rattle.std.specs.List.{Contains};
 ghost use Rattle.external_updates.specs.Changes.{AreAllTold, OthersSayTheSame};
-ghost use Rattle.lsa.specs.declared.body.Body.TheVariants as body;
+ghost use Rattle.lsa.specs.declared.body.LsaBody.TheVariants as body;
 ghost use Rattle.lsa.specs.declared.body.ExternalLsa.{ExternalLsa as ExternalValue};
 ghost use Rattle.routes.specs.Offers.{IsPrefix};
 ghost use Rattle.routes.specs.Said.{said_at};
 ghost use Rattle.words.specs.Prefixes.{Network};
 
 use candidates::network_of;
-use lsa::{Body, ExternalLsa};
+use lsa::{ExternalLsa, LsaBody};
 use routes::Lsdb;
 use std::alloc::{AllocError, Global};
 use words::{Key, Prefix, Second};
@@ -53,13 +53,13 @@ fn is_among(prefixes: &[Prefix], prefix: Prefix) -> bool
 }
 
 // The AS-external-LSA's body, if it is one.
-fn external_of(says: Option<&Body>) -> Option<&ExternalLsa>
+fn external_of(says: Option<&LsaBody>) -> Option<&ExternalLsa>
     ensures { MatchOption result ((lsa : ExternalValue)
         → option_copied says.entry ≡ Some (body.External lsa) → ⊥) (λ lsa.
         option_copied says.entry ≡ Some (body.External lsa.now)) }
 {
     match says? {
-        Body::External(lsa) => Some(lsa),
+        LsaBody::External(lsa) => Some(lsa),
         _ => None,
     }
 }
@@ -87,7 +87,7 @@ fn note(prefixes: &mut Vec<Prefix>, told: Option<Prefix>) -> Result<(), AllocErr
 fn note_network(
     prefixes: &mut Vec<Prefix>,
     key: &Key,
-    says: Option<&Body>,
+    says: Option<&LsaBody>,
 ) -> Result<(), AllocError>
     ensures kept { OnOk result ((prefix : Network) → Contains prefixes.old.items prefix
         → Contains prefixes.new.items prefix) }

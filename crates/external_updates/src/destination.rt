@@ -8,7 +8,7 @@ ghost use Rattle.routes.specs.Said.{said_at};
 
 use crate::keys::lies_under;
 use candidates::{Inner, InnerRoutes, external_offer, push_offer, routes_of_offers};
-use lsa::Body;
+use lsa::LsaBody;
 use routes::{Lsdb, Offer, Root};
 use std::alloc::{AllocError, Global};
 use words::{Key, Prefix, Route, Second};
@@ -40,7 +40,7 @@ fn offer_to(
     inner: &InnerRoutes,
     prefix: Prefix,
     key: &Key,
-    says: &Body,
+    says: &LsaBody,
 ) -> Option<Offer>
     requires { AreSearchable inner.now }
     ensures { IsJust (SaysTo root.now inner.now prefix (key.now, says.now)) result }

@@ -9,10 +9,10 @@ use Rattle.words.specs.declared.key.Key.{Key}
 use Rattle.words.specs.declared.route.External.{External}
 use Rattle.words.specs.declared.route.Route.{Route}
 use Rattle.lsa.specs.Reading.{lsa_in}
-use Rattle.lsa.specs.declared.body.Body.{Body as LsaBody}
+use Rattle.lsa.specs.declared.body.LsaBody.{LsaBody}
 use Rattle.flood_laws.specs.lsdb.Headers.{Lsa, lsa_key}
-use Rattle.packet.specs.declared.model.Body.{Body}
-use Rattle.packet.specs.declared.model.Body.TheVariants as body
+use Rattle.packet.specs.declared.model.PacketBody.{PacketBody}
+use Rattle.packet.specs.declared.model.PacketBody.TheVariants as body
 use Rattle.packet.specs.declared.model.Packet.{Packet}
 use Rattle.flood_laws.specs.adjacency.Neighbors.{Neighbor}
 use Rattle.events.specs.received.Cases.{Case}
@@ -112,7 +112,7 @@ all_lsas moment number (bytes ∷ rest) p =
     either (goes_on (case_in moment number (lsa_in bytes) p)) (after_lsas moment number rest q) q p
     (all_lsas moment number rest q ∙ stays) stays
 
-from_one : (moment number from : ℕ) (in_exchange : Bool) (b : Body) (p : EventState)
+from_one : (moment number from : ℕ) (in_exchange : Bool) (b : PacketBody) (p : EventState)
     → of (from_neighbor moment number from in_exchange b p) ≡ of p
 from_one moment number from in_exchange (body.Hello hello) p = refl
 from_one moment number from in_exchange (body.Description d) p = refl

@@ -2,7 +2,7 @@
 -- allocation may be refused.
 use Rattle.std.proofs.Common.{◌≡◌, ℕ, Bool, true, false, Option, None, Some, refl}
 use Rattle.std.specs.Prelude.{if◌then◌else◌, Err}
-use Rattle.packet.specs.declared.refusal.Fault.{Fault}
+use Rattle.packet.specs.declared.refusal.PacketFault.{PacketFault}
 use Rattle.packet.specs.Reading.{fault_of}
 use Rattle.events.specs.declared.model.CoreError.{CoreError}
 use Rattle.events.specs.declared.model.CoreError.TheVariants as error
@@ -53,7 +53,7 @@ none_of_event old moment o = clock_none (is_clock_back moment old) (early_refusa
 
 -- ---- so an allocation may be refused
 
-bad_may : (f : Option Fault) → MayRunOut (bad_packet f)
+bad_may : (f : Option PacketFault) → MayRunOut (bad_packet f)
 bad_may None = (λ p. absurd cc, λ p. absurd cc)
 bad_may (Some f) = (λ p. absurd cc, λ p. absurd cc)
 
@@ -123,7 +123,7 @@ stands_first old moment (Occurrence.Install answers) x =
 stands_first old moment (Occurrence.LinkDown number) x =
     clock_first (is_clock_back moment old) _ _ x (there_first (is_interface number old) None x)
 
-full_late : (f : Option Fault) → bad_packet f ≡ Some error.Full → ⊥
+full_late : (f : Option PacketFault) → bad_packet f ≡ Some error.Full → ⊥
 full_late None e = absurd cc
 full_late (Some f) e = absurd cc
 

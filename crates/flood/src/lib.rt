@@ -20,5 +20,5 @@ mod taking;
 pub use area_routes::Offered;
 pub use event::Event;
 pub use events::{Config, ConfigError, CoreError, Out};
-pub use flood_laws::{Interface, State};
+pub use flood_laws::{Interface, NeighborState};
 pub use router_core::Core;

@@ -20,7 +20,7 @@ use crate::start::begin;
 use crate::taking::refuses;
 use area_routes::{AreaRoutes, Offered};
 use events::{Config, ConfigError, CoreError, Out};
-use flood_laws::{Lsdb, State};
+use flood_laws::{Lsdb, NeighborState};
 use procedures::Router;
 use std::alloc::{AllocError, Global};
 use std::marker::Model;
@@ -209,7 +209,7 @@ impl Core {
 
     /// The neighbor at the interface with this number and its state, or `None` if it is Down or
     /// there is no such interface.
-    pub fn neighbor(&self, number: u16) -> Option<(RouterId, State)>
+    pub fn neighbor(&self, number: u16) -> Option<(RouterId, NeighborState)>
         ensures { result ≡ shown_at self.now number }
     {
         let place = usize::from(number).checked_sub(1)?;

@@ -9,8 +9,8 @@ use Rattle.lsa.specs.Reading.{lsa_in}
 use Rattle.lsdb.specs.Copies.{DatabaseCopy}
 use Rattle.lsdb.specs.Headers.{Lsa, lsa_key}
 use Rattle.lsdb.specs.Instances.{ListEntry}
-use Rattle.packet.specs.declared.model.Body.{Body}
-use Rattle.packet.specs.declared.model.Body.TheVariants as body
+use Rattle.packet.specs.declared.model.PacketBody.{PacketBody}
+use Rattle.packet.specs.declared.model.PacketBody.TheVariants as body
 use Rattle.adjacency.specs.Neighbors.{Neighbor}
 use Rattle.adjacency.proofs.Kept.{chosen}
 use Rattle.adjacency.proofs.Maps.{AllIn, IfThere, OfEntry, entries_in, inserted_in, removed_in}
@@ -119,7 +119,7 @@ module _ (own : ℕ) where
       read_any None = tt
       read_any (Some lsa) = tt
 
-  brought_any : (b : Body) → OfBrought (in_order own).of_lsa b
+  brought_any : (b : PacketBody) → OfBrought (in_order own).of_lsa b
   brought_any (body.Hello h) = tt
   brought_any (body.Description d) = tt
   brought_any (body.Request keys) = tt

@@ -11,12 +11,12 @@ use Rattle.words.specs.Prefixes.{Network}
 use Rattle.words.specs.declared.key.Key.{Key}
 use Rattle.words.specs.declared.route.External.{External}
 use Rattle.lsa.specs.Reading.{lsa_in}
-use Rattle.lsa.specs.declared.body.Body.{Body as LsaBody}
+use Rattle.lsa.specs.declared.body.LsaBody.{LsaBody}
 use Rattle.lsdb.specs.Copies.{DatabaseCopy, age_out, is_aged_out}
 use Rattle.lsdb.specs.Headers.{Header, Lsa, lsa_aged, lsa_key}
 use Rattle.lsdb.specs.Keys.{ByKey}
-use Rattle.packet.specs.declared.model.Body.{Body}
-use Rattle.packet.specs.declared.model.Body.TheVariants as body
+use Rattle.packet.specs.declared.model.PacketBody.{PacketBody}
+use Rattle.packet.specs.declared.model.PacketBody.TheVariants as body
 use Rattle.packet.specs.declared.model.Description.{Description}
 use Rattle.packet.specs.declared.model.Hello.{Hello}
 use Rattle.packet.specs.declared.model.Packet.{Packet}
@@ -324,7 +324,7 @@ module _ (i : Invariant) (kept : IsKeptByParts i) (X Y : Lately) (old : Router) 
         (λ lsa c. among_more (lsa_in bytes) (filter_map lsa_in rest) lsa c) rest (all_among rest),
   )
 
-  from_neighbor_kept : (number from : ℕ) (b : Body) → IsHeard start event number (record {
+  from_neighbor_kept : (number from : ℕ) (b : PacketBody) → IsHeard start event number (record {
     router = from;
     body = b;
   }) → (in_exchange : Bool) → OfBrought i.of_lsa b → InProgress start

@@ -9,8 +9,8 @@ use Rattle.lsdb.specs.Copies.{DatabaseCopy, age_out, has_just_aged_out, install_
 use Rattle.lsdb.specs.Headers.{Lsa, lsa_aged}
 use Rattle.lsdb.specs.Instances.{ListEntry}
 use Rattle.lsdb.specs.Keys.{ByKey}
-use Rattle.packet.specs.declared.model.Body.{Body}
-use Rattle.packet.specs.declared.model.Body.TheVariants as body
+use Rattle.packet.specs.declared.model.PacketBody.{PacketBody}
+use Rattle.packet.specs.declared.model.PacketBody.TheVariants as body
 use Rattle.packet.specs.declared.model.Hello.{Hello}
 use Rattle.adjacency.specs.Adjacencies as adjacencies
 use Rattle.adjacency.specs.Contents.{Step, no_sends}
@@ -166,7 +166,7 @@ module _ (Q : Fact) (kept : IsKept Q) where
       read_any None = tt
       read_any (Some lsa) = tt
 
-  brought_any : (b : Body) → OfBrought on_neighbors.of_lsa b
+  brought_any : (b : PacketBody) → OfBrought on_neighbors.of_lsa b
   brought_any (body.Hello h) = tt
   brought_any (body.Description d) = tt
   brought_any (body.Request keys) = tt

@@ -18,14 +18,14 @@ use Rattle.lsa.specs.Headers.{IsHeader, header_at, header_text}
 use Rattle.lsa.specs.Origination.{sealed_lsa, with_header_of_body}
 use Rattle.lsa.specs.Reading.{fault_of, lsa_in, lsa_of}
 use Rattle.lsa.specs.Text.{Parts, body_text, text, type_of}
-use Rattle.lsa.specs.declared.body.Body.{Body as LsaBody}
-use Rattle.lsa.specs.declared.body.Body.TheVariants as lsa_body
-use Rattle.lsa.specs.declared.fault.Fault.{Fault}
+use Rattle.lsa.specs.declared.body.LsaBody.{LsaBody}
+use Rattle.lsa.specs.declared.body.LsaBody.TheVariants as lsa_body
+use Rattle.lsa.specs.declared.fault.LsaFault.{LsaFault}
 use Rattle.lsa.proofs.Headers.{header-fits, header-reads_back}
 use Rattle.lsdb.specs.Copies.{DatabaseCopy}
 use Rattle.lsdb.specs.Headers.{Header, Lsa}
-use Rattle.packet.specs.declared.model.Body.{Body}
-use Rattle.packet.specs.declared.model.Body.TheVariants as body
+use Rattle.packet.specs.declared.model.PacketBody.{PacketBody}
+use Rattle.packet.specs.declared.model.PacketBody.TheVariants as body
 use Rattle.packet.specs.Text.{IsBody, IsUnread}
 use Rattle.adjacency.specs.Contents.{Content}
 use Rattle.adjacency.proofs.Maps.{IfThere, none_in}
@@ -123,13 +123,13 @@ module _ (K : LsaInstance → Type 0) where
       same = sym (ap (λ bs. instance_of_header (header_at bs 0)) h.0.is
           ∙ name_read h.0.lsa h.0.known.1)
 
-      with_first : (o : Option Fault) → AllByRecursion K (instances_in_update rest)
+      with_first : (o : Option LsaFault) → AllByRecursion K (instances_in_update rest)
           → AllByRecursion K (map instance_of_lsa
           (cons_option (read_unless bytes o) (filter_map lsa_in rest)))
       with_first None more = (subst K same h.0.known.0, more)
       with_first (Some f) more = more
 
-  body_tells : (b : Body) → Bears Named b → AllByRecursion K (instances_advertised b)
+  body_tells : (b : PacketBody) → Bears Named b → AllByRecursion K (instances_advertised b)
   body_tells (body.Hello h) bears = tt
   body_tells (body.Description d) bears = tt
   body_tells (body.Request keys) bears = tt
@@ -143,7 +143,7 @@ module _ (old : Router) (event : Occurrence) (originated : List LsaInstance) (se
     abbrev Known : LsaInstance → Type 0
     Known name = Named (IsKnown old event originated) name
 
-    lawful_out : (n : ℕ) (b : Body) → Bears Known b × IsText old.id b
+    lawful_out : (n : ℕ) (b : PacketBody) → Bears Known b × IsText old.id b
         → IsLawfulOut old event originated (out_of old.id n b)
     lawful_out n b so = record {
       packet = record { router = old.id; body = b };
@@ -189,13 +189,13 @@ update_in_range : (lsas : List (List ℕ)) → AllByRecursion IsUnread lsas
 update_in_range [] h = tt
 update_in_range (bytes ∷ rest) h = with_first (fault_of bytes) (update_in_range rest h.1)
   where
-    with_first : (o : Option Fault) → AllByRecursion IsInstance (instances_in_update rest)
+    with_first : (o : Option LsaFault) → AllByRecursion IsInstance (instances_in_update rest)
         → AllByRecursion IsInstance (map instance_of_lsa
         (cons_option (read_unless bytes o) (filter_map lsa_in rest)))
     with_first None more = (header_names (header_at bytes 0) (header-fits bytes 0 h.0.bytes), more)
     with_first (Some f) more = more
 
-brought_in_range : (b : Body) → IsBody b → AllByRecursion IsInstance (instances_received b)
+brought_in_range : (b : PacketBody) → IsBody b → AllByRecursion IsInstance (instances_received b)
 brought_in_range (body.Hello h) is = tt
 brought_in_range (body.Description d) is = tt
 brought_in_range (body.Request keys) is = tt

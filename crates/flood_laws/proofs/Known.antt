@@ -8,12 +8,12 @@ use Rattle.std.specs.List.{AllByRecursion, Contains, cons_option, filter_map, fl
 use Rattle.words.specs.declared.key.Key.{Key}
 use Rattle.words.specs.declared.route.External.{External}
 use Rattle.lsa.specs.Reading.{lsa_in}
-use Rattle.lsa.specs.declared.body.Body.{Body as LsaBody}
+use Rattle.lsa.specs.declared.body.LsaBody.{LsaBody}
 use Rattle.lsdb.specs.Copies.{DatabaseCopy}
 use Rattle.lsdb.specs.Headers.{Lsa}
 use Rattle.lsdb.specs.Instances.{ListEntry}
-use Rattle.packet.specs.declared.model.Body.{Body}
-use Rattle.packet.specs.declared.model.Body.TheVariants as body
+use Rattle.packet.specs.declared.model.PacketBody.{PacketBody}
+use Rattle.packet.specs.declared.model.PacketBody.TheVariants as body
 use Rattle.packet.specs.declared.model.Packet.{Packet}
 use Rattle.packet.specs.Text.{PacketText}
 use Rattle.adjacency.specs.Contents.{Content}
@@ -219,7 +219,7 @@ module _ (K : LsaInstance → Type 0) (P : Key → Type 0)
       one_of None all more = (tt, more all)
       one_of (Some lsa) all more = (all.0, more all.1)
 
-  pub body_brought : (b : Body) → AllByRecursion K (instances_received b)
+  pub body_brought : (b : PacketBody) → AllByRecursion K (instances_received b)
       → OfBrought named_by.of_lsa b
   body_brought (body.Hello hello) h = tt
   body_brought (body.Description d) h = tt

@@ -6,9 +6,9 @@ use Rattle.std.specs.Prelude.{slice_index}
 use Rattle.std.specs.Int.{byte_at, bytes_high_first}
 use Rattle.std.specs.List.{AllByRecursion, flat_map}
 use Rattle.words.specs.Fields.{field, fields}
-use Rattle.lsa.specs.declared.body.Body.{Body as LsaBody}
-use Rattle.lsa.specs.declared.body.Body.TheVariants as bodies
-use Rattle.lsa.specs.declared.body.Link.{Link as RouterLink}
+use Rattle.lsa.specs.declared.body.LsaBody.{LsaBody}
+use Rattle.lsa.specs.declared.body.LsaBody.TheVariants as bodies
+use Rattle.lsa.specs.declared.body.RouterLink.{RouterLink}
 use Rattle.lsa.specs.declared.body.LinkTos.{LinkTos}
 use Rattle.lsa.specs.declared.body.SummaryTos.{SummaryTos}
 use Rattle.lsa.specs.declared.body.SummaryLsa.{SummaryLsa}
@@ -19,8 +19,8 @@ use Rattle.lsa.specs.Text.{link_fields, link_text, link_tos_text, router_fields,
 use Rattle.lsa.specs.Text.{summary_text, summary_tos_text, text}
 use Rattle.lsa.proofs.Headers.{header-reads_back}
 use Rattle.lsdb.specs.Headers.{Lsa}
-use Rattle.packet.specs.declared.model.Body.{Body}
-use Rattle.packet.specs.declared.model.Body.TheVariants as packets
+use Rattle.packet.specs.declared.model.PacketBody.{PacketBody}
+use Rattle.packet.specs.declared.model.PacketBody.TheVariants as packets
 use Rattle.packet.specs.declared.model.Packet.{Packet}
 use Rattle.packet.specs.Text.{IsBody, IsUnread, PacketText, canonical, closed_fields}
 use Rattle.packet.specs.Text.{text as packet_text}
@@ -119,7 +119,7 @@ same_long : (p : Packet) → length (canonical p) ≡ length (packet_text closed
 unfolding canonical
 same_long p = refl
 
-lawful : (own : ℕ) (says : Body) → own < 2 ^ 32 → IsBody says
+lawful : (own : ℕ) (says : PacketBody) → own < 2 ^ 32 → IsBody says
     → length (canonical (packet_of own says)) ≤ 8192
     → PacketText (canonical (packet_of own says)) (packet_of own says)
 lawful own says id is few =

@@ -22,8 +22,8 @@ use Rattle.lsdb.specs.Instances.{instance_of}
 use Rattle.lsdb.specs.Keys.{ByKey, same_key}
 use Rattle.lsdb.specs.Order.{age_at, compare_ages, is_max_age, is_newer}
 use Rattle.lsdb.proofs.Keys.{keys_exact, keys_total}
-use Rattle.packet.specs.declared.model.Body.{Body}
-use Rattle.packet.specs.declared.model.Body.TheVariants as body
+use Rattle.packet.specs.declared.model.PacketBody.{PacketBody}
+use Rattle.packet.specs.declared.model.PacketBody.TheVariants as body
 use Rattle.packet.specs.declared.model.Description.{Description}
 use Rattle.packet.specs.declared.model.Hello.{Hello}
 use Rattle.packet.specs.declared.model.Packet.{Packet}
@@ -664,7 +664,7 @@ module _ (old : Router) (moment : ℕ) (event : Occurrence) (number : ℕ) (befo
       told = told;
     }
 
-    brings : (b : Body) (lsa : Lsa) → Contains (lsas_brought b) lsa
+    brings : (b : PacketBody) (lsa : Lsa) → Contains (lsas_brought b) lsa
         → Contains (instances_advertised b) (instance_of_lsa lsa)
     brings (body.Hello h) lsa c = absurd (of_empty lsa c)
     brings (body.Description d) lsa c = absurd (of_empty lsa c)
@@ -937,7 +937,7 @@ module _ (old : Router) (moment : ℕ) (event : Occurrence) (number : ℕ) (befo
             start.router.area.links)) ⊎ Told
         by_result (inl k) = inl k
         by_result (inr so) = inr (tells other so.0
-            (subst (λ (x : Body). Contains (instances_advertised x) name) (sym is) so.1))
+            (subst (λ (x : PacketBody). Contains (instances_advertised x) name) (sym is) so.1))
 
   -- ---- a Tick, a command, and the end
 

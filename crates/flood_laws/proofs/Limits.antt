@@ -16,9 +16,9 @@ use Rattle.words.specs.declared.route.External.{External}
 use Rattle.lsa.specs.Origination.{sealed_lsa}
 use Rattle.lsa.specs.Reading.{lsa_in}
 use Rattle.lsa.specs.Text.{type_of}
-use Rattle.lsa.specs.declared.body.Body.{Body as LsaBody}
-use Rattle.packet.specs.declared.model.Body.{Body}
-use Rattle.packet.specs.declared.model.Body.TheVariants as body
+use Rattle.lsa.specs.declared.body.LsaBody.{LsaBody}
+use Rattle.packet.specs.declared.model.PacketBody.{PacketBody}
+use Rattle.packet.specs.declared.model.PacketBody.TheVariants as body
 use Rattle.packet.specs.declared.model.Hello.{Hello}
 use Rattle.lsdb.specs.Copies.{Database, DatabaseCopy, age_out, has_just_aged_out}
 use Rattle.lsdb.specs.Copies.{install_originated, lsa_now}
@@ -465,7 +465,7 @@ all_texts (bytes ∷ rest) = (if_read (lsa_in bytes), all_texts rest)
     if_read None = tt
     if_read (Some lsa) = tt
 
-any_body : (b : Body) → OfBrought external.of_lsa b
+any_body : (b : PacketBody) → OfBrought external.of_lsa b
 any_body (body.Hello h) = tt
 any_body (body.Description d) = tt
 any_body (body.Request keys) = tt

@@ -8,14 +8,14 @@ use Rattle.std.specs.List.{AllByRecursion, Contains, filter_map, fold}
 use Rattle.words.specs.declared.key.Key.{Key}
 use Rattle.lsa.specs.Origination.{sealed_lsa}
 use Rattle.lsa.specs.Reading.{lsa_in}
-use Rattle.lsa.specs.declared.body.Body.{Body as LsaBody}
+use Rattle.lsa.specs.declared.body.LsaBody.{LsaBody}
 use Rattle.lsdb.specs.Copies.{Database, DatabaseCopy, age_out, has_just_aged_out, install_flooded}
 use Rattle.lsdb.specs.Copies.{install_originated, lsa_now}
 use Rattle.lsdb.specs.Headers.{Lsa, lsa_aged, lsa_key}
 use Rattle.lsdb.specs.Keys.{ByKey, same_key}
 use Rattle.lsdb.proofs.Keys.{keys_total}
-use Rattle.packet.specs.declared.model.Body.{Body}
-use Rattle.packet.specs.declared.model.Body.TheVariants as body
+use Rattle.packet.specs.declared.model.PacketBody.{PacketBody}
+use Rattle.packet.specs.declared.model.PacketBody.TheVariants as body
 use Rattle.packet.specs.declared.model.Hello.{Hello}
 use Rattle.packet.specs.declared.model.Packet.{Packet}
 use Rattle.adjacency.specs.Adjacencies as adjacencies
@@ -351,7 +351,7 @@ module _ (old : Router) (moment : ℕ) (event : Occurrence) where
 
   module _ (start : EventState) (place : ℕ) (packet : Packet)
       (heard : IsHeard start event place packet) where
-    received : (b : Body) (lsa : Lsa) → Contains (lsas_brought b) lsa
+    received : (b : PacketBody) (lsa : Lsa) → Contains (lsas_brought b) lsa
         → Contains (instances_received b) (instance_of_lsa lsa)
     received (body.Hello h) lsa c = absurd (of_empty lsa c)
     received (body.Description d) lsa c = absurd (of_empty lsa c)

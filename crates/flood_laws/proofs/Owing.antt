@@ -14,8 +14,9 @@ use Rattle.lsdb.specs.Instances.{ListEntry}
 use Rattle.lsdb.specs.Keys.{ByKey, same_key}
 use Rattle.lsdb.proofs.Keys.{keys_total}
 use Rattle.packet.specs.declared.model.Description.{Description}
-use Rattle.adjacency.specs.declared.state.State.{State}
-use Rattle.adjacency.specs.declared.state.State.TheVariants.{Init, ExStart, Exchange, Loading, Full}
+use Rattle.adjacency.specs.declared.state.NeighborState.{NeighborState}
+use Rattle.adjacency.specs.declared.state.NeighborState.TheVariants.{Init, ExStart, Exchange}
+use Rattle.adjacency.specs.declared.state.NeighborState.TheVariants.{Loading, Full}
 use Rattle.adjacency.specs.Adjacencies.{after_hello, enter_exstart, has_passed, loading_done}
 use Rattle.adjacency.specs.Adjacencies.{loading_done_in, mismatch_step, requests_nothing}
 use Rattle.adjacency.specs.Adjacencies.{two_way_received_in, with_hello_heard}
@@ -188,7 +189,7 @@ module _ (key : Key) (name : LsaInstance) (Asked : Type 0) where
   mismatched_owing moment m h = chosen OfStep (is_exchange_or_later m.state)
       (enter_exstart moment m) (no_sends m) (λ e. inl refl) (λ e. h)
 
-  two_way_owing : (s : State) (moment : ℕ) (m : Neighbor) → Owing m
+  two_way_owing : (s : NeighborState) (moment : ℕ) (m : Neighbor) → Owing m
       → Owing (two_way_received_in s moment m).neighbor
   two_way_owing Init moment m h = inl refl
   two_way_owing ExStart moment m h = h
@@ -315,7 +316,7 @@ module _ (key : Key) (name : LsaInstance) (Asked : Type 0) where
           (is_duplicate m.received d && is_kept m.described) Verdict.Mismatch
           (inr h) (repeat_owing moment m h) (mismatched_owing moment m (inr h))
 
-      stated_owing : (s : State) (m : Neighbor) → is_exchange_or_later s ≡ true → Has m
+      stated_owing : (s : NeighborState) (m : Neighbor) → is_exchange_or_later s ≡ true → Has m
           → Owing (in_state s own moment db d (record m { state = s })).neighbor
       stated_owing Init m part h = absurd cc
       stated_owing ExStart m part h = absurd cc
@@ -339,7 +340,7 @@ module _ (key : Key) (name : LsaInstance) (Asked : Type 0) where
 
   -- ---- Loading and Link State Requests
 
-  filled_in : (s : State) (m : Neighbor) → Owing (record m {
+  filled_in : (s : NeighborState) (m : Neighbor) → Owing (record m {
     state = s;
   }) → Owing (loading_done_in s (record m { state = s }))
   filled_in Init m h = h

@@ -3,7 +3,7 @@ use Rattle.std.proofs.Common.{◌≡◌, Bool, true, false, cond, Option, None, 
 use Rattle.std.specs.FinMap as finite
 use Rattle.words.specs.declared.key.Key.{Key}
 use Rattle.words.specs.declared.route.External.{External}
-use Rattle.lsa.specs.declared.body.Body.{Body}
+use Rattle.lsa.specs.declared.body.LsaBody.{LsaBody}
 use Rattle.lsdb.specs.Keys.{same_key}
 use Rattle.events.specs.Originations.{announced_body, router_body, router_key, wanted_body}
 use Rattle.events.specs.Routers.{Router}
@@ -12,7 +12,7 @@ use Rattle.flood_laws.specs.OwnLsas.{OnlyRouterAndExternalLsasAreWanted, is_rout
 use Rattle.flood_laws.proofs.Limits.{others_stay_within_limits, tied_key, wanted_type}
 
 -- for the key of the router-LSA, and for each announced one
-wanted_kind : (r : Router) (key : Key) (says : Body) → AnnouncesExternals r
+wanted_kind : (r : Router) (key : Key) (says : LsaBody) → AnnouncesExternals r
     → wanted_body r key ≡ Some says → is_router_or_external key.ls_type ≡ true
 wanted_kind r key says externals wants = by_key (same_key key (router_key r.id)) refl wants
   where

@@ -5,7 +5,7 @@ use Rattle.std.specs.List.{AllByRecursion, Contains, cons_option, filter_map}
 use Rattle.lsa.specs.Headers.{IsHeader}
 use Rattle.lsa.specs.Reading.{fault_of, lsa_in, lsa_of}
 use Rattle.lsa.specs.Text.{body_text, text}
-use Rattle.lsa.specs.declared.fault.Fault.{Fault}
+use Rattle.lsa.specs.declared.fault.LsaFault.{LsaFault}
 use Rattle.lsa.proofs.Headers.{header-reads_back}
 use Rattle.lsdb.specs.Headers.{Header, Lsa}
 use Rattle.flood_laws.specs.Known.{UpdatesTellWhatTheyBear}
@@ -18,14 +18,14 @@ abbrev NamedAs : Lsa → Option Lsa → Type 0
 NamedAs l None = Unit {0}
 NamedAs l (Some m) = instance_of_lsa l ≡ instance_of_lsa m
 
-abbrev pub read_unless : List ℕ → Option Fault → Option Lsa
+abbrev pub read_unless : List ℕ → Option LsaFault → Option Lsa
 read_unless bytes None = Some (lsa_of bytes)
 read_unless bytes (Some f) = None
 
 read_name : (l : Lsa) → IsHeader l.header → NamedAs l (lsa_in (text l))
 read_name l is = by_fault (fault_of (text l))
   where
-    by_fault : (o : Option Fault) → NamedAs l (read_unless (text l) o)
+    by_fault : (o : Option LsaFault) → NamedAs l (read_unless (text l) o)
     by_fault None = ap (λ (h : Header). instance_of_header h)
         (sym (header-reads_back l.header [] (body_text l.body) is))
     by_fault (Some f) = tt

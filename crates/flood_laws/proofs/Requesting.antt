@@ -16,8 +16,9 @@ use Rattle.adjacency.specs.Adjacencies.{loading_done_in, requests_nothing}
 use Rattle.adjacency.specs.Contents.{Requests, Step, no_sends}
 use Rattle.adjacency.specs.Neighbors.{Neighbor, is_exchange_or_loading}
 use Rattle.adjacency.specs.Requests.{may_request, next_request, request_next}
-use Rattle.adjacency.specs.declared.state.State.{State}
-use Rattle.adjacency.specs.declared.state.State.TheVariants.{Init, ExStart, Exchange, Loading, Full}
+use Rattle.adjacency.specs.declared.state.NeighborState.{NeighborState}
+use Rattle.adjacency.specs.declared.state.NeighborState.TheVariants.{Init, ExStart, Exchange}
+use Rattle.adjacency.specs.declared.state.NeighborState.TheVariants.{Loading, Full}
 use Rattle.adjacency.proofs.Kept.{chosen}
 use Rattle.received.specs.Holds.{Holds, HoldsOfEach}
 use Rattle.received.specs.Links.{Link, any_exchange_or_loading}
@@ -64,7 +65,7 @@ first_asked n (k ∷ keys) e =
 abbrev IsLoaded : Neighbor → Type 0
 IsLoaded n = n.state ≡ Loading → requests_nothing n ≡ false
 
-loaded_in : (s : State) (n : Neighbor) → n.state ≡ s → IsLoaded (loading_done_in s n)
+loaded_in : (s : NeighborState) (n : Neighbor) → n.state ≡ s → IsLoaded (loading_done_in s n)
 loaded_in Init n is = λ at. absurd cc
 loaded_in ExStart n is = λ at. absurd cc
 loaded_in Exchange n is = λ at. absurd cc

@@ -17,8 +17,8 @@ use Rattle.lsdb.specs.Instances.{ListEntry}
 use Rattle.lsdb.specs.Keys.{ByKey, key_cmp}
 use Rattle.lsdb.specs.Order.{age_at}
 use Rattle.lsdb.proofs.Keys.{keys_exact, keys_total}
-use Rattle.packet.specs.declared.model.Body.{Body}
-use Rattle.packet.specs.declared.model.Body.TheVariants as body
+use Rattle.packet.specs.declared.model.PacketBody.{PacketBody}
+use Rattle.packet.specs.declared.model.PacketBody.TheVariants as body
 use Rattle.packet.specs.declared.model.Hello.{Hello}
 use Rattle.adjacency.specs.Adjacencies as adjacencies
 use Rattle.adjacency.specs.Contents.{Content, Step, Updates, no_sends}
@@ -685,7 +685,7 @@ texts_any (bytes ∷ rest) = (read_any (lsa_in bytes), texts_any rest)
     read_any None = tt
     read_any (Some lsa) = tt
 
-brought_any : (b : Body) → OfBrought its_own.of_lsa b
+brought_any : (b : PacketBody) → OfBrought its_own.of_lsa b
 brought_any (body.Hello h) = tt
 brought_any (body.Description d) = tt
 brought_any (body.Request keys) = tt

@@ -8,7 +8,7 @@ use Rattle.std.specs.List.{AllByRecursion, enumerate_from, filter, flat_map, fol
 use Rattle.std.proofs.lemmas.List.{length-map}
 use Rattle.words.specs.declared.key.Key.{Key}
 use Rattle.words.specs.declared.route.External.{External}
-use Rattle.lsa.specs.declared.body.Body.{Body as LsaBody}
+use Rattle.lsa.specs.declared.body.LsaBody.{LsaBody}
 use Rattle.lsdb.specs.Copies.{DatabaseCopy, age_out, has_just_aged_out, install_originated, lsa_now}
 use Rattle.lsdb.specs.Headers.{Header, Lsa, lsa_aged, lsa_key}
 use Rattle.packet.specs.declared.model.Hello.{Hello}

@@ -8,7 +8,7 @@ use Rattle.std.specs.List.{AllByRecursion, Contains, enumerate_from, filter_map}
 use Rattle.words.specs.Numbers.{InterfaceNumber, Moment, RouterNumber}
 use Rattle.words.specs.declared.key.Key.{Key}
 use Rattle.words.specs.declared.route.External.{External}
-use Rattle.packet.specs.declared.model.Body.{Body}
+use Rattle.packet.specs.declared.model.PacketBody.{PacketBody}
 use Rattle.packet.specs.Text.{PacketText, canonical}
 use Rattle.received.specs.Links.{Link}
 use Rattle.received.specs.Outcomes.{Send}
@@ -84,7 +84,7 @@ WhatIsTakenOffWasTold =
 -- ---- the law
 
 -- its bytes encode a packet from this router with this body
-abbrev pub IsText : RouterNumber → Body → Type 0
+abbrev pub IsText : RouterNumber → PacketBody → Type 0
 IsText own says = PacketText (canonical (packet_of own says)) (packet_of own says)
 
 -- all that is sent at an interface

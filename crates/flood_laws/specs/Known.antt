@@ -6,8 +6,8 @@ use Rattle.words.specs.Numbers.{Moment}
 use Rattle.lsa.specs.Headers.{IsHeader}
 use Rattle.lsa.specs.Text.{text}
 use Rattle.lsdb.specs.Headers.{Lsa}
-use Rattle.packet.specs.declared.model.Body.{Body}
-use Rattle.packet.specs.declared.model.Body.TheVariants as packets
+use Rattle.packet.specs.declared.model.PacketBody.{PacketBody}
+use Rattle.packet.specs.declared.model.PacketBody.TheVariants as packets
 use Rattle.adjacency.specs.Contents.{Content}
 use Rattle.received.specs.Outcomes.{Send}
 use Rattle.events.specs.declared.model.Out.{Out}
@@ -41,7 +41,7 @@ pub record IsTextOf (K : LsaInstance → Type 0) (bytes : List ℕ) : Type 0 whe
   pub known : K (instance_of_lsa lsa)
 
 -- the contents of a Link State Update or Acknowledgment
-abbrev pub Bears : (LsaInstance → Type 0) → Body → Type 0
+abbrev pub Bears : (LsaInstance → Type 0) → PacketBody → Type 0
 Bears K (packets.Hello h) = Unit {0}
 Bears K (packets.Description d) = Unit {0}
 Bears K (packets.Request keys) = Unit {0}
@@ -51,7 +51,7 @@ Bears K (packets.Acknowledgment headers) = AllByRecursion (λ h. K (instance_of_
 -- the canonical encoding of a packet from this router
 pub record IsOutOf (K : LsaInstance → Type 0) (own : ℕ) (out : Out) : Type 0 where
   pub number : ℕ
-  pub says : Body
+  pub says : PacketBody
   pub is : out ≡ out_of own number says
   pub bears : Bears K says
 

@@ -6,7 +6,7 @@ use Rattle.adjacency.specs.Adjacencies.{requests_nothing}
 use Rattle.adjacency.specs.Laws.{IsBareWhereFull}
 use Rattle.adjacency.specs.Lists.{HasSoundLists}
 use Rattle.adjacency.specs.Neighbors.{Neighbor, is_exchange_or_loading}
-use Rattle.adjacency.specs.declared.state.State.TheVariants.{Loading}
+use Rattle.adjacency.specs.declared.state.NeighborState.TheVariants.{Loading}
 use Rattle.events.specs.declared.model.Config.{Config}
 use Rattle.events.specs.declared.model.Out.{Out}
 use Rattle.events.specs.Events.{Happens, Run, Step, initial}

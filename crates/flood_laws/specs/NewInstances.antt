@@ -6,11 +6,11 @@ use Rattle.std.specs.List.{Contains, filter_map}
 use Rattle.words.specs.Numbers.{InterfaceNumber, Moment}
 use Rattle.words.specs.declared.key.Key.{Key}
 use Rattle.lsa.specs.Reading.{lsa_in}
-use Rattle.lsa.specs.declared.body.Body.{Body as LsaBody}
+use Rattle.lsa.specs.declared.body.LsaBody.{LsaBody}
 use Rattle.lsdb.specs.Copies.{DatabaseCopy}
 use Rattle.lsdb.specs.Headers.{Lsa, lsa_key}
-use Rattle.packet.specs.declared.model.Body.{Body}
-use Rattle.packet.specs.declared.model.Body.TheVariants as body
+use Rattle.packet.specs.declared.model.PacketBody.{PacketBody}
+use Rattle.packet.specs.declared.model.PacketBody.TheVariants as body
 use Rattle.packet.specs.declared.model.Packet.{Packet}
 use Rattle.packet.specs.Text.{PacketText}
 use Rattle.events.specs.LsaInstances.{LsaInstance, instance_of_lsa}
@@ -20,7 +20,7 @@ use Rattle.events.specs.Routers.{Occurrence, Router}
 -- ---- what an event brings
 
 -- the LSAs of a Link State Update that can be parsed
-abbrev pub lsas_brought : Body → List Lsa
+abbrev pub lsas_brought : PacketBody → List Lsa
 lsas_brought (body.Hello h) = []
 lsas_brought (body.Description d) = []
 lsas_brought (body.Request keys) = []

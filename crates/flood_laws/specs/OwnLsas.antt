@@ -2,7 +2,7 @@
 use Rattle.std.specs.Prelude.{◌≡◌, ℕ, ◌==◌, Bool, true, ◌||◌, List, Some}
 use Rattle.words.specs.declared.key.Key.{Key}
 use Rattle.lsa.specs.Text.{type_of}
-use Rattle.lsa.specs.declared.body.Body.{Body}
+use Rattle.lsa.specs.declared.body.LsaBody.{LsaBody}
 use Rattle.events.specs.declared.model.Config.{Config}
 use Rattle.events.specs.Events.{Run, Step, initial}
 use Rattle.events.specs.Originations.{wanted_body}
@@ -17,5 +17,5 @@ is_router_or_external ls_type = ls_type == 1 || ls_type == 5
 abbrev pub OnlyRouterAndExternalLsasAreWanted : Type 0
 OnlyRouterAndExternalLsasAreWanted =
     (c : Config) (steps : List Step) (new : Router) → Run (initial c) steps new
-    → (key : Key) (says : Body) → wanted_body new key ≡ Some says
+    → (key : Key) (says : LsaBody) → wanted_body new key ≡ Some says
     → (is_router_or_external key.ls_type ≡ true) × (type_of says ≡ key.ls_type)

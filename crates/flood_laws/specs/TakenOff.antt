@@ -9,7 +9,7 @@ use Rattle.words.specs.declared.key.Key.{Key}
 use Rattle.lsdb.specs.Copies.{DatabaseCopy, installed_just_now, is_aged_out, newer_than_copy}
 use Rattle.lsdb.specs.Headers.{Lsa, key_of, lsa_key}
 use Rattle.lsdb.specs.Instances.{ListEntry}
-use Rattle.packet.specs.declared.model.Body.TheVariants as body
+use Rattle.packet.specs.declared.model.PacketBody.TheVariants as body
 use Rattle.packet.specs.declared.model.Description.{Description}
 use Rattle.packet.specs.declared.model.Packet.{Packet}
 use Rattle.packet.specs.Text.{PacketText}

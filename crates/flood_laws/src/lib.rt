@@ -129,5 +129,5 @@ pub fn acknowledged_was_received()
     ensures { AcknowledgedWasReceived }
 {}
 // Names from the crates below that crates above use.
-pub use adjacency::{Draft, Interface, State};
+pub use adjacency::{Draft, Interface, NeighborState};
 pub use lsdb::Lsdb;

@@ -13,7 +13,7 @@ ghost use Rattle.flooding.specs.Links.{originate_outcome, present, settled_link}
 use crate::link::Link;
 use adjacency::{DatabaseCopy, Draft, Lsdb};
 use lsa::Lsa;
-use lsdb::Times;
+use lsdb::CopyTimes;
 use std::alloc::{AllocError, Global};
 use words::{Key, Second};
 
@@ -120,7 +120,7 @@ fn flood_received(
     ensures settled { map settled_link links.new ≡ map settled_link links.old }
 {
     let header = lsa.header();
-    let times = Times {
+    let times = CopyTimes {
         age: header.age,
         stored: moment,
         installed: Some(moment),

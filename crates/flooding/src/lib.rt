@@ -18,4 +18,4 @@ pub use cases::Case;
 pub use link::Link;
 pub use steps::{LinkChange, LinkStep};
 // Names from the crates below that crates above use.
-pub use adjacency::{DatabaseCopy, Draft, Interface, Lsdb, Saved, State, Update};
+pub use adjacency::{DatabaseCopy, Draft, Interface, Lsdb, NeighborState, Saved, Update};

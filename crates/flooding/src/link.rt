@@ -20,7 +20,7 @@ mod hellos;
 mod packets;
 mod timers;
 
-use adjacency::{DatabaseCopy, Draft, Interface, Saved, State};
+use adjacency::{DatabaseCopy, Draft, Interface, NeighborState, Saved};
 use keyed_map::KeyedMap;
 use lsa::Header;
 use neighbor_places::Place;
@@ -90,7 +90,7 @@ impl Link {
     }
 
     /// The neighbor's Router ID and its state, unless it is Down.
-    pub fn neighbor(&self) -> Option<(RouterId, State)>
+    pub fn neighbor(&self) -> Option<(RouterId, NeighborState)>
         ensures { result ≡ named_neighbor self.now.present.neighbor }
     {
         self.place.neighbor()

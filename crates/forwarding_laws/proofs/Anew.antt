@@ -6,9 +6,9 @@ use Rattle.std.specs.List.{Contains}
 use Rattle.words.specs.Prefixes.{IsUnder}
 use Rattle.words.specs.declared.key.Key.{Key}
 use Rattle.words.specs.declared.route.Route.{Route}
-use Rattle.lsa.specs.declared.body.Body.TheVariants as body
+use Rattle.lsa.specs.declared.body.LsaBody.TheVariants as body
 use Rattle.lsa.specs.declared.body.ExternalLsa.{ExternalLsa}
-use Rattle.lsa.specs.declared.body.Link.{Link as RouterLink}
+use Rattle.lsa.specs.declared.body.RouterLink.{RouterLink}
 use Rattle.area_routes.specs.Offers.{root_by}
 use Rattle.events.specs.Originations.{router_body, router_key}
 use Rattle.candidates.specs.Borders.{IsLongest}

@@ -6,8 +6,8 @@ use Rattle.words.specs.Prefixes.{Network}
 use Rattle.words.specs.declared.key.Key.{Key}
 use Rattle.words.specs.declared.route.ExternalType.TheVariants.{Type1}
 use Rattle.words.specs.declared.route.Route.{Route}
-use Rattle.lsa.specs.declared.body.Body.{Body}
-use Rattle.lsa.specs.declared.body.Body.TheVariants as body
+use Rattle.lsa.specs.declared.body.LsaBody.{LsaBody}
+use Rattle.lsa.specs.declared.body.LsaBody.TheVariants as body
 use Rattle.lsa.specs.declared.body.ExternalLsa.{ExternalLsa}
 use Rattle.events.specs.Originations.{router_body, router_key}
 use Rattle.candidates.specs.Borders.{IsLongest}
@@ -63,7 +63,7 @@ has_row = record {
 
 -- ---- the AS-external-LSA
 
-abbrev IsTheDefault : Key → Body → Type 0
+abbrev IsTheDefault : Key → LsaBody → Type 0
 IsTheDefault k (body.Router r) = Unit {0}
 IsTheDefault k (body.Network n) = Unit {0}
 IsTheDefault k (body.NetworkSummary s) = Unit {0}
@@ -73,7 +73,7 @@ IsTheDefault k (body.External lsa) = (k ≡ external_key 0 middle_id) × (lsa �
 the_default : (k : Key) (lsa : ExternalLsa) → Says default_says k (body.External lsa)
     → (k ≡ external_key 0 middle_id) × (lsa ≡ default_lsa)
 the_default k lsa its =
-    each_of (λ (s : Key × Body). IsTheDefault s.0 s.1) (sayings with_default_lsa)
+    each_of (λ (s : Key × LsaBody). IsTheDefault s.0 s.1) (sayings with_default_lsa)
     (tt, (tt, (tt, ((refl, refl), tt)))) (k, body.External lsa)
     (is_said 0 with_default_lsa k (body.External lsa) its)
 

@@ -3,7 +3,7 @@
 use Rattle.std.proofs.Common.{◌≡◌, ◌≢◌, ℕ, ◌+◌, inl, inr, cond, IsTrue, nat_eq, List, [], ◌∷◌, Some}
 use Rattle.std.proofs.Common.{slice_get, arith, refl, sym, ◌∙◌, ap, subst}
 use Rattle.words.specs.Interfaces.{has_interface}
-use Rattle.lsa.specs.declared.body.Body.TheVariants as body
+use Rattle.lsa.specs.declared.body.LsaBody.TheVariants as body
 use Rattle.area_routes.specs.Offers.{root_by}
 use Rattle.events.specs.Originations.{router_body, router_key}
 use Rattle.routes.specs.Candidates.{AreCandidates, OffersExternal}

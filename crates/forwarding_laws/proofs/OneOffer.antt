@@ -9,10 +9,10 @@ use Rattle.words.specs.Interfaces.{has_interface}
 use Rattle.words.specs.Prefixes.{Network, network_address}
 use Rattle.words.specs.declared.key.Key.{Key}
 use Rattle.words.specs.declared.route.Route.{Route}
-use Rattle.lsa.specs.declared.body.Body.{Body}
-use Rattle.lsa.specs.declared.body.Body.TheVariants as body
+use Rattle.lsa.specs.declared.body.LsaBody.{LsaBody}
+use Rattle.lsa.specs.declared.body.LsaBody.TheVariants as body
 use Rattle.lsa.specs.declared.body.ExternalLsa.{ExternalLsa}
-use Rattle.lsa.specs.declared.body.Link.{Link}
+use Rattle.lsa.specs.declared.body.RouterLink.{RouterLink}
 use Rattle.lsa.specs.declared.body.LinkKind.TheVariants.{Stub}
 use Rattle.routes.proofs.Determined.{never_both}
 use Rattle.routes.proofs.Lists.{first_is, later_is, of_cons, of_empty}
@@ -133,8 +133,8 @@ candidates_of said root offers ordered offered only up =
 
 -- ---- the offers of stub links
 
-pub stub_offered : (es : Entries) (root : Root) (router : ℕ) (links : List Link)
-    → IsRouterLsa (said_at 0 (database es)) router (router_lsa links) → (l : Link)
+pub stub_offered : (es : Entries) (root : Root) (router : ℕ) (links : List RouterLink)
+    → IsRouterLsa (said_at 0 (database es)) router (router_lsa links) → (l : RouterLink)
     → Contains links l → l.kind ≡ Stub → (length : ℕ) (o : Offer)
     → StubOffer (said_at 0 (database es)) root router l length o
     → Offers (said_at 0 (database es)) root o
@@ -153,7 +153,7 @@ stub_offered es root router links its l among kind length o s = Within (record {
 
 -- ---- only router-LSAs
 
-abbrev pub is_router : Key × Body → Bool
+abbrev pub is_router : Key × LsaBody → Bool
 is_router (k, body.Router r) = true
 is_router (k, body.Network n) = false
 is_router (k, body.NetworkSummary s) = false
@@ -169,7 +169,7 @@ no_external es all key lsa its = let e : false ≡ true =
 pub only_within : (es : Entries) (root : Root) (offers : List Offer)
     → list_all is_router (sayings es) ≡ true → list_all is_no_network (sayings es) ≡ true
     → list_all is_no_summary (sayings es) ≡ true
-    → ((router : ℕ) (l : Link) → Contains (filter is_stub (links_of (sayings es)))
+    → ((router : ℕ) (l : RouterLink) → Contains (filter is_stub (links_of (sayings es)))
     (router, l) → Known 0 es root (λ o. Contains offers o) router l) → (o : Offer)
     → Offers (said_at 0 (database es)) root o → Contains offers o
 only_within es root offers routers networks summaries known o (Within x) =

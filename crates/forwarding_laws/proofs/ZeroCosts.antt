@@ -8,10 +8,10 @@ use Rattle.words.specs.Prefixes.{IsUnder, Network, network_address}
 use Rattle.words.specs.declared.key.Key.{Key}
 use Rattle.words.specs.declared.route.ExternalType.TheVariants.{Type1}
 use Rattle.words.specs.declared.route.Route.{Route}
-use Rattle.lsa.specs.declared.body.Body.{Body}
-use Rattle.lsa.specs.declared.body.Body.TheVariants as body
+use Rattle.lsa.specs.declared.body.LsaBody.{LsaBody}
+use Rattle.lsa.specs.declared.body.LsaBody.TheVariants as body
 use Rattle.lsa.specs.declared.body.ExternalLsa.{ExternalLsa}
-use Rattle.lsa.specs.declared.body.Link.{Link as RouterLink}
+use Rattle.lsa.specs.declared.body.RouterLink.{RouterLink}
 use Rattle.area_routes.specs.Offers.{root_by}
 use Rattle.events.specs.Originations.{router_body, router_key}
 use Rattle.candidates.specs.Borders.{IsLongest}
@@ -315,7 +315,7 @@ left_candidates =
 
 -- ---- the AS-external-LSA
 
-abbrev IsTheOne : Key → Body → Type 0
+abbrev IsTheOne : Key → LsaBody → Type 0
 IsTheOne k (body.Router r) = Unit {0}
 IsTheOne k (body.Network n) = Unit {0}
 IsTheOne k (body.NetworkSummary s) = Unit {0}
@@ -324,7 +324,7 @@ IsTheOne k (body.External lsa) = (k ≡ abroad_key) × (lsa ≡ abroad_lsa)
 
 the_one : (k : Key) (lsa : ExternalLsa) → Says zero_says k (body.External lsa) → (k ≡ abroad_key)
     × (lsa ≡ abroad_lsa)
-the_one k lsa its = each_of (λ (s : Key × Body). IsTheOne s.0 s.1) (sayings zero_cost)
+the_one k lsa its = each_of (λ (s : Key × LsaBody). IsTheOne s.0 s.1) (sayings zero_cost)
     (tt, (tt, (tt, ((refl, refl), tt)))) (k, body.External lsa)
     (is_said 0 zero_cost k (body.External lsa) its)
 

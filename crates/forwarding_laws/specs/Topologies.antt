@@ -7,7 +7,7 @@ use Rattle.words.specs.Prefixes.{IsUnder, Network}
 use Rattle.words.specs.declared.key.Key.{Key}
 use Rattle.words.specs.declared.route.Route.{Route}
 use Rattle.words.specs.declared.route.RouteKind.TheVariants.{Inter, Intra}
-use Rattle.lsa.specs.declared.body.Body.TheVariants as body
+use Rattle.lsa.specs.declared.body.LsaBody.TheVariants as body
 use Rattle.lsa.specs.declared.body.ExternalLsa.{ExternalLsa}
 use Rattle.adjacency.specs.Neighbors.{Neighbor, is_full}
 use Rattle.area_routes.specs.Offers.{IsTableOf, root_by}

@@ -16,7 +16,7 @@ use Rattle.lsa.specs.declared.body.ExternalLsa.{ExternalLsa}
 use Rattle.lsdb.specs.Copies.{DatabaseCopy}
 use Rattle.adjacency.specs.Neighbors.{Neighbor, fresh}
 use Rattle.adjacency.specs.declared.interface.Interface.{Interface}
-use Rattle.adjacency.specs.declared.state.State.TheVariants.{Full}
+use Rattle.adjacency.specs.declared.state.NeighborState.TheVariants.{Full}
 use Rattle.events.specs.Originations.{router_body, router_key}
 use Rattle.forwarding_laws.specs.Premises.{HaveCosts, HaveOwnAddresses}
 use Rattle.candidates.specs.Borders.{IsLongest}

@@ -5,7 +5,8 @@
 //! happens without them.
 ghost use Rattle.forwarding_laws.specs.Networks.{EachHopLeadsOn, PacketsArrive};
 ghost use Rattle.forwarding_laws.specs.Networks.{RoutersForwardWithoutLoops};
-ghost use Rattle.forwarding_laws.specs.WorkedTopologies.{CrossedLinksMayLoop, DefaultRoutesAreNoEnd};
+ghost use Rattle.forwarding_laws.specs.WorkedTopologies.{CrossedLinksMayLoop};
+ghost use Rattle.forwarding_laws.specs.WorkedTopologies.{DefaultRoutesAreNoEnd};
 ghost use Rattle.forwarding_laws.specs.WorkedTopologies.{DifferingDatabasesMayLoop};
 ghost use Rattle.forwarding_laws.specs.WorkedTopologies.{EqualAddressesMayLoop, WorkedTopology};
 ghost use Rattle.forwarding_laws.specs.WorkedTopologies.{ZeroCostsMayLosePackets};

@@ -7,8 +7,8 @@ use Rattle.std.proofs.lemmas.List.Sums.{fold-append}
 use Rattle.isa.specs.declared.hook.Hook.{Hook}
 use Rattle.isa.specs.declared.hook.Hook.TheVariants.{Count, Tag, Price, Veto}
 use Rattle.isa.specs.Hooks.{hook_number}
-use Rattle.hooks.specs.declared.operation.Operation.{Operation}
-use Rattle.hooks.specs.declared.operation.Operation.TheVariants.{Attach, Detach}
+use Rattle.hooks.specs.declared.operation.LoaderOperation.{LoaderOperation}
+use Rattle.hooks.specs.declared.operation.LoaderOperation.TheVariants.{Attach, Detach}
 use Rattle.hooks.specs.Operations.{Program, hook_of, outcome_of, after, leaves}
 use Rattle.hooks.specs.Laws.{LastDecides}
 
@@ -28,7 +28,7 @@ number-injective h k e = sym (hook_at-number h) ∙ (ap hook_at e ∙ hook_at-nu
 abbrev pub AtHook : Hook → Option Program → Type 0
 AtHook h o = IfSome o (λ p. p.hook ≡ h)
 
-outcome-at : (h : Hook) (op : Operation) → hook_of op ≡ h → AtHook h (outcome_of op)
+outcome-at : (h : Hook) (op : LoaderOperation) → hook_of op ≡ h → AtHook h (outcome_of op)
 outcome-at h (Attach a) e = e
 outcome-at h (Detach k) e = tt
 
@@ -37,22 +37,24 @@ chosen : (b : Bool) (x y : Option Program) (h : Hook) → (b ≡ true → AtHook
 chosen true x y h t f = t refl
 chosen false x y h t f = f
 
-after-at : (h : Hook) (o : Option Program) (op : Operation) → AtHook h o → AtHook h (after h o op)
+after-at : (h : Hook) (o : Option Program) (op : LoaderOperation) → AtHook h o
+    → AtHook h (after h o op)
 after-at h o op at = chosen (hook_number (hook_of op) == hook_number h) (outcome_of op) o h
     (λ t. outcome-at h op (number-injective (hook_of op) h (eqb-true _ _ t))) at
 
-fold-at : (h : Hook) (o : Option Program) (ops : List Operation) → AtHook h o
+fold-at : (h : Hook) (o : Option Program) (ops : List LoaderOperation) → AtHook h o
     → AtHook h (fold (after h) o ops)
 fold-at h o [] at = at
 fold-at h o (op ∷ ops) at = fold-at h (after h o op) ops (after-at h o op at)
 
-pub at-leaves : (h : Hook) (ops : List Operation) → AtHook h (leaves h ops)
+pub at-leaves : (h : Hook) (ops : List LoaderOperation) → AtHook h (leaves h ops)
 at-leaves h ops = fold-at h None ops tt
 
-pub leaves-at : (h : Hook) (ops : List Operation) (p : Program) → leaves h ops ≡ Some p → p.hook ≡ h
+pub leaves-at : (h : Hook) (ops : List LoaderOperation) (p : Program) → leaves h ops ≡ Some p
+    → p.hook ≡ h
 leaves-at h ops p e = subst (AtHook h) e (at-leaves h ops)
 
-leaves-snoc : (h : Hook) (ops : List Operation) (op : Operation)
+leaves-snoc : (h : Hook) (ops : List LoaderOperation) (op : LoaderOperation)
     → leaves h (ops ++ op ∷ []) ≡ after h (leaves h ops) op
 leaves-snoc h ops op = fold-append (after h) None ops (op ∷ [])
 

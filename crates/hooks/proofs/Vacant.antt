@@ -12,7 +12,7 @@ use Rattle.words.specs.declared.route.External.{External}
 use Rattle.words.specs.declared.route.Route.{Route}
 use Rattle.words.specs.declared.route.TableRow.{TableRow}
 use Rattle.helpers.proofs.Seats.{makes_none}
-use Rattle.hooks.specs.declared.operation.Operation.{Operation}
+use Rattle.hooks.specs.declared.operation.LoaderOperation.{LoaderOperation}
 use Rattle.hooks.specs.Laws.{DefaultsAreConfigured}
 use Rattle.hooks.specs.Operations.{Program, RunsTo, default_of, leaves}
 use Rattle.hooks.specs.Questions.{price_input, tag_input, veto_input}
@@ -25,7 +25,7 @@ by_default : (hook : Hook) (input : Given) (word : ℕ) (labels : List Label) (o
 by_default hook input word labels None vacant none is = (none, is)
 by_default hook input word labels (Some p) vacant none is = absurd (cc (vacant))
 
-pub answered_by_none : (hook : Hook) (before now : List Operation) (input : Given) (word : ℕ)
+pub answered_by_none : (hook : Hook) (before now : List LoaderOperation) (input : Given) (word : ℕ)
     → IsPrefix before now → IsVacant hook now → IsOfHook hook input → word ≡ default_of hook input
     → IsAnsweredByNone before now input word
 answered_by_none hook before now input word begins vacant asked is seat = record {
@@ -47,7 +47,7 @@ pub configured_metric : (external : External) (moment : Moment) (rows : List Tab
     ≡ default_of Price (price_input external moment rows)
 configured_metric external moment rows fits = cc ((defaults external moment rows).1 fits)
 
-module _ (before now : List Operation) (external : External) (moment : Moment)
+module _ (before now : List LoaderOperation) (external : External) (moment : Moment)
     (begins : IsPrefix before now) where
   pub tag_by_none : (word : ℕ) → IsVacant Tag now → external.tag < 2 ^ 32 → word ≡ external.tag
       → (rows : List TableRow) → IsAnsweredByNone before now (tag_input external moment rows) word
@@ -62,7 +62,7 @@ module _ (before now : List Operation) (external : External) (moment : Moment)
       answered_by_none Price before now (price_input external moment rows) word begins vacant refl
       (is ∙ configured_metric external moment rows fits)
 
-pub veto_by_none : (before now : List Operation) (moment : Moment) → IsPrefix before now
+pub veto_by_none : (before now : List LoaderOperation) (moment : Moment) → IsPrefix before now
     → IsVacant Veto now → (route : Route) (rows : List TableRow)
     → IsAnsweredByNone before now (veto_input route moment rows) 0
 veto_by_none before now moment begins vacant route rows =

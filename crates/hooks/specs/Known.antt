@@ -1,14 +1,14 @@
 -- What the loader has done, and what an asker or a notice knows of it.
 use Rattle.std.specs.Prelude.{◌≡◌, List, []}
 use Rattle.logbook.specs.Pages.{Book}
-use Rattle.hooks.specs.declared.operation.Operation.{Operation}
+use Rattle.hooks.specs.declared.operation.LoaderOperation.{LoaderOperation}
 use Rattle.hooks.specs.declared.loader.Loader.{Loader}
 use Rattle.hooks.specs.declared.loader.Notice.{Notice}
 use Rattle.hooks.specs.declared.asker.Asker.{Asker}
 use Rattle.hooks.specs.Shown.{published_operations, history}
 
 -- its operations, in order
-abbrev pub operations_of : {R : Type 0} → Loader R → List Operation
+abbrev pub operations_of : {R : Type 0} → Loader R → List LoaderOperation
 operations_of l = published_operations l.writer.desk.shown.value
 
 -- their history
@@ -16,14 +16,14 @@ abbrev pub history_of : {R : Type 0} → Loader R → Book
 history_of l = history l.writer.desk.shown.value
 
 -- the operations that the loader told, and their history
-abbrev pub told_by : Notice → List Operation
+abbrev pub told_by : Notice → List LoaderOperation
 told_by n = n.front.seen.log
 
 abbrev pub tells_of : Notice → Book
 tells_of n = n.front.seen.book
 
 -- all operations that the asker saw or was told, and their history
-abbrev pub known_to : Asker → List Operation
+abbrev pub known_to : Asker → List LoaderOperation
 known_to a = a.front.seen.log
 
 abbrev pub asks_of : Asker → Book

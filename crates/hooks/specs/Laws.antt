@@ -5,13 +5,13 @@ use Rattle.isa.specs.declared.hook.Hook.TheVariants.{Tag, Price}
 use Rattle.words.specs.declared.route.External.{External}
 use Rattle.words.specs.declared.route.TableRow.{TableRow}
 use Rattle.words.specs.Numbers.{Moment}
-use Rattle.hooks.specs.declared.operation.Operation.{Operation}
+use Rattle.hooks.specs.declared.operation.LoaderOperation.{LoaderOperation}
 use Rattle.hooks.specs.Operations.{hook_of, outcome_of, leaves, default_of}
 use Rattle.hooks.specs.Questions.{tag_input, price_input}
 
 -- an operation decides what is attached at its own hook, and leaves the other hooks unchanged
 abbrev pub LastDecides : Type 0
-LastDecides = (before : List Operation) (last : Operation) (hook : Hook)
+LastDecides = (before : List LoaderOperation) (last : LoaderOperation) (hook : Hook)
     → (hook_of last ≡ hook → leaves hook (before ++ last ∷ []) ≡ outcome_of last)
     × (hook_of last ≢ hook → leaves hook (before ++ last ∷ []) ≡ leaves hook before)
 

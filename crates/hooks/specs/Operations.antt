@@ -13,8 +13,8 @@ use Rattle.machine.specs.State.{setting_of}
 use Rattle.machine.specs.Runs.{Ends}
 use Rattle.regions.specs.declared.Region.{Region}
 use Rattle.verifier.specs.Programs as verifier
-use Rattle.hooks.specs.declared.operation.Operation.{Operation}
-use Rattle.hooks.specs.declared.operation.Operation.TheVariants.{Attach, Detach}
+use Rattle.hooks.specs.declared.operation.LoaderOperation.{LoaderOperation}
+use Rattle.hooks.specs.declared.operation.LoaderOperation.TheVariants.{Attach, Detach}
 
 -- The code, the hook that it is for, a number of instructions within which every run ends, and for
 -- each slot the region that a load or store there accesses.
@@ -40,22 +40,22 @@ IsAccepted p =
       region_room = 0;
     })
 
-abbrev pub hook_of : Operation → Hook
+abbrev pub hook_of : LoaderOperation → Hook
 hook_of (Attach accepted) = accepted.hook
 hook_of (Detach hook) = hook
 
 -- what an operation leaves at its own hook
-abbrev pub outcome_of : Operation → Option Program
+abbrev pub outcome_of : LoaderOperation → Option Program
 outcome_of (Attach accepted) = Some (program_of accepted)
 outcome_of (Detach hook) = None
 
 -- what is attached at the hook after one more operation
-abbrev pub after : Hook → Option Program → Operation → Option Program
+abbrev pub after : Hook → Option Program → LoaderOperation → Option Program
 after hook before operation =
     if hook_number (hook_of operation) == hook_number hook then outcome_of operation else before
 
 -- the program that these operations, from the first one on, leave at the hook
-abbrev pub leaves : Hook → List Operation → Option Program
+abbrev pub leaves : Hook → List LoaderOperation → Option Program
 leaves hook operations = fold (after hook) None operations
 
 -- the answer of a hook without a program: the configured tag or metric of the context, or 0
@@ -75,7 +75,7 @@ pub record RunsTo (program : Program) (input : Given) (labels : List Label)
 
 -- The word of a run, with these labels, of the program that the operations leave at the input's
 -- hook; or the default, if and only if they leave none there.
-abbrev pub Answers : List Operation → Given → List Label → ℕ → Type 0
+abbrev pub Answers : List LoaderOperation → Given → List Label → ℕ → Type 0
 Answers operations input labels word =
     (hook : Hook) × IsOfHook hook input
     × MatchOption (leaves hook operations)

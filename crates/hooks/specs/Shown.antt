@@ -2,14 +2,14 @@
 use Rattle.std.specs.Prelude.{◌≡◌, List, fold, None}
 use Rattle.isa.specs.declared.hook.Hook.TheVariants.{Count, Tag, Price, Veto}
 use Rattle.logbook.specs.Pages.{Book}
-use Rattle.hooks.specs.declared.operation.Operation.{Operation}
+use Rattle.hooks.specs.declared.operation.LoaderOperation.{LoaderOperation}
 use Rattle.hooks.specs.declared.history.Front.{Front}
 use Rattle.hooks.specs.declared.value.Programs.{Programs}
-use Rattle.hooks.specs.declared.value.Entry.{Entry}
+use Rattle.hooks.specs.declared.value.HistoryEntry.{HistoryEntry}
 use Rattle.hooks.specs.Operations.{after, leaves}
 
 -- the published operations
-abbrev pub published_operations : Programs → List Operation
+abbrev pub published_operations : Programs → List LoaderOperation
 published_operations p = p.front.seen.log
 
 -- their history
@@ -29,7 +29,7 @@ Stands p =
     × (p.veto ≡ leaves Veto (published_operations p))
 
 -- the value after one more operation
-abbrev pub after_operation : Programs → Entry → Programs
+abbrev pub after_operation : Programs → HistoryEntry → Programs
 after_operation p e =
     record {
       count = after Count p.count e.operation;
@@ -40,7 +40,7 @@ after_operation p e =
     }
 
 -- the value with these entries remains valid, with the same history
-abbrev pub Fits : Programs → List Entry → Type 0
+abbrev pub Fits : Programs → List HistoryEntry → Type 0
 Fits p entries =
     Stands p → Stands (fold after_operation p entries)
     × (history (fold after_operation p entries) ≡ history p)

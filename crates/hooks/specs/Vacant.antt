@@ -6,25 +6,25 @@ use Rattle.machine.specs.Given.{Given}
 use Rattle.maps.specs.Words.{SeatView}
 use Rattle.words.specs.Numbers.{Moment}
 use Rattle.words.specs.declared.route.Route.{Route}
-use Rattle.hooks.specs.declared.operation.Operation.{Operation}
+use Rattle.hooks.specs.declared.operation.LoaderOperation.{LoaderOperation}
 use Rattle.hooks.specs.declared.value.Vacancies.{Vacancies}
 use Rattle.hooks.specs.Answered.{IsAnswered}
 use Rattle.hooks.specs.Operations.{leaves}
 use Rattle.hooks.specs.Questions.{RouteAnswer}
 
 -- the operations leave no program at the hook
-abbrev pub IsVacant : Hook → List Operation → Type 0
+abbrev pub IsVacant : Hook → List LoaderOperation → Type 0
 IsVacant hook operations = leaves hook operations ≡ None
 
 -- for three hooks, whether the operations leave no program there
-pub record AreVacancies (operations : List Operation) (v : Vacancies) : Type 0 where
+pub record AreVacancies (operations : List LoaderOperation) (v : Vacancies) : Type 0 where
   pub tag : IsTrue v.tag ↔ IsVacant Tag operations
   pub price : IsTrue v.price ↔ IsVacant Price operations
   pub veto : IsTrue v.veto ↔ IsVacant Veto operations
 
 -- The operations that the asker knows now answer the input with the word, without a seat: each seat
 -- is unchanged.
-abbrev pub IsAnsweredByNone : (before now : List Operation) → Given → (word : ℕ) → Type 0
+abbrev pub IsAnsweredByNone : (before now : List LoaderOperation) → Given → (word : ℕ) → Type 0
 IsAnsweredByNone before now input word =
     (seat : SeatView) → IsAnswered before now seat seat input word
 

@@ -26,11 +26,11 @@ pub struct Asker {
 
 /// The word of a run, or the default.
 #[derive(Clone, Copy, PartialEq, Eq, Debug)]
-pub struct Answer {
+pub struct HookAnswer {
     pub(crate) word: u64,
 }
 
-impl Answer {
+impl HookAnswer {
     pub fn word(&self) -> u64
         ensures { result ≡ self.now.word }
     {
@@ -44,7 +44,7 @@ fn take(
     input: &Input,
     shared: &Shared,
     seat: &mut Seat,
-) -> (ProgramReader, Option<Answer>)
+) -> (ProgramReader, Option<HookAnswer>)
     requires asked { IsAsked (given_by input.now) }
     requires table { IsOf shared.now seat.old }
     requires same { HasSeen front.old.seen.book (view reader.place) }
@@ -65,7 +65,7 @@ fn take(
     }
     let word = programs.answer(input, shared, seat);
     *front = programs.front.again();
-    (reading.leave(), Some(Answer { word }))
+    (reading.leave(), Some(HookAnswer { word }))
 }
 
 impl Asker {
@@ -83,7 +83,7 @@ impl Asker {
 
     /// Runs the program that is attached at the input's hook. Never blocks or allocates. `None` if
     /// the published programs can't be read, or are older than those that the asker knows.
-    pub fn ask(&mut self, input: &Input, shared: &Shared, seat: &mut Seat) -> Option<Answer>
+    pub fn ask(&mut self, input: &Input, shared: &Shared, seat: &mut Seat) -> Option<HookAnswer>
         requires asked { IsAsked (given_by input.now) }
         requires table { IsOf shared.now seat.old }
         ensures history { asks_of self.new ≡ asks_of self.old }

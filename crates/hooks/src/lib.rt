@@ -22,10 +22,10 @@ mod start;
 mod value;
 
 pub use answer::{PriceAnswer, TagAnswer, VetoAnswer};
-pub use asker::{Answer, Asker};
+pub use asker::{Asker, HookAnswer};
 pub use error::HookError;
 pub use loader::{Loader, Notice};
-pub use operation::Operation;
+pub use operation::LoaderOperation;
 pub use start::programs;
 
 /// The maximum number of askers of one loader.

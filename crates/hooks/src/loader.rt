@@ -4,16 +4,16 @@ ghost use Rattle.std.specs.Prelude.{vec_len, IfOk, IfErr, MatchResult};
 ghost use Rattle.left_right.specs.Sides.{view};
 ghost use Rattle.hooks.specs.History.{head_of};
 ghost use Rattle.hooks.specs.Shown.{Fits, after_operation, history, vacant};
-ghost use Rattle.hooks.specs.declared.operation.Operation.TheVariants.{Attach, Detach};
+ghost use Rattle.hooks.specs.declared.operation.LoaderOperation.TheVariants.{Attach, Detach};
 ghost use Rattle.isa.specs.declared.hook.Hook.TheVariants.{Count as HookCount};
 
 use crate::asker::Asker;
 use crate::error::HookError;
 use crate::history::{Front, Head};
 use crate::numbered::Numbered;
-use crate::operation::Operation;
+use crate::operation::LoaderOperation;
 use crate::rule::{ProgramWriter, Sees, Takes, Tells};
-use crate::value::{Entry, Programs};
+use crate::value::{HistoryEntry, Programs};
 use core::mem::replace_with;
 use machine::Hook;
 use std::alloc::{AllocError, Global};
@@ -50,11 +50,11 @@ fn show<R: Wait>(writer: ProgramWriter, rt: &R) -> (ProgramWriter, ())
 }
 
 /// An entry that has no effect: it detaches from a hook without a program.
-fn pad(front: &Front) -> Entry
+fn pad(front: &Front) -> HistoryEntry
     ensures { (result.operation ≡ Detach HookCount) × (result.front ≡ front.now) }
 {
-    Entry {
-        operation: Operation::Detach(Hook::Count),
+    HistoryEntry {
+        operation: LoaderOperation::Detach(Hook::Count),
         front: front.again(),
     }
 }
@@ -126,7 +126,7 @@ impl<R: Wait + Drop> Loader<R> {
             ≡ operations_of self.old) }
         ensures history { history_of self.new ≡ history_of self.old }
     {
-        self.publish(Operation::Attach(accepted))
+        self.publish(LoaderOperation::Attach(accepted))
     }
 
     /// Publishes that the hook has no program, without an allocation. `AllocError` isn't about
@@ -137,11 +137,11 @@ impl<R: Wait + Drop> Loader<R> {
             ≡ operations_of self.old) }
         ensures history { history_of self.new ≡ history_of self.old }
     {
-        self.publish(Operation::Detach(hook))
+        self.publish(LoaderOperation::Detach(hook))
     }
 
     // Once the operation has its number, nothing can fail any more.
-    fn publish(&mut self, operation: Operation) -> Result<(), AllocError>
+    fn publish(&mut self, operation: LoaderOperation) -> Result<(), AllocError>
         ensures operations { MatchResult result (λ _. operations_of self.new
             ≡ operations_of self.old ++ operation ∷ []) (λ _. operations_of self.new
             ≡ operations_of self.old) }

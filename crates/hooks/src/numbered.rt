@@ -3,22 +3,22 @@ ghost use Rattle.std.specs.Prelude.{◌≡◌, [], ◌∷◌, ◌++◌, drop, If
 ghost use Rattle.hooks.specs.History.{head_of};
 
 use crate::history::{Front, Head};
-use crate::operation::Operation;
+use crate::operation::LoaderOperation;
 use crate::rule::ProgramWriter;
-use crate::value::Entry;
+use crate::value::HistoryEntry;
 use std::sync::Wait;
 use std::thread;
 
 /// An operation that has taken its number in the history. A number can't be given back, so a value
 /// of this type can't be dropped: whoever took the number appends the operation.
 pub struct Numbered {
-    entry: Entry,
+    entry: HistoryEntry,
 }
 
 impl Numbered {
     /// Takes the next number for the operation. `None` if the history is longer than the front, or
     /// if no number is left.
-    pub fn next(front: &Front, head: &Head, operation: Operation) -> Option<Numbered>
+    pub fn next(front: &Front, head: &Head, operation: LoaderOperation) -> Option<Numbered>
         requires { head.now ≡ head_of front.now.seen.book }
         ensures operation { IfSome result (λ n. n.entry.operation ≡ operation) }
         ensures front { IfSome result (λ n. (n.entry.front.seen.book ≡ front.now.seen.book)
@@ -26,7 +26,7 @@ impl Numbered {
     {
         let front = front.and(head, &operation)?;
         Some(Numbered {
-            entry: Entry { operation, front },
+            entry: HistoryEntry { operation, front },
         })
     }
 

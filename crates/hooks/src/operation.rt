@@ -7,20 +7,20 @@ use verifier::Accepted;
 
 /// One operation of the loader.
 #[derive(Drop)]
-pub enum Operation {
+pub enum LoaderOperation {
     /// The program is attached at its hook from now on, in place of any other.
     Attach(Accepted),
     /// The hook has no program from now on.
     Detach(Hook),
 }
 
-impl Operation {
+impl LoaderOperation {
     pub(crate) fn hook(&self) -> Hook
         ensures { result ≡ hook_of self.now }
     {
         match self {
-            Operation::Attach(accepted) => accepted.hook(),
-            Operation::Detach(hook) => *hook,
+            LoaderOperation::Attach(accepted) => accepted.hook(),
+            LoaderOperation::Detach(hook) => *hook,
         }
     }
 }

@@ -6,7 +6,7 @@ ghost use Rattle.hooks.specs.Known.{known_to, asks_of};
 ghost use Rattle.hooks.specs.Questions.{count_input, tag_input, price_input, veto_input};
 
 use crate::answer::{PriceAnswer, TagAnswer, VetoAnswer};
-use crate::asker::{Answer, Asker};
+use crate::asker::{Asker, HookAnswer};
 use contexts::{count_context, price_context, tag_context, veto_context};
 use machine::{Input, TableRow};
 use maps::{Seat, Shared};
@@ -25,7 +25,7 @@ impl Asker {
         packet: &[u8],
         shared: &Shared,
         seat: &mut Seat,
-    ) -> Option<Answer>
+    ) -> Option<HookAnswer>
         requires table { IsOf shared.now seat.old }
         ensures history { asks_of self.new ≡ asks_of self.old }
         ensures unread { IfNone result ((known_to self.new ≡ known_to self.old)

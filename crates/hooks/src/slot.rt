@@ -2,7 +2,7 @@
 ghost use Rattle.std.specs.Prelude.{◌≡◌, ◌↔◌, IfOk, IsTrue, None, Some, MatchOption};
 ghost use Rattle.hooks.specs.Operations.{outcome_of, program_of};
 
-use crate::operation::Operation;
+use crate::operation::LoaderOperation;
 use std::alloc::{AllocError, Global};
 use std::marker::Model;
 use verifier::Accepted;
@@ -10,12 +10,12 @@ use verifier::Accepted;
 /// The program counts while `attached`. The slot has capacity for every program. Contracts see the
 /// program that it shows.
 #[derive(Drop)]
-pub struct Slot {
+pub struct ProgramSlot {
     accepted: Accepted,
     attached: bool,
 }
 
-impl Model for Slot {
+impl Model for ProgramSlot {
     ghost use Rattle.std.specs.Prelude.{cond, Option, Some, None};
     ghost use Rattle.verifier.specs.Programs.{HasRoom};
     ghost use Rattle.hooks.specs.Operations.{Program, program_of};
@@ -27,27 +27,27 @@ impl Model for Slot {
     ghost invariant = { λ s. HasRoom s.accepted };
 }
 
-impl Slot {
+impl ProgramSlot {
     /// A slot without a program, with capacity for every one.
-    pub fn empty(alloc: Global) -> Result<Slot, AllocError>
+    pub fn empty(alloc: Global) -> Result<ProgramSlot, AllocError>
         ensures { IfOk result (λ s. s ≡ None) }
     {
-        Ok(Slot {
+        Ok(ProgramSlot {
             accepted: Accepted::room(alloc)?,
             attached: false,
         })
     }
 
     /// Applies the operation, without an allocation.
-    pub fn change(&mut self, operation: &Operation)
+    pub fn change(&mut self, operation: &LoaderOperation)
         ensures { self.new ≡ outcome_of operation.now }
     {
         match operation {
-            Operation::Attach(accepted) => {
+            LoaderOperation::Attach(accepted) => {
                 accepted.copy_into(&mut self.accepted);
                 self.attached = true;
             }
-            Operation::Detach(_) => self.attached = false,
+            LoaderOperation::Detach(_) => self.attached = false,
         }
     }
 

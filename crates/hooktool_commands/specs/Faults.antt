@@ -4,7 +4,7 @@ use Rattle.isa.specs.declared.decoding.DecodeError.{DecodeError}
 use Rattle.isa.specs.declared.hook.Hook.{Hook}
 use Rattle.isa.specs.Hooks.{hook_name}
 use Rattle.isa.specs.Refusals as code
-use Rattle.object.specs.declared.error.ReadError.{ReadError}
+use Rattle.object.specs.declared.error.ObjectError.{ObjectError}
 use Rattle.object.specs.Objects.{ObjectParts}
 use Rattle.object.specs.Spelling.{Spells}
 use Rattle.object.specs.Refusals as objects
@@ -23,7 +23,7 @@ use Rattle.hooktool_commands.specs.declared.fault.HooktoolFault.TheVariants as f
 
 -- the refusal of bytes that are no object file
 pub record IsObjectRefused (bytes : List ℕ) (fault : HooktoolFault) : Type 0 where
-  pub error : ReadError
+  pub error : ObjectError
   pub refuses : objects.Refuses bytes error
   pub told : fault ≡ fault_of_object error
 

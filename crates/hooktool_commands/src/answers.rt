@@ -11,8 +11,8 @@ use isa::Hook;
 const LS_INFINITY: u64 = 16_777_215;
 
 /// What the answer means at the hook, with `{}` in the place of the number, if that is told: the
-/// metric, or that the destination is withheld; the tag, which is the low 32 bits; whether the route
-/// is installed, which it is by 0 alone. At `count` it means nothing.
+/// metric, or that the destination is withheld; the tag, which is the low 32 bits; whether the
+/// route is installed, which it is by 0 alone. At `count` it means nothing.
 fn answer_words(hook: Hook, answer: u64) -> (&'static str, u64)
     ensures words { result.0.now ≡ answer_words hook answer }
     ensures number { result.1 ≡ told_number hook answer }

@@ -1,5 +1,5 @@
-//! `build`: an object for each function that clang compiled for a hook. `explain`: what the verifier
-//! knows of each.
+//! `build`: an object for each function that clang compiled for a hook. `explain`: what the
+//! verifier knows of each.
 
 ghost use Rattle.std.specs.Prelude.{◌≡◌, ◌⊎◌, ◌++◌, ◌||◌, ◌<◌, ℕ, List, false, true, Some, IfErr};
 ghost use Rattle.std.specs.Prelude.{IfOk, IfSome, OnOk, length, string_bytes};

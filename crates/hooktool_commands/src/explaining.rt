@@ -129,8 +129,8 @@ fn explain_bytes<'a, R: Files + AllocGlobal>(
 }
 
 /// Tells what the verifier knows at each slot of the program of the object file at `path`, up to
-/// the one that it refuses, and its verdict. The same of each function of an ELF file that is in the
-/// section of a hook, with the statements that are found for it.
+/// the one that it refuses, and its verdict. The same of each function of an ELF file that is in
+/// the section of a hook, with the statements that are found for it.
 ///
 /// A fault where the file can't be read, is neither, holds no code, or memory is refused.
 pub(crate) fn explain<'a, R: Files + AllocGlobal>(

@@ -5,7 +5,7 @@ ghost use Rattle.hooktool_commands.specs.Statuses.{fault_of_object, fault_of_ref
 ghost use Rattle.hooktool_commands.specs.declared.fault.HooktoolFault.TheVariants.{Memory};
 
 use isa::DecodeError;
-use object::ReadError;
+use object::ObjectError;
 use std::alloc::AllocError;
 use std::fmt;
 use thiserror::Error;
@@ -76,12 +76,12 @@ impl<'a> From<DecodeError> for HooktoolFault<'a> {
     }
 }
 
-impl<'a> From<ReadError> for HooktoolFault<'a> {
+impl<'a> From<ObjectError> for HooktoolFault<'a> {
     ghost from_gives = { λ error fault. fault ≡ fault_of_object error };
 
-    fn from(error: ReadError) -> HooktoolFault<'a> {
+    fn from(error: ObjectError) -> HooktoolFault<'a> {
         match error {
-            ReadError::Memory => HooktoolFault::Memory,
+            ObjectError::Memory => HooktoolFault::Memory,
             error => HooktoolFault::Object {
                 number: error.number(),
             },

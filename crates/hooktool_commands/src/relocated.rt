@@ -78,8 +78,8 @@ fn name_of<'a>(file: &ObjectFile<'a>, table: usize, index: usize) -> &'a [u8] {
     }
 }
 
-/// The number in the last four bytes of the instruction at a place: of a wide load the lower half of
-/// its number, of a call its distance.
+/// The number in the last four bytes of the instruction at a place: of a wide load the lower half
+/// of its number, of a call its distance.
 fn number_at(contents: &[u8], offset: u64) -> Option<u32> {
     let start = offset as usize;
     let end = start.checked_add(8)?;

@@ -67,8 +67,8 @@ pub(crate) fn numbers_of(matches: &ArgMatches<'_>) -> Option<Numbers>
     })
 }
 
-/// The numbers but that of next hops: the name, the most that it may be, and what is told of another
-/// word.
+/// The numbers but that of next hops: the name, the most that it may be, and what is told of
+/// another word.
 const WRONG: [(&str, u64, &str); 6] = [
     ("metric", MOST, "--metric is no number up to 4294967295"),
     ("tag", MOST, "--tag is no number up to 4294967295"),

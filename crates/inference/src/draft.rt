@@ -6,7 +6,7 @@ use crate::liveness::Registers;
 use crate::memory::{Memory, element_or};
 use crate::turns::Turns;
 use crate::widening::Widening;
-use kinds::{State, put};
+use kinds::{AbstractState, put};
 use object::Statement;
 
 /// What a pass over the code does with the state at an edge.
@@ -193,7 +193,7 @@ impl StatementDraft {
         &self,
         old: Option<Statement>,
         arrival: &Arrival,
-        state: &State<Value>,
+        state: &AbstractState<Value>,
     ) -> Option<Statement> {
         let growth = Growth {
             widening: self.widening_at(arrival),
@@ -207,7 +207,7 @@ impl StatementDraft {
 
     /// Extends the statement at the edge's target, or what a narrowing pass found there, by what is
     /// known at the edge.
-    fn grow(&mut self, arrival: &Arrival, state: &State<Value>) {
+    fn grow(&mut self, arrival: &Arrival, state: &AbstractState<Value>) {
         let old = self.last(arrival.site);
         let next = self.grown(old, arrival, state);
         if !self.is_rising() {
@@ -217,7 +217,7 @@ impl StatementDraft {
         }
     }
 
-    fn gather(&mut self, memory: &Memory, arrival: &Arrival, state: &State<Value>) {
+    fn gather(&mut self, memory: &Memory, arrival: &Arrival, state: &AbstractState<Value>) {
         let edge = Edge {
             from: arrival.from,
             to: arrival.site,
@@ -228,7 +228,7 @@ impl StatementDraft {
     }
 
     /// Takes an edge with this state.
-    pub fn take(&mut self, memory: &Memory, arrival: &Arrival, state: &State<Value>) {
+    pub fn take(&mut self, memory: &Memory, arrival: &Arrival, state: &AbstractState<Value>) {
         match self.purpose {
             Purpose::Gather => self.gather(memory, arrival, state),
             Purpose::Unroll => {

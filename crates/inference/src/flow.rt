@@ -8,7 +8,7 @@ use crate::liveness::{self, Registers};
 use crate::memory::{Memory, element_or};
 use crate::sites::Sites;
 use isa::{Code, Hook, Instruction, Register, Slot, Source, Test, Width};
-use kinds::{Entry, Kind, Place, State, put, reset, target_of};
+use kinds::{AbstractState, Kind, PointerPlace, StackEntry, put, reset, target_of};
 use object::Statement;
 use segments::places::{jump_of, jumped_near, slots_of};
 use transfer::branch::{Edges, tested};
@@ -33,7 +33,7 @@ pub struct Program<'a> {
 #[derive(Drop)]
 struct Here {
     begun: usize,
-    state: State<Value>,
+    state: AbstractState<Value>,
     is_live: bool,
     /// Whether no run reaches the slot, which is followed only to find statements for sites that
     /// have none.
@@ -61,13 +61,13 @@ struct Branch {
 
 /// What is known at the start of a run: r1 points to the context. `depth` bytes of the stack are
 /// tracked.
-pub fn entry_state(memory: &Memory, depth: usize) -> State<Value> {
+pub fn entry_state(memory: &Memory, depth: usize) -> AbstractState<Value> {
     let mut kinds = memory.filled(Kind::Empty, 10);
-    put(&mut kinds, 1, Kind::Pointer(Place::Context(0)));
-    State {
+    put(&mut kinds, 1, Kind::Pointer(PointerPlace::Context(0)));
+    AbstractState {
         kinds,
         facts: memory.filled(None, 10),
-        entries: memory.filled(Entry::Unknown, depth),
+        entries: memory.filled(StackEntry::Unknown, depth),
     }
 }
 
@@ -306,7 +306,7 @@ impl<'a> Passes<'a> {
 }
 
 /// Moves on past the instruction, from what was known before it.
-fn follow(here: &mut Here, before: State<Value>, hook: Hook, instruction: Instruction) {
+fn follow(here: &mut Here, before: AbstractState<Value>, hook: Hook, instruction: Instruction) {
     match straight(before, hook, instruction) {
         Ok(after) => here.state = after,
         Err(_) => excuse(&mut here.state, &instruction),
@@ -322,13 +322,13 @@ fn filled(instruction: &Instruction) -> Kind<Value> {
 }
 
 /// Sets what is known of a register, without a relation to the start of the segment.
-fn put_known(state: &mut State<Value>, register: usize, kind: Kind<Value>) {
+fn put_known(state: &mut AbstractState<Value>, register: usize, kind: Kind<Value>) {
     put(&mut state.kinds, register, kind);
     put(&mut state.facts, register, None)
 }
 
 /// Empties the registers that a call empties, and fills r0 with any number.
-fn call(state: &mut State<Value>) {
+fn call(state: &mut AbstractState<Value>) {
     for register in 0..6usize {
         put_known(state, register, Kind::Empty)
     }
@@ -337,7 +337,7 @@ fn call(state: &mut State<Value>) {
 
 /// Moves on past an instruction that the verifier refuses: it fills its target with any number, and
 /// a call has the effect of any call.
-fn excuse(state: &mut State<Value>, instruction: &Instruction) {
+fn excuse(state: &mut AbstractState<Value>, instruction: &Instruction) {
     if let Some(target) = liveness::target_of(instruction) {
         put_known(state, target.index(), filled(instruction))
     }

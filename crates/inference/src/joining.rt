@@ -7,9 +7,9 @@ use crate::widening::{Widening, above, below};
 use absdom::{Domain, Pair};
 use interval::Interval;
 use isa::Map;
-use kinds::{Kind as Known, Place, State, are_bytes};
+use kinds::{AbstractState, Kind as Known, PointerPlace, are_bytes};
 use knownbits::KnownBits;
-use object::{ContextOffset, Kind, Rank, StackBytes, StackOffset, StatedNumber, Statement};
+use object::{ContextOffset, Rank, StackBytes, StackOffset, StatedKind, StatedNumber, Statement};
 
 /// The abstract values that the verifier of object files uses.
 pub type Value = Pair<Interval, KnownBits>;
@@ -42,49 +42,49 @@ fn stated_of(value: Value) -> Option<StatedNumber> {
 }
 
 /// The kind of one of these numbers, if there are any.
-fn numbered(numbers: Option<StatedNumber>) -> Kind {
+fn numbered(numbers: Option<StatedNumber>) -> StatedKind {
     match numbers {
-        Some(numbers) => Kind::Number(numbers),
-        None => Kind::Empty,
+        Some(numbers) => StatedKind::Number(numbers),
+        None => StatedKind::Empty,
     }
 }
 
 /// The kind of a pointer into the map at one of these offsets, if there are any.
-fn placed(map: Map, numbers: Option<StatedNumber>) -> Kind {
+fn placed(map: Map, numbers: Option<StatedNumber>) -> StatedKind {
     match numbers {
-        Some(numbers) => Kind::MapValue(map, numbers),
-        None => Kind::Empty,
+        Some(numbers) => StatedKind::MapValue(map, numbers),
+        None => StatedKind::Empty,
     }
 }
 
-fn context_of(at: u64) -> Kind {
+fn context_of(at: u64) -> StatedKind {
     if at > 64 {
-        return Kind::Empty;
+        return StatedKind::Empty;
     }
     match ContextOffset::new(at as u32) {
-        Some(offset) => Kind::Context(offset),
-        None => Kind::Empty,
+        Some(offset) => StatedKind::Context(offset),
+        None => StatedKind::Empty,
     }
 }
 
-fn stack_of(at: u64) -> Kind {
+fn stack_of(at: u64) -> StatedKind {
     if at > 512 {
-        return Kind::Empty;
+        return StatedKind::Empty;
     }
     match StackOffset::new(at as u32) {
-        Some(offset) => Kind::Stack(offset),
-        None => Kind::Empty,
+        Some(offset) => StatedKind::Stack(offset),
+        None => StatedKind::Empty,
     }
 }
 
 /// The statement of what is known of a register: `Empty` if an object can't express it.
-fn told(known: Known<Value>) -> Kind {
+fn told(known: Known<Value>) -> StatedKind {
     match known {
-        Known::Empty => Kind::Empty,
+        Known::Empty => StatedKind::Empty,
         Known::Number(value) => numbered(stated_of(value)),
-        Known::Pointer(Place::Context(at)) => context_of(at),
-        Known::Pointer(Place::Stack(at)) => stack_of(at),
-        Known::Pointer(Place::Map(map, value)) => placed(map, stated_of(value)),
+        Known::Pointer(PointerPlace::Context(at)) => context_of(at),
+        Known::Pointer(PointerPlace::Stack(at)) => stack_of(at),
+        Known::Pointer(PointerPlace::Map(map, value)) => placed(map, stated_of(value)),
     }
 }
 
@@ -145,26 +145,28 @@ fn joined_numbers(
 }
 
 /// The join of what both say of a register.
-fn joined_kind(growth: Growth<'_>, old: &Kind, new: &Kind) -> Kind {
+fn joined_kind(growth: Growth<'_>, old: &StatedKind, new: &StatedKind) -> StatedKind {
     if *old == *new {
         return *old;
     }
     match (old, new) {
-        (Kind::Number(old), Kind::Number(new)) => numbered(joined_numbers(growth, *old, *new)),
-        (Kind::MapValue(map, old), Kind::MapValue(other, new)) => {
+        (StatedKind::Number(old), StatedKind::Number(new)) => numbered(joined_numbers(
+            growth, *old, *new,
+        )),
+        (StatedKind::MapValue(map, old), StatedKind::MapValue(other, new)) => {
             if *map == *other {
                 placed(*map, joined_numbers(growth, *old, *new))
             } else {
-                Kind::Empty
+                StatedKind::Empty
             }
         }
-        _ => Kind::Empty,
+        _ => StatedKind::Empty,
     }
 }
 
 /// What is known of the live registers, as statements say it.
-fn kinds_of(live: Registers, known: &[Known<Value>]) -> [Kind; 10] {
-    let mut kinds = [Kind::Empty; 10];
+fn kinds_of(live: Registers, known: &[Known<Value>]) -> [StatedKind; 10] {
+    let mut kinds = [StatedKind::Empty; 10];
     for register in 0..10 {
         if has(live, register) {
             kinds[register] = told(element_or(known, register, Known::Empty));
@@ -174,7 +176,7 @@ fn kinds_of(live: Registers, known: &[Known<Value>]) -> [Kind; 10] {
 }
 
 /// Those of these stack bytes that are known to be bytes of numbers.
-fn bytes_of(state: &State<Value>, others: &StackBytes) -> StackBytes {
+fn bytes_of(state: &AbstractState<Value>, others: &StackBytes) -> StackBytes {
     let mut bytes = StackBytes::new();
     for place in 0..state.entries.len().min(512) {
         if others.contains(place) && are_bytes(&state.entries, place, place + 1) {
@@ -190,7 +192,7 @@ fn all_bytes() -> StackBytes {
     bytes
 }
 
-fn statement_at(slot: usize, kinds: [Kind; 10], bytes: StackBytes) -> Option<Statement> {
+fn statement_at(slot: usize, kinds: [StatedKind; 10], bytes: StackBytes) -> Option<Statement> {
     match u32::try_from(slot) {
         Ok(slot) => Statement::new(slot, NO_RANK, kinds, bytes),
         Err(_) => None,
@@ -198,7 +200,11 @@ fn statement_at(slot: usize, kinds: [Kind; 10], bytes: StackBytes) -> Option<Sta
 }
 
 /// The statement of what is known.
-pub fn first_statement(slot: usize, live: Registers, state: &State<Value>) -> Option<Statement> {
+pub fn first_statement(
+    slot: usize,
+    live: Registers,
+    state: &AbstractState<Value>,
+) -> Option<Statement> {
     let bytes = bytes_of(state, &all_bytes());
     statement_at(slot, kinds_of(live, &state.kinds), bytes)
 }
@@ -206,13 +212,13 @@ pub fn first_statement(slot: usize, live: Registers, state: &State<Value>) -> Op
 /// The join of what both say of the registers.
 fn joined_kinds(
     growth: Growth<'_>,
-    old: &[Kind],
+    old: &[StatedKind],
     live: Registers,
-    state: &State<Value>,
-) -> [Kind; 10] {
+    state: &AbstractState<Value>,
+) -> [StatedKind; 10] {
     let mut kinds = kinds_of(live, &state.kinds);
     for register in 0..10 {
-        let old = element_or(old, register, Kind::Empty);
+        let old = element_or(old, register, StatedKind::Empty);
         let joined = joined_kind(growth, &old, &kinds[register]);
         kinds[register] = joined;
     }
@@ -224,7 +230,7 @@ pub fn joined_statement(
     growth: Growth<'_>,
     old: &Statement,
     live: Registers,
-    state: &State<Value>,
+    state: &AbstractState<Value>,
 ) -> Option<Statement> {
     let kinds = joined_kinds(growth, old.kinds(), live, state);
     let bytes = bytes_of(state, old.stack());
@@ -238,7 +244,7 @@ pub fn any_number() -> Known<Value> {
 
 /// A statement for a slot that no edge reaches: registers that are read hold any number.
 pub fn idle_statement(slot: usize, live: Registers) -> Option<Statement> {
-    let mut kinds = [Kind::Empty; 10];
+    let mut kinds = [StatedKind::Empty; 10];
     for register in 0..10 {
         if has(live, register) {
             kinds[register] = told(any_number());

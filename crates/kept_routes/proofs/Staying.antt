@@ -2,7 +2,7 @@
 use Rattle.std.proofs.Common.{◌≡◌, ◌≢◌, ℕ, ◌≤◌, inl, inr, Some, None, true, refl, arith, sym, ◌∙◌}
 use Rattle.std.specs.Prelude.{List, Option, is_some}
 use Rattle.std.specs.FinMap as finite
-use Rattle.lsa.specs.declared.body.Body.{Body}
+use Rattle.lsa.specs.declared.body.LsaBody.{LsaBody}
 use Rattle.words.specs.declared.key.Key.{Key}
 use Rattle.words.specs.declared.route.Route.{Route}
 use Rattle.routes.specs.lsdb.Copies.{Database, DatabaseCopy, aged_keys, said_by}
@@ -162,7 +162,7 @@ module _ (before moment : ℕ) (old new : Database) (walk : KeptWalk) where
           let key = summary_key 4 router k.told.originator in
           un.outside (key, there (finite.get new key) _ k.told.its, (refl, refl))
         where
-          there : (o : Option DatabaseCopy) (b : Body) → said_by moment o ≡ Some b
+          there : (o : Option DatabaseCopy) (b : LsaBody) → said_by moment o ≡ Some b
               → is_some o ≡ true
           there None b it = absurd cc
           there (Some copy) b it = refl

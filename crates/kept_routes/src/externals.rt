@@ -1,7 +1,7 @@
 //! Whether the candidates are unchanged although AS-external-LSAs changed, because those offer
 //! nothing (RFC 2328, section 16.4).
 ghost use Rattle.std.specs.Prelude.{◌≡◌, ◌≤◌, ◌↔◌, IfOk, IsTrue, MatchOption, Some, bit_and};
-ghost use Rattle.lsa.specs.declared.body.Body.TheVariants as body;
+ghost use Rattle.lsa.specs.declared.body.LsaBody.TheVariants as body;
 ghost use Rattle.lsa.specs.declared.body.RouterLsa.{RouterLsa as RouterValue};
 ghost use Rattle.candidates.specs.Borders.{IsFlagged};
 ghost use Rattle.routes.specs.Links.{router_key};
@@ -15,7 +15,7 @@ ghost use Rattle.kept_routes.specs.Kept.{IsWalkOf};
 
 use crate::sameness::is_old;
 use crate::walks::Routes;
-use lsa::{Body, RouterLsa};
+use lsa::{LsaBody, RouterLsa};
 use routes::{KeyRule, Lsdb, Node};
 use std::alloc::{AllocError, Global};
 use words::{Key, LinkStateId, RouterId, Second};
@@ -75,7 +75,7 @@ fn router_lsa<'a>(db: &'a Lsdb, moment: Second, key: &Key) -> Option<&'a RouterL
         said_at moment db.now.present key.now ≡ Some (body.Router lsa.now)) }
 {
     match db.body_at(moment, key)? {
-        Body::Router(lsa) => Some(lsa),
+        LsaBody::Router(lsa) => Some(lsa),
         _ => None,
     }
 }

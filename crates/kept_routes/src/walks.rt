@@ -12,7 +12,9 @@ ghost use Rattle.kept_routes.specs.Kept.{IsWalkOf};
 ghost use Rattle.candidates.specs.Externals.{AreExternals};
 
 use candidates::laws::every_offer_has_a_candidate;
-use candidates::{Calculated, External, Reached, Ways, calculate, copy_of, routes_of, walk};
+use candidates::{
+    Calculated, ExternalAdvertisement, Reached, Ways, calculate, copy_of, routes_of, walk,
+};
 use routes::{Lsdb, Node, Root, Way};
 use std::alloc::{AllocError, Global};
 use std::marker::Model;
@@ -105,7 +107,7 @@ impl Routes {
         alloc: Global,
         db: &Lsdb,
         moment: Second,
-        externals: &[External],
+        externals: &[ExternalAdvertisement],
     ) -> Result<Calculated, AllocError>
         requires walk { IsWalkOf (said_at moment db.now.present) self.now }
         requires externals { AreExternals (said_at moment db.now.present) externals.now }

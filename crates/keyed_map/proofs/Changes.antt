@@ -14,8 +14,8 @@ use Rattle.std.proofs.lemmas.Bool.{cases_eq}
 use Rattle.std.proofs.lemmas.List.Elements.{Contains-append_left, Contains-push_cases}
 use Rattle.std.proofs.lemmas.Option.{same_Some, slice_get_within}
 use Rattle.words.specs.declared.key.Key.{Key}
-use Rattle.keyed_map.specs.declared.slot.Slot.{Slot}
-use Rattle.keyed_map.specs.declared.slot.Slot.TheVariants.{Gone, Holds}
+use Rattle.keyed_map.specs.declared.slot.KeySlot.{KeySlot}
+use Rattle.keyed_map.specs.declared.slot.KeySlot.TheVariants.{Gone, Holds}
 use Rattle.keyed_map.specs.declared.slot.Edit.{Edit}
 use Rattle.keyed_map.specs.Changes.{IsFirst, held_before}
 use Rattle.keyed_map.specs.Keys.{ByKey, key_cmp}
@@ -46,35 +46,35 @@ kept_or_later same false S F differs s f = (
 )
 
 module _ {X : Type 0} where
-  pub held_same : (o : Option (Slot X)) → held_in o ≡ held_before o
+  pub held_same : (o : Option (KeySlot X)) → held_in o ≡ held_before o
   held_same None = refl
   held_same (Some Gone) = refl
   held_same (Some (Holds x)) = refl
 
   -- a value that was held was held in its slot
-  pub holds_is : (o : Option (Slot X)) (x : X) → Some x ≡ held_before o → Some (Holds x) ≡ o
+  pub holds_is : (o : Option (KeySlot X)) (x : X) → Some x ≡ held_before o → Some (Holds x) ≡ o
   holds_is None x is = absurd cc
   holds_is (Some Gone) x is = absurd cc
   holds_is (Some (Holds y)) x is = cc
 
   -- a key past the greatest has no value
-  pub not_there : (o : Option (Slot X)) (b : Bool) → (IsSome o → b ≡ false) → b ≡ true
+  pub not_there : (o : Option (KeySlot X)) (b : Bool) → (IsSome o → b ≡ false) → b ≡ true
       → is_some (held_in o) ≡ false
   not_there None b f t = refl
   not_there (Some s) b f t = absurd (let no : true ≡ false = sym t ∙ f refl in cc)
 
   -- nor has a key without a slot
-  pub none_there : (es : List (Key × Slot X)) (q : Key) → (0 < length es → ⊥)
+  pub none_there : (es : List (Key × KeySlot X)) (q : Key) → (0 < length es → ⊥)
       → is_some (held_in (lookup (is_at (key_cmp q)) es)) ≡ false
   none_there [] q empty = refl
   none_there (e ∷ es) q empty = absurd (empty (omega arith))
 
   -- whether the key was held
-  pub was_there : (m : ByKey (Slot X)) (q : Key) (before : Option (Slot X)) → before ≡ map.get m q
-      → is_some (held_before before) ≡ map.contains_key (live m) q
+  pub was_there : (m : ByKey (KeySlot X)) (q : Key) (before : Option (KeySlot X))
+      → before ≡ map.get m q → is_some (held_before before) ≡ map.contains_key (live m) q
   was_there m q before is = ap is_some (sym (held_same before) ∙ ap held_in is ∙ sym (get-live m q))
 
-  get-put_back : (k : Key) (before : Option (Slot X)) (m : ByKey (Slot X)) (q : Key)
+  get-put_back : (k : Key) (before : Option (KeySlot X)) (m : ByKey (KeySlot X)) (q : Key)
       → map.get (put_back k before m) q ≡ cond (eq_by_cmp key_cmp q k) before (map.get m q)
   get-put_back k None m q = map.get-remove keys_total m k q
   get-put_back k (Some s) m q = map.get-insert keys_total m k s q
@@ -87,7 +87,7 @@ module _ {X : Type 0} where
   found_at (e ∷ es) (suc n) low = found_at es n (omega (arith, low))
 
   -- the slot of the key before its first edit
-  pub record StoodAt (es : List (Edit X)) (q : Key) (before : Option (Slot X)) : Type 0 where
+  pub record StoodAt (es : List (Edit X)) (q : Key) (before : Option (KeySlot X)) : Type 0 where
     pub edit : Edit X
     pub place : ℕ
     pub at : slice_get es place ≡ Some edit
@@ -111,8 +111,8 @@ module _ {X : Type 0} where
       other (ap (λ (x : Edit X). x.key) (same_Some e d is) ∙ its)
   first_later e es q place other first (suc k) d low is its = first k d (omega (arith, low)) is its
 
-  later : (e : Edit X) (es : List (Edit X)) (q : Key) (before : Option (Slot X)) → (e.key ≡ q → ⊥)
-      → StoodAt es q before → StoodAt (e ∷ es) q before
+  later : (e : Edit X) (es : List (Edit X)) (q : Key) (before : Option (KeySlot X))
+      → (e.key ≡ q → ⊥) → StoodAt es q before → StoodAt (e ∷ es) q before
   later e es q before other s = record {
     edit = s.edit;
     place = suc s.place;
@@ -123,7 +123,7 @@ module _ {X : Type 0} where
   }
 
   -- the slot before all edits is the present one, or the one before the first edit of the key
-  pub before_edits : (es : List (Edit X)) (m : ByKey (Slot X)) (q : Key)
+  pub before_edits : (es : List (Edit X)) (m : ByKey (KeySlot X)) (q : Key)
       → (map.get (undone es m) q ≡ map.get m q) ⊎ StoodAt es q (map.get (undone es m) q)
   before_edits [] m q = inl refl
   before_edits (e ∷ es) m q = by_key (eq_by_cmp key_cmp q e.key) refl (before_edits es m q)
@@ -152,7 +152,7 @@ module _ {X : Type 0} where
           ]
 
   -- the first edit of a key has its slot before all edits
-  pub first_found : (es : List (Edit X)) (m : ByKey (Slot X)) (place : ℕ) (edit : Edit X)
+  pub first_found : (es : List (Edit X)) (m : ByKey (KeySlot X)) (place : ℕ) (edit : Edit X)
       → slice_get es place ≡ Some edit → IsFirst es place edit.key
       → map.get (undone es m) edit.key ≡ edit.before
   first_found [] m place edit at first = absurd cc
@@ -198,7 +198,7 @@ module _ {X : Type 0} where
 
   module _ (S : Key → Option X → Option X → Type 0) (itself : (k : Key) (o : Option X) → S k o o)
     where
-      pub kept : (es : List (Edit X)) (m : ByKey (Slot X)) → AllKeep S (live m) es (length es)
+      pub kept : (es : List (Edit X)) (m : ByKey (KeySlot X)) → AllKeep S (live m) es (length es)
           → (q : Key) → S q (map.get (live (undone es m)) q) (map.get (live m) q)
       kept es m all q =
           let then_ = get-live (undone es m) q in
@@ -220,7 +220,7 @@ module _ {X : Type 0} where
 
   -- if all keys keep their values, so does the key of a first edit
   pub first_kept : (S : Key → Option X → Option X → Type 0) (es : List (Edit X))
-      (m : ByKey (Slot X)) (place : ℕ) (edit : Edit X) → slice_get es place ≡ Some edit
+      (m : ByKey (KeySlot X)) (place : ℕ) (edit : Edit X) → slice_get es place ≡ Some edit
       → IsFirst es place edit.key → ((q : Key)
       → S q (map.get (live (undone es m)) q) (map.get (live m) q)) → Keeps S (live m) edit
   first_kept S es m place edit at first all =
@@ -230,7 +230,7 @@ module _ {X : Type 0} where
       subst (λ o. S edit.key o (map.get (live m) edit.key)) was (all edit.key)
 
   -- the slot in the first edit of a key is the settled one
-  pub first_settled : (es : List (Edit X)) (m : ByKey (Slot X)) (place : ℕ) (edit : Edit X)
+  pub first_settled : (es : List (Edit X)) (m : ByKey (KeySlot X)) (place : ℕ) (edit : Edit X)
       (q : Key) → slice_get es place ≡ Some edit → edit.key ≡ q → IsFirst es place q
       → held_before edit.before ≡ map.get (live (undone es m)) q
   first_settled es m place edit q at its first =
@@ -239,7 +239,7 @@ module _ {X : Type 0} where
       ∙ ap (map.get (live (undone es m))) its
 
   -- the value of a key without an edit is the settled one
-  pub unedited : (es : List (Edit X)) (m : ByKey (Slot X)) (q : Key) → IsFirst es (length es) q
+  pub unedited : (es : List (Edit X)) (m : ByKey (KeySlot X)) (q : Key) → IsFirst es (length es) q
       → map.get (live m) q ≡ map.get (live (undone es m)) q
   unedited es m q none =
       elim (before_edits es m q) [
@@ -284,7 +284,7 @@ module _ {X : Type 0} where
 
   -- if a key has the same value, so has its first edit
   pub kept_there : (S : Key → Option X → Option X → Type 0) (es : List (Edit X))
-      (m : ByKey (Slot X)) (place : ℕ) (edit : Edit X) → slice_get es place ≡ Some edit
+      (m : ByKey (KeySlot X)) (place : ℕ) (edit : Edit X) → slice_get es place ≡ Some edit
       → IsFirst es place edit.key → S edit.key (map.get (live (undone es m)) edit.key)
       (map.get (live m) edit.key) → Keeps S (live m) edit
   kept_there S es m place edit at first same =

@@ -12,8 +12,8 @@ use Rattle.std.specs.FinMap as finite
 use Rattle.std.specs.FinMap.Entries.{below_all}
 use Rattle.std.specs.Map.{keys_of}
 use Rattle.words.specs.declared.key.Key.{Key}
-use Rattle.keyed_map.specs.declared.slot.Slot.{Slot}
-use Rattle.keyed_map.specs.declared.slot.Slot.TheVariants.{Gone, Holds}
+use Rattle.keyed_map.specs.declared.slot.KeySlot.{KeySlot}
+use Rattle.keyed_map.specs.declared.slot.KeySlot.TheVariants.{Gone, Holds}
 use Rattle.std.specs.Prelude.{Option}
 use Rattle.keyed_map.specs.Keys.{ByKey}
 use Rattle.keyed_map.specs.Keys.{key_cmp}
@@ -66,13 +66,13 @@ module _ {Y : Type 0} where
       ∙ finite.entries-from_sorted key_cmp es sorted
 
 module _ {X : Type 0} where
-  below_kept : (x : Key) (es : List (Key × Slot X)) → T (below_all key_cmp x es)
+  below_kept : (x : Key) (es : List (Key × KeySlot X)) → T (below_all key_cmp x es)
       → T (below_all key_cmp x (kept es))
   below_kept x [] all = tt
   below_kept x ((k, Gone) ∷ es) all = below_kept x es (second _ _ all)
   below_kept x ((k, Holds y) ∷ es) all = both _ _ (first _ _ all) (below_kept x es (second _ _ all))
 
-  sorted_kept : (es : List (Key × Slot X)) → T (finite.is_sorted key_cmp es)
+  sorted_kept : (es : List (Key × KeySlot X)) → T (finite.is_sorted key_cmp es)
       → T (finite.is_sorted key_cmp (kept es))
   sorted_kept [] sorted = tt
   sorted_kept ((k, Gone) ∷ es) sorted = sorted_kept es (second _ _ sorted)
@@ -80,7 +80,7 @@ module _ {X : Type 0} where
       both _ _ (below_kept k es (first _ _ sorted)) (sorted_kept es (second _ _ sorted))
 
   -- the live entries, in order
-  pub live_entries : (es : List (Key × Slot X)) → IsStrictlySortedBy key_cmp (keys_of es)
+  pub live_entries : (es : List (Key × KeySlot X)) → IsStrictlySortedBy key_cmp (keys_of es)
       → finite.entries (live (slots_of es)) ≡ kept es
   unfolding live slots_of
   live_entries es ordered =
@@ -88,13 +88,13 @@ module _ {X : Type 0} where
       ap (λ fs. finite.entries (finite.from_entries {R = key_cmp} (kept fs))) (entries_of es sorted)
       ∙ entries_of (kept es) (sorted_kept es sorted)
 
-  kept_held : (es : List (Key × Slot X)) → kept (filter (λ e. holds e.1) es) ≡ kept es
+  kept_held : (es : List (Key × KeySlot X)) → kept (filter (λ e. holds e.1) es) ≡ kept es
   kept_held [] = refl
   kept_held ((k, Gone) ∷ es) = kept_held es
   kept_held ((k, Holds x) ∷ es) = ap (λ fs. (k, x) ∷ fs) (kept_held es)
 
   -- empty slots may be left out
-  pub live_held : (es fs : List (Key × Slot X)) → IsStrictlySortedBy key_cmp (keys_of es)
+  pub live_held : (es fs : List (Key × KeySlot X)) → IsStrictlySortedBy key_cmp (keys_of es)
       → IsStrictlySortedBy key_cmp (keys_of fs) → fs ≡ filter (λ e. holds e.1) es
       → live (slots_of fs) ≡ live (slots_of es)
   live_held es fs ordered still is =
@@ -102,18 +102,18 @@ module _ {X : Type 0} where
       ∙ sym (live_entries es ordered))
 
   -- and all of them if no key is left
-  pub live_none : (es fs : List (Key × Slot X)) → finite.len (live (slots_of es)) ≡ 0 → fs ≡ []
+  pub live_none : (es fs : List (Key × KeySlot X)) → finite.len (live (slots_of es)) ≡ 0 → fs ≡ []
       → live (slots_of fs) ≡ live (slots_of es)
   live_none es fs none is = ap live (slots-empty fs is) ∙ live-empty
       ∙ sym (finite.empty_of_len (live (slots_of es)) none)
 
-  length-kept : (es : List (Key × Slot X)) → length (kept es) ≤ length es
+  length-kept : (es : List (Key × KeySlot X)) → length (kept es) ≤ length es
   length-kept [] = omega arith
   length-kept ((k, Gone) ∷ es) = omega (arith, length-kept es)
   length-kept ((k, Holds x) ∷ es) = omega (arith, length-kept es)
 
   -- there are no more keys than slots
-  pub len_live : (es : List (Key × Slot X)) → IsStrictlySortedBy key_cmp (keys_of es)
+  pub len_live : (es : List (Key × KeySlot X)) → IsStrictlySortedBy key_cmp (keys_of es)
       → finite.len (live (slots_of es)) ≤ length es
   len_live es ordered = omega (
     arith,
@@ -123,28 +123,28 @@ module _ {X : Type 0} where
   )
 
   -- one more slot was visited
-  abbrev pub key_in : Key × Slot X → List Key
+  abbrev pub key_in : Key × KeySlot X → List Key
   key_in (k, Gone) = []
   key_in (k, Holds x) = k ∷ []
 
-  pub kept_keys : (e : Key × Slot X) (es : List (Key × Slot X))
+  pub kept_keys : (e : Key × KeySlot X) (es : List (Key × KeySlot X))
       → map (λ f. f.0) (kept (e ∷ es)) ≡ key_in e ++ map (λ f. f.0) (kept es)
   kept_keys (k, Gone) es = refl
   kept_keys (k, Holds x) es = refl
 
-  from_gone : (b : Bool) (k : Key) (es : List (Key × Slot X))
+  from_gone : (b : Bool) (k : Key) (es : List (Key × KeySlot X))
       → map (λ e. e.0) (kept (cond (b && true) ((k, Gone) ∷ es) es)) ≡ map (λ e. e.0) (kept es)
   from_gone true k es = refl
   from_gone false k es = refl
 
-  from_holds : (b : Bool) (k : Key) (x : X) (es : List (Key × Slot X))
+  from_holds : (b : Bool) (k : Key) (x : X) (es : List (Key × KeySlot X))
       → map (λ e. e.0) (kept (cond (b && true) ((k, Holds x) ∷ es) es))
       ≡ cond b (k ∷ map (λ e. e.0) (kept es)) (map (λ e. e.0) (kept es))
   from_holds true k x es = refl
   from_holds false k x es = refl
 
   -- the live entries from a key on
-  pub kept_from : (key : Key) (es : List (Key × Slot X))
+  pub kept_from : (key : Key) (es : List (Key × KeySlot X))
       → map (λ e. e.0) (kept (entries_between key_cmp (Included key) Unbounded es))
       ≡ keys_from key (map (λ e. e.0) (kept es))
   kept_from key [] = refl
@@ -199,7 +199,7 @@ module _ {X : Type 0} where
   or_none (Some x) = refl
 
   -- the live entries, inserted in turn into an empty map
-  pub filled_live : (es : List (Key × Slot X)) → IsStrictlySortedBy key_cmp (keys_of es)
+  pub filled_live : (es : List (Key × KeySlot X)) → IsStrictlySortedBy key_cmp (keys_of es)
       → filled finite.empty (kept es) ≡ live (slots_of es)
   filled_live es ordered =
       let sorted = sorted_kept es (sorted_from es ordered) in

@@ -11,8 +11,8 @@ use Rattle.std.specs.FinMap.Entries.{below_all}
 use Rattle.std.specs.BTreeMap.{is_at}
 use Rattle.std.specs.Map.{lookup}
 use Rattle.words.specs.declared.key.Key.{Key}
-use Rattle.keyed_map.specs.declared.slot.Slot.{Slot}
-use Rattle.keyed_map.specs.declared.slot.Slot.TheVariants.{Gone, Holds}
+use Rattle.keyed_map.specs.declared.slot.KeySlot.{KeySlot}
+use Rattle.keyed_map.specs.declared.slot.KeySlot.TheVariants.{Gone, Holds}
 use Rattle.keyed_map.specs.declared.slot.Edit.{Edit}
 use Rattle.keyed_map.specs.Keys.{ByKey}
 use Rattle.keyed_map.specs.Keys.{key_cmp}
@@ -38,7 +38,7 @@ equal Less p = absurd (subst T (sym p) tt)
 equal Equal p = refl
 equal Greater p = absurd (subst T (sym p) tt)
 
-abbrev pub held_in : {X : Type 0} → Option (Slot X) → Option X
+abbrev pub held_in : {X : Type 0} → Option (KeySlot X) → Option X
 held_in None = None
 held_in (Some Gone) = None
 held_in (Some (Holds x)) = Some x
@@ -46,7 +46,7 @@ held_in (Some (Holds x)) = Some x
 symmetric : (k q : Key) → eq_by_cmp key_cmp k q ≡ eq_by_cmp key_cmp q k
 symmetric k q = (eq_by_cmp_equiv keys_total).symm k q
 
-spread : {X : Type 0} (b : Bool) (s : Slot X) (o : Option (Slot X))
+spread : {X : Type 0} (b : Bool) (s : KeySlot X) (o : Option (KeySlot X))
     → held_in (cond b (Some s) o) ≡ cond b (held_in (Some s)) (held_in o)
 spread true s o = refl
 spread false s o = refl
@@ -55,17 +55,17 @@ same : {Y : Type 0} (m n : ByKey Y) → ((q : Key) → map.get m q ≡ map.get n
 same = map.same_map keys_total keys_exact
 
 module _ {X : Type 0} where
-  lookup_is : (q : Key) (es : List (Key × Slot X))
+  lookup_is : (q : Key) (es : List (Key × KeySlot X))
       → lookup (is_at (key_cmp q)) es ≡ map.find key_cmp q es
   lookup_is q [] = refl
   lookup_is q (e ∷ es) = ap (cond (eq_by_cmp key_cmp q e.0) (Some e.1)) (lookup_is q es)
 
-  pub get-slots : (es : List (Key × Slot X)) (q : Key)
+  pub get-slots : (es : List (Key × KeySlot X)) (q : Key)
       → map.get (slots_of es) q ≡ lookup (is_at (key_cmp q)) es
   unfolding slots_of
   get-slots es q = map.get-from_entries keys_total es q ∙ sym (lookup_is q es)
 
-  none_past : (q k : Key) (es : List (Key × Slot X)) → key_cmp q k ≡ Equal
+  none_past : (q k : Key) (es : List (Key × KeySlot X)) → key_cmp q k ≡ Equal
       → T (below_all key_cmp k es) → map.find key_cmp q es ≡ None
   none_past q k [] same all = refl
   none_past q k (e ∷ es) same all =
@@ -73,7 +73,7 @@ module _ {X : Type 0} where
       (keys_total.congr q k e.0 same ∙ less _ (first _ _ all))
       ∙ none_past q k es same (second _ _ all)
 
-  find-kept : (q : Key) (es : List (Key × Slot X)) → T (map.is_sorted key_cmp es)
+  find-kept : (q : Key) (es : List (Key × KeySlot X)) → T (map.is_sorted key_cmp es)
       → map.find key_cmp q (kept es) ≡ held_in (map.find key_cmp q es)
   find-kept q [] sorted = refl
   find-kept q ((k, Gone) ∷ es) sorted =
@@ -90,12 +90,12 @@ module _ {X : Type 0} where
         | false ↦ find-kept q es (second _ _ sorted)
       ]
 
-  pub get-live : (m : ByKey (Slot X)) (q : Key) → map.get (live m) q ≡ held_in (map.get m q)
+  pub get-live : (m : ByKey (KeySlot X)) (q : Key) → map.get (live m) q ≡ held_in (map.get m q)
   unfolding live
   get-live m q = map.get-from_entries keys_total _ q
       ∙ find-kept q (map.entries m) (map.entries_sorted m) ∙ ap held_in (sym (map.get-entries m q))
 
-  pub slots_insert : (es fs : List (Key × Slot X)) (k : Key) (s : Slot X)
+  pub slots_insert : (es fs : List (Key × KeySlot X)) (k : Key) (s : KeySlot X)
       → ((q : Key) → lookup (is_at (key_cmp q)) fs
       ≡ cond (is_at (key_cmp k) q) (Some s) (lookup (is_at (key_cmp q)) es))
       → slots_of fs ≡ map.insert (slots_of es) k s
@@ -104,7 +104,7 @@ module _ {X : Type 0} where
       ∙ ap (λ b. cond b (Some s) (map.get (slots_of es) q)) (symmetric k q)
       ∙ sym (map.get-insert keys_total (slots_of es) k s q))
 
-  pub slots_remove : (es fs : List (Key × Slot X)) (k : Key)
+  pub slots_remove : (es fs : List (Key × KeySlot X)) (k : Key)
       → ((q : Key) → lookup (is_at (key_cmp q)) fs
       ≡ cond (is_at (key_cmp k) q) None (lookup (is_at (key_cmp q)) es))
       → slots_of fs ≡ map.remove (slots_of es) k
@@ -113,7 +113,7 @@ module _ {X : Type 0} where
       ∙ ap (λ b. cond b None (map.get (slots_of es) q)) (symmetric k q)
       ∙ sym (map.get-remove keys_total (slots_of es) k q))
 
-  pub live_put : (m : ByKey (Slot X)) (k : Key) (s : Slot X)
+  pub live_put : (m : ByKey (KeySlot X)) (k : Key) (s : KeySlot X)
       → live (map.insert m k s) ≡ put_live (live m) k s
   live_put m k Gone = same _ _ (λ q. get-live _ q
       ∙ ap held_in (map.get-insert keys_total m k Gone q)
@@ -126,16 +126,16 @@ module _ {X : Type 0} where
       ∙ ap (cond (eq_by_cmp key_cmp q k) (Some x)) (sym (get-live m q))
       ∙ sym (map.get-insert keys_total (live m) k x q))
 
-  pub len_put : (m : ByKey X) (k : Key) (s : Slot X)
+  pub len_put : (m : ByKey X) (k : Key) (s : KeySlot X)
       → map.len (put_live m k s) ≡ count_after_change (map.contains_key m k) (holds s) (map.len m)
   len_put m k Gone = map.len-remove keys_total m k
   len_put m k (Holds x) = map.len-insert keys_total m k x
 
-  pub live-empty : live (map.empty {X = Slot X}) ≡ map.empty
+  pub live-empty : live (map.empty {X = KeySlot X}) ≡ map.empty
   live-empty = same _ _ (λ q. get-live map.empty q ∙ ap held_in (map.get-empty key_cmp q)
       ∙ sym (map.get-empty key_cmp q))
 
-  pub slots-empty : (es : List (Key × Slot X)) → es ≡ [] → slots_of es ≡ map.empty
+  pub slots-empty : (es : List (Key × KeySlot X)) → es ≡ [] → slots_of es ≡ map.empty
   unfolding slots_of
   slots-empty es is = ap map.from_entries is
 
@@ -150,7 +150,7 @@ module _ {X : Type 0} where
       missing q false tied = refl
 
   -- setting a slot to its value changes nothing
-  pub same_again : (m : ByKey (Slot X)) (k : Key) (s : Slot X) → map.get m k ≡ Some s
+  pub same_again : (m : ByKey (KeySlot X)) (k : Key) (s : KeySlot X) → map.get m k ≡ Some s
       → map.insert m k s ≡ m
   same_again m k s is = same _ _ (λ q. map.get-insert keys_total m k s q
       ∙ stands q (eq_by_cmp key_cmp q k) refl)
@@ -161,7 +161,7 @@ module _ {X : Type 0} where
       stands q false tied = refl
 
   -- the slot of the key is restored
-  pub put_back_is : (m : ByKey (Slot X)) (k : Key) (s : Slot X) (before : Option (Slot X))
+  pub put_back_is : (m : ByKey (KeySlot X)) (k : Key) (s : KeySlot X) (before : Option (KeySlot X))
       → before ≡ map.get m k → put_back k before (map.insert m k s) ≡ m
   put_back_is m k s None is = same _ _
       (λ q. map.get-remove keys_total _ k q
@@ -182,26 +182,26 @@ module _ {X : Type 0} where
       settled_at q true tied = is ∙ ap (map.get m) (sym (keys_exact q k (equal _ tied)))
       settled_at q false tied = refl
 
-  pub has_place : (m : ByKey (Slot X)) (k : Key) (s : Slot X) (before : Option (Slot X))
+  pub has_place : (m : ByKey (KeySlot X)) (k : Key) (s : KeySlot X) (before : Option (KeySlot X))
       → HasPlace k before (map.insert m k s)
   has_place m k s None = tt
   has_place m k s (Some t) = subst IsSome
       (sym (map.get-insert keys_total m k s k
       ∙ ap (λ r. cond (is_eq r) (Some s) (map.get m k)) (tied_itself keys_total k))) refl
 
-  pub undone-push : (es : List (Edit X)) (e : Edit X) (m n : ByKey (Slot X)) → undo e n ≡ m
+  pub undone-push : (es : List (Edit X)) (e : Edit X) (m n : ByKey (KeySlot X)) → undo e n ≡ m
       → undone (es ++ e ∷ []) n ≡ undone es m
   undone-push [] e m n is = is
   undone-push (d ∷ ds) e m n is = ap (undo d) (undone-push ds e m n is)
 
-  pub AllFit-push : (es : List (Edit X)) (e : Edit X) (m n : ByKey (Slot X)) → undo e n ≡ m
+  pub AllFit-push : (es : List (Edit X)) (e : Edit X) (m n : ByKey (KeySlot X)) → undo e n ≡ m
       → Fits e n → AllFit es m → AllFit (es ++ e ∷ []) n
   AllFit-push [] e m n is fits all = (fits, tt)
   AllFit-push (d ∷ ds) e m n is fits all =
       (subst (Fits d) (sym (undone-push ds e m n is)) all.0, AllFit-push ds e m n is fits all.1)
 
   -- the last edit is undone
-  pub popped : (es : List (Edit X)) (e : Edit X) (n : ByKey (Slot X)) → AllFit (es ++ e ∷ []) n
+  pub popped : (es : List (Edit X)) (e : Edit X) (n : ByKey (KeySlot X)) → AllFit (es ++ e ∷ []) n
       → Fits e n × AllFit es (undo e n)
   popped [] e n all = (all.0, tt)
   popped (d ∷ ds) e n all =

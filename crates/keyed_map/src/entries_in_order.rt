@@ -1,5 +1,5 @@
 //! An iterator over the entries of a map.
-use crate::slot::Slot;
+use crate::slot::KeySlot;
 use std::collections::btree_map;
 use std::marker::Model;
 use words::Key;
@@ -7,7 +7,7 @@ use words::Key;
 /// The remaining entries, in the order of their keys. It doesn't allocate.
 #[derive(Drop)]
 pub struct EntriesInOrder<'a, X> {
-    pub(crate) slots: btree_map::Iter<'a, Key, Slot<X>>,
+    pub(crate) slots: btree_map::Iter<'a, Key, KeySlot<X>>,
 }
 
 impl<'a, X> Model for EntriesInOrder<'a, X> {
@@ -35,7 +35,7 @@ impl<'a, X> Iterator for EntriesInOrder<'a, X> {
 
     fn next(&mut self) -> Option<(Key, &'a X)> {
         while let Some((key, slot)) = self.slots.next() {
-            if let Slot::Holds(x) = slot {
+            if let KeySlot::Holds(x) = slot {
                 return Some((*key, x));
             }
         }

@@ -1,5 +1,5 @@
 //! An iterator over the keys of a map.
-use crate::slot::Slot;
+use crate::slot::KeySlot;
 use std::collections::btree_map;
 use std::marker::Model;
 use words::Key;
@@ -7,7 +7,7 @@ use words::Key;
 /// The remaining keys, in their order. It doesn't allocate.
 #[derive(Drop)]
 pub struct KeysInOrder<'a, X> {
-    pub(crate) slots: btree_map::Iter<'a, Key, Slot<X>>,
+    pub(crate) slots: btree_map::Iter<'a, Key, KeySlot<X>>,
 }
 
 impl<'a, X> Model for KeysInOrder<'a, X> {
@@ -35,7 +35,7 @@ impl<'a, X> Iterator for KeysInOrder<'a, X> {
 
     fn next(&mut self) -> Option<Key> {
         while let Some((key, slot)) = self.slots.next() {
-            if let Slot::Holds(_) = slot {
+            if let KeySlot::Holds(_) = slot {
                 return Some(*key);
             }
         }

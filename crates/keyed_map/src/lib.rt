@@ -10,4 +10,4 @@ mod slot;
 pub use entries_in_order::EntriesInOrder;
 pub use keys_in_order::KeysInOrder;
 pub use map::{ChangeTest, Copied, KeyTest, KeyedMap};
-pub use slot::{Edit, Slot};
+pub use slot::{Edit, KeySlot};

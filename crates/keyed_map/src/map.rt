@@ -14,7 +14,7 @@ ghost use Rattle.keyed_map.specs.Changes.{IsFirst, held_before};
 
 use crate::entries_in_order::EntriesInOrder;
 use crate::keys_in_order::KeysInOrder;
-use crate::slot::{Edit, Slot};
+use crate::slot::{Edit, KeySlot};
 use std::alloc::{AllocError, Global};
 use std::collections::BTreeMap;
 use std::marker::Model;
@@ -24,7 +24,7 @@ use words::Key;
 /// A map by LSA key, which can be rolled back to its state when it was last settled.
 #[derive(Drop)]
 pub struct KeyedMap<X> {
-    slots: BTreeMap<Key, Slot<X>>,
+    slots: BTreeMap<Key, KeySlot<X>>,
     edits: Vec<Edit<X>>,
     // at least the number of empty slots; only speed depends on it
     gone: usize,
@@ -57,18 +57,18 @@ fn same(key: &Key) -> Key
     *key
 }
 
-fn holds<X>(slot: &Slot<X>) -> bool
+fn holds<X>(slot: &KeySlot<X>) -> bool
     ensures { result ≡ holds slot.now }
 {
     match slot {
-        Slot::Gone => false,
-        Slot::Holds(_) => true,
+        KeySlot::Gone => false,
+        KeySlot::Holds(_) => true,
     }
 }
 
 // The number of keys after one was set that was held before or not. There are no more keys than
 // slots, so that this doesn't overflow.
-fn count<X>(slots: &BTreeMap<Key, Slot<X>>, len: usize, held: bool) -> usize
+fn count<X>(slots: &BTreeMap<Key, KeySlot<X>>, len: usize, held: bool) -> usize
     requires { map.len (live (slots_of slots.now.entries)) ≡ count_after_change held true len }
     ensures { result ≡ map.len (live (slots_of slots.now.entries)) }
 {
@@ -78,7 +78,7 @@ fn count<X>(slots: &BTreeMap<Key, Slot<X>>, len: usize, held: bool) -> usize
 }
 
 // Undoes one edit. It doesn't allocate.
-fn take_back<X: Drop>(slots: &mut BTreeMap<Key, Slot<X>>, edit: Edit<X>)
+fn take_back<X: Drop>(slots: &mut BTreeMap<Key, KeySlot<X>>, edit: Edit<X>)
     requires { Fits edit (slots_of slots.old.entries) }
     ensures { slots_of slots.new.entries ≡ undo edit (slots_of slots.old.entries) }
 {
@@ -95,32 +95,36 @@ fn take_back<X: Drop>(slots: &mut BTreeMap<Key, Slot<X>>, edit: Edit<X>)
 }
 
 // Sets the value of a key.
-fn put_value<X: Drop>(slots: &mut BTreeMap<Key, Slot<X>>, key: Key, x: X) -> Result<(), AllocError>
+fn put_value<X: Drop>(
+    slots: &mut BTreeMap<Key, KeySlot<X>>,
+    key: Key,
+    x: X,
+) -> Result<(), AllocError>
     ensures { OnOk result (live (slots_of slots.new.entries)
         ≡ map.insert (live (slots_of slots.old.entries)) key x) }
 {
-    let _before = slots.insert(key, Slot::Holds(x))?;
+    let _before = slots.insert(key, KeySlot::Holds(x))?;
     Ok(())
 }
 
 // Takes the value of a key out of its slot, which stays.
-fn take_out<X: Drop>(slots: &mut BTreeMap<Key, Slot<X>>, key: &Key) -> Option<X>
+fn take_out<X: Drop>(slots: &mut BTreeMap<Key, KeySlot<X>>, key: &Key) -> Option<X>
     ensures value { result ≡ held_before (map.get (slots_of slots.old.entries) key.now) }
     ensures some { IfSome result (λ _. slots_of slots.new.entries
-        ≡ map.insert (slots_of slots.old.entries) key.now Slot.Gone) }
+        ≡ map.insert (slots_of slots.old.entries) key.now KeySlot.Gone) }
     ensures none { result ≡ None → slots_of slots.new.entries ≡ slots_of slots.old.entries }
 {
     match slots.get_mut(key) {
-        Some(slot) => match replace(slot, Slot::Gone) {
-            Slot::Holds(x) => Some(x),
-            Slot::Gone => None,
+        Some(slot) => match replace(slot, KeySlot::Gone) {
+            KeySlot::Holds(x) => Some(x),
+            KeySlot::Gone => None,
         },
         None => None,
     }
 }
 
 // Removes the empty slots; the other slots are those of `len` keys. It doesn't allocate.
-fn forget_gone<X: Drop>(slots: &mut BTreeMap<Key, Slot<X>>, len: usize)
+fn forget_gone<X: Drop>(slots: &mut BTreeMap<Key, KeySlot<X>>, len: usize)
     requires { len ≡ map.len (live (slots_of slots.old.entries)) }
     ensures { live (slots_of slots.new.entries) ≡ live (slots_of slots.old.entries) }
 {
@@ -132,23 +136,23 @@ fn forget_gone<X: Drop>(slots: &mut BTreeMap<Key, Slot<X>>, len: usize)
 }
 
 // The value before an edit.
-fn held_before<X>(before: &Option<Slot<X>>) -> Option<&X>
+fn held_before<X>(before: &Option<KeySlot<X>>) -> Option<&X>
     ensures { option_copied result ≡ held_before before.now }
 {
     match before {
-        Some(Slot::Holds(x)) => Some(x),
-        Some(Slot::Gone) => None,
+        Some(KeySlot::Holds(x)) => Some(x),
+        Some(KeySlot::Gone) => None,
         None => None,
     }
 }
 
 // Whether there was a value before an edit.
-fn held<X>(before: &Option<Slot<X>>) -> bool
+fn held<X>(before: &Option<KeySlot<X>>) -> bool
     ensures { result ≡ is_some (held_before before.now) }
 {
     match before {
-        Some(Slot::Holds(_)) => true,
-        Some(Slot::Gone) => false,
+        Some(KeySlot::Holds(_)) => true,
+        Some(KeySlot::Gone) => false,
         None => false,
     }
 }
@@ -250,7 +254,7 @@ impl<X: Copied> KeyedMap<X> {
     {
         let mut slots = BTreeMap::new(alloc);
         for (key, slot) in self.slots.iter() {
-            if let Slot::Holds(x) = slot {
+            if let KeySlot::Holds(x) = slot {
                 put_value(&mut slots, *key, x.copy(alloc)?)?;
             }
         }
@@ -275,7 +279,7 @@ impl<X: Copy + Drop> KeyedMap<X> {
     {
         let mut slots = BTreeMap::new(alloc);
         for (key, slot) in self.slots.iter() {
-            if let Slot::Holds(x) = slot {
+            if let KeySlot::Holds(x) = slot {
                 put_value(&mut slots, *key, *x)?;
             }
         }
@@ -322,8 +326,8 @@ impl<X: Drop> KeyedMap<X> {
         ensures { option_copied result ≡ map.get self.now.present key.now }
     {
         match self.slots.get(key) {
-            Some(Slot::Holds(x)) => Some(x),
-            Some(Slot::Gone) => None,
+            Some(KeySlot::Holds(x)) => Some(x),
+            Some(KeySlot::Gone) => None,
             None => None,
         }
     }
@@ -394,7 +398,7 @@ impl<X: Drop> KeyedMap<X> {
             if keys.len() >= count {
                 break;
             }
-            if let Slot::Holds(_) = slot {
+            if let KeySlot::Holds(_) = slot {
                 keys.push(*key)?;
             }
         }
@@ -414,7 +418,7 @@ impl<X: Drop> KeyedMap<X> {
             if keys.len() >= count {
                 break;
             }
-            if let Slot::Holds(_) = slot {
+            if let KeySlot::Holds(_) = slot {
                 keys.push(*found)?;
             }
         }
@@ -426,7 +430,7 @@ impl<X: Drop> KeyedMap<X> {
         ensures { result ≡ slice_get (keys_from key.now (map.keys self.now.present)) 0 }
     {
         for (first, slot) in self.slots.range(*key..) {
-            if let Slot::Holds(_) = slot {
+            if let KeySlot::Holds(_) = slot {
                 return Some(same(first));
             }
         }
@@ -443,7 +447,7 @@ impl<X: Drop> KeyedMap<X> {
     {
         let mut keys = Vec::new(alloc);
         for (key, slot) in self.slots.iter() {
-            if let Slot::Holds(x) = slot {
+            if let KeySlot::Holds(x) = slot {
                 let accepted = test.accepts(key, x);
                 if accepted {
                     keys.push(*key)?;
@@ -534,7 +538,7 @@ impl<X: Drop> KeyedMap<X> {
     {
         self.edits.reserve(1)?;
         let noted = same(&key);
-        let before = self.slots.insert(key, Slot::Holds(x))?;
+        let before = self.slots.insert(key, KeySlot::Holds(x))?;
         let held = held(&before);
         self.edits.push_reserved(Edit { key: noted, before });
         self.len = count(&self.slots, self.len, held);
@@ -552,7 +556,7 @@ impl<X: Drop> KeyedMap<X> {
     {
         self.edits.reserve(1)?;
         if let Some(x) = take_out(&mut self.slots, key) {
-            let before = Some(Slot::Holds(x));
+            let before = Some(KeySlot::Holds(x));
             self.edits.push_reserved(Edit {
                 key: same(key),
                 before,

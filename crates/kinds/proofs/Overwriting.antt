@@ -5,8 +5,8 @@ use Rattle.std.proofs.Common.{get_or-set_same, length-set}
 use Rattle.std.proofs.lemmas.Bool.{cases_lt}
 use Rattle.machine.specs.declared.state.StackByte.{StackByte}
 use Rattle.machine.specs.Memory.{overwritten_stack}
-use Rattle.kinds.specs.declared.state.Entry.{Entry}
-use Rattle.kinds.specs.declared.state.Entry.TheVariants.{Unknown}
+use Rattle.kinds.specs.declared.state.StackEntry.{StackEntry}
+use Rattle.kinds.specs.declared.state.StackEntry.TheVariants.{Unknown}
 use Rattle.kinds.specs.Filled.{StaysFilledAt}
 use Rattle.kinds.specs.Knows.{KnowsEntryOverwritten}
 use Rattle.kinds.specs.Meaning.{EntryHolds, StackHolds}
@@ -18,15 +18,16 @@ same_inside [] i d e inside = absurd (omega (arith, inside))
 same_inside (x ∷ xs) zero d e inside = refl
 same_inside (x ∷ xs) (suc i) d e inside = same_inside xs i d e (omega (arith, inside))
 
-module _ {D : Type 0} (contains : D → ℕ → Type 0) (first now : List (Entry D)) (start end at : ℕ)
-    (inside entry after : Entry D) (within : at < length now)
+module _ {D : Type 0} (contains : D → ℕ → Type 0) (first now : List (StackEntry D))
+    (start end at : ℕ)
+    (inside entry after : StackEntry D) (within : at < length now)
     (rest : (k : ℕ) → at ≤ k → get_or now k Unknown ≡ get_or first k Unknown)
     (is : entry ≡ get_or now at entry) where
   entry_is : get_or first at Unknown ≡ entry
   entry_is = sym (rest at (omega arith)) ∙ same_inside now at Unknown entry within ∙ sym is
 
   -- what holds of the bytes so far and of this one holds of one more
-  one_more : (P : ℕ → Entry D → Type 0) → P at after
+  one_more : (P : ℕ → StackEntry D → Type 0) → P at after
       → ((k : ℕ) → k < at → P k (get_or now k Unknown)) → (k : ℕ) → k < at + 1
       → P k (get_or (set now at after) k Unknown)
   one_more P this before k below =
@@ -64,7 +65,8 @@ module _ {D : Type 0} (contains : D → ℕ → Type 0) (first now : List (Entry
       (overwritten_stack old start bytes) k
   known_after knows before old bytes known size fits puts =
       one_more (λ k e. EntryHolds contains e (overwritten_stack old start bytes) k)
-      (knows old bytes (subst (λ (e : Entry D). EntryHolds contains e old at) entry_is (known at))
+      (knows old bytes (subst (λ (e : StackEntry D). EntryHolds contains e old at) entry_is
+      (known at))
       size fits (puts at))
       (before old bytes known size fits puts)
 
@@ -75,4 +77,4 @@ module _ {D : Type 0} (contains : D → ℕ → Type 0) (first now : List (Entry
       (get_or (set now at after) k Unknown)
   filled_after stays =
       one_more (λ k e. StaysFilledAt k start end inside (get_or first k Unknown) e)
-      (subst (λ (e : Entry D). StaysFilledAt at start end inside e after) (sym entry_is) stays)
+      (subst (λ (e : StackEntry D). StaysFilledAt at start end inside e after) (sym entry_is) stays)

@@ -1,13 +1,13 @@
 -- Kinds that are read from what is stated.
 use Rattle.std.proofs.Common.{◌≡◌, ℕ, ◌<◌, length, get_or}
-use Rattle.object.specs.declared.kind.Kind.{Kind as Stated}
-use Rattle.object.specs.declared.kind.Kind.TheVariants as said
+use Rattle.object.specs.declared.kind.StatedKind.{StatedKind as Stated}
+use Rattle.object.specs.declared.kind.StatedKind.TheVariants as said
 use Rattle.object.specs.Statements.{StatementParts}
 use Rattle.machine.specs.declared.state.Content.{Content}
 use Rattle.machine.specs.declared.state.State.{State as Machine}
 use Rattle.kinds.specs.declared.state.Kind.{Kind}
 use Rattle.kinds.specs.declared.state.Kind.TheVariants.{Empty}
-use Rattle.kinds.specs.declared.statement.Target.{Target}
+use Rattle.kinds.specs.declared.statement.SegmentStart.{SegmentStart}
 use Rattle.kinds.specs.Meaning.{KindHolds, TargetHolds}
 use Rattle.kinds.specs.Stated.{GivesStated, HoldsStatement, IsAsStated, IsRead, MeetsStated}
 use Rattle.kinds.specs.Stated.{MeetsStatement}
@@ -21,14 +21,14 @@ pub record IsKindOf {D : Type 0} (contains : D → ℕ → Type 0) (gives : Give
       → MeetsStated contains gives stated content
 
 -- the kinds of r0 to r9 are those of the statement
-abbrev pub AreKindsOf : {D : Type 0} → (D → ℕ → Type 0) → GivesStated D → StatementParts → Target D
-    → Type 0
+abbrev pub AreKindsOf : {D : Type 0} → (D → ℕ → Type 0) → GivesStated D → StatementParts
+    → SegmentStart D → Type 0
 AreKindsOf contains gives statement target =
     (r : ℕ) → r < 10 → IsKindOf contains gives (get_or statement.kinds r said.Empty)
     (get_or target.kinds.items r Empty)
 
 module _ {D : Type 0} (contains : D → ℕ → Type 0) (gives : GivesStated D)
-    (statement : StatementParts) (target : Target D) (same : target.statement.now ≡ statement)
+    (statement : StatementParts) (target : SegmentStart D) (same : target.statement.now ≡ statement)
     (are : AreKindsOf contains gives statement target) where
   pub target_holds : (machine : Machine) → HoldsStatement statement machine
       → TargetHolds contains target machine

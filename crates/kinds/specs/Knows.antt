@@ -9,27 +9,27 @@ use Rattle.machine.specs.declared.state.StackByte.{StackByte}
 use Rattle.machine.specs.declared.state.State.{State as Machine}
 use Rattle.machine.specs.Memory.{overwritten_stack}
 use Rattle.kinds.specs.declared.state.Kind.{Kind}
-use Rattle.kinds.specs.declared.state.Entry.{Entry}
+use Rattle.kinds.specs.declared.state.StackEntry.{StackEntry}
 use Rattle.kinds.specs.declared.state.Fact.{Fact}
-use Rattle.kinds.specs.declared.state.State.{State}
+use Rattle.kinds.specs.declared.state.AbstractState.{AbstractState}
 use Rattle.kinds.specs.Meaning.{KindHolds, FactHolds, EntryHolds, StackHolds, StateHolds}
 
 -- what is read from each machine that the state describes is of the kind
-abbrev pub KnowsKind : {D : Type 0} → (D → ℕ → Type 0) → State D → (Machine → Content) → Kind D
-    → Type 0
+abbrev pub KnowsKind : {D : Type 0} → (D → ℕ → Type 0) → AbstractState D → (Machine → Content)
+    → Kind D → Type 0
 KnowsKind contains state read kind =
     (start now : Machine) → StateHolds contains state start now → KindHolds contains kind (read now)
 
 -- and it relates to the start of the segment as the fact says
-abbrev pub KnowsFact : {D : Type 0} → (D → ℕ → Type 0) → State D → (Machine → Content)
+abbrev pub KnowsFact : {D : Type 0} → (D → ℕ → Type 0) → AbstractState D → (Machine → Content)
     → Option Fact → Type 0
 KnowsFact contains state read fact =
     (start now : Machine) → StateHolds contains state start now → FactHolds fact start (read now)
 
 -- once the register is filled with a content of the kind, at whatever slot, the other state
 -- describes the machine
-abbrev pub KnowsFilled : {D : Type 0} → (D → ℕ → Type 0) → State D → ℕ → Kind D → Option Fact
-    → State D → Type 0
+abbrev pub KnowsFilled : {D : Type 0} → (D → ℕ → Type 0) → AbstractState D → ℕ → Kind D
+    → Option Fact → AbstractState D → Type 0
 KnowsFilled contains state target kind fact after =
     (start now : Machine) (content : Content) (slot : ℕ)
     → StateHolds contains state start now
@@ -52,7 +52,7 @@ MovesFact contains value becomes fact after =
     → FactHolds fact start (contents.Number y) → FactHolds after start (contents.Number (becomes y))
 
 -- `inside` holds of each of the new bytes from start to end
-abbrev pub PutsInside : {D : Type 0} → (D → ℕ → Type 0) → Entry D → ℕ → ℕ
+abbrev pub PutsInside : {D : Type 0} → (D → ℕ → Type 0) → StackEntry D → ℕ → ℕ
     → List StackByte → List StackByte → Type 0
 PutsInside contains inside start end old bytes =
     (at : ℕ) → start ≤ at → at < end
@@ -60,8 +60,8 @@ PutsInside contains inside start end old bytes =
 
 -- after the bytes from start to end are overwritten by bytes of which `inside` is known, the
 -- entries hold
-abbrev pub KnowsOverwritten : {D : Type 0} → (D → ℕ → Type 0) → List (Entry D) → ℕ → ℕ → Entry D
-    → List (Entry D) → Type 0
+abbrev pub KnowsOverwritten : {D : Type 0} → (D → ℕ → Type 0) → List (StackEntry D) → ℕ → ℕ
+    → StackEntry D → List (StackEntry D) → Type 0
 KnowsOverwritten contains entries start end inside after =
     (old bytes : List StackByte) → StackHolds contains entries old
     → start + length bytes ≡ end → end ≤ length old
@@ -69,8 +69,8 @@ KnowsOverwritten contains entries start end inside after =
     → StackHolds contains after (overwritten_stack old start bytes)
 
 -- the same for the entry at one byte
-abbrev pub KnowsEntryOverwritten : {D : Type 0} → (D → ℕ → Type 0) → Entry D → ℕ → ℕ → ℕ → Entry D
-    → Entry D → Type 0
+abbrev pub KnowsEntryOverwritten : {D : Type 0} → (D → ℕ → Type 0) → StackEntry D → ℕ → ℕ → ℕ
+    → StackEntry D → StackEntry D → Type 0
 KnowsEntryOverwritten contains entry at start end inside after =
     (old bytes : List StackByte) → EntryHolds contains entry old at
     → start + length bytes ≡ end → end ≤ length old

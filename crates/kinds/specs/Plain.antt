@@ -5,7 +5,7 @@ use Rattle.isa.specs.declared.instruction.Source.{Source}
 use Rattle.isa.specs.Flow.{source_registers}
 use Rattle.kinds.specs.declared.state.Kind.{Kind}
 use Rattle.kinds.specs.declared.state.Kind.TheVariants as kinds
-use Rattle.kinds.specs.declared.state.State.{State}
+use Rattle.kinds.specs.declared.state.AbstractState.{AbstractState}
 
 -- the kind is one of numbers
 abbrev pub IsNumber : {D : Type 0} → Kind D → Type 0
@@ -17,10 +17,10 @@ abbrev pub kind_in : {D : Type 0} → List (Kind D) → ℕ → Kind D
 kind_in known r = slice_index_or known r kinds.Empty
 
 -- the register is one of r0 to r9 and is known to hold a number
-pub record IsFilled {D : Type 0} (state : State D) (r : ℕ) : Type 0 where
+pub record IsFilled {D : Type 0} (state : AbstractState D) (r : ℕ) : Type 0 where
   pub low : r < 10
   pub number : IsNumber (kind_in state.kinds.items r)
 
 -- the operand is known to be a number: the register, if it is one, is
-abbrev pub IsFilledOperand : {D : Type 0} → State D → Source → Type 0
+abbrev pub IsFilledOperand : {D : Type 0} → AbstractState D → Source → Type 0
 IsFilledOperand state source = AllByRecursion (IsFilled state) (source_registers source)

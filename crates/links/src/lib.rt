@@ -5,5 +5,5 @@
 mod link;
 mod script;
 
-pub use link::{Link, LinkFault, Seconds, datagram};
+pub use link::{LinkFault, Seconds, Transport, datagram};
 pub use script::{Answer, Script, Times};

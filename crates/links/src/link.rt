@@ -15,7 +15,7 @@ pub struct LinkFault {}
 /// What it says about bytes that it was given to send, and about those that it received, is left
 /// open here: a function that sends or receives, and is proved for any link, can only know it from
 /// the call itself, with that interface and those bytes.
-pub trait Link {
+pub trait Transport {
     ghost faults: { Self → ℕ };
 
     ghost gives: { Self → ℕ → List ℕ → Self → Type 0 };

@@ -2,7 +2,7 @@
 ghost use Rattle.std.specs.Prelude.{◌≡◌, ◌≢◌, ℕ, ◌+◌, ◌<◌, ◌≤◌, IfSome, length};
 ghost use Rattle.links.specs.declared.script.Played.TheVariants.{Fault};
 
-use crate::link::{Link, LinkFault, Seconds, datagram};
+use crate::link::{LinkFault, Seconds, Transport, datagram};
 use std::alloc::Global;
 use std::sync::atomic::{AtomicBool, Ordering};
 use words::{Second, Sequence};
@@ -87,7 +87,7 @@ impl<'a> Script<'a> {
     }
 }
 
-impl<'a> Link for Script<'a> {
+impl<'a> Transport for Script<'a> {
     ghost faults = { λ s. s.faults };
 
     // Receiving sends nothing.

@@ -1,18 +1,18 @@
 -- What a body's types ensure and what is proved of it make it a body that can be written.
 use Rattle.std.specs.List.{AllByRecursion}
 use Rattle.words.proofs.Each.{each_both}
-use Rattle.lsa.specs.declared.body.Link.{Link}
+use Rattle.lsa.specs.declared.body.RouterLink.{RouterLink}
 use Rattle.lsa.specs.declared.body.SummaryTos.{SummaryTos}
 use Rattle.lsa.specs.declared.body.SummaryLsa.{SummaryLsa}
 use Rattle.lsa.specs.declared.body.ExternalTos.{ExternalTos}
-use Rattle.lsa.specs.declared.body.Body.{Body}
-use Rattle.lsa.specs.declared.body.Body.TheVariants as body
+use Rattle.lsa.specs.declared.body.LsaBody.{LsaBody}
+use Rattle.lsa.specs.declared.body.LsaBody.TheVariants as body
 use Rattle.lsa.specs.Ranges.{BodyFits, BodyIsTyped, ExternalTosFits, ExternalTosIsTyped, LinkFits}
 use Rattle.lsa.specs.Ranges.{LinkIsTyped, SummaryFits, SummaryIsTyped, SummaryTosFits}
 use Rattle.lsa.specs.Ranges.{SummaryTosIsTyped}
 use Rattle.lsa.specs.Text.{IsBody, IsExternalTos, IsLink, IsSummaryLsa, IsSummaryTos}
 
-is_link : (l : Link) → LinkIsTyped l → LinkFits l → IsLink l
+is_link : (l : RouterLink) → LinkIsTyped l → LinkFits l → IsLink l
 is_link l typed fits = record {
   link_id = typed.link_id;
   link_data = typed.link_data;
@@ -40,7 +40,7 @@ is_external_tos t typed fits = record {
   tag = typed.tag;
 }
 
-pub is_body : (b : Body) → BodyIsTyped b → BodyFits b → IsBody b
+pub is_body : (b : LsaBody) → BodyIsTyped b → BodyFits b → IsBody b
 is_body (body.Router r) typed fits = record {
   flags = typed.flags;
   links = each_both LinkIsTyped LinkFits IsLink is_link r.links typed.links fits.links;

@@ -3,19 +3,19 @@
 -- `IsBody`.
 use Rattle.std.specs.Prelude.{ℕ, ◌<◌, ◌^◌, length}
 use Rattle.std.specs.List.{AllByRecursion}
-use Rattle.lsa.specs.declared.body.Link.{Link}
+use Rattle.lsa.specs.declared.body.RouterLink.{RouterLink}
 use Rattle.lsa.specs.declared.body.RouterLsa.{RouterLsa}
 use Rattle.lsa.specs.declared.body.SummaryTos.{SummaryTos}
 use Rattle.lsa.specs.declared.body.SummaryLsa.{SummaryLsa}
 use Rattle.lsa.specs.declared.body.ExternalTos.{ExternalTos}
 use Rattle.lsa.specs.declared.body.ExternalLsa.{ExternalLsa}
-use Rattle.lsa.specs.declared.body.Body.{Body}
-use Rattle.lsa.specs.declared.body.Body.TheVariants as body
+use Rattle.lsa.specs.declared.body.LsaBody.{LsaBody}
+use Rattle.lsa.specs.declared.body.LsaBody.TheVariants as body
 use Rattle.lsa.specs.Text.{IsLinkTos, IsNetworkLsa}
 
 -- ---- ensured by the types
 
-pub record LinkIsTyped (l : Link) : Type 0 where
+pub record LinkIsTyped (l : RouterLink) : Type 0 where
   pub link_id : l.link_id < 2 ^ 32
   pub link_data : l.link_data < 2 ^ 32
   pub metric : l.metric < 2 ^ 16
@@ -43,7 +43,7 @@ pub record ExternalIsTyped (e : ExternalLsa) : Type 0 where
   pub tag : e.tag < 2 ^ 32
   pub tos : AllByRecursion ExternalTosIsTyped e.tos
 
-abbrev pub BodyIsTyped : Body → Type 0
+abbrev pub BodyIsTyped : LsaBody → Type 0
 BodyIsTyped (body.Router r) = RouterIsTyped r
 BodyIsTyped (body.Network n) = IsNetworkLsa n
 BodyIsTyped (body.NetworkSummary s) = SummaryIsTyped s
@@ -52,7 +52,7 @@ BodyIsTyped (body.External e) = ExternalIsTyped e
 
 -- ---- left to prove
 
-abbrev pub LinkFits : Link → Type 0
+abbrev pub LinkFits : RouterLink → Type 0
 LinkFits l = length l.tos < 2 ^ 8
 
 pub record RouterFits (r : RouterLsa) : Type 0 where
@@ -73,7 +73,7 @@ pub record ExternalFits (e : ExternalLsa) : Type 0 where
   pub metric : e.metric < 2 ^ 24
   pub tos : AllByRecursion ExternalTosFits e.tos
 
-abbrev pub BodyFits : Body → Type 0
+abbrev pub BodyFits : LsaBody → Type 0
 BodyFits (body.Router r) = RouterFits r
 BodyFits (body.Network n) = Unit {0}
 BodyFits (body.NetworkSummary s) = SummaryFits s

@@ -7,10 +7,10 @@ ghost use Rattle.lsa.specs.Origination.{with_age, sealed_lsa};
 ghost use Rattle.lsa.specs.Outcome.{Reads};
 ghost use Rattle.lsa.specs.Ranges.{BodyFits};
 
-use crate::body::Body;
+use crate::body::LsaBody;
 use crate::checksum::checksum_of;
 use crate::copying::copy_body;
-use crate::fault::ReadError;
+use crate::fault::LsaError;
 use crate::header::{HEADER_LENGTH, Header, header_at, put_header};
 use crate::reading::{body, fault};
 use crate::writing::{put_body, type_of};
@@ -22,7 +22,7 @@ use std::marker::Model;
 #[derive(Debug, Drop)]
 pub struct Lsa {
     header: Header,
-    body: Body,
+    body: LsaBody,
 }
 
 impl Model for Lsa {
@@ -41,7 +41,7 @@ impl Lsa {
     ///
     /// # Errors
     /// `AllocError` if an allocation is refused.
-    pub fn new(alloc: Global, header: Header, body: Body) -> Result<Self, AllocError>
+    pub fn new(alloc: Global, header: Header, body: LsaBody) -> Result<Self, AllocError>
         requires age { header.age ≤ max_age }
         requires sequence { header.sequence ≢ reserved_sequence }
         requires body { BodyFits body }
@@ -113,7 +113,7 @@ impl Lsa {
     }
 
     /// The LSA's body.
-    pub fn body(&self) -> &Body
+    pub fn body(&self) -> &LsaBody
         ensures { result.now ≡ self.now.body }
     {
         &self.body
@@ -121,11 +121,11 @@ impl Lsa {
 }
 
 // The LSA in the bytes, or the first fault.
-fn outcome(alloc: Global, bytes: &[u8]) -> Result<Lsa, ReadError>
+fn outcome(alloc: Global, bytes: &[u8]) -> Result<Lsa, LsaError>
     ensures { Reads bytes.now result }
 {
     if let Some(fault) = fault(bytes) {
-        return Err(ReadError::Fault(fault));
+        return Err(LsaError::Fault(fault));
     }
     let header = header_at(bytes, 0);
     let body = body(alloc, header.ls_type, bytes)?;
@@ -133,19 +133,19 @@ fn outcome(alloc: Global, bytes: &[u8]) -> Result<Lsa, ReadError>
 }
 
 /// Parses an LSA from all of the bytes, from its age to the last byte of its body.
-pub fn read(alloc: Global, bytes: &[u8]) -> Result<Lsa, ReadError>
+pub fn read(alloc: Global, bytes: &[u8]) -> Result<Lsa, LsaError>
     // The bytes encode the LSA that is returned.
     ensures found { IfOk result (λ lsa. LsaText bytes.now lsa) }
     // The bytes of an LSA are parsed as that LSA, unless an allocation is refused.
     ensures only { (lsa : Parts) → LsaText bytes.now lsa → result ≡ Ok lsa
-        ⊎ (result ≡ Err ReadError.Memory) }
+        ⊎ (result ≡ Err LsaError.Memory) }
     // Which fault it is; `Memory` is returned only if there is none.
     ensures exact { Reads bytes.now result }
 {
     outcome(alloc, bytes)
 }
 
-fn written(alloc: Global, header: &Header, body: &Body) -> Result<Vec<u8>, AllocError>
+fn written(alloc: Global, header: &Header, body: &LsaBody) -> Result<Vec<u8>, AllocError>
     requires { IsBody body.now }
     ensures { IfOk result (λ bytes. bytes.items
         ≡ text (record { header = header.now; body = body.now })) }

@@ -6,7 +6,7 @@ ghost use Rattle.lsa.specs.Ranges.{BodyIsTyped, ExternalIsTyped, ExternalTosIsTy
 ghost use Rattle.lsa.specs.Ranges.{RouterIsTyped, SummaryIsTyped, SummaryTosIsTyped};
 
 use crate::body::{
-    Body, ExternalLsa, ExternalTos, Link, LinkTos, RouterLsa, SummaryLsa, SummaryTos,
+    ExternalLsa, ExternalTos, LinkTos, LsaBody, RouterLink, RouterLsa, SummaryLsa, SummaryTos,
 };
 use words::RouterId;
 
@@ -26,7 +26,7 @@ fn check_metrics(metrics: &[LinkTos])
     }
 }
 
-fn check_link(link: &Link)
+fn check_link(link: &RouterLink)
     ensures { LinkIsTyped link.now }
 {
     let _link_id = link.link_id;
@@ -35,7 +35,7 @@ fn check_link(link: &Link)
     check_metrics(link.tos.as_slice());
 }
 
-fn check_links(links: &[Link])
+fn check_links(links: &[RouterLink])
     ensures { AllByRecursion LinkIsTyped links.now }
 {
     for link in links {
@@ -104,7 +104,7 @@ fn check_external(external: &ExternalLsa)
     check_blocks(external.tos.as_slice());
 }
 
-impl Body {
+impl LsaBody {
     /// A lemma for proofs: every field is in the range of its type. It does nothing at run time.
     ///
     /// The types don't ensure that a list is no longer than its count can say, nor that a metric of
@@ -113,14 +113,14 @@ impl Body {
         ensures { BodyIsTyped self.now }
     {
         match self {
-            Body::Router(router) => check_router(router),
-            Body::Network(network) => {
+            LsaBody::Router(router) => check_router(router),
+            LsaBody::Network(network) => {
                 let _mask = network.mask.bits();
                 check_attached(network.attached.as_slice());
             }
-            Body::NetworkSummary(summary) => check_summary(summary),
-            Body::RouterSummary(summary) => check_summary(summary),
-            Body::External(external) => check_external(external),
+            LsaBody::NetworkSummary(summary) => check_summary(summary),
+            LsaBody::RouterSummary(summary) => check_summary(summary),
+            LsaBody::External(external) => check_external(external),
         }
     }
 }

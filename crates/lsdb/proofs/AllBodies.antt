@@ -16,7 +16,7 @@ use Rattle.std.specs.FinMap.Entries.{is_sorted}
 use Rattle.std.specs.Ordering.{nat_cmp, ordering_then}
 use Rattle.std.specs.declared.cmp.Ordering.TheVariants.{Greater, Less}
 use Rattle.words.specs.declared.key.Key.{Key}
-use Rattle.lsa.specs.declared.body.Body.{Body}
+use Rattle.lsa.specs.declared.body.LsaBody.{LsaBody}
 use Rattle.lsdb.specs.Bodies.{AreBodies}
 use Rattle.lsdb.specs.Changes.{IsUpTo}
 use Rattle.lsdb.specs.Copies.{Database, DatabaseCopy, is_aged_out, said_by}
@@ -50,7 +50,7 @@ types_ascend a b before =
 -- ---- the bodies of copies
 
 -- the bodies of the copies that haven't reached MaxAge
-abbrev pub tells : ℕ → List (Key × DatabaseCopy) → List (Key × Body)
+abbrev pub tells : ℕ → List (Key × DatabaseCopy) → List (Key × LsaBody)
 tells moment [] = []
 tells moment (e ∷ es) = cond (is_aged_out moment e.1) (tells moment es)
     ((e.0, e.1.lsa.body) ∷ tells moment es)
@@ -59,17 +59,17 @@ module _ (moment : ℕ) where
   abbrev aged : DatabaseCopy → Bool
   aged c = is_aged_out moment c
 
-  abbrev told : List (Key × DatabaseCopy) → List (Key × Body)
+  abbrev told : List (Key × DatabaseCopy) → List (Key × LsaBody)
   told es = tells moment es
 
   -- a copy with that body
-  record IsToldBy (es : List (Key × DatabaseCopy)) (x : Key × Body) : Type 0 where
+  record IsToldBy (es : List (Key × DatabaseCopy)) (x : Key × LsaBody) : Type 0 where
     copy : DatabaseCopy
     among : Contains es (x.0, copy)
     young : aged copy ≡ false
     says : copy.lsa.body ≡ x.1
 
-  told_from : (es : List (Key × DatabaseCopy)) (x : Key × Body) → Contains (told es) x
+  told_from : (es : List (Key × DatabaseCopy)) (x : Key × LsaBody) → Contains (told es) x
       → IsToldBy es x
   told_from [] x t = absurd (of_empty x t)
   told_from (e ∷ es) x t =
@@ -85,12 +85,12 @@ module _ (moment : ℕ) where
         | false ↦ λ young u.
             elim (of_cons (e.0, e.1.lsa.body) (told es) x u) [
               | inl here ↦
-                  let same : e.0 ≡ x.0 = ap (λ (y : Key × Body). y.0) here in
+                  let same : e.0 ≡ x.0 = ap (λ (y : Key × LsaBody). y.0) here in
                   record {
                     copy = e.1;
                     among = subst (λ k. Contains (e ∷ es) (k, e.1)) same (first_is e es);
                     young = young;
-                    says = ap (λ (y : Key × Body). y.1) here;
+                    says = ap (λ (y : Key × LsaBody). y.1) here;
                   }
               | inr v ↦ later (told_from es x v)
             ]
@@ -105,7 +105,8 @@ module _ (moment : ℕ) where
       elim (of_cons e es (key, c) t) [
         | inl here ↦
             let is : aged e.1 ≡ false = ap (λ (y : Key × DatabaseCopy). aged y.1) here ∙ young in
-            subst P (sym is) (subst (λ (y : Key × Body). Contains ((e.0, e.1.lsa.body) ∷ told es) y)
+            subst P (sym is) (subst (λ (y : Key × LsaBody). Contains ((e.0, e.1.lsa.body) ∷ told es)
+            y)
             (ap (λ (y : Key × DatabaseCopy). (y.0, y.1.lsa.body)) here)
             (first_is (e.0, e.1.lsa.body) (told es)))
         | inr later ↦
@@ -116,7 +117,7 @@ module _ (moment : ℕ) where
             ]
       ]
 
-  abbrev Before : Key × Body → Key × Body → Type 0
+  abbrev Before : Key × LsaBody → Key × LsaBody → Type 0
   Before a b = key_cmp a.0 b.0 ≡ Less
 
   told_ascend : (es : List (Key × DatabaseCopy)) → T (is_sorted key_cmp es)
@@ -146,7 +147,7 @@ module _ (moment : ℕ) where
 
   -- ---- the bodies of the database
 
-  abbrev spoken : DatabaseCopy → Bool → Option Body
+  abbrev spoken : DatabaseCopy → Bool → Option LsaBody
   spoken c b = if b then None else Some c.lsa.body
 
   young_says : (c : DatabaseCopy) → aged c ≡ false → said_by moment (Some c) ≡ Some c.lsa.body
@@ -156,16 +157,16 @@ module _ (moment : ℕ) where
   old_says c is = ap (spoken c) is
 
   module _ (d : Database) where
-    abbrev said : Key → Option Body
+    abbrev said : Key → Option LsaBody
     said key = said_by moment (finite.get d key)
 
-    all_said : (x : Key × Body) → Contains (told (finite.entries d)) x → said x.0 ≡ Some x.1
+    all_said : (x : Key × LsaBody) → Contains (told (finite.entries d)) x → said x.0 ≡ Some x.1
     all_said x t =
         let by = told_from (finite.entries d) x t in
         ap (said_by moment) (entry_found d (x.0, by.copy) by.among) ∙ young_says by.copy by.young
-        ∙ ap (λ (b : Body). Some b) by.says
+        ∙ ap (λ (b : LsaBody). Some b) by.says
 
-    all_told : (key : Key) (says : Body) → said key ≡ Some says
+    all_told : (key : Key) (says : LsaBody) → said key ≡ Some says
         → Contains (told (finite.entries d)) (key, says)
     all_told key says is =
         elim (finite.get d key) as (λ o. finite.get d key ≡ o
@@ -181,15 +182,15 @@ module _ (moment : ℕ) where
                     (ap (said_by moment) some ∙ young_says c young) ∙ is) in
                     let among = found_in (finite.entries d) key c
                     (sym (finite.get-entries d key) ∙ some) in
-                    subst (λ (b : Body). Contains (told (finite.entries d)) (key, b)) same
+                    subst (λ (b : LsaBody). Contains (told (finite.entries d)) (key, b)) same
                     (told_all (finite.entries d) key c among young)
               ] refl
         ] refl
 
     -- a scan that ended before the first copy that doesn't count
-    pub are_bodies : (last : Option ℕ) (done : List (Key × Body)) (rest : List (Key × DatabaseCopy))
-        → done ++ told rest ≡ told (finite.entries d)
-        → ((x : Key × Body) → Contains done x → IsUpTo last x.0)
+    pub are_bodies : (last : Option ℕ) (done : List (Key × LsaBody))
+        (rest : List (Key × DatabaseCopy)) → done ++ told rest ≡ told (finite.entries d)
+        → ((x : Key × LsaBody) → Contains done x → IsUpTo last x.0)
         → ((x : Key × DatabaseCopy) → Contains rest x → IsUpTo last x.0 → ⊥)
         → AreBodies last said done
     are_bodies last done rest whole count beyond = record {
@@ -236,16 +237,16 @@ none_beyond last e es sorted not x among up =
 
 -- the bodies so far and those of the copies still to be visited are all bodies
 pub record IsWalk (last : Option ℕ) (moment : ℕ) (all ahead : List (Key × DatabaseCopy))
-    (done : List (Key × Body)) : Type 0 where
+    (done : List (Key × LsaBody)) : Type 0 where
   pub whole : done ++ tells moment ahead ≡ tells moment all
   pub sorted : T (is_sorted key_cmp ahead)
-  pub count : (x : Key × Body) → Contains done x → IsUpTo last x.0
+  pub count : (x : Key × LsaBody) → Contains done x → IsUpTo last x.0
 
 module _ (last : Option ℕ) (moment : ℕ) (d : Database) where
-  abbrev Walk : List (Key × DatabaseCopy) → List (Key × Body) → Type 0
+  abbrev Walk : List (Key × DatabaseCopy) → List (Key × LsaBody) → Type 0
   Walk ahead done = IsWalk last moment (finite.entries d) ahead done
 
-  pub begins : (ahead : List (Key × DatabaseCopy)) (done : List (Key × Body))
+  pub begins : (ahead : List (Key × DatabaseCopy)) (done : List (Key × LsaBody))
       → ahead ≡ finite.entries d → done ≡ [] → Walk ahead done
   begins ahead done all none = record {
     whole = λ i. none i ++ tells moment (all i);
@@ -253,9 +254,9 @@ module _ (last : Option ℕ) (moment : ℕ) (d : Database) where
     count = λ x t. absurd (of_empty x (subst (λ xs. Contains xs x) none t));
   }
 
-  module _ (ahead rest : List (Key × DatabaseCopy)) (done : List (Key × Body)) (key : Key)
+  module _ (ahead rest : List (Key × DatabaseCopy)) (done : List (Key × LsaBody)) (key : Key)
       (c : DatabaseCopy) (next : ahead ≡ (key, c) ∷ rest) (walk : Walk ahead done) where
-    abbrev tells_next : Bool → List (Key × Body)
+    abbrev tells_next : Bool → List (Key × LsaBody)
     tells_next b = cond b (tells moment rest) ((key, c.lsa.body) ∷ tells moment rest)
 
     now_tells : (b : Bool) → is_aged_out moment c ≡ b
@@ -278,7 +279,7 @@ module _ (last : Option ℕ) (moment : ℕ) (d : Database) where
       count = λ x t.
           elim (Contains-push_cases done (key, c.lsa.body) x t) [
             | inl old ↦ walk.count x old
-            | inr same ↦ subst (λ (y : Key × Body). IsUpTo last y.0) same up
+            | inr same ↦ subst (λ (y : Key × LsaBody). IsUpTo last y.0) same up
           ];
     }
 
@@ -289,12 +290,12 @@ module _ (last : Option ℕ) (moment : ℕ) (d : Database) where
         (subst (λ es. T (is_sorted key_cmp es)) next walk.sorted) beyond x
         (subst (λ es. Contains es x) next among))
 
-  pub ends : (ahead : List (Key × DatabaseCopy)) (done : List (Key × Body)) → ahead ≡ []
+  pub ends : (ahead : List (Key × DatabaseCopy)) (done : List (Key × LsaBody)) → ahead ≡ []
       → Walk ahead done → AreBodies last (λ q. said_by moment (finite.get d q)) done
   ends ahead done none walk = are_bodies moment d last done ahead walk.whole walk.count
       (λ x among. none_left last x (subst (λ es. Contains es x) none among))
 
-  pub few : (ahead : List (Key × DatabaseCopy)) (done : List (Key × Body)) → Walk ahead done
+  pub few : (ahead : List (Key × DatabaseCopy)) (done : List (Key × LsaBody)) → Walk ahead done
       → length done ≤ finite.len d
   few ahead done walk =
       let all = tells moment (finite.entries d) in

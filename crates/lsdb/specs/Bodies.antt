@@ -3,18 +3,18 @@ use Rattle.std.specs.Prelude.{◌≡◌, ℕ, ◌↔◌, List, Option, Some}
 use Rattle.std.specs.List.{AllPairs, Contains}
 use Rattle.std.specs.declared.cmp.Ordering.TheVariants.{Less}
 use Rattle.words.specs.declared.key.Key.{Key}
-use Rattle.lsa.specs.declared.body.Body.{Body}
+use Rattle.lsa.specs.declared.body.LsaBody.{LsaBody}
 use Rattle.lsdb.specs.Changes.{IsUpTo}
 use Rattle.lsdb.specs.Keys.{key_cmp}
 
 -- in the order of the keys, each once
-abbrev pub InOrder : List (Key × Body) → Type 0
-InOrder bodies = AllPairs (λ (a : Key × Body) (b : Key × Body). key_cmp a.0 b.0 ≡ Less) bodies
+abbrev pub InOrder : List (Key × LsaBody) → Type 0
+InOrder bodies = AllPairs (λ (a : Key × LsaBody) (b : Key × LsaBody). key_cmp a.0 b.0 ≡ Less) bodies
 
 -- exactly the keys of LS types up to this one, or of all types, whose LSAs say something, each once
 -- and with its LSA's body, in the order of the keys
-pub record AreBodies (last : Option ℕ) (said : Key → Option Body)
-    (bodies : List (Key × Body)) : Type 0 where
-  pub each : (key : Key) (says : Body) → Contains bodies (key, says)
+pub record AreBodies (last : Option ℕ) (said : Key → Option LsaBody)
+    (bodies : List (Key × LsaBody)) : Type 0 where
+  pub each : (key : Key) (says : LsaBody) → Contains bodies (key, says)
       ↔ (IsUpTo last key × (said key ≡ Some says))
   pub ascend : InOrder bodies

@@ -24,9 +24,9 @@ use crate::keyed_bodies::{KeyedBody, bodies_of};
 use crate::limits::{MOST_LSAS, MOST_OWN_EXTERNALS, holds_own, is_own_external, recount};
 use crate::sameness::says_the_same;
 use crate::stored::StoredLsa;
-use crate::times::Times;
+use crate::times::CopyTimes;
 use keyed_map::{ChangeTest, KeyTest, KeyedMap, KeysInOrder};
-use lsa::{Body, Lsa};
+use lsa::{Lsa, LsaBody};
 pub use others::KeyRule;
 use std::alloc::{AllocError, Global};
 use std::marker::Model;
@@ -216,7 +216,7 @@ impl Lsdb {
     }
 
     /// The body of this key's copy, if there is one below MaxAge at the moment.
-    pub fn body_at(&self, moment: Second, key: &Key) -> Option<&Body>
+    pub fn body_at(&self, moment: Second, key: &Key) -> Option<&LsaBody>
         ensures { option_copied result ≡ said_by moment (finite.get self.now.present key.now) }
     {
         match self.copies.get(key) {
@@ -339,7 +339,7 @@ impl Lsdb {
         ensures router { self.new.router ≡ self.old.router }
     {
         let header = lsa.header();
-        let times = Times {
+        let times = CopyTimes {
             age: header.age,
             stored: moment,
             installed,

@@ -6,7 +6,7 @@ ghost use Rattle.lsdb.specs.Copies.{age_now, copy_header, copy_now, is_aged_out}
 ghost use Rattle.lsdb.specs.Headers.{lsa_aged};
 
 use crate::order::{Instance, age_at};
-use crate::times::Times;
+use crate::times::CopyTimes;
 use lsa::{Header, Lsa, write_at_age};
 use std::alloc::{AllocError, Global};
 use std::marker::Model;
@@ -16,7 +16,7 @@ use words::{MAX_AGE, Second, Sequence};
 #[derive(Drop)]
 pub struct DatabaseCopy<'a> {
     pub lsa: &'a Lsa,
-    pub times: Times,
+    pub times: CopyTimes,
 }
 
 impl<'a> Model for DatabaseCopy<'a> {

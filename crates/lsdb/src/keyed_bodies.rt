@@ -7,7 +7,7 @@ ghost use Rattle.lsdb.specs.Copies.{said_by};
 use crate::database::is_up_to;
 use crate::stored::StoredLsa;
 use keyed_map::KeyedMap;
-use lsa::Body;
+use lsa::LsaBody;
 use std::alloc::{AllocError, Global};
 use std::marker::Model;
 use words::{Key, Second};
@@ -16,20 +16,20 @@ use words::{Key, Second};
 #[derive(Drop)]
 pub struct KeyedBody<'a> {
     key: Key,
-    body: &'a Body,
+    body: &'a LsaBody,
 }
 
 impl<'a> Model for KeyedBody<'a> {
     ghost use Rattle.words.specs.declared.key.Key.{Key};
-    ghost use Rattle.lsa.specs.declared.body.Body.{Body};
+    ghost use Rattle.lsa.specs.declared.body.LsaBody.{LsaBody};
 
-    ghost Value = { Key × Body };
+    ghost Value = { Key × LsaBody };
 
     ghost view = { λ a. (a.key, a.body.now) };
 }
 
 impl<'a> KeyedBody<'a> {
-    fn new(key: Key, body: &'a Body) -> Self
+    fn new(key: Key, body: &'a LsaBody) -> Self
         ensures { result ≡ (key, body.now) }
     {
         KeyedBody { key, body }
@@ -43,7 +43,7 @@ impl<'a> KeyedBody<'a> {
     }
 
     /// The body of the LSA.
-    pub fn body(&self) -> &'a Body
+    pub fn body(&self) -> &'a LsaBody
         ensures { result.now ≡ self.now.1 }
     {
         self.body

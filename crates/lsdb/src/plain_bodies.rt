@@ -1,27 +1,27 @@
 //! Bodies of router-LSAs and AS-external-LSAs that are compared field by field, which takes a tenth
 //! of the time that a comparison of their bytes takes, and no memory.
 ghost use Rattle.std.specs.Prelude.{◌≡◌, IsTrue};
-ghost use Rattle.lsa.specs.declared.body.Body.TheVariants.{External, Router};
+ghost use Rattle.lsa.specs.declared.body.LsaBody.TheVariants.{External, Router};
 
-use lsa::{Body, ExternalLsa, Link, RouterLsa};
+use lsa::{ExternalLsa, LsaBody, RouterLink, RouterLsa};
 
 /// Whether both bodies are certainly the same. `false` says nothing: bodies of other types, and
 /// those with metrics for types of service, aren't compared.
-pub fn are_plainly_one(old: &Body, new: &Body) -> bool
+pub fn are_plainly_one(old: &LsaBody, new: &LsaBody) -> bool
     ensures { IsTrue result → old.now ≡ new.now }
 {
     match old {
-        Body::External(old) => is_external(old, new),
-        Body::Router(old) => is_router(old, new),
+        LsaBody::External(old) => is_external(old, new),
+        LsaBody::Router(old) => is_router(old, new),
         _ => false,
     }
 }
 
-fn is_external(old: &ExternalLsa, new: &Body) -> bool
+fn is_external(old: &ExternalLsa, new: &LsaBody) -> bool
     ensures { IsTrue result → External old.now ≡ new.now }
 {
     match new {
-        Body::External(new) => are_one_external(old, new),
+        LsaBody::External(new) => are_one_external(old, new),
         _ => false,
     }
 }
@@ -38,11 +38,11 @@ fn are_one_external(old: &ExternalLsa, new: &ExternalLsa) -> bool
         && new.tos.as_slice().is_empty()
 }
 
-fn is_router(old: &RouterLsa, new: &Body) -> bool
+fn is_router(old: &RouterLsa, new: &LsaBody) -> bool
     ensures { IsTrue result → Router old.now ≡ new.now }
 {
     match new {
-        Body::Router(new) => are_one_router(old, new),
+        LsaBody::Router(new) => are_one_router(old, new),
         _ => false,
     }
 }
@@ -53,7 +53,7 @@ fn are_one_router(old: &RouterLsa, new: &RouterLsa) -> bool
     old.flags == new.flags && are_same_links(old.links.as_slice(), new.links.as_slice())
 }
 
-fn are_same_links(old: &[Link], new: &[Link]) -> bool
+fn are_same_links(old: &[RouterLink], new: &[RouterLink]) -> bool
     ensures { IsTrue result → old.now ≡ new.now }
 {
     if old.len() != new.len() {
@@ -67,7 +67,7 @@ fn are_same_links(old: &[Link], new: &[Link]) -> bool
     true
 }
 
-fn are_one_link(old: &Link, new: &Link) -> bool
+fn are_one_link(old: &RouterLink, new: &RouterLink) -> bool
     ensures { IsTrue result → old.now ≡ new.now }
 {
     old.link_id == new.link_id

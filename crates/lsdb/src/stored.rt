@@ -8,9 +8,9 @@ ghost use Rattle.lsdb.specs.Headers.{lsa_aged};
 
 use crate::database_copy::DatabaseCopy;
 use crate::order::age_at;
-use crate::times::Times;
+use crate::times::CopyTimes;
 use keyed_map::Copied;
-use lsa::{Body, Lsa};
+use lsa::{Lsa, LsaBody};
 use std::alloc::{AllocError, Global};
 use std::marker::Model;
 use std::sync::Arc;
@@ -21,7 +21,7 @@ use words::{MAX_AGE, Second};
 #[derive(Drop)]
 pub struct StoredLsa {
     lsa: Arc<Lsa, Global>,
-    times: Times,
+    times: CopyTimes,
 }
 
 impl Model for StoredLsa {
@@ -34,7 +34,7 @@ impl Model for StoredLsa {
 }
 
 impl StoredLsa {
-    pub(crate) fn new(alloc: Global, lsa: Lsa, times: Times) -> Result<Self, AllocError>
+    pub(crate) fn new(alloc: Global, lsa: Lsa, times: CopyTimes) -> Result<Self, AllocError>
         ensures { IfOk result (λ made. made ≡ copy_of lsa times) }
     {
         match Arc::new(alloc, lsa) {
@@ -48,7 +48,7 @@ impl StoredLsa {
         ensures { result ≡ self.now }
     {
         let lsa: &Lsa = &self.lsa;
-        let times: Times = self.times;
+        let times: CopyTimes = self.times;
         DatabaseCopy { lsa, times }
     }
 
@@ -67,7 +67,7 @@ impl StoredLsa {
         ensures { IfOk result (λ made. made ≡ record self.now { sent = Some moment }) }
     {
         let lsa = Arc::try_clone(&self.lsa)?;
-        let times = Times {
+        let times = CopyTimes {
             sent: Some(moment),
             ..self.times
         };
@@ -83,7 +83,7 @@ impl StoredLsa {
             ≡ record self.now { lsa = lsa_aged max_age self.now.lsa; stored = moment }) }
     {
         let lsa = Arc::try_clone(&self.lsa)?;
-        let times = Times {
+        let times = CopyTimes {
             age: MAX_AGE,
             stored: moment,
             ..self.times
@@ -108,7 +108,7 @@ impl StoredLsa {
     }
 
     /// Its body, if it is below MaxAge at the moment.
-    pub(crate) fn body_at(&self, moment: Second) -> Option<&Body>
+    pub(crate) fn body_at(&self, moment: Second) -> Option<&LsaBody>
         ensures { option_copied result ≡ said_by moment (Some self.now) }
     {
         if self.is_aged_out(moment) {
@@ -128,7 +128,7 @@ impl StoredLsa {
 impl Copied for StoredLsa {
     fn copy(&self, _alloc: Global) -> Result<Self, AllocError> {
         let lsa = Arc::try_clone(&self.lsa)?;
-        let times: Times = self.times;
+        let times: CopyTimes = self.times;
         Ok(StoredLsa { lsa, times })
     }
 }

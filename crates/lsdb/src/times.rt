@@ -3,7 +3,7 @@ use words::Second;
 
 /// What may change for a copy while its LSA stays the same.
 #[derive(Clone, Copy, Debug)]
-pub struct Times {
+pub struct CopyTimes {
     /// Its age at the moment `stored`, in seconds, at most 3600.
     pub age: u16,
     /// When it had this age: when it was installed, or was aged prematurely.

@@ -7,7 +7,7 @@ ghost use Rattle.flooding.specs.Drafted.{drafts_with};
 ghost use Rattle.flooding.specs.Links.{start};
 ghost use Rattle.neighbor_packets.specs.Heard.{may_be_named};
 
-use flooding::{Area, Draft, Interface, Link, LinkStep, Lsdb, State};
+use flooding::{Area, Draft, Interface, Link, LinkStep, Lsdb, NeighborState};
 use packet::Hello;
 use std::alloc::{AllocError, Global};
 use words::{E_BIT, RouterId, Second};
@@ -35,7 +35,7 @@ fn agrees(link: &Link, hello: &Hello) -> bool
     agrees_on(&interface, hello)
 }
 
-fn may_be_named(neighbor: Option<(RouterId, State)>, from: RouterId) -> bool
+fn may_be_named(neighbor: Option<(RouterId, NeighborState)>, from: RouterId) -> bool
     ensures { result ≡ may_be_named neighbor from }
 {
     match neighbor {

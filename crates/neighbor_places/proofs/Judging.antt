@@ -4,8 +4,9 @@ use Rattle.std.proofs.Common.{None, Some, refl, sym, ap, ◌∙◌}
 use mathlib.Core.Bool.{false≢true}
 use Rattle.adjacency.specs.lsdb.Copies.{Database}
 use Rattle.packet.specs.declared.model.Description.{Description}
-use Rattle.adjacency.specs.declared.state.State.{State}
-use Rattle.adjacency.specs.declared.state.State.TheVariants.{Init, ExStart, Exchange, Loading, Full}
+use Rattle.adjacency.specs.declared.state.NeighborState.{NeighborState}
+use Rattle.adjacency.specs.declared.state.NeighborState.TheVariants.{Init, ExStart, Exchange}
+use Rattle.adjacency.specs.declared.state.NeighborState.TheVariants.{Loading, Full}
 use Rattle.adjacency.specs.Adjacencies.{enter_exstart, mismatch_step, two_way_received}
 use Rattle.adjacency.specs.Adjacencies.{two_way_received_in}
 use Rattle.adjacency.specs.Contents.{Content, Step, no_sends, sent_on, step_on, then_}
@@ -45,7 +46,7 @@ none_late true b = refl
 none_late false true = refl
 none_late false false = refl
 
-late_in : (own : ℕ) (n : Neighbor) (d : Description) (s : State)
+late_in : (own : ℕ) (n : Neighbor) (d : Description) (s : NeighborState)
     → is_late (verdict_in s own n d) ≡ true → is_exchange_or_later s ≡ true
 unfolding is_late
 late_in own n d Init is = is
@@ -131,7 +132,7 @@ module _ (own moment : ℕ) (db : Database) (d : Description) (v : Verdict) (o :
 
 -- ---- like a Hello that lists this router
 
-two_way_init : (moment : ℕ) (n : Neighbor) (s : State) → is_init s ≡ true
+two_way_init : (moment : ℕ) (n : Neighbor) (s : NeighborState) → is_init s ≡ true
     → enter_exstart moment n ≡ two_way_received_in s moment n
 two_way_init moment n Init is = refl
 two_way_init moment n ExStart is = absurd (false≢true is)
@@ -139,7 +140,7 @@ two_way_init moment n Exchange is = absurd (false≢true is)
 two_way_init moment n Loading is = absurd (false≢true is)
 two_way_init moment n Full is = absurd (false≢true is)
 
-two_way_rests : (moment : ℕ) (n : Neighbor) (s : State) → is_init s ≡ false
+two_way_rests : (moment : ℕ) (n : Neighbor) (s : NeighborState) → is_init s ≡ false
     → no_sends n ≡ two_way_received_in s moment n
 two_way_rests moment n Init is = absurd (false≢true (sym is))
 two_way_rests moment n ExStart is = refl
@@ -172,7 +173,8 @@ module _ (own moment : ℕ) (db : Database) (d : Description) where
   abbrev whole : Neighbor → Step
   whole n = then_ (two_way_received moment n) (judging own moment db d)
 
-  in_its_state : (n : Neighbor) (s : State) → n.state ≡ s → whole n ≡ in_state s own moment db d n
+  in_its_state : (n : Neighbor) (s : NeighborState) → n.state ≡ s
+      → whole n ≡ in_state s own moment db d n
   unfolding judging
   in_its_state n Init is = refl
   in_its_state n ExStart is = ap (λ t. then_ (two_way_received_in t moment n)

@@ -15,7 +15,7 @@ mod requests;
 mod timers;
 mod updates;
 
-use adjacency::{DatabaseCopy, Draft, State};
+use adjacency::{DatabaseCopy, Draft, NeighborState};
 use lsa::Header;
 use neighbors::{Neighbor, initial_description, next_dd_sequence_start};
 use std::alloc::{AllocError, Global};
@@ -51,15 +51,15 @@ impl Model for Place {
 
 // Whether the neighbor starts over at a Hello, by whether that lists this router: nothing is kept
 // except the number of the last attempt.
-fn begins(state: State, names: bool) -> bool
+fn begins(state: NeighborState, names: bool) -> bool
     ensures { result ≡ begins state names }
 {
     match state {
-        State::Init => true,
-        State::ExStart => !names,
-        State::Exchange => !names,
-        State::Loading => !names,
-        State::Full => !names,
+        NeighborState::Init => true,
+        NeighborState::ExStart => !names,
+        NeighborState::Exchange => !names,
+        NeighborState::Loading => !names,
+        NeighborState::Full => !names,
     }
 }
 
@@ -122,7 +122,7 @@ impl Place {
     }
 
     /// The neighbor's Router ID and its state, unless it is Down.
-    pub fn neighbor(&self) -> Option<(RouterId, State)>
+    pub fn neighbor(&self) -> Option<(RouterId, NeighborState)>
         ensures { result ≡ named_neighbor self.now.present }
     {
         let Some(neighbor) = &self.neighbor else {

@@ -11,8 +11,8 @@ use Rattle.adjacency.specs.lsdb.Instances.{ListEntry, aged_header}
 use Rattle.adjacency.specs.lsdb.Keys.{ByKey}
 use Rattle.packet.specs.declared.model.Description.{Description}
 use Rattle.adjacency.specs.declared.standing.Standing.{Standing}
-use Rattle.adjacency.specs.declared.state.State.{State}
-use Rattle.adjacency.specs.declared.state.State.TheVariants.{Exchange, Loading, Full}
+use Rattle.adjacency.specs.declared.state.NeighborState.{NeighborState}
+use Rattle.adjacency.specs.declared.state.NeighborState.TheVariants.{Exchange, Loading, Full}
 use Rattle.adjacency.specs.Contents.{Describes, Step, no_sends}
 use Rattle.adjacency.specs.Descriptions.{as_received, exchange_done, left_to_describe}
 use Rattle.adjacency.specs.Descriptions.{master_goes_on, next_description, repeat, slave_replies}
@@ -74,8 +74,8 @@ module _ {X : Type 0} (s : Standing) (des : Option Description) (sum req : ByKey
   unfolding neighbor_of
   summary_now = refl
 
-  pub finishes : (moment : ℕ) (state : State) → state ≡ cond (finite.len req == 0) Full Loading
-      → neighbor_of (record s {
+  pub finishes : (moment : ℕ) (state : NeighborState)
+      → state ≡ cond (finite.len req == 0) Full Loading → neighbor_of (record s {
         state = state;
         exchanged = Some moment;
       }) des sum req out retr ≡ exchange_done moment (neighbor_of s des sum req out retr)

@@ -4,7 +4,7 @@ use Rattle.adjacency.specs.lsdb.Instances.{ListEntry}
 use Rattle.adjacency.specs.lsdb.Keys.{ByKey}
 use Rattle.packet.specs.declared.model.Description.{Description}
 use Rattle.adjacency.specs.declared.standing.Standing.{Standing}
-use Rattle.adjacency.specs.declared.state.State.{State}
+use Rattle.adjacency.specs.declared.state.NeighborState.{NeighborState}
 use Rattle.adjacency.specs.Descriptions.{verdict_in}
 use Rattle.adjacency.specs.Exchanges.{verdict_of_description, standing_of}
 use Rattle.adjacency.specs.Neighbors.{Neighbor}
@@ -20,7 +20,7 @@ module _ {X : Type 0} (s : Standing) (des : Option Description) (sum req : ByKey
   unfolding neighbor_of
   described_now = refl
 
-pub judged_in : (own : ℕ) (n : Neighbor) (d : Description) (s : State) → n.state ≡ s
+pub judged_in : (own : ℕ) (n : Neighbor) (d : Description) (s : NeighborState) → n.state ≡ s
     → verdict_in s own n d ≡ verdict_of_description own n d
 unfolding verdict_of_description
 judged_in own n d s is = sym (ap (λ t. verdict_in t own n d) is)

@@ -25,7 +25,7 @@ mod updates;
 mod verdicts;
 
 use adjacency::{
-    DatabaseCopy, Draft, ListEntry, Saved, Standing, State, compare, instance_of, newer,
+    DatabaseCopy, Draft, ListEntry, NeighborState, Saved, Standing, compare, instance_of, newer,
 };
 use keyed_map::KeyedMap;
 use lsa::Header;
@@ -70,15 +70,15 @@ impl Model for Neighbor {
     } };
 }
 
-fn is_exchange_or_loading(state: State) -> bool
+fn is_exchange_or_loading(state: NeighborState) -> bool
     ensures { result ≡ is_exchange_or_loading state }
 {
     match state {
-        State::Init => false,
-        State::ExStart => false,
-        State::Exchange => true,
-        State::Loading => true,
-        State::Full => false,
+        NeighborState::Init => false,
+        NeighborState::ExStart => false,
+        NeighborState::Exchange => true,
+        NeighborState::Loading => true,
+        NeighborState::Full => false,
     }
 }
 

@@ -8,8 +8,8 @@ use Rattle.std.specs.Int.{w32, from_le_bytes}
 use Rattle.std.proofs.lemmas.Grind.{flat_map-append}
 use Rattle.std.proofs.lemmas.List.{append-nil, take-append-drop, drop-take, take-take, take_at}
 use Rattle.std.proofs.lemmas.List.{drop_at, take_all, length_push}
-use Rattle.object.specs.declared.error.ReadError.{ReadError}
-use Rattle.object.specs.declared.error.ReadError.TheVariants as errors
+use Rattle.object.specs.declared.error.ObjectError.{ObjectError}
+use Rattle.object.specs.declared.error.ObjectError.TheVariants as errors
 use Rattle.object.specs.Statements.{StatementParts, IsStatement}
 use Rattle.object.specs.Objects.{AreStatements, next_slot}
 use Rattle.object.specs.Spelling.{statement_text}
@@ -74,7 +74,7 @@ so_far_all bytes slots ss least index count h le ge l =
     }
 
 fails_behind : (bytes : List ℕ) (slots count : ℕ) (ss : List StatementParts) (least index : ℕ)
-    (error : ReadError) → SoFar bytes slots ss least index → index < count
+    (error : ObjectError) → SoFar bytes slots ss least index → index < count
     → Fails least slots (drop (484 * index) bytes) error → FailsBehind bytes slots count error
 fails_behind bytes slots count ss least index error h lt fails =
     let n = h.count in
@@ -90,7 +90,7 @@ fails_behind bytes slots count ss least index error h lt fails =
     }
 
 pub one_fails : (bytes : List ℕ) (slots count : ℕ) (ss : List StatementParts) (least index : ℕ)
-    (error : ReadError) → SoFar bytes slots ss least index → index < count
+    (error : ObjectError) → SoFar bytes slots ss least index → index < count
     → Fails least slots (drop (484 * index) bytes) error
     → StatementsFail bytes slots count error
 one_fails bytes slots count ss least index errors.Order h lt f =
@@ -152,7 +152,7 @@ same_statements least slots (s ∷ ss) (t ∷ ts) h g e =
 
 -- If one fails after some, the bytes spell no more than those.
 not_first : (least slots : ℕ) (s : StatementParts) (ss : List StatementParts) (rest : List ℕ)
-    (error : ReadError) → AreStatements least slots (s ∷ ss)
+    (error : ObjectError) → AreStatements least slots (s ∷ ss)
     → flat_map statement_text (s ∷ ss) ≡ rest → Fails least slots rest error → ⊥
 not_first least slots s ss rest error h e fails = at error fails
   where
@@ -165,7 +165,7 @@ not_first least slots s ss rest error h e fails = at error fails
         (sym (take-take 4 484 rest (omega arith)) ∙ ap (λ t. take 4 t) front)
         ∙ slot_in_front s (statement_text s) h.0 refl
 
-    at : (error : ReadError) → Fails least slots rest error → ⊥
+    at : (error : ObjectError) → Fails least slots rest error → ⊥
     at errors.Order f = let above = h.1 in let below = h.2 in let is = slot_is in
         elim f [ inl w ↦ omega (arith, w) | inr w ↦ omega (arith, w) ]
     at errors.Field f = f.1 s h.0 (sym front)
@@ -177,7 +177,7 @@ not_first least slots s ss rest error h e fails = at error fails
     at errors.Memory f = f
 
 pub not_behind : (least slots : ℕ) (before ss : List StatementParts) (rest : List ℕ)
-    (error : ReadError) → AreStatements least slots before → AreStatements least slots ss
+    (error : ObjectError) → AreStatements least slots before → AreStatements least slots ss
     → flat_map statement_text ss ≡ flat_map statement_text before ++ rest
     → length before < length ss → Fails (next_slot least before) slots rest error → ⊥
 not_behind least slots [] [] rest error h g e lt fails = omega (arith, lt)

@@ -5,8 +5,8 @@ use Rattle.std.specs.List.{flat_map}
 use Rattle.std.proofs.Math.Seq.{take-append_seam, drop-append_seam}
 use Rattle.std.proofs.lemmas.List.{take-append-drop, drop-drop, length-drop, append_assoc}
 use Rattle.std.proofs.lemmas.List.{ext_get_or}
-use Rattle.object.specs.declared.kind.Kind.{Kind}
-use Rattle.object.specs.declared.kind.Kind.TheVariants.{Empty}
+use Rattle.object.specs.declared.kind.StatedKind.{StatedKind}
+use Rattle.object.specs.declared.kind.StatedKind.TheVariants.{Empty}
 use Rattle.std.specs.Prelude.{IfSome, ◌≢◌}
 use Rattle.std.proofs.Common.{set, Option, Some, None, length-set, below_more, get_or-set_same}
 use Rattle.std.proofs.Common.{get_or-set_other}
@@ -30,13 +30,13 @@ use Rattle.std.proofs.lemmas.List.Elements.{All-get_or}
 use Rattle.object.specs.Statements.{IsKind}
 use Rattle.object.proofs.Same.{same_kind}
 
-pub length-kinds : (ks : List Kind) → length (flat_map kind_text ks) ≡ 40 * length ks
+pub length-kinds : (ks : List StatedKind) → length (flat_map kind_text ks) ≡ 40 * length ks
 length-kinds [] = refl
 length-kinds (k ∷ ks) = length-append (kind_text k) (flat_map kind_text ks)
     ∙ ap (λ n. 40 + n) (length-kinds ks) ∙ omega arith
 
 -- the text of one of them stands at its place
-pub kind_at : (ks : List Kind) (i : ℕ) → i < length ks
+pub kind_at : (ks : List StatedKind) (i : ℕ) → i < length ks
     → take 40 (drop (40 * i) (flat_map kind_text ks)) ≡ kind_text (get_or ks i Empty)
 kind_at [] i lt = absurd (omega arith)
 kind_at (k ∷ ks) zero lt = take-append_seam (kind_text k) (flat_map kind_text ks)
@@ -48,7 +48,7 @@ kind_at (k ∷ ks) (suc i) lt =
     ∙ kind_at ks i (omega arith)
 
 -- If each text stands at its place, together they are the bytes.
-pub kinds_join : (ks : List Kind) (bytes : List ℕ) → length bytes ≡ 40 * length ks
+pub kinds_join : (ks : List StatedKind) (bytes : List ℕ) → length bytes ≡ 40 * length ks
     → ((i : ℕ) → i < length ks → kind_text (get_or ks i Empty) ≡ take 40 (drop (40 * i) bytes))
     → flat_map kind_text ks ≡ bytes
 kinds_join [] [] l h = refl
@@ -62,25 +62,26 @@ kinds_join (k ∷ ks) bytes l h =
     ∙ take-append-drop 40 bytes
 
 -- the first ones of the bytes, whatever kinds they spell
-pub record AreRead (read : List Kind) (bytes : List ℕ) (i : ℕ) : Type 0 where
+pub record AreRead (read : List StatedKind) (bytes : List ℕ) (i : ℕ) : Type 0 where
   pub count : length read ≡ 10
   pub texts : (k : ℕ) → k < i → kind_text (get_or read k Empty) ≡ take 40 (drop (40 * k) bytes)
-  pub same : (ks : List Kind) → All IsKind ks → length ks ≡ 10 → flat_map kind_text ks ≡ bytes
+  pub same : (ks : List StatedKind) → All IsKind ks → length ks ≡ 10 → flat_map kind_text ks ≡ bytes
       → (k : ℕ) → k < i → get_or read k Empty ≡ get_or ks k Empty
 
-pub same_kinds : (as' bs : List Kind) → All IsKind as' → All IsKind bs → length as' ≡ length bs
-    → flat_map kind_text as' ≡ flat_map kind_text bs → as' ≡ bs
+pub same_kinds : (as' bs : List StatedKind) → All IsKind as' → All IsKind bs
+    → length as' ≡ length bs → flat_map kind_text as' ≡ flat_map kind_text bs → as' ≡ bs
 same_kinds as' bs p q l e = ext_get_or Empty as' bs l (λ i lt.
     same_kind (get_or as' i Empty) (get_or bs i Empty) (All-get_or IsKind as' i Empty lt p)
     (All-get_or IsKind bs i Empty (omega arith) q)
     (sym (kind_at as' i lt) ∙ ap (λ t. take 40 (drop (40 * i) t)) e ∙ kind_at bs i (omega arith)))
 
-pub kind_found : (r : Option Kind) (f : RegisterFields) (bytes : List ℕ) → register_bytes f ≡ bytes
-    → IfSome r (λ k. (fields_of_kind k ≡ f) × IsKind k) → IfSome r (λ k. kind_text k ≡ bytes)
+pub kind_found : (r : Option StatedKind) (f : RegisterFields) (bytes : List ℕ)
+    → register_bytes f ≡ bytes → IfSome r (λ k. (fields_of_kind k ≡ f) × IsKind k)
+    → IfSome r (λ k. kind_text k ≡ bytes)
 kind_found None f bytes e h = h
 kind_found (Some k) f bytes e h = ap register_bytes h.0 ∙ e
 
-pub read_none : (read : List Kind) (bytes : List ℕ) → length read ≡ 10 → AreRead read bytes 0
+pub read_none : (read : List StatedKind) (bytes : List ℕ) → length read ≡ 10 → AreRead read bytes 0
 read_none read bytes l = record {
   count = l;
   texts = λ k lt. absurd (omega (arith, lt));
@@ -88,9 +89,9 @@ read_none read bytes l = record {
 }
 
 -- one more kind is read, whatever kind is spelled there
-pub read_more : (read : List Kind) (bytes part : List ℕ) (i : ℕ) (one : Kind) → AreRead read bytes i
-    → i < 10 → part ≡ take 40 (drop (40 * i) bytes) → kind_text one ≡ part
-    → ((k : Kind) → IsKind k → kind_text k ≡ part → one ≡ k)
+pub read_more : (read : List StatedKind) (bytes part : List ℕ) (i : ℕ) (one : StatedKind)
+    → AreRead read bytes i → i < 10 → part ≡ take 40 (drop (40 * i) bytes) → kind_text one ≡ part
+    → ((k : StatedKind) → IsKind k → kind_text k ≡ part → one ≡ k)
     → AreRead (set read i one) bytes (i + 1)
 read_more read bytes part i one h lt part_is found only =
     let count = h.count in
@@ -111,13 +112,14 @@ read_more read bytes part i one h lt part_is found only =
           ∙ sym part_is));
     }
 
-pub read_text : (read : List Kind) (bytes : List ℕ) (i : ℕ) → AreRead read bytes i → 10 ≤ i
+pub read_text : (read : List StatedKind) (bytes : List ℕ) (i : ℕ) → AreRead read bytes i → 10 ≤ i
     → length bytes ≡ 400 → flat_map kind_text read ≡ bytes
 read_text read bytes i h le l = let count = h.count in
     kinds_join read bytes (omega arith) (λ k lt. h.texts k (omega (arith, lt)))
 
-pub read_same : (read : List Kind) (bytes : List ℕ) (i : ℕ) → AreRead read bytes i → 10 ≤ i
-    → (ks : List Kind) → All IsKind ks → length ks ≡ 10 → flat_map kind_text ks ≡ bytes → read ≡ ks
+pub read_same : (read : List StatedKind) (bytes : List ℕ) (i : ℕ) → AreRead read bytes i → 10 ≤ i
+    → (ks : List StatedKind) → All IsKind ks → length ks ≡ 10 → flat_map kind_text ks ≡ bytes
+    → read ≡ ks
 read_same read bytes i h le ks all ten e =
     ext_get_or Empty read ks (h.count ∙ sym ten)
     (λ k lt. let count = h.count in h.same ks all ten e k (omega (arith, lt)))
@@ -189,7 +191,7 @@ same_statement s t h g e =
     (g.stack ∙ omega arith) (sym p.middle ∙ q.middle) in
     let slot : s.slot ≡ t.slot = ranks.0 in
     let rank : s.rank ≡ t.rank = ranks.1 in
-    let made : ℕ → Rank → List Kind → List Bool → StatementParts = λ a b c d. record {
+    let made : ℕ → Rank → List StatedKind → List Bool → StatementParts = λ a b c d. record {
       slot = a;
       rank = b;
       kinds = c;
@@ -216,12 +218,13 @@ rank_again s bytes f h e small read =
     ap (λ n. fields_of_rank n s.rank) (sym (ap (λ g. g.slot) told)) ∙ told
 
 pub statement_told : (s : StatementParts) (bytes : List ℕ) (f : RankFields) (rank : Rank)
-    (kinds : List Kind) (stack : List Bool) → IsStatement s → statement_text s ≡ bytes → AreRank f
-    → rank_bytes f ≡ take 20 bytes →
-    ((r : Rank) → IsRank r → fields_of_rank f.slot r ≡ f → rank ≡ r)
-    → ((ks : List Kind) → All IsKind ks → length ks ≡ 10
+    (kinds : List StatedKind) (stack : List Bool) → IsStatement s → statement_text s ≡ bytes
+    → AreRank f → rank_bytes f ≡ take 20 bytes
+    → ((r : Rank) → IsRank r → fields_of_rank f.slot r ≡ f → rank ≡ r)
+    → ((ks : List StatedKind) → All IsKind ks → length ks ≡ 10
     → flat_map kind_text ks ≡ drop 84 bytes → kinds ≡ ks)
-    → packed_bits stack ≡ take 64 (drop 20 bytes) → IsStackBytes stack → s ≡ record {
+    → packed_bits stack ≡ take 64 (drop 20 bytes) → IsStackBytes stack
+    → s ≡ record {
       slot = f.slot;
       rank = rank;
       kinds = kinds;
@@ -235,7 +238,7 @@ statement_told s bytes f rank kinds stack h e small read only_rank only_kinds mi
     let kinds_are : kinds ≡ s.kinds = only_kinds s.kinds h.kinds h.count (sym p.back) in
     let stack_is : s.stack ≡ stack = same_packed 64 s.stack stack (h.stack ∙ omega arith)
     (set ∙ omega arith) (sym p.middle ∙ sym middle) in
-    let made : ℕ → Rank → List Kind → List Bool → StatementParts = λ a b c d. record {
+    let made : ℕ → Rank → List StatedKind → List Bool → StatementParts = λ a b c d. record {
       slot = a;
       rank = b;
       kinds = c;
@@ -243,7 +246,7 @@ statement_told s bytes f rank kinds stack h e small read only_rank only_kinds mi
     } in
     let whole : made s.slot s.rank s.kinds s.stack ≡ made f.slot rank kinds stack = cc in whole
 
-pub rank_over : (s : StatementParts) (slot : ℕ) (rank : Rank) (kinds : List Kind)
+pub rank_over : (s : StatementParts) (slot : ℕ) (rank : Rank) (kinds : List StatedKind)
     (stack : List Bool) → IsStatement s → s ≡ record {
       slot = slot;
       rank = rank;

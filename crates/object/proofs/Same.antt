@@ -10,8 +10,8 @@ use Rattle.isa.specs.declared.map.Map.TheVariants as maps
 use Rattle.object.specs.declared.fields.RegisterFields.{RegisterFields}
 use Rattle.object.specs.declared.fields.RankFields.{RankFields}
 use Rattle.object.specs.declared.fields.HeaderFields.{HeaderFields}
-use Rattle.object.specs.declared.kind.Kind.{Kind}
-use Rattle.object.specs.declared.kind.Kind.TheVariants as kinds
+use Rattle.object.specs.declared.kind.StatedKind.{StatedKind}
+use Rattle.object.specs.declared.kind.StatedKind.TheVariants as kinds
 use Rattle.object.specs.declared.rank.Rank.{Rank}
 use Rattle.object.specs.Numbers.{Numbers, Term}
 use Rattle.object.specs.Statements.{IsKind, IsRank, IsTermOrNone}
@@ -138,7 +138,7 @@ same_header_fields f g small small' e =
 map_from : ℕ → Map
 map_from n = if n == 0 then maps.Counters else maps.Cells
 
-kind_from : RegisterFields → Kind
+kind_from : RegisterFields → StatedKind
 kind_from f =
     let n : Numbers = record { low = f.low; high = f.high; mask = f.mask; value = f.value } in
     if f.kind == 0 then kinds.Empty else
@@ -146,7 +146,7 @@ kind_from f =
     if f.kind == 2 then kinds.Context f.offset else
     if f.kind == 3 then kinds.Stack f.offset else kinds.MapValue (map_from f.map) n
 
-kind_again : (k : Kind) → kind_from (fields_of_kind k) ≡ k
+kind_again : (k : StatedKind) → kind_from (fields_of_kind k) ≡ k
 unfolding kind_from map_from
 kind_again kinds.Empty = refl
 kind_again (kinds.Number n) = refl
@@ -155,7 +155,7 @@ kind_again (kinds.Stack o) = refl
 kind_again (kinds.MapValue maps.Counters n) = refl
 kind_again (kinds.MapValue maps.Cells n) = refl
 
-pub small_kind : (k : Kind) → IsKind k → AreRegister (fields_of_kind k)
+pub small_kind : (k : StatedKind) → IsKind k → AreRegister (fields_of_kind k)
 small_kind kinds.Empty h = record {
   unused = omega arith;
   offset = omega arith;
@@ -197,7 +197,7 @@ small_kind (kinds.MapValue m n) h = let a = h.ordered in let b = h.high in recor
   value = h.value;
 }
 
-pub same_kind : (a b : Kind) → IsKind a → IsKind b → kind_text a ≡ kind_text b → a ≡ b
+pub same_kind : (a b : StatedKind) → IsKind a → IsKind b → kind_text a ≡ kind_text b → a ≡ b
 same_kind a b p q e =
     sym (kind_again a) ∙ ap kind_from
     (same_register (fields_of_kind a) (fields_of_kind b) (small_kind a p) (small_kind b q) e)

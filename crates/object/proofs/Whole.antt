@@ -10,8 +10,8 @@ use Rattle.std.proofs.lemmas.List.{take-append-drop, drop-drop, take_at, drop_at
 use Rattle.isa.specs.declared.hook.Hook.{Hook}
 use Rattle.isa.specs.declared.hook.Hook.TheVariants as hooks
 use Rattle.isa.specs.Hooks.{hook_number}
-use Rattle.object.specs.declared.error.ReadError.{ReadError}
-use Rattle.object.specs.declared.error.ReadError.TheVariants as errors
+use Rattle.object.specs.declared.error.ObjectError.{ObjectError}
+use Rattle.object.specs.declared.error.ObjectError.TheVariants as errors
 use Rattle.object.specs.declared.fields.HeaderFields.{HeaderFields}
 use Rattle.object.specs.Fields.{AreHeader}
 use Rattle.object.specs.Statements.{StatementParts}
@@ -129,7 +129,7 @@ same_object bytes a b p q =
 
 -- ---- what is refused spells nothing
 
-fails_at : (bytes : List ℕ) (o : ObjectParts) (error : ReadError) → Spells bytes o
+fails_at : (bytes : List ℕ) (o : ObjectParts) (error : ObjectError) → Spells bytes o
     → FailsAt bytes error → ⊥
 fails_at bytes o error h f =
     let x = announces bytes o h in
@@ -142,7 +142,7 @@ fails_at bytes o error h f =
     (subst P (sym slots) h.is_object.statements)
     (sym x.rest_is ∙ ap (λ n. drop (16 + 8 * n) bytes) (sym slots) ∙ b.parts) (omega arith) b.fails
 
-pub refused : (bytes : List ℕ) (o : ObjectParts) (error : ReadError) → Spells bytes o
+pub refused : (bytes : List ℕ) (o : ObjectParts) (error : ObjectError) → Spells bytes o
     → Refuses bytes error → error ≡ errors.Memory
 refused bytes o errors.Memory h r = refl
 refused bytes o errors.Short h r =
@@ -252,7 +252,7 @@ read_spells bytes f o h =
           ∙ ap (λ t. magic ++ t) front;
     }
 
-pub statements_fail : (bytes rest : List ℕ) (f : HeaderFields) (hook : Hook) (error : ReadError)
+pub statements_fail : (bytes rest : List ℕ) (f : HeaderFields) (hook : Hook) (error : ObjectError)
     → AreFieldsOf bytes f → hook_number hook ≡ f.hook
     → length bytes ≡ 16 + 8 * f.slots + 484 * f.statements
     → rest ≡ drop (16 + 8 * f.slots) bytes → StatementsFail rest f.slots f.statements error
@@ -262,7 +262,7 @@ statements_fail bytes rest f hook error h hook_is size rest_is fails = at error 
     sized : HasSize bytes
     sized = has_size bytes f h size
 
-    moved : (error : ReadError) → FailsBehind rest f.slots f.statements error
+    moved : (error : ObjectError) → FailsBehind rest f.slots f.statements error
         → FailsBehind (drop (16 + 8 * slots_in bytes) bytes) (slots_in bytes) (count_in bytes) error
     moved error b =
         let P : List ℕ → Type 0 = λ t. FailsBehind t f.slots f.statements error in
@@ -292,7 +292,8 @@ statements_fail bytes rest f hook error h hook_is size rest_is fails = at error 
           }),
         )
 
-    at : (error : ReadError) → StatementsFail rest f.slots f.statements error → Refuses bytes error
+    at : (error : ObjectError) → StatementsFail rest f.slots f.statements error
+        → Refuses bytes error
     at errors.Memory b = spelled b
     at errors.Order b = record { begins = sized; behind = moved errors.Order b }
     at errors.Field b = inr (record { begins = sized; behind = moved errors.Field b })
@@ -302,7 +303,7 @@ statements_fail bytes rest f hook error h hook_is size rest_is fails = at error 
     at errors.Hook b = absurd b.fails
     at errors.Trailing b = absurd b.fails
 
-pub only_one : (bytes : List ℕ) (r : Result ObjectParts ReadError) → IfOk r (λ o. Spells bytes o)
+pub only_one : (bytes : List ℕ) (r : Result ObjectParts ObjectError) → IfOk r (λ o. Spells bytes o)
     → IfErr r (λ e. Refuses bytes e) → (o : ObjectParts) → Spells bytes o
     → MatchResult r (λ found. found ≡ o) (λ e. e ≡ errors.Memory)
 only_one bytes (Ok found) h g o s = same_object bytes found o h s
@@ -341,7 +342,7 @@ read_of bytes f o count h count_is ge le entry code spelled =
       statements = subst Q count_is (subst P (take_rest bytes (16 + 8 * f.slots)) spelled);
     }
 
-pub cut_fails : (bytes : List ℕ) (f : HeaderFields) (hook : Hook) (count : ℕ) (error : ReadError)
+pub cut_fails : (bytes : List ℕ) (f : HeaderFields) (hook : Hook) (count : ℕ) (error : ObjectError)
     → AreFieldsOf bytes f × (hook_number hook ≡ f.hook) → count ≡ f.statements
     → 16 + 8 * f.slots + 484 * count ≤ length bytes
     → length bytes ≤ 16 + 8 * f.slots + 484 * count

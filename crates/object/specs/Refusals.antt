@@ -5,8 +5,8 @@ use Rattle.std.specs.List.{flat_map}
 use Rattle.std.specs.Int.{w16, w32, from_le_bytes}
 use Rattle.isa.specs.declared.hook.Hook.{Hook}
 use Rattle.isa.specs.Hooks.{hook_number}
-use Rattle.object.specs.declared.error.ReadError.{ReadError}
-use Rattle.object.specs.declared.error.ReadError.TheVariants as errors
+use Rattle.object.specs.declared.error.ObjectError.{ObjectError}
+use Rattle.object.specs.declared.error.ObjectError.TheVariants as errors
 use Rattle.object.specs.Statements.{StatementParts, IsStatement}
 use Rattle.object.specs.Objects.{ObjectParts, AreStatements, next_slot}
 use Rattle.object.specs.declared.fields.HeaderFields.{HeaderFields}
@@ -14,7 +14,7 @@ use Rattle.object.specs.Fields.{AreHeader}
 use Rattle.object.specs.Spelling.{Spells, magic, header_bytes, statement_text}
 
 -- the numbers that users see
-abbrev pub error_number : ReadError → ℕ
+abbrev pub error_number : ObjectError → ℕ
 error_number errors.Short = 1
 error_number errors.Magic = 2
 error_number errors.Version = 3
@@ -80,13 +80,13 @@ abbrev pub IsNoStatement : List ℕ → Type 0
 IsNoStatement bytes = (s : StatementParts) → IsStatement s → statement_text s ≡ take 484 bytes → ⊥
 
 -- why the bytes do not begin with a statement
-abbrev pub Fails : ℕ → ℕ → List ℕ → ReadError → Type 0
+abbrev pub Fails : ℕ → ℕ → List ℕ → ObjectError → Type 0
 Fails least slots bytes errors.Order = IsOutOfOrder least slots bytes
 Fails least slots bytes errors.Field = (IsOutOfOrder least slots bytes → ⊥) × IsNoStatement bytes
 Fails least slots bytes other = ⊥
 
 -- The bytes spell some statements, and the next of the `count` fails.
-pub record FailsBehind (bytes : List ℕ) (slots count : ℕ) (error : ReadError) : Type 0 where
+pub record FailsBehind (bytes : List ℕ) (slots count : ℕ) (error : ObjectError) : Type 0 where
   pub statements : List StatementParts
   pub rest : List ℕ
   pub parts : bytes ≡ flat_map statement_text statements ++ rest
@@ -103,18 +103,18 @@ pub record AreSpelled (bytes : List ℕ) (slots count : ℕ)
 
 -- Why `count` statements aren't read from the bytes: one fails, or memory ran out although all of
 -- them are spelled.
-abbrev pub StatementsFail : List ℕ → ℕ → ℕ → ReadError → Type 0
+abbrev pub StatementsFail : List ℕ → ℕ → ℕ → ObjectError → Type 0
 StatementsFail bytes slots count errors.Memory = (statements : List StatementParts)
     × AreSpelled bytes slots count statements
 StatementsFail bytes slots count error = FailsBehind bytes slots count error
 
-pub record FailsAt (bytes : List ℕ) (error : ReadError) : Type 0 where
+pub record FailsAt (bytes : List ℕ) (error : ObjectError) : Type 0 where
   pub begins : HasSize bytes
   pub behind : FailsBehind (drop (16 + 8 * slots_in bytes) bytes) (slots_in bytes)
       (count_in bytes) error
 
 -- Why no object is read from the bytes. `Memory` is reported only for bytes that spell an object.
-abbrev pub Refuses : List ℕ → ReadError → Type 0
+abbrev pub Refuses : List ℕ → ObjectError → Type 0
 Refuses bytes errors.Short = (length bytes < 16)
     ⊎ (HasSlots bytes × (length bytes < announced_size bytes))
 Refuses bytes errors.Magic = (16 ≤ length bytes) × (take 4 bytes ≢ magic)

@@ -4,8 +4,8 @@ use Rattle.std.specs.List.{flat_map}
 use Rattle.std.specs.Int.{w16, w32, w64, to_le_bytes}
 use Rattle.isa.specs.Hooks.{hook_number}
 use Rattle.isa.specs.Maps.{map_number}
-use Rattle.object.specs.declared.kind.Kind.{Kind}
-use Rattle.object.specs.declared.kind.Kind.TheVariants as kinds
+use Rattle.object.specs.declared.kind.StatedKind.{StatedKind}
+use Rattle.object.specs.declared.kind.StatedKind.TheVariants as kinds
 use Rattle.object.specs.declared.rank.Rank.{Rank}
 use Rattle.object.specs.declared.fields.RegisterFields.{RegisterFields}
 use Rattle.object.specs.declared.fields.RankFields.{RankFields}
@@ -44,14 +44,14 @@ abbrev pub no_numbers : Numbers
 no_numbers = record { low = 0; high = 0; mask = 0; value = 0 }
 
 -- A field that a kind doesn't use is zero.
-abbrev pub fields_of_kind : Kind → RegisterFields
+abbrev pub fields_of_kind : StatedKind → RegisterFields
 fields_of_kind kinds.Empty = register_fields 0 0 0 no_numbers
 fields_of_kind (kinds.Number numbers) = register_fields 1 0 0 numbers
 fields_of_kind (kinds.Context offset) = register_fields 2 0 offset no_numbers
 fields_of_kind (kinds.Stack offset) = register_fields 3 0 offset no_numbers
 fields_of_kind (kinds.MapValue map numbers) = register_fields 4 (map_number map) 0 numbers
 
-abbrev pub kind_text : Kind → List ℕ
+abbrev pub kind_text : StatedKind → List ℕ
 kind_text kind = register_bytes (fields_of_kind kind)
 
 -- ---- the front of a statement: 20 bytes

@@ -2,13 +2,13 @@
 use Rattle.std.specs.Prelude.{◌≡◌, ℕ, ◌≤◌, ◌<◌, ◌^◌, Bool, List, length, Option, Some, None}
 use Rattle.std.specs.Prelude.{slice_get}
 use Rattle.std.specs.List.{All}
-use Rattle.object.specs.declared.kind.Kind.{Kind}
-use Rattle.object.specs.declared.kind.Kind.TheVariants as kinds
+use Rattle.object.specs.declared.kind.StatedKind.{StatedKind}
+use Rattle.object.specs.declared.kind.StatedKind.TheVariants as kinds
 use Rattle.object.specs.declared.rank.Rank.{Rank}
 use Rattle.object.specs.Numbers.{Numbers, IsNumbers, Term, IsTerm}
 use Rattle.object.specs.Sets.{IsStackBytes}
 
-abbrev pub IsKind : Kind → Type 0
+abbrev pub IsKind : StatedKind → Type 0
 IsKind kinds.Empty = Unit {0}
 IsKind (kinds.Number numbers) = IsNumbers numbers
 IsKind (kinds.Context offset) = offset ≤ 64
@@ -25,16 +25,16 @@ pub record IsRank (rank : Rank) : Type 0 where
   pub second : IsTermOrNone rank.second
 
 -- The register is stated as a number.
-abbrev pub IsNumberAt : List Kind → ℕ → Type 0
+abbrev pub IsNumberAt : List StatedKind → ℕ → Type 0
 IsNumberAt registers register = (numbers : Numbers)
     × (slice_get registers register ≡ Some (kinds.Number numbers))
 
 -- A term's register is stated as a number.
-abbrev pub IsTermOver : List Kind → Option Term → Type 0
+abbrev pub IsTermOver : List StatedKind → Option Term → Type 0
 IsTermOver registers None = Unit {0}
 IsTermOver registers (Some term) = IsNumberAt registers term.register
 
-pub record IsRankOver (registers : List Kind) (rank : Rank) : Type 0 where
+pub record IsRankOver (registers : List StatedKind) (rank : Rank) : Type 0 where
   pub is_rank : IsRank rank
   pub first : IsTermOver registers rank.first
   pub second : IsTermOver registers rank.second
@@ -44,7 +44,7 @@ pub record IsRankOver (registers : List Kind) (rank : Rank) : Type 0 where
 pub record StatementParts : Type 0 where
   pub slot : ℕ
   pub rank : Rank
-  pub kinds : List Kind
+  pub kinds : List StatedKind
   pub stack : List Bool
 
 pub record IsStatement (s : StatementParts) : Type 0 where

@@ -1,6 +1,6 @@
 //! Why bytes are not an object file.
 ghost use Rattle.std.specs.Prelude.{◌≡◌};
-ghost use Rattle.object.specs.declared.error.ReadError.TheVariants.{Memory};
+ghost use Rattle.object.specs.declared.error.ObjectError.TheVariants.{Memory};
 ghost use Rattle.object.specs.Refusals.{error_number};
 
 use std::alloc::{AllocError, AllocFailed};
@@ -10,7 +10,7 @@ use thiserror::Error;
 /// `Magic`, `Version`, `Hook`, `Field` for the number of slots, `Short` for the rest, `Trailing`,
 /// and then `Order` and `Field` for each statement in turn.
 #[derive(Clone, Copy, Debug, PartialEq, Eq, Error)]
-pub enum ReadError {
+pub enum ObjectError {
     /// Fewer than 16 bytes, or fewer than the header announces.
     #[error("the file is too short")]
     Short,
@@ -37,36 +37,36 @@ pub enum ReadError {
     Memory,
 }
 
-impl ReadError {
+impl ObjectError {
     /// The number that users see: 1 to 8, in the order of the variants.
     pub fn number(self) -> u8
         ensures { result ≡ error_number self }
     {
         match self {
-            ReadError::Short => 1,
-            ReadError::Magic => 2,
-            ReadError::Version => 3,
-            ReadError::Hook => 4,
-            ReadError::Order => 5,
-            ReadError::Field => 6,
-            ReadError::Trailing => 7,
-            ReadError::Memory => 8,
+            ObjectError::Short => 1,
+            ObjectError::Magic => 2,
+            ObjectError::Version => 3,
+            ObjectError::Hook => 4,
+            ObjectError::Order => 5,
+            ObjectError::Field => 6,
+            ObjectError::Trailing => 7,
+            ObjectError::Memory => 8,
         }
     }
 }
 
-impl From<AllocError> for ReadError {
+impl From<AllocError> for ObjectError {
     ghost from_gives = { λ _ e. e ≡ Memory };
 
-    fn from(_e: AllocError) -> ReadError {
-        ReadError::Memory
+    fn from(_e: AllocError) -> ObjectError {
+        ObjectError::Memory
     }
 }
 
-impl<T: Drop> From<AllocFailed<T>> for ReadError {
+impl<T: Drop> From<AllocFailed<T>> for ObjectError {
     ghost from_gives = { λ _ e. e ≡ Memory };
 
-    fn from(_e: AllocFailed<T>) -> ReadError {
-        ReadError::Memory
+    fn from(_e: AllocFailed<T>) -> ObjectError {
+        ObjectError::Memory
     }
 }

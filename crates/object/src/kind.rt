@@ -5,7 +5,7 @@ use isa::Map;
 
 /// What a statement says that a register holds.
 #[derive(Clone, Copy, PartialEq, Eq, Debug)]
-pub enum Kind {
+pub enum StatedKind {
     /// Anything, or nothing: the program writes the register before it reads it.
     Empty,
     /// One of these numbers.
@@ -18,7 +18,7 @@ pub enum Kind {
     MapValue(Map, StatedNumber),
 }
 
-impl Kind {
+impl StatedKind {
     ghost use Rattle.object.specs.Statements.{IsKind};
 
     /// Lemma: each part is in the range that its type guarantees. Does nothing at run time.
@@ -26,14 +26,14 @@ impl Kind {
         ensures { IsKind self.now }
     {
         match self {
-            Kind::Empty => {}
-            Kind::Number(numbers) | Kind::MapValue(_, numbers) => {
+            StatedKind::Empty => {}
+            StatedKind::Number(numbers) | StatedKind::MapValue(_, numbers) => {
                 let _low = numbers.low();
             }
-            Kind::Context(offset) => {
+            StatedKind::Context(offset) => {
                 let _bytes = offset.bytes();
             }
-            Kind::Stack(offset) => {
+            StatedKind::Stack(offset) => {
                 let _bytes = offset.bytes();
             }
         }

@@ -1,6 +1,6 @@
 //! From the numbers in a register's or a rank's bytes to what they state, if they are valid.
 ghost use Rattle.std.specs.Prelude.{◌≡◌, ◌↔◌, IfSome, IsTrue, Option, Some};
-ghost use Rattle.object.specs.declared.kind.Kind.{Kind};
+ghost use Rattle.object.specs.declared.kind.StatedKind.{StatedKind};
 ghost use Rattle.object.specs.declared.rank.Rank.{Rank};
 ghost use Rattle.object.specs.Numbers.{Term};
 ghost use Rattle.object.specs.Statements.{IsKind, IsRank, IsTermOrNone};
@@ -8,7 +8,7 @@ ghost use Rattle.object.specs.Spelling.{fields_of_kind, fields_of_rank, term_coe
 ghost use Rattle.object.specs.Spelling.{term_register};
 
 use crate::fields::{RankFields, RegisterFields};
-use crate::kind::Kind;
+use crate::kind::StatedKind;
 use crate::number::StatedNumber;
 use crate::offset::{ContextOffset, StackOffset};
 use crate::rank::{Rank, RankTerm};
@@ -23,25 +23,27 @@ fn has_no_numbers(fields: RegisterFields) -> bool
 }
 
 /// A register of which nothing is stated.
-fn empty(fields: RegisterFields) -> Option<Kind>
+fn empty(fields: RegisterFields) -> Option<StatedKind>
     requires kind { fields.kind ≡ 0 }
     requires unused { fields.unused ≡ 0 }
     ensures found { IfSome result (λ kind. (fields_of_kind kind ≡ fields) × IsKind kind) }
-    ensures only { (kind : Kind) → IsKind kind → fields_of_kind kind ≡ fields → result ≡ Some kind }
+    ensures only { (kind : StatedKind) → IsKind kind → fields_of_kind kind ≡ fields
+        → result ≡ Some kind }
 {
     if fields.map == 0 && fields.offset == 0 && has_no_numbers(fields) {
-        Some(Kind::Empty)
+        Some(StatedKind::Empty)
     } else {
         None
     }
 }
 
 /// A register that holds a number.
-fn number(fields: RegisterFields) -> Option<Kind>
+fn number(fields: RegisterFields) -> Option<StatedKind>
     requires kind { fields.kind ≡ 1 }
     requires unused { fields.unused ≡ 0 }
     ensures found { IfSome result (λ kind. (fields_of_kind kind ≡ fields) × IsKind kind) }
-    ensures only { (kind : Kind) → IsKind kind → fields_of_kind kind ≡ fields → result ≡ Some kind }
+    ensures only { (kind : StatedKind) → IsKind kind → fields_of_kind kind ≡ fields
+        → result ≡ Some kind }
 {
     if fields.map != 0 || fields.offset != 0 {
         return None;
@@ -49,15 +51,16 @@ fn number(fields: RegisterFields) -> Option<Kind>
     let Some(numbers) = StatedNumber::new(fields.low, fields.high, fields.mask, fields.value) else {
         return None;
     };
-    Some(Kind::Number(numbers))
+    Some(StatedKind::Number(numbers))
 }
 
 /// A register that points into the context.
-fn context(fields: RegisterFields) -> Option<Kind>
+fn context(fields: RegisterFields) -> Option<StatedKind>
     requires kind { fields.kind ≡ 2 }
     requires unused { fields.unused ≡ 0 }
     ensures found { IfSome result (λ kind. (fields_of_kind kind ≡ fields) × IsKind kind) }
-    ensures only { (kind : Kind) → IsKind kind → fields_of_kind kind ≡ fields → result ≡ Some kind }
+    ensures only { (kind : StatedKind) → IsKind kind → fields_of_kind kind ≡ fields
+        → result ≡ Some kind }
 {
     if fields.map != 0 || !has_no_numbers(fields) {
         return None;
@@ -65,15 +68,16 @@ fn context(fields: RegisterFields) -> Option<Kind>
     let Some(offset) = ContextOffset::new(fields.offset) else {
         return None;
     };
-    Some(Kind::Context(offset))
+    Some(StatedKind::Context(offset))
 }
 
 /// A register that points into the stack.
-fn stack(fields: RegisterFields) -> Option<Kind>
+fn stack(fields: RegisterFields) -> Option<StatedKind>
     requires kind { fields.kind ≡ 3 }
     requires unused { fields.unused ≡ 0 }
     ensures found { IfSome result (λ kind. (fields_of_kind kind ≡ fields) × IsKind kind) }
-    ensures only { (kind : Kind) → IsKind kind → fields_of_kind kind ≡ fields → result ≡ Some kind }
+    ensures only { (kind : StatedKind) → IsKind kind → fields_of_kind kind ≡ fields
+        → result ≡ Some kind }
 {
     if fields.map != 0 || !has_no_numbers(fields) {
         return None;
@@ -81,15 +85,16 @@ fn stack(fields: RegisterFields) -> Option<Kind>
     let Some(offset) = StackOffset::new(fields.offset) else {
         return None;
     };
-    Some(Kind::Stack(offset))
+    Some(StatedKind::Stack(offset))
 }
 
 /// A register that points into a map.
-fn map_value(fields: RegisterFields) -> Option<Kind>
+fn map_value(fields: RegisterFields) -> Option<StatedKind>
     requires kind { fields.kind ≡ 4 }
     requires unused { fields.unused ≡ 0 }
     ensures found { IfSome result (λ kind. (fields_of_kind kind ≡ fields) × IsKind kind) }
-    ensures only { (kind : Kind) → IsKind kind → fields_of_kind kind ≡ fields → result ≡ Some kind }
+    ensures only { (kind : StatedKind) → IsKind kind → fields_of_kind kind ≡ fields
+        → result ≡ Some kind }
 {
     if fields.offset != 0 {
         return None;
@@ -100,13 +105,14 @@ fn map_value(fields: RegisterFields) -> Option<Kind>
     let Some(numbers) = StatedNumber::new(fields.low, fields.high, fields.mask, fields.value) else {
         return None;
     };
-    Some(Kind::MapValue(map, numbers))
+    Some(StatedKind::MapValue(map, numbers))
 }
 
 /// What these numbers state of a register; `None` if they are invalid.
-pub fn kind_of(fields: RegisterFields) -> Option<Kind>
+pub fn kind_of(fields: RegisterFields) -> Option<StatedKind>
     ensures found { IfSome result (λ kind. (fields_of_kind kind ≡ fields) × IsKind kind) }
-    ensures only { (kind : Kind) → IsKind kind → fields_of_kind kind ≡ fields → result ≡ Some kind }
+    ensures only { (kind : StatedKind) → IsKind kind → fields_of_kind kind ≡ fields
+        → result ≡ Some kind }
 {
     if fields.unused != 0 {
         return None;

@@ -16,8 +16,8 @@ mod stack;
 mod statement;
 mod writing;
 
-pub use error::ReadError;
-pub use kind::Kind;
+pub use error::ObjectError;
+pub use kind::StatedKind;
 pub use number::StatedNumber;
 pub use object::Object;
 pub use offset::{ContextOffset, StackOffset};

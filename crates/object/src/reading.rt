@@ -4,16 +4,16 @@ ghost use Rattle.std.specs.Prelude.{MatchResult, IfErr, IfOk, IfSome, IsTrue, So
 ghost use Rattle.std.specs.Int.{w32, from_le_bytes};
 ghost use Rattle.std.specs.List.{All, flat_map};
 ghost use Rattle.isa.specs.Hooks.{hook_number};
-ghost use Rattle.object.specs.declared.error.ReadError.TheVariants.{Memory};
-ghost use Rattle.object.specs.declared.kind.Kind.{Kind};
+ghost use Rattle.object.specs.declared.error.ObjectError.TheVariants.{Memory};
+ghost use Rattle.object.specs.declared.kind.StatedKind.{StatedKind};
 ghost use Rattle.object.specs.Statements.{IsKind, IsStatement, StatementParts};
 ghost use Rattle.object.specs.Objects.{ObjectParts};
 ghost use Rattle.object.specs.Spelling.{Spells, kind_text, magic, statement_text};
 ghost use Rattle.object.specs.Refusals.{AreFieldsOf, AreSpelled, Fails, Refuses, StatementsFail};
 
-use crate::error::ReadError;
+use crate::error::ObjectError;
 use crate::fields::{HeaderFields, RankFields, RegisterFields, u32_at};
-use crate::kind::Kind;
+use crate::kind::StatedKind;
 use crate::lawful::{kind_of, rank_of};
 use crate::object::Object;
 use crate::stack::StackBytes;
@@ -22,22 +22,23 @@ use isa::{Hook, MOST_SLOTS};
 use std::alloc::Global;
 
 /// What the 40 bytes of a register state of it; `None` if they are invalid.
-fn kind(bytes: &[u8]) -> Option<Kind>
+fn kind(bytes: &[u8]) -> Option<StatedKind>
     requires { length bytes.now ≡ 40 }
     ensures found { IfSome result (λ kind. kind_text kind ≡ bytes.now) }
-    ensures only { (kind : Kind) → IsKind kind → kind_text kind ≡ bytes.now → result ≡ Some kind }
+    ensures only { (kind : StatedKind) → IsKind kind → kind_text kind ≡ bytes.now
+        → result ≡ Some kind }
 {
     kind_of(RegisterFields::read(bytes))
 }
 
 /// What the 400 bytes of r0 to r9 state of them; `None` if they are invalid.
-fn kinds(bytes: &[u8]) -> Option<[Kind; 10]>
+fn kinds(bytes: &[u8]) -> Option<[StatedKind; 10]>
     requires { length bytes.now ≡ 400 }
     ensures found { IfSome result (λ kinds. flat_map kind_text kinds ≡ bytes.now) }
-    ensures only { (kinds : List Kind) → All IsKind kinds → length kinds ≡ 10
+    ensures only { (kinds : List StatedKind) → All IsKind kinds → length kinds ≡ 10
         → flat_map kind_text kinds ≡ bytes.now → result ≡ Some kinds }
 {
-    let mut kinds = [Kind::Empty; 10];
+    let mut kinds = [StatedKind::Empty; 10];
     for register in 0..10 {
         let Some(one) = kind(&bytes[40 * register..40 * register + 40]) else {
             return None;
@@ -86,7 +87,7 @@ fn statement_at(
     index: usize,
     least: usize,
     slots: usize,
-) -> Result<Statement, ReadError>
+) -> Result<Statement, ObjectError>
     requires { 484 * index + 484 ≤ length bytes.now }
     ensures spelled { IfOk result (λ s. (statement_text s ≡ take 484 (drop (484 * index) bytes.now))
         × IsStatement s) }
@@ -96,17 +97,17 @@ fn statement_at(
     let part = &bytes[484 * index..484 * index + 484];
     let slot = slot_of(part) as usize;
     if slot < least || slots <= slot {
-        return Err(ReadError::Order);
+        return Err(ObjectError::Order);
     }
     match statement(part) {
         Some(statement) => Ok(statement),
-        None => Err(ReadError::Field),
+        None => Err(ObjectError::Field),
     }
 }
 
 /// The error after a refused allocation: that of the first of the `count` statements that fails, or
 /// `Memory` if none does.
-fn want_of_memory(bytes: &[u8], count: usize, slots: usize) -> ReadError
+fn want_of_memory(bytes: &[u8], count: usize, slots: usize) -> ObjectError
     requires size { length bytes.now ≡ 484 * count }
     requires most { slots < 2 ^ 32 }
     ensures { StatementsFail bytes.now slots count result }
@@ -118,7 +119,7 @@ fn want_of_memory(bytes: &[u8], count: usize, slots: usize) -> ReadError
             Err(e) => return e,
         }
     }
-    ReadError::Memory
+    ObjectError::Memory
 }
 
 /// The `count` statements, of 484 bytes each, for code of `slots` slots.
@@ -127,7 +128,7 @@ fn statements(
     bytes: &[u8],
     count: usize,
     slots: usize,
-) -> Result<Vec<Statement>, ReadError>
+) -> Result<Vec<Statement>, ObjectError>
     requires size { length bytes.now ≡ 484 * count }
     requires most { slots < 2 ^ 32 }
     ensures found { IfOk result (λ statements. AreSpelled bytes.now slots count statements.items) }
@@ -160,32 +161,32 @@ fn has_magic(bytes: &[u8]) -> bool
 }
 
 /// The hook and the fields of a header that is valid up to the number of slots.
-fn header(bytes: &[u8]) -> Result<(Hook, HeaderFields), ReadError>
+fn header(bytes: &[u8]) -> Result<(Hook, HeaderFields), ObjectError>
     ensures found { IfOk result (λ header. AreFieldsOf bytes.now header.1
         × (hook_number header.0 ≡ header.1.hook)) }
     ensures why { IfErr result (λ e. Refuses bytes.now e) }
 {
     if bytes.len() < 16 {
-        return Err(ReadError::Short);
+        return Err(ObjectError::Short);
     }
     if !has_magic(bytes) {
-        return Err(ReadError::Magic);
+        return Err(ObjectError::Magic);
     }
     let fields = HeaderFields::read(&bytes[4..16]);
     if fields.version != 1 {
-        return Err(ReadError::Version);
+        return Err(ObjectError::Version);
     }
     let Some(hook) = Hook::from_number(fields.hook) else {
-        return Err(ReadError::Hook);
+        return Err(ObjectError::Hook);
     };
     if fields.slots == 0 || fields.slots as usize > MOST_SLOTS {
-        return Err(ReadError::Field);
+        return Err(ObjectError::Field);
     }
     Ok((hook, fields))
 }
 
 /// The object in the bytes, or the first error.
-fn outcome(alloc: Global, bytes: &[u8]) -> Result<Object, ReadError>
+fn outcome(alloc: Global, bytes: &[u8]) -> Result<Object, ObjectError>
     ensures found { IfOk result (λ object. Spells bytes.now object) }
     ensures why { IfErr result (λ e. Refuses bytes.now e) }
 {
@@ -197,10 +198,10 @@ fn outcome(alloc: Global, bytes: &[u8]) -> Result<Object, ReadError>
     let slots = fields.slots as usize;
     let start = 16 + 8 * slots;
     if bytes.len() < start + 484 * count {
-        return Err(ReadError::Short);
+        return Err(ObjectError::Short);
     }
     if bytes.len() > start + 484 * count {
-        return Err(ReadError::Trailing);
+        return Err(ObjectError::Trailing);
     }
     let Ok(code) = Vec::from_slice(alloc, &bytes[16..start]) else {
         return Err(want_of_memory(&bytes[start..], count, slots));
@@ -212,7 +213,7 @@ fn outcome(alloc: Global, bytes: &[u8]) -> Result<Object, ReadError>
 }
 
 /// The object that the bytes spell: all of them, from BPFH to the last statement.
-pub fn read(alloc: Global, bytes: &[u8]) -> Result<Object, ReadError>
+pub fn read(alloc: Global, bytes: &[u8]) -> Result<Object, ObjectError>
     // Whatever is read, the bytes spell it.
     ensures found { IfOk result (λ object. Spells bytes.now object) }
     // Whatever the bytes spell is read, unless an allocation is refused.

@@ -4,7 +4,7 @@ ghost use Rattle.std.specs.List.{All};
 ghost use Rattle.object.specs.Statements.{IsKind, IsRankOver, IsStatement, IsTermOrNone};
 ghost use Rattle.object.specs.Statements.{IsTermOver, StatementParts};
 
-use crate::kind::Kind;
+use crate::kind::StatedKind;
 use crate::rank::{Rank, RankTerm};
 use crate::stack::StackBytes;
 use std::marker::Model;
@@ -15,7 +15,7 @@ use std::marker::Model;
 pub struct Statement {
     slot: u32,
     rank: Rank,
-    kinds: [Kind; 10],
+    kinds: [StatedKind; 10],
     stack: StackBytes,
 }
 
@@ -37,7 +37,7 @@ impl Model for Statement {
 }
 
 /// Lemma: what is stated of each register is in its range.
-fn check_kinds(kinds: &[Kind])
+fn check_kinds(kinds: &[StatedKind])
     ensures { All IsKind kinds.now }
 {
     for kind in kinds {
@@ -46,7 +46,7 @@ fn check_kinds(kinds: &[Kind])
 }
 
 /// Whether a term's register is stated as a number.
-fn is_term_over(kinds: &[Kind], term: Option<RankTerm>) -> bool
+fn is_term_over(kinds: &[StatedKind], term: Option<RankTerm>) -> bool
     requires { length kinds.now ≡ 10 }
     ensures over { IsTrue result ↔ IsTermOver kinds.now term }
     ensures is_term { IsTermOrNone term }
@@ -54,13 +54,18 @@ fn is_term_over(kinds: &[Kind], term: Option<RankTerm>) -> bool
     let Some(term) = term else {
         return true;
     };
-    matches!(kinds[usize::from(term.register())], Kind::Number(_))
+    matches!(kinds[usize::from(term.register())], StatedKind::Number(_))
 }
 
 impl Statement {
     /// What is stated at a slot; `None` if a term of the rank names a register that isn't stated as
     /// a number.
-    pub fn new(slot: u32, rank: Rank, kinds: [Kind; 10], stack: StackBytes) -> Option<Statement>
+    pub fn new(
+        slot: u32,
+        rank: Rank,
+        kinds: [StatedKind; 10],
+        stack: StackBytes,
+    ) -> Option<Statement>
         ensures some { IsSome result ↔ IsRankOver kinds rank }
         ensures value { IfSome result (λ s. s ≡ record {
           slot = slot;
@@ -101,7 +106,7 @@ impl Statement {
     }
 
     /// What r0 to r9 hold there, ten in order.
-    pub fn kinds(&self) -> &[Kind]
+    pub fn kinds(&self) -> &[StatedKind]
         ensures value { result.now ≡ self.now.kinds }
         ensures is_statement { IsStatement self.now }
     {

@@ -7,7 +7,7 @@ ghost use Rattle.object.specs.Spelling.{register_fields, statement_text, term_co
 ghost use Rattle.object.specs.Spelling.{term_register};
 
 use crate::fields::{HeaderFields, RankFields, RegisterFields};
-use crate::kind::Kind;
+use crate::kind::StatedKind;
 use crate::number::StatedNumber;
 use crate::object::Object;
 use crate::rank::{Rank, RankTerm};
@@ -46,15 +46,15 @@ fn without_numbers(kind: u8, offset: u32) -> RegisterFields
     }
 }
 
-fn fields_of_kind(kind: &Kind) -> RegisterFields
+fn fields_of_kind(kind: &StatedKind) -> RegisterFields
     ensures { result ≡ fields_of_kind kind.now }
 {
     match kind {
-        Kind::Empty => without_numbers(0, 0),
-        Kind::Number(numbers) => with_numbers(1, 0, numbers),
-        Kind::Context(offset) => without_numbers(2, offset.bytes()),
-        Kind::Stack(offset) => without_numbers(3, offset.bytes()),
-        Kind::MapValue(map, numbers) => with_numbers(4, map.number(), numbers),
+        StatedKind::Empty => without_numbers(0, 0),
+        StatedKind::Number(numbers) => with_numbers(1, 0, numbers),
+        StatedKind::Context(offset) => without_numbers(2, offset.bytes()),
+        StatedKind::Stack(offset) => without_numbers(3, offset.bytes()),
+        StatedKind::MapValue(map, numbers) => with_numbers(4, map.number(), numbers),
     }
 }
 
@@ -91,14 +91,14 @@ fn fields_of_rank(slot: u32, rank: Rank) -> RankFields
 }
 
 /// Adds the 40 bytes of a register.
-fn put_kind(out: &mut Vec<u8>, kind: &Kind) -> Result<(), AllocError>
+fn put_kind(out: &mut Vec<u8>, kind: &StatedKind) -> Result<(), AllocError>
     ensures { OnOk result (out.new.items ≡ out.old.items ++ kind_text kind.now) }
 {
     fields_of_kind(kind).write(out)
 }
 
 /// Adds the texts of registers.
-fn put_kinds(out: &mut Vec<u8>, kinds: &[Kind]) -> Result<(), AllocError>
+fn put_kinds(out: &mut Vec<u8>, kinds: &[StatedKind]) -> Result<(), AllocError>
     ensures { OnOk result (out.new.items ≡ out.old.items ++ flat_map kind_text kinds.now) }
 {
     for kind in kinds {

@@ -2,7 +2,7 @@
 ghost use Rattle.std.specs.Prelude.{◌≡◌};
 
 use isa::DecodeError;
-use object::ReadError;
+use object::ObjectError;
 use thiserror::Error;
 
 /// Why bytes hold no program to run. Either variant may be a refused allocation.
@@ -10,18 +10,18 @@ use thiserror::Error;
 pub enum RunError {
     /// They are not an object file.
     #[error("no object file: {0}")]
-    Object(ReadError),
+    Object(ObjectError),
     /// They are an object file whose code doesn't decode.
     #[error("no code: {0}")]
     Code(DecodeError),
 }
 
-impl From<ReadError> for RunError {
+impl From<ObjectError> for RunError {
     ghost use Rattle.object_runs.specs.declared.error.RunError.TheVariants.{Object};
 
     ghost from_gives = { λ error run. run ≡ Object error };
 
-    fn from(error: ReadError) -> RunError {
+    fn from(error: ObjectError) -> RunError {
         RunError::Object(error)
     }
 }

@@ -2,7 +2,7 @@
 ghost use Rattle.std.specs.Prelude.{◌≡◌};
 
 use maps::MapsError;
-use object::ReadError;
+use object::ObjectError;
 use object_runs::RunError;
 use std::alloc::AllocFailed;
 
@@ -25,13 +25,13 @@ impl From<RunError> for TrialError {
     }
 }
 
-impl From<ReadError> for TrialError {
+impl From<ObjectError> for TrialError {
     ghost use Rattle.object_runs.specs.declared.error.RunError.TheVariants.{Object};
     ghost use Rattle.object_trials.specs.declared.error.TrialError.TheVariants.{Program};
 
     ghost from_gives = { λ error trial. trial ≡ Program (Object error) };
 
-    fn from(error: ReadError) -> TrialError {
+    fn from(error: ObjectError) -> TrialError {
         TrialError::Program(RunError::Object(error))
     }
 }

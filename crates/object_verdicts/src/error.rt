@@ -2,7 +2,7 @@
 ghost use Rattle.std.specs.Prelude.{◌≡◌};
 
 use isa::DecodeError;
-use object::ReadError;
+use object::ObjectError;
 use thiserror::Error;
 use verifier::Refusal;
 
@@ -11,7 +11,7 @@ use verifier::Refusal;
 pub enum VerifyError {
     /// They are not an object file.
     #[error("no object file: {0}")]
-    Object(ReadError),
+    Object(ObjectError),
     /// They are an object file whose code doesn't decode.
     #[error("no code: {0}")]
     Code(DecodeError),
@@ -20,12 +20,12 @@ pub enum VerifyError {
     Refused(Refusal),
 }
 
-impl From<ReadError> for VerifyError {
+impl From<ObjectError> for VerifyError {
     ghost use Rattle.object_verdicts.specs.declared.error.VerifyError.TheVariants.{Object};
 
     ghost from_gives = { λ error verdict. verdict ≡ Object error };
 
-    fn from(error: ReadError) -> VerifyError {
+    fn from(error: ObjectError) -> VerifyError {
         VerifyError::Object(error)
     }
 }

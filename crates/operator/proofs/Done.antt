@@ -4,7 +4,7 @@ use Rattle.std.specs.Prelude.{IfErr, OnErr, OnOk, is_err}
 use mathlib.Core.List.{IsPrefix}
 use Rattle.words.specs.Numbers.{Moment}
 use Rattle.words.specs.declared.route.External.{External}
-use Rattle.hooks.specs.declared.operation.Operation.{Operation}
+use Rattle.hooks.specs.declared.operation.LoaderOperation.{LoaderOperation}
 use Rattle.worker.specs.Lives.{IsSent, IsTried, Senses, Standing}
 use Rattle.worker.specs.Sending.{Gives}
 use Rattle.worker.specs.Turned.{Turned}
@@ -18,11 +18,11 @@ use Rattle.operator.specs.Answers.{Wanted}
 -- ---- a refresh
 
 pub refreshed : {X : Type 0} (offers : Offers) (took : Took) (refuses : Refuses)
-    (known now : List Operation) (due : Bool) (counted counts : ℕ) (outcome : Result X TurnError)
-    → due ≡ is_err outcome
+    (known now : List LoaderOperation) (due : Bool) (counted counts : ℕ)
+    (outcome : Result X TurnError) → due ≡ is_err outcome
     → OnOk outcome (IsDone offers took refuses known now work.Refresh counted counts)
-    → IfErr outcome (λ error. IsRefusedOnce offers refuses known now counted work.Refresh error)
-    → OnErr outcome (counts ≡ counted)
+    → IfErr outcome (λ error. IsRefusedOnce offers refuses known now counted
+    work.Refresh error) → OnErr outcome (counts ≡ counted)
     → IsRefreshed offers took refuses known now due counted counts
 refreshed offers took refuses known now due counted counts (Ok x) is done why same =
     subst (λ (b : Bool). IsRefreshed offers took refuses known now b counted counts) (sym is) done
@@ -31,16 +31,16 @@ refreshed offers took refuses known now due counted counts (Err error) is done w
     (error, why, same)
 
 -- after a change that was told, by a port that learnt of it and whose share is as it was before
-pub followed : (offers : Offers) (took : Took) (refuses : Refuses) (now told : List Operation)
-    (knew known : List Operation) (due : Bool) (counted between counts : ℕ) → told ≡ now
+pub followed : (offers : Offers) (took : Took) (refuses : Refuses) (now told : List LoaderOperation)
+    (knew known : List LoaderOperation) (due : Bool) (counted between counts : ℕ) → told ≡ now
     → took.told told → IsPrefix told knew → IsPrefix knew known → between ≡ counted
     → IsRefreshed offers took refuses knew known due between counts
     → IsFollowed offers took refuses now known due counted counts
 followed offers took refuses now told knew known due counted between counts is tells learnt grown
     same refreshes = record {
-      told = subst (λ (l : List Operation). took.told l) is tells;
+      told = subst (λ (l : List LoaderOperation). took.told l) is tells;
       knew = knew;
-      learnt = subst (λ (l : List Operation). IsPrefix l knew) is learnt;
+      learnt = subst (λ (l : List LoaderOperation). IsPrefix l knew) is learnt;
       grown = grown;
       refreshed = subst (λ (n : ℕ). IsRefreshed offers took refuses knew known due n counts) same
           refreshes;
@@ -51,7 +51,7 @@ followed offers took refuses now told knew known due counted between counts is t
 -- whether a destination is announced was asked after the turn, by a port that gave no event since
 -- and learnt nothing
 pub announced : (offers : Offers) (took : Took) (refuses : Refuses) (wanted : Wanted)
-    (knew then known : List Operation) (external : External) (counted between counts : ℕ)
+    (knew then known : List LoaderOperation) (external : External) (counted between counts : ℕ)
     (is : Bool) → known ≡ then → counts ≡ between
     → IsDone offers took refuses knew then (work.Add external) counted between
     → wanted between external.prefix is
@@ -59,7 +59,8 @@ pub announced : (offers : Offers) (took : Took) (refuses : Refuses) (wanted : Wa
     × wanted counts external.prefix is
 announced offers took refuses wanted knew then known external counted between counts is kept same
     done answer = (
-      subst (λ (l : List Operation). IsDone offers took refuses knew l (work.Add external) counted
+      subst (λ (l : List LoaderOperation). IsDone offers took refuses knew l (work.Add external)
+          counted
           counts) (sym kept)
           (subst (λ (n : ℕ). IsDone offers took refuses knew then (work.Add external) counted n)
           (sym same) done),

@@ -1,17 +1,18 @@
 -- What a line of the console is answered. Each answer may be that memory was refused.
-use Rattle.std.specs.Prelude.{◌≡◌, ◌⊎◌, ℕ, Bool, true, false, List, [], ◌∷◌, ◌++◌, Option, None, Some}
+use Rattle.std.specs.Prelude.{◌≡◌, ◌⊎◌, ℕ, Bool, true, false, List, [], ◌∷◌, ◌++◌, Option, None}
+use Rattle.std.specs.Prelude.{Some}
 use Rattle.std.specs.Prelude.{string_bytes}
 use mathlib.Core.List.{IsPrefix}
 use Rattle.words.specs.Numbers.{Moment, RouterNumber}
 use Rattle.words.specs.Prefixes.{Network}
 use Rattle.words.specs.declared.route.External.{External}
 use Rattle.isa.specs.declared.hook.Hook.{Hook}
-use Rattle.adjacency.specs.declared.state.State.{State}
+use Rattle.adjacency.specs.declared.state.NeighborState.{NeighborState}
 use Rattle.verifier.specs.Programs.{Program}
 use Rattle.object_verdicts.specs.Verdicts.{Accepts}
 use Rattle.maps.specs.Words.{SeatView}
-use Rattle.hooks.specs.declared.operation.Operation.{Operation}
-use Rattle.hooks.specs.declared.operation.Operation.TheVariants.{Attach, Detach}
+use Rattle.hooks.specs.declared.operation.LoaderOperation.{LoaderOperation}
+use Rattle.hooks.specs.declared.operation.LoaderOperation.TheVariants.{Attach, Detach}
 use Rattle.worker.specs.Numbers.{turn_error_number}
 use Rattle.worker.specs.Lives.{Senses, Serves, Standing}
 use Rattle.worker.specs.Turned.{Turned}
@@ -31,7 +32,7 @@ use Rattle.operator.specs.Shown.{HasReadSome, IsCountersText, ShowsNeighbors, Sh
 
 -- what is said of neighbors at so many interfaces
 abbrev pub Lists : Type 1
-Lists = (interfaces : ℕ) → List (Option (RouterNumber × State)) → Type 0
+Lists = (interfaces : ℕ) → List (Option (RouterNumber × NeighborState)) → Type 0
 
 -- nothing is known of the files of the system
 abbrev pub IsAnyFile : Holds
@@ -72,10 +73,10 @@ sources offers took refuses wanted lists holds unreadable = record {
 -- whether a refresh of the table was due still and is due then, how many events count in the port's
 -- share, and the port's seat.
 pub record Change : Type 0 where
-  pub before : List Operation
-  pub now : List Operation
-  pub knew : List Operation
-  pub known : List Operation
+  pub before : List LoaderOperation
+  pub now : List LoaderOperation
+  pub knew : List LoaderOperation
+  pub known : List LoaderOperation
   pub still : Bool
   pub due : Bool
   pub counted : ℕ
@@ -83,7 +84,7 @@ pub record Change : Type 0 where
   pub seat : SeatView
   pub seated : SeatView
 
-abbrev pub change : (before now knew known : List Operation) → (still due : Bool)
+abbrev pub change : (before now knew known : List LoaderOperation) → (still due : Bool)
     → (counted counts : ℕ) → (seat seated : SeatView) → Change
 change before now knew known still due counted counts seat seated = record {
   before = before;
@@ -100,7 +101,7 @@ change before now knew known still due counted counts seat seated = record {
 
 -- a turn for this work was taken, at some moment, by a port that knew the first of these operations
 -- before and knows the others after it, and just what it gave the router counts
-abbrev pub IsDone : Offers → Took → Refuses → (known now : List Operation) → Work
+abbrev pub IsDone : Offers → Took → Refuses → (known now : List LoaderOperation) → Work
     → (counted counts : ℕ) → Type 0
 IsDone offers took refuses known now w counted counts =
     (moment : Moment) × (turned : Turned)
@@ -116,13 +117,13 @@ IsServed {Clock = Clock} senses w before after =
 
 -- the event of this work was refused for this, or its questions were, at some moment, to a port
 -- that knew and knows these operations and whose events until then are so many
-abbrev pub IsRefusedOnce : Offers → Refuses → (known now : List Operation) → (counted : ℕ) → Work
-    → TurnError → Type 0
+abbrev pub IsRefusedOnce : Offers → Refuses → (known now : List LoaderOperation) → (counted : ℕ)
+    → Work → TurnError → Type 0
 IsRefusedOnce offers refuses known now counted w error =
     (moment : Moment) × RefusesFor offers refuses known now counted moment w error
 
 -- a turn for this work was refused, with this number, and no event counts
-abbrev pub IsRefusal : Offers → Refuses → (known now : List Operation) → Work
+abbrev pub IsRefusal : Offers → Refuses → (known now : List LoaderOperation) → Work
     → (counted counts : ℕ) → (number : ℕ) → Type 0
 IsRefusal offers refuses known now w counted counts number =
     (error : TurnError) × IsRefusedOnce offers refuses known now counted w error
@@ -130,7 +131,7 @@ IsRefusal offers refuses known now w counted counts number =
 
 -- a refresh of the table was tried, by a port that knew and knows these operations: it is due still
 -- where it was refused, and nothing counts then
-abbrev pub IsRefreshed : Offers → Took → Refuses → (known now : List Operation) → (due : Bool)
+abbrev pub IsRefreshed : Offers → Took → Refuses → (known now : List LoaderOperation) → (due : Bool)
     → (counted counts : ℕ) → Type 0
 IsRefreshed offers took refuses known now false counted counts =
     IsDone offers took refuses known now work.Refresh counted counts
@@ -140,7 +141,8 @@ IsRefreshed offers took refuses known now true counted counts =
 
 -- where a refresh of the table is due, it was tried; else nothing was done
 abbrev pub IsMadeUp : Offers → Took → Refuses → (due still : Bool)
-    → (knew known : List Operation) → (before counted : ℕ) → (seat between : SeatView) → Type 0
+    → (knew known : List LoaderOperation) → (before counted : ℕ) → (seat between : SeatView)
+    → Type 0
 IsMadeUp offers took refuses false still knew known before counted seat between =
     (still ≡ false) × (known ≡ knew) × (counted ≡ before) × (between ≡ seat)
 IsMadeUp offers took refuses true still knew known before counted seat between =
@@ -168,10 +170,10 @@ pub record IsUntouched (c : Change) : Type 0 where
 -- After the programs were changed the workers were told so. Then the port learnt of it, and a
 -- refresh of the table was tried, by programs that are no older than the change.
 pub record IsFollowed (offers : Offers) (took : Took) (refuses : Refuses)
-    (now known : List Operation) (due : Bool) (counted counts : ℕ) : Type 0 where
+    (now known : List LoaderOperation) (due : Bool) (counted counts : ℕ) : Type 0 where
   pub told : took.told now
   -- those that the port knew when the refresh was tried
-  pub knew : List Operation
+  pub knew : List LoaderOperation
   pub learnt : IsPrefix now knew
   pub grown : IsPrefix knew known
   pub refreshed : IsRefreshed offers took refuses knew known due counted counts
@@ -219,7 +221,7 @@ IsAnswerToDetach offers took refuses c hook other = ⊥
 
 -- the router took the announcement, and after that announces the destination or doesn't; or the turn
 -- was refused
-abbrev pub IsAnswerToAdd : Offers → Took → Refuses → Wanted → (knew known : List Operation)
+abbrev pub IsAnswerToAdd : Offers → Took → Refuses → Wanted → (knew known : List LoaderOperation)
     → External → (counted counts : ℕ) → Told → Type 0
 IsAnswerToAdd offers took refuses wanted knew known external counted counts told.Originated =
     IsDone offers took refuses knew known (work.Add external) counted counts
@@ -232,8 +234,8 @@ IsAnswerToAdd offers took refuses wanted knew known external counted counts (tol
 IsAnswerToAdd offers took refuses wanted knew known external counted counts other = ⊥
 
 -- the router took the withdrawal, or the turn was refused
-abbrev pub IsAnswerToWithdraw : Offers → Took → Refuses → (knew known : List Operation) → Network
-    → (counted counts : ℕ) → Told → Type 0
+abbrev pub IsAnswerToWithdraw : Offers → Took → Refuses → (knew known : List LoaderOperation)
+    → Network → (counted counts : ℕ) → Told → Type 0
 IsAnswerToWithdraw offers took refuses knew known prefix counted counts told.Withdrawn =
     IsDone offers took refuses knew known (work.Withdraw prefix) counted counts
 IsAnswerToWithdraw offers took refuses knew known prefix counted counts (told.Refused number) =

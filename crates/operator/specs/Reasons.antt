@@ -4,8 +4,8 @@ use Rattle.isa.specs.Refusals.{fault_number}
 use Rattle.isa.specs.declared.decoding.DecodeFault.{DecodeFault}
 use Rattle.isa.specs.declared.decoding.DecodeFault.TheVariants as decoding
 use Rattle.object.specs.Refusals.{error_number}
-use Rattle.object.specs.declared.error.ReadError.{ReadError}
-use Rattle.object.specs.declared.error.ReadError.TheVariants as reading
+use Rattle.object.specs.declared.error.ObjectError.{ObjectError}
+use Rattle.object.specs.declared.error.ObjectError.TheVariants as reading
 use Rattle.transfer.specs.Rules.{rule_number}
 use Rattle.transfer.specs.declared.rule.Rule.{Rule}
 use Rattle.transfer.specs.declared.rule.Rule.TheVariants as rules
@@ -24,7 +24,7 @@ abbrev pub Unreadable : Type 1
 Unreadable = (path : List ℕ) → Type 0
 
 -- how a verdict is told: want of memory as such, everything else with its numbers
-abbrev pub object_error : ReadError → AttachError
+abbrev pub object_error : ObjectError → AttachError
 object_error reading.Memory = errors.Memory
 object_error error = errors.Object (error_number error)
 

@@ -6,7 +6,7 @@ use Rattle.words.specs.declared.route.Route.{Route}
 use Rattle.words.specs.declared.route.TableRow.{TableRow}
 use Rattle.maps.specs.Words.{SeatView, seat_after}
 use Rattle.maps.specs.declared.access.Access.TheVariants.{Read}
-use Rattle.adjacency.specs.declared.state.State.{State}
+use Rattle.adjacency.specs.declared.state.NeighborState.{NeighborState}
 use Rattle.tables.specs.Parts.{Ascend}
 use Rattle.tables.specs.Rows.{rows_of}
 use Rattle.events.specs.Routers.{Router}
@@ -43,16 +43,17 @@ ABookShowsItsTable =
     → IsTableText origin text
 
 -- the text of neighbors, of which this is said
-abbrev pub ShowsNeighbors : (IsList : List (Option (RouterNumber × State)) → Type 0) → List ℕ
-    → Type 0
+abbrev pub ShowsNeighbors : (IsList : List (Option (RouterNumber × NeighborState)) → Type 0)
+    → List ℕ → Type 0
 ShowsNeighbors IsList text =
-    (neighbors : List (Option (RouterNumber × State))) × IsList neighbors
+    (neighbors : List (Option (RouterNumber × NeighborState))) × IsList neighbors
     × (text ≡ neighbors_text neighbors)
 
 -- a seat after it has read the counters from this number on, and found these in them
 abbrev pub after_reads : SeatView → (first : ℕ) → (sums : List ℕ) → SeatView
 after_reads seat first [] = seat
-after_reads seat first (sum ∷ sums) = after_reads (seat_after seat (Read first sum)) (suc first) sums
+after_reads seat first (sum ∷ sums) =
+    after_reads (seat_after seat (Read first sum)) (suc first) sums
 
 -- the seat has read some of the 256 counters, from number 0 on, each once, and done nothing else
 abbrev pub HasReadSome : (before after : SeatView) → Type 0

@@ -3,7 +3,7 @@ ghost use Rattle.std.specs.Prelude.{◌≡◌, ℕ, Bool, List};
 ghost use mathlib.Core.List.{IsPrefix};
 ghost use Rattle.maps.specs.Words.{SeatView};
 ghost use Rattle.hooks.specs.Known.{history_of, known_to, operations_of};
-ghost use Rattle.hooks.specs.declared.operation.Operation.{Operation};
+ghost use Rattle.hooks.specs.declared.operation.LoaderOperation.{LoaderOperation};
 ghost use Rattle.worker.specs.Turns.{IsListed};
 ghost use Rattle.operator.specs.Answers.{
   IsAnswerToAdd,
@@ -29,7 +29,7 @@ use crate::told::Told;
 use console::{Command, read_command};
 use hooks::Loader;
 use isa::Hook;
-use links::{Link, Seconds};
+use links::{Seconds, Transport};
 use std::alloc::Global;
 use std::marker::PhantomData;
 use std::rt::Files;
@@ -40,7 +40,7 @@ use worker::{Hub, Port, Site, Taker, Work};
 
 /// What an operator has: the loader of the programs, and where port 0 sends.
 #[derive(Drop)]
-pub struct Desk<L: Site, Q: Wait + Drop, K: Link + Drop, C: Seconds + Drop> {
+pub struct Desk<L: Site, Q: Wait + Drop, K: Transport + Drop, C: Seconds + Drop> {
     pub alloc: Global,
     pub loader: Loader<Q>,
     pub interfaces: u16,
@@ -52,7 +52,7 @@ pub struct Desk<L: Site, Q: Wait + Drop, K: Link + Drop, C: Seconds + Drop> {
 }
 
 // A destination is announced, if no price keeps it back.
-fn add<L: Site, B: Taker<L>, R: Wait, K: Link + Drop, C: Seconds + Drop>(
+fn add<L: Site, B: Taker<L>, R: Wait, K: Transport + Drop, C: Seconds + Drop>(
     rt: &R,
     hub: &Hub<L, B>,
     port: &mut Port<L>,
@@ -77,7 +77,7 @@ fn add<L: Site, B: Taker<L>, R: Wait, K: Link + Drop, C: Seconds + Drop>(
 }
 
 // A destination is announced no longer.
-fn withdraw<L: Site, B: Taker<L>, R: Wait, K: Link + Drop, C: Seconds + Drop>(
+fn withdraw<L: Site, B: Taker<L>, R: Wait, K: Transport + Drop, C: Seconds + Drop>(
     rt: &R,
     hub: &Hub<L, B>,
     port: &mut Port<L>,
@@ -94,7 +94,7 @@ fn withdraw<L: Site, B: Taker<L>, R: Wait, K: Link + Drop, C: Seconds + Drop>(
     }
 }
 
-impl<L: Site, Q: Wait + Drop, K: Link + Drop, C: Seconds + Drop> Desk<L, Q, K, C> {
+impl<L: Site, Q: Wait + Drop, K: Transport + Drop, C: Seconds + Drop> Desk<L, Q, K, C> {
     // The table is made anew. Where that is refused, it is tried again before the next line.
     #[tactic(auto, using(crate::proofs::Done::refreshed))]
     fn refresh<B: Taker<L>, R: Wait>(&mut self, rt: &R, hub: &Hub<L, B>, port: &mut Port<L>)
@@ -109,8 +109,8 @@ impl<L: Site, Q: Wait + Drop, K: Link + Drop, C: Seconds + Drop> Desk<L, Q, K, C
     }
 
     // After the programs were changed: the workers are told, so that no turn of theirs from before
-    // is followed by a refresh; the port learns of it, and makes the table anew by programs that are
-    // no older.
+    // is followed by a refresh; the port learns of it, and makes the table anew by programs that
+    // are no older.
     fn follow<B: Taker<L>, R: Wait>(&mut self, rt: &R, hub: &Hub<L, B>, port: &mut Port<L>)
         ensures followed { IsFollowed B.offers B.took B.refuses
             (operations_of self.old.loader) (known_to port.new.asker) self.new.unrefreshed
@@ -280,7 +280,8 @@ impl<L: Site, Q: Wait + Drop, K: Link + Drop, C: Seconds + Drop> Desk<L, Q, K, C
         port: &mut Port<L>,
         line: &str,
     ) -> Option<Told>
-        ensures told { (still : Bool) × (knew : List Operation) × (counted : ℕ) × (seat : SeatView)
+        ensures told { (still : Bool) × (knew : List LoaderOperation) × (counted : ℕ)
+            × (seat : SeatView)
             × IsMadeUp B.offers B.took B.refuses self.old.unrefreshed still
             (known_to port.old.asker) knew port.old.share.amount counted port.old.seat seat
             × IsObeyed
@@ -305,7 +306,8 @@ impl<L: Site, Q: Wait + Drop, K: Link + Drop, C: Seconds + Drop> Desk<L, Q, K, C
         port: &mut Port<L>,
         line: &str,
     ) -> Option<Told>
-        ensures told { (still : Bool) × (knew : List Operation) × (counted : ℕ) × (seat : SeatView)
+        ensures told { (still : Bool) × (knew : List LoaderOperation) × (counted : ℕ)
+            × (seat : SeatView)
             × IsMadeUp B.offers B.took B.refuses self.old.unrefreshed still
             (known_to port.old.asker) knew port.old.share.amount counted port.old.seat seat
             × IsObeyed

@@ -5,13 +5,13 @@ ghost use Rattle.hooks.specs.Known.{known_to};
 ghost use Rattle.worker.specs.Lives.{IsSent, senses_of, standing};
 ghost use Rattle.operator.specs.Answers.{IsDone, IsRefusedOnce, IsServed};
 
-use links::{Link, Seconds};
+use links::{Seconds, Transport};
 use std::sync::Wait;
 use worker::{Hub, Open, Port, Site, Taker, TurnError, Turned, Work, send_all, tried};
 
 /// The link and the clock of port 0.
 #[derive(Drop)]
-pub struct Outlet<K: Link + Drop, C: Seconds + Drop> {
+pub struct Outlet<K: Transport + Drop, C: Seconds + Drop> {
     pub link: K,
     pub clock: C,
     /// The link failed. What is sent then goes nowhere, and the console goes on.
@@ -20,7 +20,7 @@ pub struct Outlet<K: Link + Drop, C: Seconds + Drop> {
 
 // Sends what a turn sends. That the link failed isn't forgotten.
 #[tactic(auto, using(crate::proofs::Done::sent))]
-fn send<K: Link>(link: &mut K, failed: &mut bool, turned: &Turned)
+fn send<K: Transport>(link: &mut K, failed: &mut bool, turned: &Turned)
     ensures sent { K.faults link.new ≡ K.faults link.old
         → IsSent K.gives link.old turned.now link.new }
     ensures failed { IsTrue failed.new
@@ -31,7 +31,7 @@ fn send<K: Link>(link: &mut K, failed: &mut bool, turned: &Turned)
     }
 }
 
-impl<K: Link + Drop, C: Seconds + Drop> Outlet<K, C> {
+impl<K: Transport + Drop, C: Seconds + Drop> Outlet<K, C> {
     /// A turn at port 0, at the moment that the clock shows, whose outs are sent. The router took
     /// the event of this work, and nothing else but the refresh that followed it; or the turn was
     /// refused. That the link failed isn't forgotten.

@@ -63,7 +63,7 @@ impl From<VerifyError> for AttachError {
 
     fn from(error: VerifyError) -> AttachError {
         match error {
-            VerifyError::Object(object::ReadError::Memory) => AttachError::Memory,
+            VerifyError::Object(object::ObjectError::Memory) => AttachError::Memory,
             VerifyError::Object(error) => AttachError::Object(error.number()),
             VerifyError::Code(error) => match error.kind {
                 DecodeFault::Memory => AttachError::Memory,

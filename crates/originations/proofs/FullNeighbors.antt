@@ -12,10 +12,10 @@ use Rattle.std.proofs.lemmas.List.{get_or-map, length-map, take_all, take_more}
 use Rattle.lsa.specs.Ranges.{BodyFits}
 use Rattle.lsa.specs.Origination.{sealed_lsa}
 use Rattle.lsa.specs.Text.{Parts, body_text}
-use Rattle.lsa.specs.declared.body.Body.{Body}
-use Rattle.lsa.specs.declared.body.Body.TheVariants as body
+use Rattle.lsa.specs.declared.body.LsaBody.{LsaBody}
+use Rattle.lsa.specs.declared.body.LsaBody.TheVariants as body
 use Rattle.lsa.specs.declared.body.LinkKind.TheVariants.{PointToPoint}
-use Rattle.lsa.specs.declared.body.Link.{Link as RouterLink}
+use Rattle.lsa.specs.declared.body.RouterLink.{RouterLink}
 use Rattle.flooding.specs.adjacency.Kept.{Kept}
 use Rattle.flooding.specs.adjacency.Neighbors.{Neighbor, fresh, is_full}
 use Rattle.flooding.specs.adjacency.declared.interface.Interface.{Interface}
@@ -31,7 +31,7 @@ use Rattle.originations.proofs.Links.{router_fits, router_size}
 
 -- ---- the links of all interfaces
 
-abbrev body_of : List RouterLink → Body
+abbrev body_of : List RouterLink → LsaBody
 body_of rs = body.Router (record { flags = 2; links = rs })
 
 one_described : (l : Link) → interface_links l.interface (full_router_on l.neighbor) ≡ links_of l
@@ -107,12 +107,12 @@ says_with : (is : List Interface) (fs : List (Option ℕ))
     → described_body is fs ≡ router_body (map present (links_with is fs))
 says_with is fs = ap body_of (all_with is fs)
 
-pub described_fits : (is : List Interface) (fs : List (Option ℕ)) (says : Body)
+pub described_fits : (is : List Interface) (fs : List (Option ℕ)) (says : LsaBody)
     → says ≡ described_body is fs → length is ≤ 63 → BodyFits says
 described_fits is fs says are few =
     router_fits (links_with is fs) says (are ∙ says_with is fs) (omega (arith, few_with is fs, few))
 
-pub described_size : (is : List Interface) (fs : List (Option ℕ)) (says : Body)
+pub described_size : (is : List Interface) (fs : List (Option ℕ)) (says : LsaBody)
     → says ≡ described_body is fs → length is ≤ 63 → length (body_text says) ≤ 65515
 described_size is fs says are few =
     router_size (links_with is fs) says (are ∙ says_with is fs) (omega (arith, few_with is fs, few))
@@ -192,7 +192,7 @@ none_differ old ls same full =
     sym (ap not (ap (λ b. same_body b (router_body ls)) says
     ∙ text_itself (body_text (router_body ls))))
 
-pub differ_by_texts : (old ls : List Link) (before : List (Option ℕ)) (a b : Body) (same : Bool)
+pub differ_by_texts : (old ls : List Link) (before : List (Option ℕ)) (a b : LsaBody) (same : Bool)
     → interfaces old ≡ interfaces ls → full_routers old ≡ before
     → a ≡ described_body (interfaces ls) before
     → b ≡ described_body (interfaces ls) (full_routers ls) → same ≡ same_body a b

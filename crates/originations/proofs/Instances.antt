@@ -2,13 +2,13 @@
 use Rattle.std.proofs.Common.{◌≡◌, ℤ, Bool, true, false, cond, Option, None, Some, refl, ap, ◌∙◌}
 use Rattle.words.specs.declared.key.Key.{Key}
 use Rattle.lsa.specs.Origination.{sealed_lsa}
-use Rattle.lsa.specs.declared.body.Body.{Body}
+use Rattle.lsa.specs.declared.body.LsaBody.{LsaBody}
 use Rattle.flooding.specs.lsdb.Copies.{DatabaseCopy}
 use Rattle.flooding.specs.lsdb.Headers.{Lsa}
 use Rattle.events.specs.Originations.{has_max_sequence, new_instance, next_sequence}
 use Rattle.originations.specs.Instances.{next_instance, next_number}
 
-made : Key → ℤ → Body → Lsa
+made : Key → ℤ → LsaBody → Lsa
 made key sequence says = sealed_lsa (record {
   header = record {
     age = 0;
@@ -24,13 +24,13 @@ made key sequence says = sealed_lsa (record {
 })
 
 -- the LS type is that of the body
-made_is : (key : Key) (copy : Option DatabaseCopy) (says : Body)
+made_is : (key : Key) (copy : Option DatabaseCopy) (says : LsaBody)
     → made key (next_sequence copy) says ≡ new_instance key copy says
 unfolding made sealed_lsa
 made_is key copy says = refl
 
-pub instance_is : (key : Key) (copy : Option DatabaseCopy) (says : Body) (sequence : ℤ) (lsa : Lsa)
-    → Some sequence ≡ next_number copy → lsa ≡ sealed_lsa (record {
+pub instance_is : (key : Key) (copy : Option DatabaseCopy) (says : LsaBody) (sequence : ℤ)
+    (lsa : Lsa) → Some sequence ≡ next_number copy → lsa ≡ sealed_lsa (record {
       header = record {
         age = 0;
         options = 2;

@@ -7,8 +7,8 @@ use Rattle.std.proofs.lemmas.List.{flat_map_more, length-map, take_all, take_mor
 use Rattle.std.proofs.lemmas.List.Folds.{flat_map-map}
 use Rattle.lsa.specs.Ranges.{BodyFits, LinkFits}
 use Rattle.lsa.specs.Text.{body_text}
-use Rattle.lsa.specs.declared.body.Body.{Body}
-use Rattle.lsa.specs.declared.body.Link.{Link as RouterLink}
+use Rattle.lsa.specs.declared.body.LsaBody.{LsaBody}
+use Rattle.lsa.specs.declared.body.RouterLink.{RouterLink}
 use Rattle.lsa.specs.declared.body.LinkKind.TheVariants.{PointToPoint}
 use Rattle.flooding.specs.adjacency.Kept.{Kept}
 use Rattle.flooding.specs.adjacency.Neighbors.{Neighbor, is_full}
@@ -90,8 +90,8 @@ all_few (l ∷ ls) = omega (
 )
 
 -- for at most 63 interfaces
-pub router_fits : (links : List (Kept Link)) (says : Body) → says ≡ router_body (map present links)
-    → length links ≤ 63 → BodyFits says
+pub router_fits : (links : List (Kept Link)) (says : LsaBody)
+    → says ≡ router_body (map present links) → length links ≤ 63 → BodyFits says
 router_fits links says is few =
     let own : List Link = map present links in
     let fits : BodyFits (router_body own) = record {
@@ -100,10 +100,10 @@ router_fits links says is few =
     } in
     subst BodyFits (sym is) fits
 
-pub router_size : (links : List (Kept Link)) (says : Body) → says ≡ router_body (map present links)
-    → length links ≤ 63 → length (body_text says) ≤ 65515
+pub router_size : (links : List (Kept Link)) (says : LsaBody)
+    → says ≡ router_body (map present links) → length links ≤ 63 → length (body_text says) ≤ 65515
 router_size links says is few =
     let own : List Link = map present links in
     let fewer : length own ≤ 63 = omega (arith, length-map links present, few) in
     let size : length (body_text (router_body own)) ≤ 65515 = omega (arith, router_few own fewer) in
-    subst (λ (b : Body). length (body_text b) ≤ 65515) (sym is) size
+    subst (λ (b : LsaBody). length (body_text b) ≤ 65515) (sym is) size

@@ -2,7 +2,7 @@
 use Rattle.std.specs.Prelude.{Bool, ◌&&◌, if◌then◌else◌, Option, None, Some}
 use Rattle.words.specs.Numbers.{Moment}
 use Rattle.words.specs.declared.key.Key.{Key}
-use Rattle.lsa.specs.declared.body.Body.{Body}
+use Rattle.lsa.specs.declared.body.LsaBody.{LsaBody}
 use Rattle.flooding.specs.lsdb.Copies.{DatabaseCopy}
 use Rattle.flooding.specs.lsdb.Headers.{Lsa}
 use Rattle.events.specs.EventState.{EventState, on_area, on_router}
@@ -21,7 +21,7 @@ unless_flushed copy = if has_max_sequence copy then Flushes else Waits
 
 -- at once, if `may_now` and MinLSInterval since the last origination allow it, else at a Tick;
 -- after MaxSequenceNumber the copy is flushed first
-abbrev pub origination : (may_now : Bool) → Moment → Key → Body → Option DatabaseCopy
+abbrev pub origination : (may_now : Bool) → Moment → Key → LsaBody → Option DatabaseCopy
     → (last : Option Moment) → Origination
 origination may_now moment key says copy last =
     if has_max_sequence copy then Flushes

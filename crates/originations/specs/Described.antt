@@ -1,9 +1,9 @@
 -- The links of an interface in the router-LSA, by its neighbor's Router ID, if that is Full.
 use Rattle.std.specs.Prelude.{if◌then◌else◌, List, [], ◌∷◌, ◌++◌, map, Option, None, Some}
 use Rattle.words.specs.Numbers.{RouterNumber}
-use Rattle.lsa.specs.declared.body.Body.{Body}
-use Rattle.lsa.specs.declared.body.Body.TheVariants as body
-use Rattle.lsa.specs.declared.body.Link.{Link as RouterLink}
+use Rattle.lsa.specs.declared.body.LsaBody.{LsaBody}
+use Rattle.lsa.specs.declared.body.LsaBody.TheVariants as body
+use Rattle.lsa.specs.declared.body.RouterLink.{RouterLink}
 use Rattle.lsa.specs.declared.body.LinkKind.TheVariants.{PointToPoint}
 use Rattle.flooding.specs.adjacency.Neighbors.{Neighbor, is_full}
 use Rattle.flooding.specs.adjacency.declared.interface.Interface.{Interface}
@@ -44,5 +44,5 @@ described_links [] fs = []
 described_links (i ∷ is) [] = []
 described_links (i ∷ is) (f ∷ fs) = interface_links i f ++ described_links is fs
 
-abbrev pub described_body : List Interface → List (Option RouterNumber) → Body
+abbrev pub described_body : List Interface → List (Option RouterNumber) → LsaBody
 described_body is fs = body.Router (record { flags = 2; links = described_links is fs })

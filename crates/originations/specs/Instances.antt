@@ -4,7 +4,7 @@ use Rattle.std.specs.Prelude.{ℤ, pos, ◌+ℤ◌, if◌then◌else◌, Option,
 use Rattle.std.specs.Ordering.{int_cmp, is_eq}
 use Rattle.words.specs.Constants.{max_sequence_number}
 use Rattle.words.specs.declared.key.Key.{Key}
-use Rattle.lsa.specs.declared.body.Body.{Body}
+use Rattle.lsa.specs.declared.body.LsaBody.{LsaBody}
 use Rattle.flooding.specs.lsdb.Copies.{DatabaseCopy}
 use Rattle.flooding.specs.lsdb.Headers.{Lsa}
 use Rattle.events.specs.Originations.{has_max_sequence, new_instance, next_sequence}
@@ -15,6 +15,6 @@ number_after n = if is_eq (int_cmp n max_sequence_number) then None else Some (n
 abbrev pub next_number : Option DatabaseCopy → Option ℤ
 next_number copy = if has_max_sequence copy then None else Some (next_sequence copy)
 
-abbrev pub next_instance : Key → Option DatabaseCopy → Body → Option Lsa
+abbrev pub next_instance : Key → Option DatabaseCopy → LsaBody → Option Lsa
 next_instance key copy says =
     if has_max_sequence copy then None else Some (new_instance key copy says)

@@ -2,14 +2,14 @@
 use Rattle.std.specs.Prelude.{◌≡◌, ℕ, Bool, Some}
 use Rattle.std.specs.FinMap as finite
 use Rattle.words.specs.declared.key.Key.{Key}
-use Rattle.lsa.specs.declared.body.Body.{Body}
+use Rattle.lsa.specs.declared.body.LsaBody.{LsaBody}
 use Rattle.events.specs.EventState.{EventState}
 use Rattle.events.specs.Originations.{originate_body}
 use Rattle.originations.specs.Decisions.{after_origination, origination}
 
 abbrev pub OriginationsAreTheRules : Type 0
 OriginationsAreTheRules =
-    (may_now : Bool) (moment : ℕ) (key : Key) (says : Body) (p : EventState)
+    (may_now : Bool) (moment : ℕ) (key : Key) (says : LsaBody) (p : EventState)
     → after_origination moment key (origination may_now moment key says
     (finite.get p.router.area.database key) (finite.get p.router.originated key)) p
     ≡ originate_body may_now moment key (Some says) p

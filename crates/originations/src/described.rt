@@ -15,7 +15,7 @@ ghost use Rattle.originations.specs.Described.{
 
 use crate::router::{full_router, put_described};
 use flooding::{DatabaseCopy, Link};
-use lsa::{Body, Header, Lsa, RouterLsa};
+use lsa::{Header, Lsa, LsaBody, RouterLsa};
 use std::alloc::{AllocError, Global};
 use std::cmp::Ordering;
 use words::{E_BIT, LinkStateId, RouterId, Sequence, SequenceNumber};
@@ -39,7 +39,7 @@ fn described_body(
     alloc: Global,
     links: &[Link],
     full: &[Option<RouterId>],
-) -> Result<Body, AllocError>
+) -> Result<LsaBody, AllocError>
     requires { length full.now ≡ length links.now }
     ensures { IfOk result (λ says. says
         ≡ described_body (interfaces (map present links.now)) full.now) }
@@ -49,14 +49,14 @@ fn described_body(
         let interface = links[i].interface();
         put_described(alloc, &mut said, &interface, full[i])?;
     }
-    Ok(Body::Router(RouterLsa {
+    Ok(LsaBody::Router(RouterLsa {
         flags: 2,
         links: Sequence::from_vec(said),
     }))
 }
 
 // Some LSA with this body.
-fn saying(alloc: Global, says: Body) -> Result<Lsa, AllocError>
+fn saying(alloc: Global, says: LsaBody) -> Result<Lsa, AllocError>
     requires fits { BodyFits says }
     requires size { length (body_text says) ≤ 65515 }
     ensures { IfOk result (λ lsa. lsa.body ≡ says) }

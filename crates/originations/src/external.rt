@@ -6,7 +6,7 @@ ghost use Rattle.originations.specs.Instances.{next_instance};
 
 use crate::instance::next_instance;
 use flooding::Lsdb;
-use lsa::{Body, ExternalLsa, Lsa};
+use lsa::{ExternalLsa, Lsa, LsaBody};
 use std::alloc::{AllocError, Global};
 use words::{Address, External, Key, LinkStateId, RouterId, Sequence};
 
@@ -21,10 +21,10 @@ pub fn external_key(own: RouterId, external: &External) -> Key
 }
 
 // The body for the destination, without a forwarding address.
-fn external_body(alloc: Global, external: &External) -> Body
+fn external_body(alloc: Global, external: &External) -> LsaBody
     ensures { result ≡ external_body external.now }
 {
-    Body::External(ExternalLsa {
+    LsaBody::External(ExternalLsa {
         mask: external.prefix.mask(),
         kind: external.kind,
         metric: external.metric,

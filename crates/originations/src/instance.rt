@@ -7,7 +7,7 @@ ghost use Rattle.originations.specs.Instances.{next_instance};
 
 use crate::sequence::next_number;
 use flooding::Lsdb;
-use lsa::{Body, Header, Lsa};
+use lsa::{Header, Lsa, LsaBody};
 use std::alloc::{AllocError, Global};
 use words::{E_BIT, Key};
 
@@ -19,7 +19,7 @@ pub fn next_instance(
     alloc: Global,
     database: &Lsdb,
     key: &Key,
-    says: Body,
+    says: LsaBody,
 ) -> Result<Option<Lsa>, AllocError>
     requires fits { BodyFits says }
     requires size { length (body_text says) ≤ 65515 }

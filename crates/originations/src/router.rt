@@ -8,8 +8,8 @@ ghost use Rattle.originations.specs.Instances.{next_instance};
 ghost use Rattle.originations.specs.Described.{interface_links, full_router};
 
 use crate::instance::next_instance;
-use flooding::{Interface, Link, Lsdb, State};
-use lsa::{Body, Link as RouterLink, LinkKind, Lsa, RouterLsa};
+use flooding::{Interface, Link, Lsdb, NeighborState};
+use lsa::{LinkKind, Lsa, LsaBody, RouterLink, RouterLsa};
 use std::alloc::{AllocError, Global};
 use words::{Key, LinkStateId, Prefix, RouterId, Sequence};
 
@@ -24,18 +24,18 @@ pub fn router_key(own: RouterId) -> Key
 }
 
 /// The neighbor's Router ID, if it is Full.
-pub fn full_router(neighbor: Option<(RouterId, State)>) -> Option<RouterId>
+pub fn full_router(neighbor: Option<(RouterId, NeighborState)>) -> Option<RouterId>
     ensures { result ≡ full_router neighbor }
 {
     let Some((router, state)) = neighbor else {
         return None;
     };
     match state {
-        State::Init => None,
-        State::ExStart => None,
-        State::Exchange => None,
-        State::Loading => None,
-        State::Full => Some(router),
+        NeighborState::Init => None,
+        NeighborState::ExStart => None,
+        NeighborState::Exchange => None,
+        NeighborState::Loading => None,
+        NeighborState::Full => Some(router),
     }
 }
 
@@ -110,14 +110,14 @@ fn put_links(alloc: Global, links: &mut Vec<RouterLink>, link: &Link) -> Result<
 
 // The body of the router-LSA: the links of each interface in order. Of the flags only bit E is set,
 // whether or not an external destination is announced.
-fn router_body(alloc: Global, links: &[Link]) -> Result<Body, AllocError>
+fn router_body(alloc: Global, links: &[Link]) -> Result<LsaBody, AllocError>
     ensures { IfOk result (λ body. body ≡ router_body (map present links.now)) }
 {
     let mut said = Vec::new(alloc);
     for link in links {
         put_links(alloc, &mut said, link)?;
     }
-    Ok(Body::Router(RouterLsa {
+    Ok(LsaBody::Router(RouterLsa {
         flags: 2,
         links: Sequence::from_vec(said),
     }))

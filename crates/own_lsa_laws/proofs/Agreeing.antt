@@ -9,12 +9,13 @@ use Rattle.std.specs.Cmp.Lexicographic.{nat_list_cmp_total, slice_cmp}
 use Rattle.std.specs.FinMap.{nat_cmp-IsAntisymmetric, slice_cmp-IsAntisymmetric}
 use Rattle.std.specs.Ordering.{is_eq, nat_cmp}
 use Rattle.lsa.specs.Text.{body_text, link_text}
-use Rattle.lsa.specs.declared.body.Body.{Body}
-use Rattle.lsa.specs.declared.body.Body.TheVariants as body
-use Rattle.lsa.specs.declared.body.Link.{Link as RouterLink}
+use Rattle.lsa.specs.declared.body.LsaBody.{LsaBody}
+use Rattle.lsa.specs.declared.body.LsaBody.TheVariants as body
+use Rattle.lsa.specs.declared.body.RouterLink.{RouterLink}
 use Rattle.adjacency.specs.declared.interface.Interface.{Interface}
-use Rattle.adjacency.specs.declared.state.State.{State}
-use Rattle.adjacency.specs.declared.state.State.TheVariants.{Init, ExStart, Exchange, Loading, Full}
+use Rattle.adjacency.specs.declared.state.NeighborState.{NeighborState}
+use Rattle.adjacency.specs.declared.state.NeighborState.TheVariants.{Init, ExStart, Exchange}
+use Rattle.adjacency.specs.declared.state.NeighborState.TheVariants.{Loading, Full}
 use Rattle.adjacency.specs.Adjacencies.{after_inactivity_timer, has_passed, loading_done}
 use Rattle.adjacency.specs.Adjacencies.{loading_done_in, requests_nothing}
 use Rattle.adjacency.specs.Descriptions.{is_over_for, without_old_description}
@@ -30,11 +31,11 @@ use Rattle.own_lsa_laws.proofs.Faces.{full_router, told_to}
 
 -- ---- bytes
 
-pub text_of_same : (a b : Body) → same_body a b ≡ true → body_text a ≡ body_text b
+pub text_of_same : (a b : LsaBody) → same_body a b ≡ true → body_text a ≡ body_text b
 text_of_same a b e = slice_cmp-IsAntisymmetric nat_cmp-IsAntisymmetric (body_text a) (body_text b)
     (tied (slice_cmp nat_cmp (body_text a) (body_text b)) e)
 
-pub same_of_text : (a b : Body) → body_text a ≡ body_text b → same_body a b ≡ true
+pub same_of_text : (a b : LsaBody) → body_text a ≡ body_text b → same_body a b ≡ true
 same_of_text a b e = subst (λ (t : List ℕ). is_eq (slice_cmp nat_cmp (body_text a) t) ≡ true) e
     (ap is_eq (tied_itself nat_list_cmp_total (body_text a)))
 
@@ -197,19 +198,20 @@ tick_agrees moment old xs same e =
 
 -- ---- LoadingDone twice
 
-once_in : (s : State) (n : Neighbor) → n.state ≡ s → loading_done (loading_done_in s n)
+once_in : (s : NeighborState) (n : Neighbor) → n.state ≡ s → loading_done (loading_done_in s n)
     ≡ loading_done_in s n
-once_in Init n is = ap (λ (s : State). loading_done_in s n) is
-once_in ExStart n is = ap (λ (s : State). loading_done_in s n) is
-once_in Exchange n is = ap (λ (s : State). loading_done_in s n) is
+once_in Init n is = ap (λ (s : NeighborState). loading_done_in s n) is
+once_in ExStart n is = ap (λ (s : NeighborState). loading_done_in s n) is
+once_in Exchange n is = ap (λ (s : NeighborState). loading_done_in s n) is
 once_in Loading n is =
     chosen (λ (m : Neighbor). loading_done m ≡ m) (requests_nothing n) (record n {
       state = Full;
     }) n (λ e. refl)
-    (λ none. ap (λ (s : State). loading_done_in s n) is ∙ ap (λ (b : Bool). cond b (record n {
+    (λ none. ap (λ (s : NeighborState). loading_done_in s n) is
+    ∙ ap (λ (b : Bool). cond b (record n {
       state = Full;
     }) n) none)
-once_in Full n is = ap (λ (s : State). loading_done_in s n) is
+once_in Full n is = ap (λ (s : NeighborState). loading_done_in s n) is
 
 once_on : (o : Option Neighbor) → loading_done_on (loading_done_on o) ≡ loading_done_on o
 once_on None = refl

@@ -12,13 +12,13 @@ use Rattle.words.specs.Prefixes.{Network}
 use Rattle.words.specs.declared.key.Key.{Key}
 use Rattle.words.specs.declared.route.External.{External}
 use Rattle.lsa.specs.Text.{body_text}
-use Rattle.lsa.specs.declared.body.Body.{Body}
+use Rattle.lsa.specs.declared.body.LsaBody.{LsaBody}
 use Rattle.lsdb.specs.Copies.{DatabaseCopy, age_out, is_aged_out}
 use Rattle.lsdb.specs.Headers.{Lsa, lsa_aged}
 use Rattle.lsdb.specs.Keys.{ByKey, KeySet, same_key}
 use Rattle.lsdb.proofs.Keys.{keys_total}
-use Rattle.packet.specs.declared.model.Body.{Body as PacketBody}
-use Rattle.packet.specs.declared.model.Body.TheVariants as body
+use Rattle.packet.specs.declared.model.PacketBody.{PacketBody}
+use Rattle.packet.specs.declared.model.PacketBody.TheVariants as body
 use Rattle.packet.specs.declared.model.Hello.{Hello}
 use Rattle.packet.specs.declared.model.Packet.{Packet}
 use Rattle.adjacency.specs.Adjacencies as adjacencies
@@ -201,7 +201,7 @@ module _ (moment : ℕ) (t : Terms) where
       } in
       chosen So (is_announced_as e (finite.get r.announced key)) p (originate_anyway moment key q)
       (λ is. so)
-      (λ is. subst (λ (w : Option Body). So (originate_body true moment key w q)) (sym wanted)
+      (λ is. subst (λ (w : Option LsaBody). So (originate_body true moment key w q)) (sym wanted)
       (some_kept moment t true key (external_body e) q wanted (λ same. absurd cc) (λ c there. refl)
       left_out))
 
@@ -319,7 +319,7 @@ one_due moment t key keys p tells h =
           (λ k listed. listed) (λ k d same wanted. Standing.Excused same) q c fits) h.copies;
     })
   where
-    unwanted : (k : Key) → (says : Body) × (wanted_body p.router k ≡ Some says)
+    unwanted : (k : Key) → (says : LsaBody) × (wanted_body p.router k ≡ Some says)
         → wanted_body p.router k ≡ None → ⊥
     unwanted k some none = let e : Some some.0 ≡ None = sym some.1 ∙ none in absurd cc
 
@@ -461,12 +461,12 @@ wants_router_lsa r = at_same (same_key (router_key r.id) (router_key r.id))
     (Some (router_body r.area.links)) (announced_body (finite.get r.announced (router_key r.id)))
     (same_itself (router_key r.id))
 
-abbrev body_of_copy : Body → Option DatabaseCopy → Body
+abbrev body_of_copy : LsaBody → Option DatabaseCopy → LsaBody
 body_of_copy other None = other
 body_of_copy other (Some c) = c.lsa.body
 
 -- the current copy has these bytes
-says_current : (says : Body) (o : Option DatabaseCopy) (c : DatabaseCopy) → o ≡ Some c
+says_current : (says : LsaBody) (o : Option DatabaseCopy) (c : DatabaseCopy) → o ≡ Some c
     → copy_has_body says o ≡ true → body_text c.lsa.body ≡ body_text says
 says_current says None c there is = absurd cc
 says_current says (Some d) c there is =
@@ -491,7 +491,7 @@ module _ (moment : ℕ) (t : Terms) (before : List Link) (p : EventState)
   abbrev own_key : Key
   own_key = router_key p.router.id
 
-  abbrev says : Body
+  abbrev says : LsaBody
   says = router_body p.router.area.links
 
   abbrev at_once_kept : EventState
@@ -502,7 +502,7 @@ module _ (moment : ℕ) (t : Terms) (before : List Link) (p : EventState)
 
   said_at_once : InProgress moment (full t) p → Told at_once_kept
   said_at_once h =
-      subst (λ (w : Option Body). Told
+      subst (λ (w : Option LsaBody). Told
       (originate_body (has_room own_key p.router) moment own_key w p))
       (sym (wants_router_lsa p.router))
       (some_kept moment (told text t.may_wait) (has_room own_key p.router) own_key says p
@@ -613,7 +613,7 @@ module _ (moment : ℕ) (p : EventState)
       unlike : (b : Bool) → b ≡ false → b ≡ true → ⊥
       unlike b isnt is = absurd cc
 
-  some_settled : (may_now : Bool) (says : Body)
+  some_settled : (may_now : Bool) (says : LsaBody)
       → Q (originate_body may_now moment own (Some says) p)
   some_settled may_now says =
       let may : Bool = may_originate moment own p.router in
@@ -628,7 +628,8 @@ module _ (moment : ℕ) (p : EventState)
   described_settled before =
       chosen Q (links_differ before p.router.area.links && not (is_current moment p.router))
       (originate_or_wait moment own p) p
-      (λ is. subst (λ (w : Option Body). Q (originate_body (has_room own p.router) moment own w p))
+      (λ is. subst (λ (w : Option LsaBody). Q
+      (originate_body (has_room own p.router) moment own w p))
       (sym (wants_router_lsa p.router))
       (some_settled (has_room own p.router) (router_body p.router.area.links))) (λ is. inl filled)
 

@@ -6,9 +6,9 @@ use Rattle.std.specs.List.{enumerate_from, flat_map, fold}
 use Rattle.std.specs.FinMap as finite
 use Rattle.std.specs.FinSet as set
 use Rattle.words.specs.declared.key.Key.{Key}
-use Rattle.lsa.specs.declared.body.Body.{Body}
-use Rattle.lsa.specs.declared.body.Body.TheVariants as body
-use Rattle.lsa.specs.declared.body.Link.{Link as RouterLink}
+use Rattle.lsa.specs.declared.body.LsaBody.{LsaBody}
+use Rattle.lsa.specs.declared.body.LsaBody.TheVariants as body
+use Rattle.lsa.specs.declared.body.RouterLink.{RouterLink}
 use Rattle.lsa.specs.declared.body.LinkKind.TheVariants.{PointToPoint}
 use Rattle.lsdb.specs.Copies.{Database, DatabaseCopy, age_out, has_just_aged_out, is_aged_out}
 use Rattle.lsdb.specs.Copies.{lsa_now}
@@ -95,7 +95,7 @@ links_by_faces [] = refl
 links_by_faces (x ∷ xs) = λ i. (told_by_neighbor x.interface x.neighbor i ++ stub x.interface ∷ [])
     ++ links_by_faces xs i
 
-abbrev pub faces_body : List Face → Body
+abbrev pub faces_body : List Face → LsaBody
 faces_body fs = body.Router (record { flags = 2; links = flat_map face_links fs })
 
 pub body_by_faces : (links : List Link) → router_body links ≡ faces_body (faces links)
@@ -250,7 +250,7 @@ flushed_faces moment key (Some c) p =
 pub flush_faces : (moment : ℕ) (key : Key) (p : EventState) → StaysFaced p (flush moment key p)
 flush_faces moment key p = flushed_faces moment key (finite.get p.router.area.database key) p
 
-pub originate_faces : (moment : ℕ) (key : Key) (says : Body) (p : EventState)
+pub originate_faces : (moment : ℕ) (key : Key) (says : LsaBody) (p : EventState)
     → StaysFaced p (originate moment key says p)
 originate_faces moment key says p =
     let lsa : Lsa = new_instance key (finite.get p.router.area.database key) says in
@@ -265,7 +265,7 @@ originate_faces moment key says p =
       sends = p.sends;
     }))
 
-pub body_faces : (may_now : Bool) (moment : ℕ) (key : Key) (says : Option Body) (p : EventState)
+pub body_faces : (may_now : Bool) (moment : ℕ) (key : Key) (says : Option LsaBody) (p : EventState)
     → StaysFaced p (originate_body may_now moment key says p)
 body_faces may_now moment key None p = refl
 body_faces may_now moment key (Some says) p =

@@ -11,7 +11,7 @@ use Rattle.words.specs.declared.route.External.{External}
 use Rattle.lsa.specs.Origination.{sealed_lsa}
 use Rattle.lsa.specs.Reading.{lsa_in}
 use Rattle.lsa.specs.Text.{body_text}
-use Rattle.lsa.specs.declared.body.Body.{Body}
+use Rattle.lsa.specs.declared.body.LsaBody.{LsaBody}
 use Rattle.lsdb.specs.Copies.{Database, DatabaseCopy, age_out, has_just_aged_out, is_aged_out}
 use Rattle.lsdb.specs.Copies.{lsa_now}
 use Rattle.lsdb.specs.Headers.{Lsa, lsa_aged, lsa_key}
@@ -256,7 +256,7 @@ pub at_same : {X : Type 0} (b : Bool) (x y : X) → b ≡ true → cond b x y �
 at_same true x y e = refl
 at_same false x y e = absurd cc
 
-new_body : (key : Key) (copy : Option DatabaseCopy) (says : Body)
+new_body : (key : Key) (copy : Option DatabaseCopy) (says : LsaBody)
     → (new_instance key copy says).body ≡ says
 unfolding sealed_lsa
 new_body key copy says = refl
@@ -274,7 +274,7 @@ pub originated_now : (moment : ℕ) (o : ByKey ℕ) (key : Key)
 originated_now moment o key = finite.get-insert keys_total o key moment key
     ∙ at_same (same_key key key) (Some moment) (finite.get o key) (same_itself key)
 
-module _ (moment : ℕ) (t : Terms) (key : Key) (says : Body) (p : EventState)
+module _ (moment : ℕ) (t : Terms) (key : Key) (says : LsaBody) (p : EventState)
     (is : wanted_body p.router key ≡ Some says)
     (tells : same_key key (router_key p.router.id) ≡ true → Tells t p)
     (h : InProgress moment (excusing key t) p) where
@@ -356,8 +356,8 @@ not_the_second : (a b : Bool) → (a && b) ≡ false → a ≡ true → b ≡ fa
 not_the_second true b e is = e
 not_the_second false b e is = absurd cc
 
-pub some_kept : (moment : ℕ) (t : Terms) (may_now : Bool) (key : Key) (says : Body) (p : EventState)
-    → wanted_body p.router key ≡ Some says
+pub some_kept : (moment : ℕ) (t : Terms) (may_now : Bool) (key : Key) (says : LsaBody)
+    (p : EventState) → wanted_body p.router key ≡ Some says
     → (same_key key (router_key p.router.id) ≡ true → Tells t p)
     → ((c : DatabaseCopy) → finite.get p.router.area.database key ≡ Some c → may_now ≡ true)
     → InProgress moment (excusing key t) p
@@ -378,7 +378,7 @@ some_kept moment t may_now key says p is tells room h =
     Standing.HeldBack since.0 (is_wanted_of p.router key says is) (waits_there p.router.waiting key)
     since.1 since.2) h))
 
-pub body_kept : (moment : ℕ) (t : Terms) (may_now : Bool) (key : Key) (wanted : Option Body)
+pub body_kept : (moment : ℕ) (t : Terms) (may_now : Bool) (key : Key) (wanted : Option LsaBody)
     (p : EventState) → wanted_body p.router key ≡ wanted
     → (wanted ≡ None → InProgress moment (full t) p)
     → (same_key key (router_key p.router.id) ≡ true → Tells t p)
@@ -405,7 +405,7 @@ or_wait_kept moment t key p none tells h =
 
 -- ---- a received LSA
 
-is_wanted_none : (o : Option Body) → is_wanted o ≡ true → o ≡ None → ⊥
+is_wanted_none : (o : Option LsaBody) → is_wanted o ≡ true → o ≡ None → ⊥
 is_wanted_none None is none = absurd cc
 is_wanted_none (Some says) is none = absurd cc
 

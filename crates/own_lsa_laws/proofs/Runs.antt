@@ -7,7 +7,7 @@ use Rattle.std.specs.FinSet as set
 use Rattle.words.specs.declared.key.Key.{Key}
 use Rattle.words.specs.declared.route.External.{External}
 use Rattle.lsa.specs.Text.{body_text}
-use Rattle.lsa.specs.declared.body.Body.{Body}
+use Rattle.lsa.specs.declared.body.LsaBody.{LsaBody}
 use Rattle.lsdb.specs.Copies.{DatabaseCopy, is_aged_out}
 use Rattle.lsdb.specs.Headers.{lsa_key}
 use Rattle.lsdb.specs.Keys.{ByKey, KeySet, key_cmp, same_key}
@@ -249,7 +249,7 @@ event_kept old moment event outs new happens later h =
 
 -- ---- the start
 
-moment_kept : (may_now : Bool) (moment : ℕ) (key : Key) (wanted : Option Body) (p : EventState)
+moment_kept : (may_now : Bool) (moment : ℕ) (key : Key) (wanted : Option LsaBody) (p : EventState)
     → (originate_body may_now moment key wanted p).router.moment ≡ p.router.moment
 moment_kept may_now moment key None p = refl
 moment_kept may_now moment key (Some says) p =

@@ -12,7 +12,7 @@ use Rattle.std.specs.Ordering.{is_eq}
 use Rattle.words.specs.declared.key.Key.{Key}
 use Rattle.words.specs.declared.route.External.{External}
 use Rattle.lsa.specs.Text.{body_text}
-use Rattle.lsa.specs.declared.body.Body.{Body}
+use Rattle.lsa.specs.declared.body.LsaBody.{LsaBody}
 use Rattle.lsdb.specs.Copies.{Database, DatabaseCopy}
 use Rattle.lsdb.specs.Headers.{Lsa, lsa_aged, lsa_key}
 use Rattle.lsdb.specs.Keys.{ByKey, KeySet, same_key}
@@ -37,7 +37,7 @@ IsWanted id announced key = (same_key key (router_key id) ≡ true)
     ⊎ ((same_key key (router_key id) ≡ false)
     × ((e : External) × (finite.get announced key ≡ Some e)))
 
-abbrev wanted_by : Router → Key → Bool → Option Body
+abbrev wanted_by : Router → Key → Bool → Option LsaBody
 wanted_by r key b = cond b (Some (router_body r.area.links))
     (announced_body (finite.get r.announced key))
 
@@ -49,23 +49,23 @@ pub wanted_external : (r : Router) (key : Key) (e : External) → same_key key (
     ≡ false → finite.get r.announced key ≡ Some e → wanted_body r key ≡ Some (external_body e)
 wanted_external r key e other there = ap (wanted_by r key) other ∙ ap announced_body there
 
-pub wants : (r : Router) (key : Key) → IsWanted r.id r.announced key → (says : Body)
+pub wants : (r : Router) (key : Key) → IsWanted r.id r.announced key → (says : LsaBody)
     × (wanted_body r key ≡ Some says)
 wants r key (inl same) = (router_body r.area.links, wanted_router_lsa r key same)
 wants r key (inr is) = (external_body is.1.0, wanted_external r key is.1.0 is.0 is.1.1)
 
 -- the router-LSA, or the LSA of an announced destination
-pub data Wants (r : Router) (key : Key) (says : Body) : Type 0 where
+pub data Wants (r : Router) (key : Key) (says : LsaBody) : Type 0 where
   RouterLsa : same_key key (router_key r.id) ≡ true → router_body r.area.links ≡ says
       → Wants r key says
   Destination : same_key key (router_key r.id) ≡ false → (e : External) → finite.get r.announced key
       ≡ Some e → external_body e ≡ says → Wants r key says
 
-abbrev body_or : Body → Option Body → Body
+abbrev body_or : LsaBody → Option LsaBody → LsaBody
 body_or other None = other
 body_or other (Some says) = says
 
-pub wanted_as : (r : Router) (key : Key) (says : Body) → wanted_body r key ≡ Some says
+pub wanted_as : (r : Router) (key : Key) (says : LsaBody) → wanted_body r key ≡ Some says
     → Wants r key says
 wanted_as r key says is = by_key (same_key key (router_key r.id)) refl is
   where
@@ -81,7 +81,7 @@ wanted_as r key says is = by_key (same_key key (router_key r.id)) refl is
     by_key true same found = Wants.RouterLsa same (ap (body_or says) found)
     by_key false same found = by_announced same (finite.get r.announced key) refl found
 
-pub is_wanted_of : (r : Router) (key : Key) (says : Body) → wanted_body r key ≡ Some says
+pub is_wanted_of : (r : Router) (key : Key) (says : LsaBody) → wanted_body r key ≡ Some says
     → IsWanted r.id r.announced key
 is_wanted_of r key says is = by_case (wanted_as r key says is)
   where

@@ -4,7 +4,7 @@ use Rattle.std.proofs.Common.{None, Some, refl, sym, ap, subst, ◌∙◌, arith
 use Rattle.std.specs.FinMap as finite
 use Rattle.std.specs.FinSet as set
 use Rattle.words.specs.declared.key.Key.{Key}
-use Rattle.lsa.specs.declared.body.Body.{Body}
+use Rattle.lsa.specs.declared.body.LsaBody.{LsaBody}
 use Rattle.lsdb.specs.Copies.{Database, DatabaseCopy, is_aged_out}
 use Rattle.lsdb.specs.Headers.{Lsa, lsa_aged}
 use Rattle.lsdb.specs.Keys.{ByKey, key_cmp, same_key}
@@ -63,7 +63,7 @@ is_only P key c here q d there = by_key (same_key q key) refl
 wants_none : wanted_body (holding unwanted_key unwanted) unwanted_key ≡ None
 wants_none = ap announced_body (finite.get-empty key_cmp unwanted_key)
 
-none_some : (o : Option Body) (says : Body) → o ≡ None → o ≡ Some says → ⊥
+none_some : (o : Option LsaBody) (says : LsaBody) → o ≡ None → o ≡ Some says → ⊥
 none_some o says none some = let e : None ≡ Some says = sym none ∙ some in absurd cc
 
 left_alone : SpeaksForItself (holding unwanted_key unwanted) → ⊥
@@ -133,7 +133,7 @@ flushed = subst (λ (o : Option DatabaseCopy). SpeaksForItself (flushed_by o))
 abbrev links_key : Key
 links_key = router_key 7
 
-abbrev body_or : Body → Option Body → Body
+abbrev body_or : LsaBody → Option LsaBody → LsaBody
 body_or other None = other
 body_or other (Some says) = says
 
@@ -142,7 +142,7 @@ says_otherwise : (r : Router) → wanted_body r links_key ≡ Some (router_body 
 says_otherwise r wanted says =
     let e : router_body [] ≡ says.says = ap (body_or (router_body [])) (sym wanted ∙ says.wanted) in
     let same : same_body other_links.body (router_body []) ≡ true =
-    subst (λ (b : Body). same_body other_links.body b ≡ true) (sym e) says.same in
+    subst (λ (b : LsaBody). same_body other_links.body b ≡ true) (sym e) says.same in
     true≢false (sym same)
 
 there_at : (moment : ℕ) → is_aged_out moment (copied 20 other_links) ≡ false

@@ -7,7 +7,7 @@ use Rattle.std.specs.FinSet as set
 use Rattle.words.specs.Constants.{min_ls_interval}
 use Rattle.words.specs.Numbers.{Moment}
 use Rattle.words.specs.declared.key.Key.{Key}
-use Rattle.lsa.specs.declared.body.Body.{Body}
+use Rattle.lsa.specs.declared.body.LsaBody.{LsaBody}
 use Rattle.lsdb.specs.Copies.{DatabaseCopy, is_aged_out}
 use Rattle.events.specs.declared.model.Config.{Config}
 use Rattle.events.specs.declared.model.Out.{Out}
@@ -26,13 +26,13 @@ pub record IsOwnCopy (r : Router) (key : Key) (copy : DatabaseCopy) : Type 0 whe
 
 -- the router wants an LSA of this key, and the copy has the wanted body
 pub record SaysWhatIsWanted (r : Router) (key : Key) (copy : DatabaseCopy) : Type 0 where
-  pub says : Body
+  pub says : LsaBody
   pub wanted : wanted_body r key ≡ Some says
   pub same : same_body copy.lsa.body says ≡ true
 
 -- the router wants an LSA of this key, which waits for a Tick
 pub record IsToBeReplaced (r : Router) (key : Key) : Type 0 where
-  pub says : Body
+  pub says : LsaBody
   pub wanted : wanted_body r key ≡ Some says
   pub waits : set.contains r.waiting key ≡ true
 

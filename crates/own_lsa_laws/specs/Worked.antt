@@ -6,8 +6,8 @@ use Rattle.words.specs.Numbers.{Moment}
 use Rattle.words.specs.declared.key.Key.{Key}
 use Rattle.words.specs.declared.route.External.{External}
 use Rattle.words.specs.declared.route.ExternalType.TheVariants.{Type1}
-use Rattle.lsa.specs.declared.body.Body.{Body}
-use Rattle.lsa.specs.declared.body.Body.TheVariants as body
+use Rattle.lsa.specs.declared.body.LsaBody.{LsaBody}
+use Rattle.lsa.specs.declared.body.LsaBody.TheVariants as body
 use Rattle.lsa.specs.declared.body.LinkKind.TheVariants.{Stub}
 use Rattle.lsdb.specs.Headers.{Lsa}
 use Rattle.events.specs.Originations.{external_body, flush, router_key}
@@ -16,7 +16,7 @@ use Rattle.own_lsa_laws.specs.OwnCopies.{SpeaksForItself, SpeaksForItselfAfterTi
 
 -- ---- LSAs that router 7 never originated
 
-abbrev pub lsa_under : Key → Body → Lsa
+abbrev pub lsa_under : Key → LsaBody → Lsa
 lsa_under key says = record {
   header = record {
     age = 1;

@@ -18,8 +18,8 @@ use Rattle.lsa.specs.Headers.{IsHeader, header_at, header_text}
 use Rattle.lsa.proofs.Headers.{header-reads_back, header-wide}
 use Rattle.packet.specs.declared.model.Hello.{Hello}
 use Rattle.packet.specs.declared.model.Description.{Description}
-use Rattle.packet.specs.declared.model.Body.{Body}
-use Rattle.packet.specs.declared.model.Body.TheVariants as body
+use Rattle.packet.specs.declared.model.PacketBody.{PacketBody}
+use Rattle.packet.specs.declared.model.PacketBody.TheVariants as body
 use Rattle.packet.specs.Reading.{are_lsas, body_of, is_filled, key_at, least_length, lsas_of}
 use Rattle.packet.specs.Reading.{router_at}
 use Rattle.packet.specs.Text.{IsBody, IsDescription, IsHello, IsKey, IsRouter, IsUnread, Open, bit}
@@ -29,7 +29,7 @@ use Rattle.packet.proofs.Bodies.{take-size}
 use Rattle.packet.proofs.Firsts.{is_equal}
 
 -- what the encoding of a body is read as
-pub record IsAgain (b : Body) (bytes : List ℕ) : Type 0 where
+pub record IsAgain (b : PacketBody) (bytes : List ℕ) : Type 0 where
   pub room : least_length (Some (type_of b)) ≤ 24 + length bytes
   pub filled : is_filled (type_of b) bytes ≡ true
   pub read : body_of (type_of b) bytes ≡ b
@@ -273,8 +273,8 @@ acknowledgment_again headers bytes is e =
           headers [] [] is);
     }
 
-pub body_again : (o : Open) (b : Body) (bytes : List ℕ) → o.designated < 2 ^ 32 → o.backup < 2 ^ 32
-    → IsBody b → length bytes ≤ 8192 → bytes ≡ body_text o b → IsAgain b bytes
+pub body_again : (o : Open) (b : PacketBody) (bytes : List ℕ) → o.designated < 2 ^ 32
+    → o.backup < 2 ^ 32 → IsBody b → length bytes ≤ 8192 → bytes ≡ body_text o b → IsAgain b bytes
 body_again o (body.Hello h) bytes designated backup is short e =
     hello_again o h bytes designated backup is e
 body_again o (body.Description d) bytes designated backup is short e =

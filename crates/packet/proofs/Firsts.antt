@@ -3,13 +3,13 @@ use Rattle.std.proofs.Common.{◌≡◌, ℕ, Bool, true, false, not, cond, eqb,
 use Rattle.std.proofs.Common.{refl, ap, ◌∙◌, arith}
 use Rattle.std.specs.List.{AllByRecursion}
 use Rattle.std.proofs.lemmas.Bool.{eqb-true}
-use Rattle.packet.specs.declared.refusal.Fault.{Fault}
+use Rattle.packet.specs.declared.refusal.PacketFault.{PacketFault}
 use Rattle.packet.specs.Reading.{first_of}
 
-abbrev pub Fails : Bool × Fault → Type 0
+abbrev pub Fails : Bool × PacketFault → Type 0
 Fails t = t.0 ≡ false
 
-pub all_fail : (ts : List (Bool × Fault)) → first_of ts ≡ None → AllByRecursion Fails ts
+pub all_fail : (ts : List (Bool × PacketFault)) → first_of ts ≡ None → AllByRecursion Fails ts
 all_fail [] e = tt
 all_fail (t ∷ ts) e =
     elim t.0 as (λ b. t.0 ≡ b → cond b (Some t.1) (first_of ts) ≡ None
@@ -18,7 +18,7 @@ all_fail (t ∷ ts) e =
       | false ↦ λ is e. (is, all_fail ts e)
     ] refl e
 
-pub none_of : (ts : List (Bool × Fault)) → AllByRecursion Fails ts → first_of ts ≡ None
+pub none_of : (ts : List (Bool × PacketFault)) → AllByRecursion Fails ts → first_of ts ≡ None
 none_of [] h = refl
 none_of (t ∷ ts) h = rw (h.0) (none_of ts h.1)
 

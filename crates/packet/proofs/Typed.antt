@@ -3,8 +3,8 @@ use Rattle.std.proofs.Common.{ℕ, List}
 use Rattle.std.specs.List.{AllByRecursion}
 use Rattle.words.specs.Fields.{AreBytes}
 use Rattle.words.proofs.Each.{each_both}
-use Rattle.packet.specs.declared.model.Body.{Body}
-use Rattle.packet.specs.declared.model.Body.TheVariants as body
+use Rattle.packet.specs.declared.model.PacketBody.{PacketBody}
+use Rattle.packet.specs.declared.model.PacketBody.TheVariants as body
 use Rattle.packet.specs.declared.model.Packet.{Packet}
 use Rattle.packet.specs.Ranges.{BodyIsTyped, IsWhole, LsasAreWhole, PacketIsTyped}
 use Rattle.packet.specs.Text.{IsBody, IsPacket, IsUnread}
@@ -12,7 +12,7 @@ use Rattle.packet.specs.Text.{IsBody, IsPacket, IsUnread}
 is_unread : (lsa : List ℕ) → AreBytes lsa → IsWhole lsa → IsUnread lsa
 is_unread lsa bytes whole = record { room = whole.room; said = whole.said; bytes = bytes }
 
-is_body : (b : Body) → BodyIsTyped b → LsasAreWhole b → IsBody b
+is_body : (b : PacketBody) → BodyIsTyped b → LsasAreWhole b → IsBody b
 is_body (body.Hello h) typed whole = typed
 is_body (body.Description d) typed whole = typed
 is_body (body.Request keys) typed whole = typed

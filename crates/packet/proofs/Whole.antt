@@ -13,8 +13,8 @@ use Rattle.lsa.proofs.Headers.{field-below}
 use Rattle.packet.specs.declared.model.PacketType.{PacketType}
 use Rattle.packet.specs.declared.model.PacketType.TheVariants as types
 use Rattle.packet.specs.declared.model.Packet.{Packet}
-use Rattle.packet.specs.declared.refusal.ReadError.{ReadError}
-use Rattle.packet.specs.declared.refusal.ReadError.TheVariants as errors
+use Rattle.packet.specs.declared.refusal.PacketError.{PacketError}
+use Rattle.packet.specs.declared.refusal.PacketError.TheVariants as errors
 use Rattle.packet.specs.Checksum.{packet_checksum}
 use Rattle.packet.specs.Text.{PacketText, body_text, header, type_number, type_of}
 use Rattle.packet.specs.Reading.{body_of, fault_of, faults, is_filled_as, least_length, packet_as}
@@ -214,7 +214,7 @@ only bytes p t =
 
 -- ---- the result of parsing
 
-pub is_found : (bytes : List ℕ) (r : Result Packet ReadError) → IsBytes bytes → Reads bytes r
+pub is_found : (bytes : List ℕ) (r : Result Packet PacketError) → IsBytes bytes → Reads bytes r
     → IfOk r (λ p. PacketText bytes p)
 is_found bytes (Ok p) fits (kind, e) =
     subst (PacketText bytes) (sym e.1) (found bytes kind fits e.0)
@@ -229,7 +229,7 @@ read_as bytes p q kind t sound e =
     some_is (type_of p.body) kind (sym o.0.named ∙ sound.named) in
     o.1 ∙ ap (λ k. packet_as k bytes) same ∙ sym e
 
-pub is_only : (bytes : List ℕ) (r : Result Packet ReadError) → Reads bytes r → (p : Packet)
+pub is_only : (bytes : List ℕ) (r : Result Packet PacketError) → Reads bytes r → (p : Packet)
     → PacketText bytes p → (r ≡ Ok p) ⊎ (r ≡ Err errors.Memory)
 is_only bytes (Ok q) (kind, e) p t = inl (ap (λ x. Ok x) (sym (read_as bytes p q kind t e.0 e.1)))
 is_only bytes (Err errors.Memory) e p t = inr refl

@@ -2,22 +2,23 @@
 use Rattle.std.proofs.Common.{◌≡◌, ℕ, ◌+◌, ◌^◌, ◌<◌, ◌≤◌, List, length, Result, Ok, Err, refl, ap}
 use Rattle.std.proofs.Common.{arith}
 use Rattle.std.specs.Prelude.{IfOk}
-use Rattle.packet.specs.declared.model.Body.{Body}
-use Rattle.packet.specs.declared.model.Body.TheVariants as body
+use Rattle.packet.specs.declared.model.PacketBody.{PacketBody}
+use Rattle.packet.specs.declared.model.PacketBody.TheVariants as body
 use Rattle.packet.specs.declared.model.Packet.{Packet}
-use Rattle.packet.specs.declared.refusal.ReadError.{ReadError}
+use Rattle.packet.specs.declared.refusal.PacketError.{PacketError}
 use Rattle.packet.specs.Text.{IsBody, Open, PacketText, body_text, closed_fields, lsa_count, text}
 use Rattle.packet.proofs.Again.{lsas_room}
 
 -- the open fields are as long as zeros there
-same_length : (o : Open) (b : Body) → length (body_text o b) ≡ length (body_text closed_fields b)
+same_length : (o : Open) (b : PacketBody)
+    → length (body_text o b) ≡ length (body_text closed_fields b)
 same_length o (body.Hello h) = refl
 same_length o (body.Description d) = refl
 same_length o (body.Request keys) = refl
 same_length o (body.Update lsas) = refl
 same_length o (body.Acknowledgment headers) = refl
 
-few : (o : Open) (b : Body) → IsBody b → length (body_text o b) ≤ 8192 → lsa_count b < 2 ^ 32
+few : (o : Open) (b : PacketBody) → IsBody b → length (body_text o b) ≤ 8192 → lsa_count b < 2 ^ 32
 few o (body.Hello h) is le = omega arith
 few o (body.Description d) is le = omega arith
 few o (body.Request keys) is le = omega arith
@@ -38,7 +39,7 @@ text_is_writable bytes p t =
       few t.filler p.body t.is_packet.body (omega (arith, t.size, long)),
     )
 
-pub is_writable : (bytes : List ℕ) (r : Result Packet ReadError) → IfOk r (λ p. PacketText bytes p)
-    → IfOk r (λ p. IsWritable p)
+pub is_writable : (bytes : List ℕ) (r : Result Packet PacketError)
+    → IfOk r (λ p. PacketText bytes p) → IfOk r (λ p. IsWritable p)
 is_writable bytes (Ok p) t = text_is_writable bytes p t
 is_writable bytes (Err e) t = tt

@@ -4,14 +4,14 @@ use Rattle.std.specs.Prelude.{◌≡◌, ◌≤◌, ℕ, List, length}
 use Rattle.std.specs.List.{AllByRecursion}
 use Rattle.words.specs.Fields.{AreBytes, field}
 use Rattle.lsa.specs.Headers.{IsHeader}
-use Rattle.packet.specs.declared.model.Body.{Body}
-use Rattle.packet.specs.declared.model.Body.TheVariants as body
+use Rattle.packet.specs.declared.model.PacketBody.{PacketBody}
+use Rattle.packet.specs.declared.model.PacketBody.TheVariants as body
 use Rattle.packet.specs.declared.model.Packet.{Packet}
 use Rattle.packet.specs.Text.{IsDescription, IsHello, IsKey, IsRouter}
 
 -- ---- ensured by the types
 
-abbrev pub BodyIsTyped : Body → Type 0
+abbrev pub BodyIsTyped : PacketBody → Type 0
 BodyIsTyped (body.Hello h) = IsHello h
 BodyIsTyped (body.Description d) = IsDescription d
 BodyIsTyped (body.Request keys) = AllByRecursion IsKey keys
@@ -29,7 +29,7 @@ pub record IsWhole (lsa : List ℕ) : Type 0 where
   pub room : 20 ≤ length lsa
   pub said : field lsa 18 2 ≡ length lsa
 
-abbrev pub LsasAreWhole : Body → Type 0
+abbrev pub LsasAreWhole : PacketBody → Type 0
 LsasAreWhole (body.Hello h) = Unit {0}
 LsasAreWhole (body.Description d) = Unit {0}
 LsasAreWhole (body.Request keys) = Unit {0}

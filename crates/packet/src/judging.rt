@@ -5,7 +5,7 @@ ghost use Rattle.packet.specs.Outcome.{Judges};
 
 use crate::checksum::checksum;
 use crate::model::PacketType;
-use crate::refusal::Fault;
+use crate::refusal::PacketFault;
 use words::{byte_at, u16_at, u32_at};
 
 /// The greatest length of a packet, in bytes.
@@ -75,40 +75,40 @@ fn is_filled(kind: PacketType, body: &[u8]) -> bool
 
 /// The type of the packet in the bytes, or their first fault.
 #[tactic(auto, unfolding(crate::specs::Reading::fault_of))]
-pub fn judge(bytes: &[u8]) -> Result<PacketType, Fault>
+pub fn judge(bytes: &[u8]) -> Result<PacketType, PacketFault>
     ensures { Judges bytes.now result }
 {
     let size = bytes.len();
     if size < 24 {
-        return Err(Fault::Short);
+        return Err(PacketFault::Short);
     }
     let named = PacketType::named(byte_at(bytes, 1));
     if size < least_length(named) {
-        return Err(Fault::Short);
+        return Err(PacketFault::Short);
     }
     if byte_at(bytes, 0) != 2 {
-        return Err(Fault::Version);
+        return Err(PacketFault::Version);
     }
     let Some(kind) = named else {
-        return Err(Fault::PacketType);
+        return Err(PacketFault::PacketType);
     };
     if usize::from(u16_at(bytes, 2)) != size {
-        return Err(Fault::Length);
+        return Err(PacketFault::Length);
     }
     if size > LARGEST {
-        return Err(Fault::Length);
+        return Err(PacketFault::Length);
     }
     if u16_at(bytes, 12) != checksum(bytes) {
-        return Err(Fault::Checksum);
+        return Err(PacketFault::Checksum);
     }
     if u32_at(bytes, 8) != 0 {
-        return Err(Fault::Area);
+        return Err(PacketFault::Area);
     }
     if u16_at(bytes, 14) != 0 {
-        return Err(Fault::Auth);
+        return Err(PacketFault::Auth);
     }
     if !is_filled(kind, behind(bytes, 24)) {
-        return Err(Fault::Body);
+        return Err(PacketFault::Body);
     }
     Ok(kind)
 }

@@ -15,7 +15,7 @@ mod refusal;
 mod writing;
 
 pub use lsa::Header;
-pub use model::{Body, Description, Hello, Packet, PacketType};
+pub use model::{Description, Hello, Packet, PacketBody, PacketType};
 pub use reading::read;
-pub use refusal::{Fault, ReadError};
+pub use refusal::{PacketError, PacketFault};
 pub use writing::write;

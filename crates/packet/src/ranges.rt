@@ -6,7 +6,7 @@ ghost use Rattle.lsa.specs.Headers.{IsHeader};
 ghost use Rattle.packet.specs.Text.{IsDescription, IsHello, IsKey, IsRouter};
 ghost use Rattle.packet.specs.Ranges.{BodyIsTyped, PacketIsTyped};
 
-use crate::model::{Body, Description, Hello, Packet};
+use crate::model::{Description, Hello, Packet, PacketBody};
 use lsa::Header;
 use words::{Key, RouterId, Sequence};
 
@@ -76,15 +76,15 @@ fn check_description(description: &Description)
     check_headers(description.headers.as_slice());
 }
 
-fn check_body(body: &Body)
+fn check_body(body: &PacketBody)
     ensures { BodyIsTyped body.now }
 {
     match body {
-        Body::Hello(hello) => check_hello(hello),
-        Body::Description(description) => check_description(description),
-        Body::Request(keys) => check_keys(keys.as_slice()),
-        Body::Update(lsas) => check_lsas(lsas.as_slice()),
-        Body::Acknowledgment(headers) => check_headers(headers.as_slice()),
+        PacketBody::Hello(hello) => check_hello(hello),
+        PacketBody::Description(description) => check_description(description),
+        PacketBody::Request(keys) => check_keys(keys.as_slice()),
+        PacketBody::Update(lsas) => check_lsas(lsas.as_slice()),
+        PacketBody::Acknowledgment(headers) => check_headers(headers.as_slice()),
     }
 }
 

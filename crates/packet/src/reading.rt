@@ -9,8 +9,8 @@ ghost use Rattle.words.specs.Records.{records};
 ghost use Rattle.packet.specs.Outcome.{Reads};
 
 use crate::judging::{behind, front, judge};
-use crate::model::{Body, Description, Hello, Packet, PacketType};
-use crate::refusal::ReadError;
+use crate::model::{Description, Hello, Packet, PacketBody, PacketType};
+use crate::refusal::PacketError;
 use lsa::{Header, header_at};
 use std::alloc::{AllocError, Global};
 use words::{Key, LinkStateId, RouterId, Sequence, byte_at, u16_at, u32_at};
@@ -123,20 +123,20 @@ fn description(alloc: Global, body: &[u8]) -> Result<Description, AllocError>
     })
 }
 
-fn body(alloc: Global, kind: PacketType, bytes: &[u8]) -> Result<Body, AllocError>
+fn body(alloc: Global, kind: PacketType, bytes: &[u8]) -> Result<PacketBody, AllocError>
     requires room { least_length (Some kind) ≤ 24 + length bytes.now }
     requires filled { is_filled kind bytes.now ≡ true }
     ensures { IfOk result (λ b. b ≡ body_of kind bytes.now) }
 {
     match kind {
-        PacketType::Hello => Ok(Body::Hello(hello(alloc, bytes)?)),
-        PacketType::Description => Ok(Body::Description(description(alloc, bytes)?)),
-        PacketType::Request => Ok(Body::Request(keys(alloc, bytes)?)),
+        PacketType::Hello => Ok(PacketBody::Hello(hello(alloc, bytes)?)),
+        PacketType::Description => Ok(PacketBody::Description(description(alloc, bytes)?)),
+        PacketType::Request => Ok(PacketBody::Request(keys(alloc, bytes)?)),
         PacketType::Update => {
             let count = u32_at(bytes, 0);
-            Ok(Body::Update(lsas(alloc, count, behind(bytes, 4))?))
+            Ok(PacketBody::Update(lsas(alloc, count, behind(bytes, 4))?))
         }
-        PacketType::Acknowledgment => Ok(Body::Acknowledgment(headers(
+        PacketType::Acknowledgment => Ok(PacketBody::Acknowledgment(headers(
             alloc,
             bytes,
             0,
@@ -146,11 +146,11 @@ fn body(alloc: Global, kind: PacketType, bytes: &[u8]) -> Result<Body, AllocErro
 }
 
 // The packet in the bytes, or the first fault.
-fn outcome(alloc: Global, bytes: &[u8]) -> Result<Packet, ReadError>
+fn outcome(alloc: Global, bytes: &[u8]) -> Result<Packet, PacketError>
     ensures { Reads bytes.now result }
 {
     match judge(bytes) {
-        Err(fault) => Err(ReadError::Fault(fault)),
+        Err(fault) => Err(PacketError::Fault(fault)),
         Ok(kind) => {
             let router = RouterId::new(u32_at(bytes, 4));
             let body = body(alloc, kind, behind(bytes, 24))?;
@@ -164,12 +164,12 @@ fn outcome(alloc: Global, bytes: &[u8]) -> Result<Packet, ReadError>
 /// Faults are reported in the order of [`Fault`](crate::Fault); `Memory` only if nothing is wrong
 /// with the bytes. The authentication bytes and a Hello's two Designated Routers may have any
 /// values.
-pub fn read(alloc: Global, bytes: &[u8]) -> Result<Packet, ReadError>
+pub fn read(alloc: Global, bytes: &[u8]) -> Result<Packet, PacketError>
     // The bytes encode the packet that is returned.
     ensures found { IfOk result (λ p. PacketText bytes.now p) }
     // The bytes of a packet are parsed as that packet, unless an allocation is refused.
     ensures only { (p : Packet) → PacketText bytes.now p → result ≡ Ok p
-        ⊎ (result ≡ Err ReadError.Memory) }
+        ⊎ (result ≡ Err PacketError.Memory) }
     // Which fault it is; `Memory` is returned only if there is none.
     ensures exact { Reads bytes.now result }
     // The packet can be written.

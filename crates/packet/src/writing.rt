@@ -12,7 +12,7 @@ ghost use Rattle.packet.specs.Text.{header, hello, key_text, lsa_count, router_t
 ghost use Rattle.packet.specs.Text.{type_number, type_of};
 
 use crate::checksum::checksum;
-use crate::model::{Body, Description, Hello, Packet, PacketType};
+use crate::model::{Description, Hello, Packet, PacketBody, PacketType};
 use lsa::{Header, put_header};
 use std::alloc::{AllocError, Global};
 use words::{Key, RouterId, Sequence, put_u8, put_u16, put_u32};
@@ -29,15 +29,15 @@ fn type_number(kind: PacketType) -> u8
     }
 }
 
-fn type_of(body: &Body) -> PacketType
+fn type_of(body: &PacketBody) -> PacketType
     ensures { result ≡ type_of body.now }
 {
     match body {
-        Body::Hello(_) => PacketType::Hello,
-        Body::Description(_) => PacketType::Description,
-        Body::Request(_) => PacketType::Request,
-        Body::Update(_) => PacketType::Update,
-        Body::Acknowledgment(_) => PacketType::Acknowledgment,
+        PacketBody::Hello(_) => PacketType::Hello,
+        PacketBody::Description(_) => PacketType::Description,
+        PacketBody::Request(_) => PacketType::Request,
+        PacketBody::Update(_) => PacketType::Update,
+        PacketBody::Acknowledgment(_) => PacketType::Acknowledgment,
     }
 }
 
@@ -151,29 +151,31 @@ fn put_update(out: &mut Vec<u8>, lsas: &[Sequence<u8>]) -> Result<(), AllocError
     put_lsas(out, lsas)
 }
 
-fn put_body(out: &mut Vec<u8>, body: &Body) -> Result<(), AllocError>
+fn put_body(out: &mut Vec<u8>, body: &PacketBody) -> Result<(), AllocError>
     requires { lsa_count body.now < 2 ^ 32 }
     ensures { OnOk result (out.new.items ≡ out.old.items ++ body_text closed_fields body.now) }
 {
     match body {
-        Body::Hello(h) => put_hello(out, h),
-        Body::Description(d) => put_description(out, d),
-        Body::Request(keys) => put_keys(out, keys.as_slice()),
-        Body::Update(lsas) => put_update(out, lsas.as_slice()),
-        Body::Acknowledgment(headers) => put_headers(out, headers.as_slice()),
+        PacketBody::Hello(h) => put_hello(out, h),
+        PacketBody::Description(d) => put_description(out, d),
+        PacketBody::Request(keys) => put_keys(out, keys.as_slice()),
+        PacketBody::Update(lsas) => put_update(out, lsas.as_slice()),
+        PacketBody::Acknowledgment(headers) => put_headers(out, headers.as_slice()),
     }
 }
 
 // The approximate length of a packet, so that its encoding is allocated once.
-fn likely_length(body: &Body) -> usize {
+fn likely_length(body: &PacketBody) -> usize {
     match body {
-        Body::Hello(_) => 48,
-        Body::Description(d) => 32usize.saturating_add(
+        PacketBody::Hello(_) => 48,
+        PacketBody::Description(d) => 32usize.saturating_add(
             d.headers.as_slice().len().saturating_mul(20),
         ),
-        Body::Request(keys) => 24usize.saturating_add(keys.as_slice().len().saturating_mul(12)),
-        Body::Update(lsas) => lsas_length(lsas.as_slice()).saturating_add(28),
-        Body::Acknowledgment(headers) => {
+        PacketBody::Request(keys) => 24usize.saturating_add(
+            keys.as_slice().len().saturating_mul(12),
+        ),
+        PacketBody::Update(lsas) => lsas_length(lsas.as_slice()).saturating_add(28),
+        PacketBody::Acknowledgment(headers) => {
             24usize.saturating_add(headers.as_slice().len().saturating_mul(20))
         }
     }

@@ -8,7 +8,7 @@ use Rattle.words.specs.declared.key.Key.{Key}
 use Rattle.lsa.specs.Headers.{header_text}
 use Rattle.lsa.specs.Text as lsa_text
 use Rattle.lsdb.specs.Headers.{Lsa, key_of, lsa_key}
-use Rattle.packet.specs.declared.model.Body.TheVariants as body
+use Rattle.packet.specs.declared.model.PacketBody.TheVariants as body
 use Rattle.adjacency.specs.Contents.{Content}
 use Rattle.adjacency.specs.Drafts as drafts
 use Rattle.adjacency.specs.Drafts.{Drafted, adds, drafting}

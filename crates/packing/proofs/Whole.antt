@@ -8,8 +8,8 @@ use Rattle.words.specs.declared.key.Key.{Key}
 use Rattle.lsa.specs.Headers.{header_text}
 use Rattle.lsa.specs.Text as lsa_text
 use Rattle.lsdb.specs.Headers.{Header, Lsa, key_of, lsa_key}
-use Rattle.packet.specs.declared.model.Body.{Body}
-use Rattle.packet.specs.declared.model.Body.TheVariants as body
+use Rattle.packet.specs.declared.model.PacketBody.{PacketBody}
+use Rattle.packet.specs.declared.model.PacketBody.TheVariants as body
 use Rattle.packet.specs.Ranges.{IsWhole, LsasAreWhole}
 use Rattle.adjacency.specs.Contents.{Content}
 use Rattle.adjacency.specs.Drafts.{Drafted}
@@ -92,8 +92,8 @@ bodies_whole delay cs room =
     (packed_groups lsa_size 28 lsas) (packed_all lsa_size 28 IsSized lsas sized)))
     (acknowledgments_whole (packed_groups header_size 24 headers))
 
-paired : (P Q : Body → Type 0) (bs : List Body) → AllByRecursion P bs → AllByRecursion Q bs
-    → AllByRecursion (λ b. P b × Q b) bs
+paired : (P Q : PacketBody → Type 0) (bs : List PacketBody) → AllByRecursion P bs
+    → AllByRecursion Q bs → AllByRecursion (λ b. P b × Q b) bs
 paired P Q [] p q = tt
 paired P Q (b ∷ bs) p q = ((p.0, q.0), paired P Q bs p.1 q.1)
 

@@ -3,8 +3,8 @@ use Rattle.std.specs.Prelude.{ℕ, List, ◌++◌, ◌+◌, ◌≤◌, length, m
 use Rattle.std.specs.List.{AllByRecursion}
 use Rattle.words.specs.declared.key.Key.{Key}
 use Rattle.lsdb.specs.Headers.{Header, key_of}
-use Rattle.packet.specs.declared.model.Body.{Body}
-use Rattle.packet.specs.declared.model.Body.TheVariants as body
+use Rattle.packet.specs.declared.model.PacketBody.{PacketBody}
+use Rattle.packet.specs.declared.model.PacketBody.TheVariants as body
 use Rattle.adjacency.specs.Drafts.{Drafted}
 use Rattle.adjacency.specs.declared.draft.Update.{Update}
 use Rattle.events.specs.Packing.{first_key, header_size, in_key_order, packed_groups}
@@ -25,15 +25,15 @@ IsShort u = 28 + length u.text ≤ 8192
 abbrev pub AllShort : List Update → Type 0
 AllShort updates = AllByRecursion IsShort updates
 
-abbrev pub update_bodies : List Update → List Body
+abbrev pub update_bodies : List Update → List PacketBody
 update_bodies updates =
     map body.Update (packed_groups text_size 28 (texts (in_key_order update_key updates)))
 
-abbrev pub acknowledgment_bodies : List Header → List Body
+abbrev pub acknowledgment_bodies : List Header → List PacketBody
 acknowledgment_bodies headers =
     map body.Acknowledgment (packed_groups header_size 24 (in_key_order key_of headers))
 
-abbrev pub drafted_bodies : Drafted → List Body
+abbrev pub drafted_bodies : Drafted → List PacketBody
 drafted_bodies d =
     map body.Hello d.hellos
     ++ map body.Description d.descriptions

@@ -13,12 +13,12 @@ use crate::order::sort_by_keys;
 use crate::packing::packed;
 use adjacency::{Draft, DraftLists, Update};
 use lsa::Header;
-use packet::Body;
+use packet::PacketBody;
 use std::alloc::{AllocError, Global};
 use words::Sequence;
 
 // Each item is a packet of its own.
-fn put_bodies<X: Says + Drop>(bodies: &mut Vec<Body>, items: Vec<X>) -> Result<(), AllocError>
+fn put_bodies<X: Says + Drop>(bodies: &mut Vec<PacketBody>, items: Vec<X>) -> Result<(), AllocError>
     ensures { OnOk result (bodies.new.items ≡ bodies.old.items ++ map X.says items.items) }
 {
     for item in items {
@@ -41,7 +41,7 @@ fn texts(alloc: Global, updates: Vec<Update>) -> Result<Vec<Sequence<u8>>, Alloc
 // A Link State Update has 28 bytes before its first LSA.
 fn put_updates(
     alloc: Global,
-    bodies: &mut Vec<Body>,
+    bodies: &mut Vec<PacketBody>,
     mut updates: Vec<Update>,
 ) -> Result<(), AllocError>
     requires { AllShort updates.items }
@@ -57,7 +57,7 @@ fn put_updates(
 // A Link State Acknowledgment has 24 bytes before its first header.
 fn put_acknowledgments(
     alloc: Global,
-    bodies: &mut Vec<Body>,
+    bodies: &mut Vec<PacketBody>,
     mut headers: Vec<Header>,
 ) -> Result<(), AllocError>
     ensures { OnOk result (bodies.new.items
@@ -72,7 +72,7 @@ fn put_acknowledgments(
 /// Updates and Acknowledgments.
 ///
 /// Errors with `AllocError` if an allocation is refused.
-pub fn bodies(alloc: Global, draft: Draft) -> Result<Vec<Body>, AllocError>
+pub fn bodies(alloc: Global, draft: Draft) -> Result<Vec<PacketBody>, AllocError>
     // Each LSA fits into a Link State Update.
     requires { AllShort draft.updates }
     ensures { IfOk result (λ bodies. bodies.items ≡ drafted_bodies draft) }

@@ -3,7 +3,7 @@ ghost use Rattle.std.specs.Prelude.{◌≡◌};
 
 use adjacency::Update;
 use lsa::{HEADER_LENGTH, Header};
-use packet::{Body, Description, Hello};
+use packet::{Description, Hello, PacketBody};
 use words::{Key, LinkStateId, RouterId, Sequence};
 
 /// An item that is sorted by a key.
@@ -85,60 +85,60 @@ impl HasSize for Header {
 
 /// The contents of a packet.
 pub trait Says {
-    ghost use Rattle.packet.specs.declared.model.Body.{Body};
+    ghost use Rattle.packet.specs.declared.model.PacketBody.{PacketBody};
 
-    ghost says: { Self → Body };
+    ghost says: { Self → PacketBody };
 
-    fn body(self) -> Body
+    fn body(self) -> PacketBody
         ensures { result ≡ says self };
 }
 
 impl Says for Hello {
-    ghost use Rattle.packet.specs.declared.model.Body.TheVariants as body;
+    ghost use Rattle.packet.specs.declared.model.PacketBody.TheVariants as body;
 
     ghost says = { λ hello. body.Hello hello };
 
-    fn body(self) -> Body {
-        Body::Hello(self)
+    fn body(self) -> PacketBody {
+        PacketBody::Hello(self)
     }
 }
 
 impl Says for Description {
-    ghost use Rattle.packet.specs.declared.model.Body.TheVariants as body;
+    ghost use Rattle.packet.specs.declared.model.PacketBody.TheVariants as body;
 
     ghost says = { λ description. body.Description description };
 
-    fn body(self) -> Body {
-        Body::Description(self)
+    fn body(self) -> PacketBody {
+        PacketBody::Description(self)
     }
 }
 
 impl Says for Sequence<Key> {
-    ghost use Rattle.packet.specs.declared.model.Body.TheVariants as body;
+    ghost use Rattle.packet.specs.declared.model.PacketBody.TheVariants as body;
 
     ghost says = { λ keys. body.Request keys };
 
-    fn body(self) -> Body {
-        Body::Request(self)
+    fn body(self) -> PacketBody {
+        PacketBody::Request(self)
     }
 }
 
 impl Says for Sequence<Sequence<u8>> {
-    ghost use Rattle.packet.specs.declared.model.Body.TheVariants as body;
+    ghost use Rattle.packet.specs.declared.model.PacketBody.TheVariants as body;
 
     ghost says = { λ lsas. body.Update lsas };
 
-    fn body(self) -> Body {
-        Body::Update(self)
+    fn body(self) -> PacketBody {
+        PacketBody::Update(self)
     }
 }
 
 impl Says for Sequence<Header> {
-    ghost use Rattle.packet.specs.declared.model.Body.TheVariants as body;
+    ghost use Rattle.packet.specs.declared.model.PacketBody.TheVariants as body;
 
     ghost says = { λ headers. body.Acknowledgment headers };
 
-    fn body(self) -> Body {
-        Body::Acknowledgment(self)
+    fn body(self) -> PacketBody {
+        PacketBody::Acknowledgment(self)
     }
 }

@@ -12,7 +12,7 @@ ghost use Rattle.packing.specs.Texts.{IsSentText};
 use crate::bodies::bodies;
 use adjacency::Draft;
 use events::Out;
-use packet::{Body, Packet, write};
+use packet::{Packet, PacketBody, write};
 use std::alloc::{AllocError, Global};
 use words::{RouterId, Sequence};
 
@@ -22,7 +22,7 @@ fn put_out(
     outs: &mut Vec<Out>,
     own: RouterId,
     interface: u16,
-    body: Body,
+    body: PacketBody,
 ) -> Result<(), AllocError>
     requires room { HasPacketRoom body }
     requires whole { LsasAreWhole body }

@@ -5,7 +5,7 @@ use Rattle.std.specs.FinMap as finite
 use Rattle.words.specs.declared.key.Key.{Key}
 use Rattle.words.specs.declared.route.External.{External}
 use Rattle.keyed_map.specs.Keys.{same_key}
-use Rattle.lsa.specs.declared.body.Body.{Body}
+use Rattle.lsa.specs.declared.body.LsaBody.{LsaBody}
 use Rattle.adjacency.specs.lsdb.Copies.{Database}
 use Rattle.events.specs.received.Links.{Link}
 use Rattle.events.specs.EventState.{EventState}
@@ -21,7 +21,7 @@ use Rattle.procedures.proofs.Keys.{tied_key}
 
 -- ---- which LSAs are wanted
 
-abbrev wanted_by : Router → Key → Bool → Option Body
+abbrev wanted_by : Router → Key → Bool → Option LsaBody
 wanted_by r key b = cond b (Some (router_body r.area.links))
     (announced_body (finite.get r.announced key))
 
@@ -66,7 +66,7 @@ same_found a b e = cc
 
 -- for a given router
 at_router : (may_now : Bool) (moment : ℕ) (key : Key) (p : EventState) (found : Origination)
-    (wanted : Option Body) → Some found ≡ wanted_origination may_now moment key p.router wanted
+    (wanted : Option LsaBody) → Some found ≡ wanted_origination may_now moment key p.router wanted
     → after_origination moment key found p ≡ originate_body may_now moment key wanted p
 at_router may_now moment key p found None is = absurd cc
 at_router may_now moment key p found (Some says) is =

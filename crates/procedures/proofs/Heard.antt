@@ -2,8 +2,8 @@
 use Rattle.std.proofs.Common.{◌≡◌, ℕ, Bool, true, false, List, refl, sym, ap, ◌∙◌}
 use Rattle.std.specs.Prelude.{Option, None, Some}
 use Rattle.adjacency.specs.lsdb.Headers.{Header}
-use Rattle.packet.specs.declared.model.Body.{Body}
-use Rattle.packet.specs.declared.model.Body.TheVariants as body
+use Rattle.packet.specs.declared.model.PacketBody.{PacketBody}
+use Rattle.packet.specs.declared.model.PacketBody.TheVariants as body
 use Rattle.packet.specs.declared.model.Description.{Description}
 use Rattle.packet.specs.declared.model.Packet.{Packet}
 use Rattle.adjacency.specs.Drafts.{Drafted}
@@ -57,7 +57,7 @@ module _ (moment number : ℕ) (packet : Packet) where
 
 -- ---- by the types of packets
 
-module _ (moment number from : ℕ) (b : Body) where
+module _ (moment number from : ℕ) (b : PacketBody) where
   pub describes : {old new : Router} {before after : List Drafted} (in_exchange : Bool)
       (d : Description) → b ≡ body.Description d
       → Makes (on_area (describe_to old.id moment number d)) old new before after
@@ -67,7 +67,7 @@ module _ (moment number from : ℕ) (b : Body) where
       (λ p here.
       ap (λ (own : ℕ). on_area (describe_to own moment number d) p)
       (sym (ap (λ (r : Router). r.id) here))
-      ∙ ap (λ (k : Body). from_neighbor moment number from in_exchange k p) (sym is))
+      ∙ ap (λ (k : PacketBody). from_neighbor moment number from in_exchange k p) (sym is))
       a
 
   pub acknowledges : {old new : Router} {before after : List Drafted} (headers read : List Header)
@@ -78,5 +78,5 @@ module _ (moment number from : ℕ) (b : Body) where
       makes_same
       (λ p _.
       ap (λ (hs : List Header). on_area (acknowledged_by moment number hs) p) same
-      ∙ ap (λ (k : Body). from_neighbor moment number from true k p) (sym is))
+      ∙ ap (λ (k : PacketBody). from_neighbor moment number from true k p) (sym is))
       a

@@ -3,8 +3,8 @@ use Rattle.std.proofs.Common.{◌≡◌, ℕ, ◌+◌, ◌≤◌, Bool, true, fa
 use Rattle.std.proofs.Common.{Ok, Err, refl, sym, ap, subst, ◌∙◌}
 use Rattle.std.specs.Prelude.{Option, None, Some}
 use mathlib.Core.Bool.{false≢true}
-use Rattle.lsa.specs.declared.fault.Fault.{Fault}
-use Rattle.lsa.specs.declared.fault.ReadError.TheVariants as errors
+use Rattle.lsa.specs.declared.fault.LsaFault.{LsaFault}
+use Rattle.lsa.specs.declared.fault.LsaError.TheVariants as errors
 use Rattle.lsa.specs.Outcome.{Reads}
 use Rattle.lsa.specs.Reading.{lsa_in, lsa_of}
 use Rattle.adjacency.specs.lsdb.Headers.{Lsa}
@@ -23,14 +23,14 @@ use Rattle.procedures.specs.Received.{goes_on_at, is_newer}
 
 -- ---- what bytes are parsed as
 
-abbrev read_unless : List ℕ → Option Fault → Option Lsa
+abbrev read_unless : List ℕ → Option LsaFault → Option Lsa
 read_unless bytes None = Some (lsa_of bytes)
 read_unless bytes (Some f) = None
 
 pub reads_lsa : (bytes : List ℕ) (lsa : Lsa) → Reads bytes (Ok lsa) → Some lsa ≡ lsa_in bytes
 reads_lsa bytes lsa r = ap (λ (l : Lsa). Some l) r.1 ∙ sym (ap (read_unless bytes) r.0)
 
-pub reads_none : (bytes : List ℕ) (f : Fault) → Reads bytes (Err (errors.Fault f))
+pub reads_none : (bytes : List ℕ) (f : LsaFault) → Reads bytes (Err (errors.Fault f))
     → None ≡ lsa_in bytes
 reads_none bytes f r = sym (ap (read_unless bytes) r)
 

@@ -3,7 +3,7 @@ use Rattle.std.specs.Prelude.{Bool, true, false, ◌==◌, [], Option, None, Som
 use Rattle.words.specs.Numbers.{InterfaceNumber, Moment, RouterNumber}
 use Rattle.adjacency.specs.lsdb.Headers.{Lsa}
 use Rattle.adjacency.specs.Neighbors.{is_exchange_or_later}
-use Rattle.adjacency.specs.declared.state.State.{State}
+use Rattle.adjacency.specs.declared.state.NeighborState.{NeighborState}
 use Rattle.events.specs.received.Cases.{Case}
 use Rattle.events.specs.received.Updates.{goes_on}
 use Rattle.events.specs.Packets.{case_in}
@@ -11,11 +11,11 @@ use Rattle.events.specs.Routers.{Router}
 
 -- ---- by the neighbor's Router ID and state
 
-abbrev pub is_in_exchange_named : Option (RouterNumber × State) → Bool
+abbrev pub is_in_exchange_named : Option (RouterNumber × NeighborState) → Bool
 is_in_exchange_named None = false
 is_in_exchange_named (Some named) = is_exchange_or_later named.1
 
-abbrev pub is_from_named : (from : RouterNumber) → Option (RouterNumber × State) → Bool
+abbrev pub is_from_named : (from : RouterNumber) → Option (RouterNumber × NeighborState) → Bool
 is_from_named from None = false
 is_from_named from (Some named) = named.0 == from
 

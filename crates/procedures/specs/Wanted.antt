@@ -3,7 +3,7 @@ use Rattle.std.specs.Prelude.{Bool, Option, None, Some}
 use Rattle.std.specs.FinMap as finite
 use Rattle.words.specs.Numbers.{Moment}
 use Rattle.words.specs.declared.key.Key.{Key}
-use Rattle.lsa.specs.declared.body.Body.{Body}
+use Rattle.lsa.specs.declared.body.LsaBody.{LsaBody}
 use Rattle.events.specs.EventState.{EventState}
 use Rattle.events.specs.Originations.{originate_body, wanted_body}
 use Rattle.events.specs.Routers.{Router}
@@ -11,7 +11,7 @@ use Rattle.originations.specs.Decisions.{origination}
 use Rattle.originations.specs.declared.origination.Origination.{Origination}
 
 -- with this body of the LSA
-abbrev pub wanted_origination : (may_now : Bool) → Moment → Key → Router → Option Body
+abbrev pub wanted_origination : (may_now : Bool) → Moment → Key → Router → Option LsaBody
     → Option Origination
 wanted_origination may_now moment key r None = None
 wanted_origination may_now moment key r (Some says) = Some (origination may_now moment key says

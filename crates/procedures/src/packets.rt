@@ -8,26 +8,26 @@ ghost use Rattle.procedures.specs.Making.{Makes};
 ghost use Rattle.procedures.specs.Received.{is_from_named, is_in_exchange_named};
 
 use crate::updates::receive_lsas;
-use adjacency::{Draft, State};
+use adjacency::{Draft, NeighborState};
 use neighbor_packets::is_foreign;
-use packet::{Body, Packet};
+use packet::{Packet, PacketBody};
 use router_state::Router;
 use std::alloc::{AllocError, Global};
 use words::{RouterId, Second};
 
-fn is_hello(body: &Body) -> bool
+fn is_hello(body: &PacketBody) -> bool
     ensures { result ≡ is_hello body.now }
 {
     match body {
-        Body::Hello(_hello) => true,
-        Body::Description(_description) => false,
-        Body::Request(_keys) => false,
-        Body::Update(_lsas) => false,
-        Body::Acknowledgment(_headers) => false,
+        PacketBody::Hello(_hello) => true,
+        PacketBody::Description(_description) => false,
+        PacketBody::Request(_keys) => false,
+        PacketBody::Update(_lsas) => false,
+        PacketBody::Acknowledgment(_headers) => false,
     }
 }
 
-fn is_in_exchange_named(neighbor: Option<(RouterId, State)>) -> bool
+fn is_in_exchange_named(neighbor: Option<(RouterId, NeighborState)>) -> bool
     ensures { result ≡ is_in_exchange_named neighbor }
 {
     match neighbor {
@@ -36,7 +36,7 @@ fn is_in_exchange_named(neighbor: Option<(RouterId, State)>) -> bool
     }
 }
 
-fn is_from_named(from: RouterId, neighbor: Option<(RouterId, State)>) -> bool
+fn is_from_named(from: RouterId, neighbor: Option<(RouterId, NeighborState)>) -> bool
     ensures { result ≡ is_from_named from neighbor }
 {
     match neighbor {
@@ -46,7 +46,7 @@ fn is_from_named(from: RouterId, neighbor: Option<(RouterId, State)>) -> bool
 }
 
 // The neighbor at the interface with this number, unless it is Down.
-fn neighbor_at(router: &Router, number: usize) -> Option<(RouterId, State)>
+fn neighbor_at(router: &Router, number: usize) -> Option<(RouterId, NeighborState)>
     requires first { 1 ≤ number }
     requires last { number ≤ length router.now.present.area.links }
     ensures { result ≡ named_neighbor (neighbor_at number router.now.present.area.links) }
@@ -98,7 +98,7 @@ fn from_neighbor_in_exchange(
     moment: Second,
     number: usize,
     from: RouterId,
-    body: &Body,
+    body: &PacketBody,
     drafts: &mut [Draft],
 ) -> Result<(), AllocError>
     requires first { 1 ≤ number }
@@ -113,15 +113,15 @@ fn from_neighbor_in_exchange(
     ensures settled { router.new.settled ≡ router.old.settled }
 {
     match body {
-        Body::Hello(hello) => router.hear(alloc, moment, number, from, hello, drafts),
-        Body::Description(description) => {
+        PacketBody::Hello(hello) => router.hear(alloc, moment, number, from, hello, drafts),
+        PacketBody::Description(description) => {
             router.describe(alloc, moment, number, description, drafts)
         }
-        Body::Request(keys) => router.answer(alloc, moment, number, keys.as_slice(), drafts),
-        Body::Update(lsas) => {
+        PacketBody::Request(keys) => router.answer(alloc, moment, number, keys.as_slice(), drafts),
+        PacketBody::Update(lsas) => {
             receive_lsas(router, alloc, moment, number, lsas.as_slice(), drafts)
         }
-        Body::Acknowledgment(headers) => {
+        PacketBody::Acknowledgment(headers) => {
             router.acknowledged(alloc, moment, number, headers.as_slice(), drafts)
         }
     }
@@ -135,7 +135,7 @@ fn from_neighbor_before_exchange(
     moment: Second,
     number: usize,
     from: RouterId,
-    body: &Body,
+    body: &PacketBody,
     drafts: &mut [Draft],
 ) -> Result<(), AllocError>
     requires first { 1 ≤ number }
@@ -148,13 +148,13 @@ fn from_neighbor_before_exchange(
     ensures settled { router.new.settled ≡ router.old.settled }
 {
     match body {
-        Body::Hello(hello) => router.hear(alloc, moment, number, from, hello, drafts),
-        Body::Description(description) => {
+        PacketBody::Hello(hello) => router.hear(alloc, moment, number, from, hello, drafts),
+        PacketBody::Description(description) => {
             router.describe(alloc, moment, number, description, drafts)
         }
-        Body::Request(_keys) => Ok(()),
-        Body::Update(_lsas) => Ok(()),
-        Body::Acknowledgment(_headers) => Ok(()),
+        PacketBody::Request(_keys) => Ok(()),
+        PacketBody::Update(_lsas) => Ok(()),
+        PacketBody::Acknowledgment(_headers) => Ok(()),
     }
 }
 

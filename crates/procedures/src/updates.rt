@@ -9,7 +9,7 @@ ghost use Rattle.procedures.specs.Received.{goes_on_at, is_newer};
 
 use crate::origination::receive_self_originated;
 use adjacency::Draft;
-use lsa::{Lsa, ReadError, read};
+use lsa::{Lsa, LsaError, read};
 use originations::Case;
 use router_state::Router;
 use std::alloc::{AllocError, Global};
@@ -56,8 +56,8 @@ fn read_lsa(alloc: Global, bytes: &[u8]) -> Result<Option<Lsa>, AllocError>
 {
     match read(alloc, bytes) {
         Ok(lsa) => Ok(Some(lsa)),
-        Err(ReadError::Fault(_fault)) => Ok(None),
-        Err(ReadError::Memory) => Err(AllocError),
+        Err(LsaError::Fault(_fault)) => Ok(None),
+        Err(LsaError::Memory) => Err(AllocError),
     }
 }
 

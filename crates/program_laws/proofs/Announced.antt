@@ -14,14 +14,14 @@ use Rattle.words.specs.Prefixes.{Network}
 use Rattle.words.specs.declared.key.Key.{Key}
 use Rattle.words.specs.declared.route.External.{External}
 use Rattle.lsa.specs.Reading.{lsa_in}
-use Rattle.lsa.specs.declared.body.Body.{Body as LsaBody}
-use Rattle.lsa.specs.declared.body.Body.TheVariants as says
+use Rattle.lsa.specs.declared.body.LsaBody.{LsaBody}
+use Rattle.lsa.specs.declared.body.LsaBody.TheVariants as says
 use Rattle.lsa.specs.declared.body.ExternalLsa.{ExternalLsa}
 use Rattle.lsdb.specs.Headers.{Lsa, lsa_key}
 use Rattle.lsdb.specs.Keys.{ByKey, key_cmp, same_key}
 use Rattle.lsdb.proofs.Keys.{keys_exact, keys_total}
-use Rattle.packet.specs.declared.model.Body.{Body}
-use Rattle.packet.specs.declared.model.Body.TheVariants as body
+use Rattle.packet.specs.declared.model.PacketBody.{PacketBody}
+use Rattle.packet.specs.declared.model.PacketBody.TheVariants as body
 use Rattle.packet.specs.declared.model.Packet.{Packet}
 use Rattle.received.specs.Cases.{Case}
 use Rattle.received.specs.Links.{neighbor_at}
@@ -137,7 +137,7 @@ updated moment number (bytes ∷ rest) p =
     (after_lsas moment number rest q) q (updated moment number rest q ∙ one) one
 
 from : (moment : Moment) (number : InterfaceNumber) (router : RouterNumber) (in_exchange : Bool)
-    (b : Body) → Leaves (from_neighbor moment number router in_exchange b)
+    (b : PacketBody) → Leaves (from_neighbor moment number router in_exchange b)
 from moment number router in_exchange (body.Hello h) p = refl
 from moment number router in_exchange (body.Description d) p = refl
 from moment number router in_exchange (body.Request keys) p =

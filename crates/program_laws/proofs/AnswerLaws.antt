@@ -7,7 +7,7 @@ use Rattle.machine.specs.Input.{IsOfHook}
 use Rattle.machine.specs.Label.{Label}
 use Rattle.maps.specs.Words.{SeatView}
 use Rattle.helpers.specs.Seats.{acts}
-use Rattle.hooks.specs.declared.operation.Operation.{Operation}
+use Rattle.hooks.specs.declared.operation.LoaderOperation.{LoaderOperation}
 use Rattle.hooks.specs.Answered.{IsAnswered}
 use Rattle.hooks.specs.Operations.{Program, RunsTo, default_of, leaves}
 use Rattle.hooks.proofs.Fronts.{prefix_length}
@@ -30,17 +30,17 @@ with_it (Some program) p hook input labels word is found =
     let same : program ≡ p = cc in
     subst (λ (q : Program). RunsTo q input labels word) same found
 
-hook_is : (before now : List Operation) (old new : SeatView) (hook : Hook) (input : Given)
+hook_is : (before now : List LoaderOperation) (old new : SeatView) (hook : Hook) (input : Given)
     (word : ℕ) (a : IsAnswered before now old new input word) → IsOfHook hook input → a.answers.0
     ≡ hook
 hook_is before now old new hook input word a of_hook =
     number-injective a.answers.0 hook (sym a.answers.1 ∙ of_hook)
 
-grown_list : (before now : List Operation) (old new : SeatView) (input : Given) (word : ℕ)
+grown_list : (before now : List LoaderOperation) (old new : SeatView) (input : Given) (word : ℕ)
     (a : IsAnswered before now old new input word) → new.accesses ≡ old.accesses ++ acts a.labels
 grown_list before now old new input word a = ap (λ (s : SeatView). s.accesses) a.made.grown
 
-by_default : (before now : List Operation) (old new : SeatView) (hook : Hook) (input : Given)
+by_default : (before now : List LoaderOperation) (old new : SeatView) (hook : Hook) (input : Given)
     (word : ℕ) → IsAnswered before now old new input word → IsOfHook hook input → leaves hook now
     ≡ None → (word ≡ default_of hook input) × (new.accesses ≡ old.accesses)
 by_default before now old new hook input word a of_hook none =
@@ -53,7 +53,7 @@ by_default before now old new hook input word a of_hook none =
           ∙ ap (λ l. old.accesses ++ acts l) found.0 ∙ append-nil old.accesses,
     )
 
-by_program : (before now : List Operation) (old new : SeatView) (hook : Hook) (input : Given)
+by_program : (before now : List LoaderOperation) (old new : SeatView) (hook : Hook) (input : Given)
     (word : ℕ) (p : Program) → IsAnswered before now old new input word → IsOfHook hook input
     → leaves hook now ≡ Some p → (labels : List Label) × RunsTo p input labels word
     × (new.accesses ≡ old.accesses ++ acts labels)

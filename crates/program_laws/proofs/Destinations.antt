@@ -9,16 +9,17 @@ use Rattle.std.specs.FinMap as finite
 use Rattle.std.specs.FinSet as set
 use Rattle.words.specs.Numbers.{Moment, RouterNumber}
 use Rattle.words.specs.declared.key.Key.{Key}
-use Rattle.lsa.specs.declared.body.Body.{Body}
-use Rattle.lsa.specs.declared.body.Body.TheVariants as says
+use Rattle.lsa.specs.declared.body.LsaBody.{LsaBody}
+use Rattle.lsa.specs.declared.body.LsaBody.TheVariants as says
 use Rattle.lsdb.specs.Limits.{is_own_external, own_externals}
 use Rattle.words.specs.Constants.{max_age, most_lsas, most_own_externals}
 use Rattle.lsdb.specs.Copies.{Database, DatabaseCopy, age_out, install_originated, is_aged_out}
 use Rattle.lsdb.specs.Headers.{Lsa, lsa_aged, lsa_key}
 use Rattle.lsdb.specs.Keys.{KeySet, same_key}
 use Rattle.lsdb.proofs.Keys.{keys_exact, keys_total}
-use Rattle.adjacency.specs.declared.state.State.{State}
-use Rattle.adjacency.specs.declared.state.State.TheVariants.{Init, ExStart, Exchange, Loading, Full}
+use Rattle.adjacency.specs.declared.state.NeighborState.{NeighborState}
+use Rattle.adjacency.specs.declared.state.NeighborState.TheVariants.{Init, ExStart, Exchange}
+use Rattle.adjacency.specs.declared.state.NeighborState.TheVariants.{Loading, Full}
 use Rattle.adjacency.specs.Adjacencies as adjacencies
 use Rattle.adjacency.specs.Adjacencies.{requests_nothing}
 use Rattle.adjacency.specs.Asked.{has_retransmission}
@@ -332,15 +333,15 @@ module _ (key : Key) where
   chosen false x y z w one other = other
 
   -- a self-originated LSA of another key is originated, flushed first, or waits, by its tests
-  abbrev pub own_lsa : Bool → Bool → Moment → Key → Option DatabaseCopy → Body → EventState
+  abbrev pub own_lsa : Bool → Bool → Moment → Key → Option DatabaseCopy → LsaBody → EventState
       → EventState
   own_lsa wraps may moment k x says p =
       cond wraps (on_area (flush_copy moment k x) p)
       (cond may (on_router (as_originated moment k)
       (on_area (install_and_flood moment (new_instance k x says)) p)) (on_router (wait k) p))
 
-  own_lsas : (wraps may : Bool) (moment : Moment) (k : Key) (x : Option DatabaseCopy) (says : Body)
-      → Overlooks (own_lsa wraps may moment k x says)
+  own_lsas : (wraps may : Bool) (moment : Moment) (k : Key) (x : Option DatabaseCopy)
+      (says : LsaBody) → Overlooks (own_lsa wraps may moment k x says)
   own_lsas true may moment k x says p = flushed moment k x p
   own_lsas false true moment k x says p =
       one_after_another (on_area (install_and_flood moment (new_instance k x says)))
@@ -400,7 +401,7 @@ module _ (key : Key) where
         ap (λ b. cond b (Some (router_body r.area.links))
         (announced_body (finite.get r.announced k))) (itself k) in
         ap (λ b. originate_body b moment k (wanted_body r k) p) room
-        ∙ ap (λ (o : Option Body). originate_body true moment k o p) wanted
+        ∙ ap (λ (o : Option LsaBody). originate_body true moment k o p) wanted
 
     tells : (moment : Moment) → Overlooks (told moment)
     tells moment p =
@@ -444,7 +445,8 @@ module _ (key : Key) where
 
     -- ---- Loading to Full
 
-    loading_by : (s : State) (n : Neighbor) → apart.without key (adjacencies.loading_done_in s n)
+    loading_by : (s : NeighborState) (n : Neighbor)
+        → apart.without key (adjacencies.loading_done_in s n)
         ≡ apart.without key (adjacencies.loading_done_in s (apart.without key n))
     loading_by Init n = apart.kept key n
     loading_by ExStart n = apart.kept key n

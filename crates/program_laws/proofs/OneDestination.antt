@@ -11,7 +11,7 @@ use Rattle.words.specs.Numbers.{Moment, RouterNumber}
 use Rattle.words.specs.declared.key.Key.{Key}
 use Rattle.words.specs.declared.route.External.{External}
 use Rattle.lsa.specs.Origination.{sealed_lsa}
-use Rattle.lsa.specs.declared.body.Body.{Body}
+use Rattle.lsa.specs.declared.body.LsaBody.{LsaBody}
 use Rattle.lsdb.specs.Copies.{Database, DatabaseCopy, age_out, has_just_aged_out}
 use Rattle.lsdb.specs.Copies.{install_originated, is_aged_out, lsa_now}
 use Rattle.lsdb.specs.Headers.{Lsa, lsa_aged, lsa_key}
@@ -305,7 +305,7 @@ module _ (key : Key) (is_external : key.ls_type ≡ 5) where
       → cut (originate_body true moment key (announced_body announced) p) ≡ cut p
   body_kept moment None p none under = refl
   body_kept moment (Some e) p none under =
-      let says : Body = external_body e in
+      let says : LsaBody = external_body e in
       let copy = finite.get p.router.area.database key in
       let lsa : Lsa = new_instance key copy says in
       let installed : EventState = on_area (install_and_flood moment lsa) p in

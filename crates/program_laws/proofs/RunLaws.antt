@@ -20,7 +20,7 @@ use Rattle.machine.specs.Given.{blank}
 use Rattle.machine.specs.Label.{Silent}
 use Rattle.machine.specs.State.{with_register, setting_of, start}
 use Rattle.machine.specs.Runs.{Run}
-use Rattle.object.specs.declared.kind.Kind.TheVariants.{Context, Empty}
+use Rattle.object.specs.declared.kind.StatedKind.TheVariants.{Context, Empty}
 use Rattle.object.specs.Sets.{no_bytes, with_range}
 use Rattle.kinds.specs.Stated.{GivesStated, any_number}
 use Rattle.regions.specs.declared.Region.{Region}

@@ -14,8 +14,8 @@ use Rattle.lsa.specs.Reading.{lsa_in}
 use Rattle.lsdb.specs.Headers.{Lsa, lsa_key}
 use Rattle.packet.proofs.Whole.{one_packet}
 use Rattle.packet.specs.Text.{PacketText}
-use Rattle.packet.specs.declared.model.Body.{Body}
-use Rattle.packet.specs.declared.model.Body.TheVariants as body
+use Rattle.packet.specs.declared.model.PacketBody.{PacketBody}
+use Rattle.packet.specs.declared.model.PacketBody.TheVariants as body
 use Rattle.packet.specs.declared.model.Packet.{Packet}
 use Rattle.received.specs.Cases.{Case}
 use Rattle.received.specs.Links.{neighbor_at}
@@ -110,7 +110,7 @@ all_lsas moment number (bytes ∷ rest) p =
     (same_case moment number (lsa_in bytes) p)
 
 from_its_neighbor : (moment : Moment) (number : InterfaceNumber) (from : ℕ) (in_exchange : Bool)
-    (says : Body) → Overlooks (from_neighbor moment number from in_exchange says)
+    (says : PacketBody) → Overlooks (from_neighbor moment number from in_exchange says)
 from_its_neighbor moment number from in_exchange (body.Hello h) p = refl
 from_its_neighbor moment number from in_exchange (body.Description d) p = refl
 from_its_neighbor moment number from true (body.Request keys) p = refl

@@ -5,7 +5,7 @@ use Rattle.std.specs.FinMap as finite
 use Rattle.words.specs.Numbers.{Moment}
 use Rattle.words.specs.declared.key.Key.{Key}
 use Rattle.words.specs.declared.route.Route.{Route}
-use Rattle.lsa.specs.declared.body.Body.{Body}
+use Rattle.lsa.specs.declared.body.LsaBody.{LsaBody}
 use Rattle.received.specs.Links.{Link}
 use Rattle.events.specs.Endings.{describe_router, describe_router_later, end_event, is_current}
 use Rattle.events.specs.Endings.{links_differ, loading_done, remove_aged, request_all, start_event}
@@ -36,7 +36,7 @@ pub one_of_three : (b c : Bool) (x y z : EventState) → without (cond b x (cond
 one_of_three true c x y z = refl
 one_of_three false c x y z = one_of c y z
 
-pub by_body : (may_now : Bool) (moment : Moment) (key : Key) (says : Option Body)
+pub by_body : (may_now : Bool) (moment : Moment) (key : Key) (says : Option LsaBody)
     → Overlooks (originate_body may_now moment key says)
 by_body may_now moment key None p = refl
 by_body may_now moment key (Some says) p =

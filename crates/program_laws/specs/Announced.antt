@@ -6,7 +6,7 @@ use Rattle.std.specs.FinMap as finite
 use Rattle.words.specs.Constants.{ls_infinity}
 use Rattle.words.specs.declared.key.Key.{Key}
 use Rattle.words.specs.declared.route.External.{External}
-use Rattle.lsa.specs.declared.body.Body.TheVariants as body
+use Rattle.lsa.specs.declared.body.LsaBody.TheVariants as body
 use Rattle.lsa.specs.declared.body.ExternalLsa.{ExternalLsa}
 use Rattle.events.specs.Commands.{answered_external}
 use Rattle.events.specs.Events.{Run, Step, initial}

@@ -6,7 +6,7 @@ use Rattle.machine.specs.Input.{IsOfHook}
 use Rattle.machine.specs.Label.{Label}
 use Rattle.maps.specs.Words.{SeatView}
 use Rattle.helpers.specs.Seats.{acts}
-use Rattle.hooks.specs.declared.operation.Operation.{Operation}
+use Rattle.hooks.specs.declared.operation.LoaderOperation.{LoaderOperation}
 use Rattle.hooks.specs.Answered.{IsAnswered}
 use Rattle.hooks.specs.Operations.{Program, RunsTo, default_of, leaves}
 use Rattle.program_laws.specs.Seats.{IsLawfulList}
@@ -14,21 +14,20 @@ use Rattle.program_laws.specs.Seats.{IsLawfulList}
 -- It depends only on the program that is at the hook after the operations.
 pub record AnswersAreOfWhatStands : Type 0 where
   -- if there is none, the answer is the default, and the seat made no access
-  pub default : (before now : List Operation) (old new : SeatView) (hook : Hook) (input : Given)
-      (word : ℕ) → IsAnswered before now old new input word → IsOfHook hook input
-      → leaves hook now ≡ None
-      → (word ≡ default_of hook input) × (new.accesses ≡ old.accesses)
+  pub default : (before now : List LoaderOperation) (old new : SeatView) (hook : Hook)
+      (input : Given) (word : ℕ) → IsAnswered before now old new input word → IsOfHook hook input
+      → leaves hook now ≡ None → (word ≡ default_of hook input) × (new.accesses ≡ old.accesses)
   -- if there is one, the answer is the result of one of its runs, and the seat made the accesses of
   -- that run
-  pub program : (before now : List Operation) (old new : SeatView) (hook : Hook) (input : Given)
-      (word : ℕ) (program : Program) → IsAnswered before now old new input word
+  pub program : (before now : List LoaderOperation) (old new : SeatView) (hook : Hook)
+      (input : Given) (word : ℕ) (program : Program) → IsAnswered before now old new input word
       → IsOfHook hook input → leaves hook now ≡ Some program
       → (labels : List Label) × RunsTo program input labels word
       × (new.accesses ≡ old.accesses ++ acts labels)
   -- the caller knows of no fewer operations than before
-  pub known : (before now : List Operation) (old new : SeatView) (input : Given) (word : ℕ)
+  pub known : (before now : List LoaderOperation) (old new : SeatView) (input : Given) (word : ℕ)
       → IsAnswered before now old new input word → length before ≤ length now
   -- and the accesses of the seat are still lawful
-  pub lawful : (before now : List Operation) (old new : SeatView) (input : Given) (word : ℕ)
+  pub lawful : (before now : List LoaderOperation) (old new : SeatView) (input : Given) (word : ℕ)
       → IsAnswered before now old new input word → IsLawfulList old.accesses
       → IsLawfulList new.accesses

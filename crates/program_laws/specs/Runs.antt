@@ -7,8 +7,8 @@ use Rattle.isa.specs.declared.instruction.Instruction.TheVariants.{Exit, Load, L
 use Rattle.isa.specs.declared.instruction.LoadSize.TheVariants.{Unsigned64}
 use Rattle.isa.specs.declared.instruction.Source.TheVariants.{Register}
 use Rattle.isa.specs.declared.instruction.StoreSize.TheVariants as stored
-use Rattle.object.specs.declared.kind.Kind.{Kind}
-use Rattle.object.specs.declared.kind.Kind.TheVariants.{Context, Empty}
+use Rattle.object.specs.declared.kind.StatedKind.{StatedKind}
+use Rattle.object.specs.declared.kind.StatedKind.TheVariants.{Context, Empty}
 use Rattle.object.specs.Sets.{no_bytes, with_range}
 use Rattle.object.specs.Statements.{StatementParts}
 use Rattle.kinds.specs.Stated.{GivesStated, any_number}
@@ -51,7 +51,7 @@ pub record LoadsAreOfTheirMap : Type 0 where
       → slice_get kept 2 ≡ Some regions.Cells
 
 -- the statement at the first slot about r0 and r1, and these bytes of the stack
-abbrev pub says_first : Kind → Kind → StatementParts
+abbrev pub says_first : StatedKind → StatedKind → StatementParts
 says_first first second = record {
   slot = 0;
   rank = constant_rank 0;

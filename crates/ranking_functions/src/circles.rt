@@ -1,6 +1,6 @@
 //! Loops among the sites, and how a number is carried around one.
 
-use crate::loops::{Circle, Ways, is_marked, is_straight};
+use crate::loops::{Circle, SiteEdges, is_marked, is_straight};
 use crate::weights::Bounds;
 use inference::memory::{Memory, element_or};
 use inference::{Edge, Sites};
@@ -13,7 +13,7 @@ pub struct Graph<'a> {
     pub sites: &'a Sites,
     pub edges: &'a [Edge],
     /// All of the edges, indexed for the search for loops.
-    pub ways: &'a Ways,
+    pub ways: &'a SiteEdges,
     /// All of the edges, all sites and the entry, as one loop.
     pub all: &'a Circle,
     /// An element for each site, and the last one for the entry.
@@ -82,8 +82,8 @@ impl<'a> Graph<'a> {
     }
 
     /// These edges, indexed for the search for loops.
-    pub fn ways(&self, numbers: Vec<usize>) -> Ways {
-        Ways::new(self.memory, self.edges, numbers, self.nodes())
+    pub fn ways(&self, numbers: Vec<usize>) -> SiteEdges {
+        SiteEdges::new(self.memory, self.edges, numbers, self.nodes())
     }
 
     /// Whether there is no loop among these edges.
@@ -104,7 +104,7 @@ impl<'a> Graph<'a> {
     }
 
     /// The loop whose first site is this one, by these edges. Marks its sites as done.
-    pub fn next_circle(&self, ways: &Ways, head: usize, done: &mut Vec<bool>) -> Circle {
+    pub fn next_circle(&self, ways: &SiteEdges, head: usize, done: &mut Vec<bool>) -> Circle {
         let circle = ways.circle(self.memory, self.edges, head);
         self.mark(&circle, done);
         circle

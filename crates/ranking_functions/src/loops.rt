@@ -6,7 +6,7 @@ use kinds::put;
 
 /// Some of the edges, by their numbers, in the order of the sites at which they start.
 #[derive(Drop)]
-pub struct Ways {
+pub struct SiteEdges {
     pub numbers: Vec<usize>,
     /// For each site the place of the first edge that starts there or at a later site.
     starts: Vec<usize>,
@@ -36,10 +36,10 @@ pub fn numbers_below(memory: &Memory, count: usize) -> Vec<usize> {
     numbers
 }
 
-impl Ways {
+impl SiteEdges {
     /// These edges, between `nodes` sites, the entry included.
-    pub fn new(memory: &Memory, edges: &[Edge], numbers: Vec<usize>, nodes: usize) -> Ways {
-        let mut ways = Ways {
+    pub fn new(memory: &Memory, edges: &[Edge], numbers: Vec<usize>, nodes: usize) -> SiteEdges {
+        let mut ways = SiteEdges {
             starts: memory.filled(numbers.len(), nodes),
             lasts: memory.filled(0, nodes),
             numbers,

@@ -1,7 +1,7 @@
 //! Ranks for all statements of a program.
 
 use crate::circles::Graph;
-use crate::loops::{Circle, Ways, numbers_below};
+use crate::loops::{Circle, SiteEdges, numbers_below};
 use crate::plan::{RankPlan, Ranking, Unranked};
 use crate::trouble::unranked_loop;
 use crate::weights::{Ending, bounds_of, settle};
@@ -81,7 +81,7 @@ fn ranked(
 ) -> Ranking {
     let bounds = bounds_of(memory, &found.stated);
     let numbers = numbers_below(memory, found.edges.len());
-    let ways = Ways::new(memory, &found.edges, numbers, bounds.len());
+    let ways = SiteEdges::new(memory, &found.edges, numbers, bounds.len());
     let all = Circle::of_all(memory, found.edges.len(), bounds.len());
     let graph = Graph {
         memory,

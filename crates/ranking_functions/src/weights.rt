@@ -7,8 +7,8 @@ use absdom::Domain;
 use inference::memory::{Memory, element_or};
 use inference::{Edge, Value};
 use kinds::{Kind, kind_of, put};
-use object::{Kind as Stated, RankTerm, Statement};
-use ranks::{Line, bound_of};
+use object::{RankTerm, StatedKind as Stated, Statement};
+use ranks::{LinearBound, bound_of};
 
 /// The least and the greatest value of each register at the start of a segment.
 #[derive(Clone, Copy)]
@@ -125,7 +125,7 @@ struct Need {
 }
 
 /// What the edge needs. `line` bounds the rank at its end without the constant there.
-fn need_by(plan: &RankPlan, bounds: &[Bounds], edge: &Edge, line: &Line) -> Option<Need> {
+fn need_by(plan: &RankPlan, bounds: &[Bounds], edge: &Edge, line: &LinearBound) -> Option<Need> {
     let from = element_or(bounds, edge.from, NO_BOUNDS);
     let gap = gap_of(line.coefficients, coefficients_at(plan, edge.from), &from);
     if !gap.is_bounded {

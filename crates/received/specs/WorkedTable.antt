@@ -3,14 +3,14 @@
 use Rattle.std.specs.Prelude.{◌≡◌, ℤ, pos, Bool, true, false, Option, Some}
 use Rattle.words.specs.Constants.{max_age, max_sequence_number}
 use Rattle.words.specs.Numbers.{Moment, Seconds}
-use Rattle.lsa.specs.declared.body.Body.{Body}
+use Rattle.lsa.specs.declared.body.LsaBody.{LsaBody}
 use Rattle.adjacency.specs.lsdb.Copies.{DatabaseCopy}
 use Rattle.adjacency.specs.lsdb.Headers.{Lsa}
 use Rattle.adjacency.specs.Neighbors.{Neighbor}
 use Rattle.received.specs.Cases.{Case, case_of_readable, is_on_senders_list, was_requested}
 
 -- an AS-external-LSA of 9.9.9.9 for 203.0.113.0
-abbrev pub external_lsa : Body → ℤ → Seconds → Lsa
+abbrev pub external_lsa : LsaBody → ℤ → Seconds → Lsa
 external_lsa says sequence age = record {
   header = record {
     age = age;
@@ -26,7 +26,7 @@ external_lsa says sequence age = record {
 }
 
 -- a copy that was installed by flooding and sent at these moments, with its age at moment 90
-abbrev pub copy_of_it : Body → ℤ → Seconds → Moment → Moment → Option DatabaseCopy
+abbrev pub copy_of_it : LsaBody → ℤ → Seconds → Moment → Moment → Option DatabaseCopy
 copy_of_it says sequence age installed sent =
     Some (record {
       lsa = external_lsa says sequence age;
@@ -36,40 +36,41 @@ copy_of_it says sequence age installed sent =
     })
 
 -- the received LSA
-abbrev pub arrival : Body → Lsa
+abbrev pub arrival : LsaBody → Lsa
 arrival says = external_lsa says (pos 5) 10
 
 -- whether the LSA is on the sender's request list, and whether this instance is on its
 -- retransmission list
-pub record IsSender (says : Body) (from : Option Neighbor) (asked listed : Bool) : Type 0 where
+pub record IsSender (says : LsaBody) (from : Option Neighbor) (asked listed : Bool) : Type 0 where
   pub is_asked : was_requested from (arrival says) ≡ asked
   pub is_listed : is_on_senders_list 100 from (arrival says) ≡ listed
 
 -- the case of the LSA received at moment 100 from a sender, by whether any neighbor is in Exchange
 -- or Loading
-abbrev pub comes_in : Body → Option DatabaseCopy → Option Neighbor → Bool → Case
+abbrev pub comes_in : LsaBody → Option DatabaseCopy → Option Neighbor → Bool → Case
 comes_in says copy from synchronizing = case_of_readable 100 copy from synchronizing (arrival says)
 
 pub record WorkedTable : Type 0 where
   -- newer than a copy that was installed in the same second, and than one installed ten seconds ago
-  pub too_soon : (b : Body) (from : Option Neighbor) (s : Bool)
+  pub too_soon : (b : LsaBody) (from : Option Neighbor) (s : Bool)
       → comes_in b (copy_of_it b (pos 4) 0 100 90) from s ≡ Case.TooSoon
-  pub newer : (b : Body) (from : Option Neighbor) (s : Bool)
+  pub newer : (b : LsaBody) (from : Option Neighbor) (s : Bool)
       → comes_in b (copy_of_it b (pos 4) 0 90 90) from s ≡ Case.Newer
   -- not newer, although it is on the request list
-  pub bad_request : (b : Body) (from : Option Neighbor) (s listed : Bool)
+  pub bad_request : (b : LsaBody) (from : Option Neighbor) (s listed : Bool)
       → IsSender b from true listed
       → comes_in b (copy_of_it b (pos 5) 0 90 90) from s ≡ Case.BadRequest
   -- the same instance, on the sender's retransmission list or not
-  pub implied : (b : Body) (from : Option Neighbor) (s : Bool) → IsSender b from false true
+  pub implied : (b : LsaBody) (from : Option Neighbor) (s : Bool) → IsSender b from false true
       → comes_in b (copy_of_it b (pos 5) 0 90 90) from s ≡ Case.ImpliedAcknowledgment
-  pub duplicate : (b : Body) (from : Option Neighbor) (s : Bool) → IsSender b from false false
+  pub duplicate : (b : LsaBody) (from : Option Neighbor) (s : Bool) → IsSender b from false false
       → comes_in b (copy_of_it b (pos 5) 0 90 90) from s ≡ Case.Duplicate
   -- the copy is newer: being flushed after MaxSequenceNumber; sent in the same second; neither
-  pub wraps : (b : Body) (from : Option Neighbor) (s listed : Bool) → IsSender b from false listed
-      → comes_in b (copy_of_it b max_sequence_number max_age 90 100) from s ≡ Case.SequenceWraps
-  pub just_sent : (b : Body) (from : Option Neighbor) (s listed : Bool)
+  pub wraps : (b : LsaBody) (from : Option Neighbor) (s listed : Bool)
+      → IsSender b from false listed → comes_in b (copy_of_it b max_sequence_number max_age 90 100)
+      from s ≡ Case.SequenceWraps
+  pub just_sent : (b : LsaBody) (from : Option Neighbor) (s listed : Bool)
       → IsSender b from false listed
       → comes_in b (copy_of_it b (pos 6) 0 90 100) from s ≡ Case.SentJustNow
-  pub older : (b : Body) (from : Option Neighbor) (s listed : Bool) → IsSender b from false listed
-      → comes_in b (copy_of_it b (pos 6) 0 90 90) from s ≡ Case.Older
+  pub older : (b : LsaBody) (from : Option Neighbor) (s listed : Bool)
+      → IsSender b from false listed → comes_in b (copy_of_it b (pos 6) 0 90 90) from s ≡ Case.Older

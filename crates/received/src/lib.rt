@@ -4,4 +4,4 @@
 
 pub mod laws;
 // Names from the crates below that crates above use.
-pub use adjacency::{Interface, State};
+pub use adjacency::{Interface, NeighborState};

@@ -7,8 +7,8 @@ use Rattle.std.proofs.lemmas.Bool.{cases_eq}
 use Rattle.words.specs.Interfaces.{has_interface}
 use Rattle.words.specs.Prefixes.{Network, mask_of, network_address}
 use Rattle.words.specs.declared.route.Route.{Route}
-use Rattle.lsa.specs.declared.body.Body.TheVariants as body
-use Rattle.lsa.specs.declared.body.Link.{Link}
+use Rattle.lsa.specs.declared.body.LsaBody.TheVariants as body
+use Rattle.lsa.specs.declared.body.RouterLink.{RouterLink}
 use Rattle.lsa.specs.declared.body.LinkKind.{LinkKind}
 use Rattle.lsa.specs.declared.body.LinkKind.TheVariants.{PointToPoint, Stub, Transit, Virtual}
 use Rattle.routes.specs.Candidates.{AreCandidates, IsCandidate, Offers}
@@ -119,11 +119,12 @@ kind_is_stub PointToPoint = false
 kind_is_stub Transit = false
 kind_is_stub Virtual = false
 
-abbrev pub is_stub : ℕ × Link → Bool
+abbrev pub is_stub : ℕ × RouterLink → Bool
 is_stub x = kind_is_stub x.1.kind
 
 -- a stub link of a router whose way is known
-pub record StubOffer (said : Said) (root : Root) (router : ℕ) (l : Link) (length : ℕ) (o : Offer) :
+pub record StubOffer (said : Said) (root : Root) (router : ℕ) (l : RouterLink) (length : ℕ)
+    (o : Offer) :
     Type 0 where
   pub way : Way
   pub reached : IsWay (Leads said root) (ARouter root.router) (ARouter router) way
@@ -140,16 +141,17 @@ pub record StubOffer (said : Said) (root : Root) (router : ℕ) (l : Link) (leng
 
 module _ (moment : ℕ) (es : Entries) (root : Root) (P : Offer → Type 0) where
   -- if each stub link has an offer with the property P, all offers within the area have it
-  abbrev pub Known : ℕ → Link → Type 0
+  abbrev pub Known : ℕ → RouterLink → Type 0
   Known router l = (length : ℕ) × (o : Offer)
       × StubOffer (said_at moment (database es)) root router l length o × P o
 
   by_node : list_all is_no_network (sayings es) ≡ true
-      → ((router : ℕ) (l : Link) → Contains (filter is_stub (links_of (sayings es))) (router, l)
-      → Known router l) → (node : Node) (prefix : Network) (more : ℕ)
+      → ((router : ℕ) (l : RouterLink)
+      → Contains (filter is_stub (links_of (sayings es))) (router, l) → Known router l)
+      → (node : Node) (prefix : Network) (more : ℕ)
       → Attaches (said_at moment (database es)) node prefix more → (way : Way)
-      → IsWay (Leads (said_at moment (database es)) root) (ARouter root.router) node way
-      → (hops : ℕ) → (node ≡ ARouter root.router → hops ≡ 1)
+      → IsWay (Leads (said_at moment (database es)) root) (ARouter root.router) node
+      way → (hops : ℕ) → (node ≡ ARouter root.router → hops ≡ 1)
       → ((node ≡ ARouter root.router → ⊥) → hops ≡ way.hops)
       → P (intra prefix (way.distance + more) hops)
   by_node routers known (ANetwork id by) prefix more a way reached hops by_root by_others =
@@ -163,7 +165,7 @@ module _ (moment : ℕ) (es : Entries) (root : Root) (P : Offer → Type 0) wher
       )
       (is_said moment es _ (body.Network a.0) a.1) in cc)
   by_node routers known (ARouter router) prefix more a way reached hops by_root by_others =
-      let l : Link = a.0 in
+      let l : RouterLink = a.0 in
       let k = known router l (kept is_stub (links_of (sayings es)) (router, l)
       (has_link moment es router l a.1) (ap kind_is_stub a.2)) in
       let p : record {
@@ -185,8 +187,9 @@ module _ (moment : ℕ) (es : Entries) (root : Root) (P : Offer → Type 0) wher
       subst P same k.3
 
   pub each_within : list_all is_no_network (sayings es) ≡ true
-      → ((router : ℕ) (l : Link) → Contains (filter is_stub (links_of (sayings es))) (router, l)
-      → Known router l) → (o : Offer) → OffersWithin (said_at moment (database es)) root o → P o
+      → ((router : ℕ) (l : RouterLink)
+      → Contains (filter is_stub (links_of (sayings es))) (router, l) → Known router l)
+      → (o : Offer) → OffersWithin (said_at moment (database es)) root o → P o
   each_within routers known o x =
       subst P (sym x.is) (by_node routers known x.node x.prefix x.more x.attached x.way x.reached
       x.hops x.by_root x.by_others)

@@ -7,9 +7,9 @@ use Rattle.std.specs.List.{Contains, list_all}
 use Rattle.std.specs.Ordering.{eq_by_cmp}
 use Rattle.std.proofs.lemmas.List.Elements.{Contains-append_left, Contains-append_right}
 use Rattle.words.specs.declared.key.Key.{Key}
-use Rattle.lsa.specs.declared.body.Body.{Body}
-use Rattle.lsa.specs.declared.body.Body.TheVariants as body
-use Rattle.lsa.specs.declared.body.Link.{Link}
+use Rattle.lsa.specs.declared.body.LsaBody.{LsaBody}
+use Rattle.lsa.specs.declared.body.LsaBody.TheVariants as body
+use Rattle.lsa.specs.declared.body.RouterLink.{RouterLink}
 use Rattle.lsa.specs.declared.body.RouterLsa.{RouterLsa}
 use Rattle.lsdb.specs.Copies.{DatabaseCopy, is_aged_out}
 use Rattle.lsdb.specs.Keys.{key_cmp}
@@ -77,19 +77,19 @@ found q (x ∷ es) c e =
     ] refl e
 
 abbrev pub Sayings : Type 0
-Sayings = List (Key × Body)
+Sayings = List (Key × LsaBody)
 
 abbrev pub sayings : Entries → Sayings
 sayings es = map (λ (e : Key × DatabaseCopy). (e.0, e.1.lsa.body)) es
 
 -- the copy with that body
-pub record IsHeard (moment : ℕ) (o : Option DatabaseCopy) (says : Body) : Type 0 where
+pub record IsHeard (moment : ℕ) (o : Option DatabaseCopy) (says : LsaBody) : Type 0 where
   pub copy : DatabaseCopy
   pub stands : o ≡ Some copy
   pub young : is_aged_out moment copy ≡ false
   pub is_body : copy.lsa.body ≡ says
 
-pub heard : (moment : ℕ) (o : Option DatabaseCopy) (says : Body) → said_by moment o ≡ Some says
+pub heard : (moment : ℕ) (o : Option DatabaseCopy) (says : LsaBody) → said_by moment o ≡ Some says
     → IsHeard moment o says
 heard moment None says e = absurd (cc)
 heard moment (Some c) says e = by_age (is_aged_out moment c) refl e
@@ -99,44 +99,44 @@ heard moment (Some c) says e = by_age (is_aged_out moment c) refl e
     by_age true is f = absurd (cc)
     by_age false is f = record { copy = c; stands = refl; young = is; is_body = cc }
 
-pub is_said : (moment : ℕ) (es : Entries) (k : Key) (says : Body)
+pub is_said : (moment : ℕ) (es : Entries) (k : Key) (says : LsaBody)
     → Says (said_at moment (database es)) k says → Contains (sayings es) (k, says)
 is_said moment es k says e =
     let s = heard moment (finite.get (database es) k) says e in
     let among : Contains es (k, s.copy) =
     found k es s.copy (sym (finite.get-from_entries keys_total es k) ∙ s.stands) in
-    let P : Body → Type 0 = λ b. Contains (sayings es) (k, b) in
+    let P : LsaBody → Type 0 = λ b. Contains (sayings es) (k, b) in
     subst P s.is_body (mapped (λ (e : Key × DatabaseCopy). (e.0, e.1.lsa.body)) es (k, s.copy)
     among)
 
 -- ---- links
 
-abbrev pub links_by : Key → Body → List (ℕ × Link)
-links_by k (body.Router r) = map (λ (l : Link). (k.link_state_id, l)) r.links
+abbrev pub links_by : Key → LsaBody → List (ℕ × RouterLink)
+links_by k (body.Router r) = map (λ (l : RouterLink). (k.link_state_id, l)) r.links
 links_by k (body.Network n) = []
 links_by k (body.NetworkSummary s) = []
 links_by k (body.RouterSummary s) = []
 links_by k (body.External e) = []
 
-abbrev pub links_of : Sayings → List (ℕ × Link)
+abbrev pub links_of : Sayings → List (ℕ × RouterLink)
 links_of [] = []
 links_of (s ∷ ss) = links_by s.0 s.1 ++ links_of ss
 
-linked : (ss : Sayings) (k : Key) (r : RouterLsa) (l : Link) → Contains ss (k, body.Router r)
+linked : (ss : Sayings) (k : Key) (r : RouterLsa) (l : RouterLink) → Contains ss (k, body.Router r)
     → Contains r.links l → Contains (links_of ss) (k.link_state_id, l)
 linked [] k r l t among = absurd (of_empty (k, body.Router r) t)
 linked (s ∷ ss) k r l t among =
     elim (of_cons s ss (k, body.Router r) t) [
       | inl e ↦
-          let P : Key × Body → Type 0 = λ x. Contains (links_by x.0 x.1 ++ links_of ss)
+          let P : Key × LsaBody → Type 0 = λ x. Contains (links_by x.0 x.1 ++ links_of ss)
           (k.link_state_id, l) in
           subst P (sym e) (Contains-append_left (links_by k (body.Router r)) (links_of ss)
-          (k.link_state_id, l) (mapped (λ (x : Link). (k.link_state_id, x)) r.links l among))
+          (k.link_state_id, l) (mapped (λ (x : RouterLink). (k.link_state_id, x)) r.links l among))
       | inr later ↦ Contains-append_right (links_by s.0 s.1) (links_of ss) (k.link_state_id, l)
           (linked ss k r l later among)
     ]
 
-pub has_link : (moment : ℕ) (es : Entries) (router : ℕ) (l : Link)
+pub has_link : (moment : ℕ) (es : Entries) (router : ℕ) (l : RouterLink)
     → HasLink (said_at moment (database es)) router l → Contains (links_of (sayings es)) (router, l)
 has_link moment es router l h = linked (sayings es) (record {
   ls_type = 1;
@@ -146,7 +146,7 @@ has_link moment es router l h = linked (sayings es) (record {
     (is_said moment es _ (body.Router h.lsa) h.its) h.among
 
 -- no copy is a network-LSA
-abbrev pub is_no_network : Key × Body → Bool
+abbrev pub is_no_network : Key × LsaBody → Bool
 is_no_network (k, body.Router r) = true
 is_no_network (k, body.Network n) = false
 is_no_network (k, body.NetworkSummary s) = true

@@ -9,8 +9,8 @@ use Rattle.words.specs.Prefixes.{IsUnder, Network, mask_of, network_address}
 use Rattle.words.specs.declared.key.Key.{Key}
 use Rattle.words.specs.declared.route.ExternalType.TheVariants.{Type1, Type2}
 use Rattle.words.specs.declared.route.Route.{Route}
-use Rattle.lsa.specs.declared.body.Body.{Body}
-use Rattle.lsa.specs.declared.body.Body.TheVariants as body
+use Rattle.lsa.specs.declared.body.LsaBody.{LsaBody}
+use Rattle.lsa.specs.declared.body.LsaBody.TheVariants as body
 use Rattle.lsa.specs.declared.body.ExternalLsa.{ExternalLsa}
 use Rattle.lsdb.proofs.Keys.{keys_total}
 use Rattle.routes.specs.Candidates.{IsCandidate, IsExternalWay, Offers, external_offer}
@@ -224,7 +224,7 @@ abbrev offers : List Offer
 offers = own_offer ∷ other_offer ∷ next_offer ∷ cheap_offer ∷ first_offer ∷ by_next_offer
     ∷ by_own_offer ∷ []
 
-abbrev IsKnown : Key → Body → Type 0
+abbrev IsKnown : Key → LsaBody → Type 0
 IsKnown k (body.Router r) = Unit {0}
 IsKnown k (body.Network n) = Unit {0}
 IsKnown k (body.NetworkSummary s) = Unit {0}
@@ -250,7 +250,7 @@ by_itself s o g = absurd (g.of_another refl)
 abbrev nobody_id : ℕ
 nobody_id = ipv4 9 9 9 9
 
-abbrev is_of_another : Key × Body → Bool
+abbrev is_of_another : Key × LsaBody → Bool
 is_of_another s = not (nat_eq s.0.ls_type 1 && nat_eq s.0.link_state_id nobody_id)
 
 by_nobody : IsKnown (key 5 (ipv4 198 18 3 0) nobody_id) (body.External (external Type1 20 0 0))
@@ -306,7 +306,7 @@ own_known s o g = (
       (λ e. let z : ipv4 10 0 1 9 ≡ 0 = e in omega (arith, z)) own_forwarded o g,
 )
 
-all_known : AllByRecursion (λ (s : Key × Body). IsKnown s.0 s.1) (sayings destinations)
+all_known : AllByRecursion (λ (s : Key × LsaBody). IsKnown s.0 s.1) (sayings destinations)
 all_known = (
   tt,
   (
@@ -332,7 +332,7 @@ complete o (Within x) = one_of (λ (y : Offer). Contains offers y) nearby
     ((0, omega arith, refl), ((1, omega arith, refl), ((2, omega arith, refl), tt))) o (within o x)
 complete o (Between x) = absurd (nothing_between 0 destinations refl near_router o x)
 complete o (External x) =
-    one_of (λ (s : Key × Body). IsKnown s.0 s.1) (sayings destinations) all_known
+    one_of (λ (s : Key × LsaBody). IsKnown s.0 s.1) (sayings destinations) all_known
     (key 5 x.id x.originator, body.External x.lsa)
     (is_said 0 destinations _ (body.External x.lsa) x.its) x.its o
     (record {

@@ -8,8 +8,8 @@ use Rattle.std.specs.Int.{bit_at}
 use Rattle.std.specs.List.{list_all}
 use Rattle.std.proofs.lemmas.Nat.Bits.{bit_at-lt, bit_at_or}
 use Rattle.words.specs.Interfaces.{has_interface}
-use Rattle.lsa.specs.declared.body.Body.TheVariants as body
-use Rattle.lsa.specs.declared.body.Link.{Link}
+use Rattle.lsa.specs.declared.body.LsaBody.TheVariants as body
+use Rattle.lsa.specs.declared.body.RouterLink.{RouterLink}
 use Rattle.lsa.specs.declared.body.LinkKind.{LinkKind}
 use Rattle.lsa.specs.declared.body.LinkKind.TheVariants.{PointToPoint, Stub, Transit, Virtual}
 use Rattle.routes.specs.Links.{Counts, Leads, LeadsTo, ListsRouter}
@@ -131,16 +131,16 @@ exit_of (a ∷ addresses) address n hops (suc k) e p =
 
 -- a point-to-point link leads to more than its end's distance, or to exactly that with the next
 -- hops
-abbrev pub carries_on : Root → (ℕ → ℕ) → ℕ → Link → Bool
+abbrev pub carries_on : Root → (ℕ → ℕ) → ℕ → RouterLink → Bool
 carries_on root hops router l = nat_eq (bit_or (hops router) (hops l.link_id)) (hops l.link_id) &&
     (not (nat_eq router root.router) || exits_in root.addresses l.link_data 0 (hops l.link_id))
 
-abbrev pub fits_link : Root → (ℕ → ℕ) → (ℕ → ℕ) → ℕ → Link → Bool
+abbrev pub fits_link : Root → (ℕ → ℕ) → (ℕ → ℕ) → ℕ → RouterLink → Bool
 fits_link root distance hops router l =
     nat_lt (distance l.link_id) (distance router + l.metric) ||
     (nat_eq (distance l.link_id) (distance router + l.metric) && carries_on root hops router l)
 
-abbrev pub fits : Root → (ℕ → ℕ) → (ℕ → ℕ) → ℕ × Link → Bool
+abbrev pub fits : Root → (ℕ → ℕ) → (ℕ → ℕ) → ℕ × RouterLink → Bool
 fits root distance hops x = not (is_point x.1.kind) || fits_link root distance hops x.0 x.1
 
 pub record AreChecked (root : Root) (ss : Sayings) (distance hops : ℕ → ℕ) : Type 0 where
@@ -201,7 +201,7 @@ module _ (root : Root) (moment : ℕ) (es : Entries) (distance hops : ℕ → �
       → Facts root distance hops (ARouter router) (ARouter k.link.link_id) k.link.metric
       exit
   link_facts router c price exit k e =
-      let l : Link = k.link in
+      let l : RouterLink = k.link in
       elim (either_true (nat_lt (distance l.link_id) (distance router + l.metric))
       (nat_eq (distance l.link_id) (distance router + l.metric) && carries_on root hops router
       l) e) [

@@ -4,7 +4,7 @@ use Rattle.std.proofs.Common.{false, cond, Option, None, Some, eqb-true, arith}
 use Rattle.std.specs.Prelude.{◌==◌}
 use mathlib.Core.Bool.{false≢true}
 use Rattle.words.specs.declared.key.Key.{Key}
-use Rattle.lsa.specs.declared.body.Body.{Body}
+use Rattle.lsa.specs.declared.body.LsaBody.{LsaBody}
 use Rattle.lsdb.specs.Copies.{DatabaseCopy, is_aged_out}
 use Rattle.kept_routes.specs.Ages.{IsOldCopy}
 use Rattle.kept_routes.specs.Sameness.{IsLeft}
@@ -45,17 +45,18 @@ came (Some d) is c a b h = absurd (cc)
 
 -- ---- types
 
-pub none_some : (b : Body) → None ≡ Some b → ⊥
+pub none_some : (b : LsaBody) → None ≡ Some b → ⊥
 none_some b is = absurd (cc)
 
-pub some_none : (b : Body) → Some b ≡ None → ⊥
+pub some_none : (b : LsaBody) → Some b ≡ None → ⊥
 some_none b is = absurd (cc)
 
-pub some_some : (b c : Body) → Some b ≡ Some c → b ≡ c
+pub some_some : (b c : LsaBody) → Some b ≡ Some c → b ≡ c
 some_some b c is = cc
 
 -- an LSA of another type says nothing
-pub not_said : (ls_type : ℕ) (b : Body) (k : Key) → k.ls_type ≢ ls_type → None ≡ saying ls_type b k
+pub not_said : (ls_type : ℕ) (b : LsaBody) (k : Key) → k.ls_type ≢ ls_type
+    → None ≡ saying ls_type b k
 not_said ls_type b k other = by (k.ls_type == ls_type) refl
   where
     by : (is : Bool) → k.ls_type == ls_type ≡ is → None ≡ cond is (Some b) None

@@ -7,8 +7,8 @@ use Rattle.std.specs.List.{Contains}
 use Rattle.std.proofs.lemmas.Nat.Bits.{bit_at-suc, bit_at-zero}
 use Rattle.words.specs.Interfaces.{has_interface}
 use Rattle.words.specs.declared.key.Key.{Key}
-use Rattle.lsa.specs.declared.body.Body.{Body}
-use Rattle.lsa.specs.declared.body.Link.{Link}
+use Rattle.lsa.specs.declared.body.LsaBody.{LsaBody}
+use Rattle.lsa.specs.declared.body.RouterLink.{RouterLink}
 use Rattle.lsa.specs.declared.body.LinkKind.TheVariants.{PointToPoint}
 use Rattle.lsdb.specs.Keys.{key_cmp}
 use Rattle.lsdb.proofs.Keys.{keys_total}
@@ -18,17 +18,17 @@ use Rattle.routes.specs.declared.root.Root.{Root}
 use Rattle.routes.proofs.Determined.{bit_of_member}
 use Rattle.routes.specs.Said.{said_at, said_by}
 
-pub says : (es : Entries) (k : Key) (b : Body) → finite.find key_cmp k es ≡ Some (copy_of k b)
+pub says : (es : Entries) (k : Key) (b : LsaBody) → finite.find key_cmp k es ≡ Some (copy_of k b)
     → Says (said_at 0 (database es)) k b
 says es k b e = ap (said_by 0) (finite.get-from_entries keys_total es k ∙ e)
 
-pub linked : (es : Entries) (router : ℕ) (links : List Link)
-    → IsRouterLsa (said_at 0 (database es)) router (router_lsa links) → (l : Link)
+pub linked : (es : Entries) (router : ℕ) (links : List RouterLink)
+    → IsRouterLsa (said_at 0 (database es)) router (router_lsa links) → (l : RouterLink)
     → Contains links l → HasLink (said_at 0 (database es)) router l
 linked es router links its l among = record { lsa = router_lsa links; its = its; among = among }
 
 -- the root's link by its n-th interface
-pub from_root : (es : Entries) (root : Root) (links : List Link)
+pub from_root : (es : Entries) (root : Root) (links : List RouterLink)
     → IsRouterLsa (said_at 0 (database es)) root.router (router_lsa links)
     → (neighbor address cost n : ℕ) → Contains links (point_to_point neighbor address cost)
     → 0 < cost → slice_get root.addresses n ≡ Some address
@@ -45,7 +45,7 @@ from_root es root links its neighbor address cost n among not_free at = record {
   elsewhere = λ other. absurd (other refl);
 }
 
-pub from_other : (es : Entries) (root : Root) (router : ℕ) (links : List Link)
+pub from_other : (es : Entries) (root : Root) (router : ℕ) (links : List RouterLink)
     → IsRouterLsa (said_at 0 (database es)) router (router_lsa links) → (router ≡ root.router → ⊥)
     → (neighbor address cost : ℕ) → Contains links (point_to_point neighbor address cost)
     → 0 < cost → Counts (said_at 0 (database es)) root router PointToPoint neighbor cost 0
@@ -60,7 +60,7 @@ from_other es root router links its other neighbor address cost among not_free =
   elsewhere = λ _. refl;
 }
 
-pub back : (es : Entries) (router : ℕ) (links : List Link)
+pub back : (es : Entries) (router : ℕ) (links : List RouterLink)
     → IsRouterLsa (said_at 0 (database es)) router (router_lsa links) → (neighbor address cost : ℕ)
     → Contains links (point_to_point neighbor address cost)
     → LinksBack (said_at 0 (database es)) router PointToPoint neighbor

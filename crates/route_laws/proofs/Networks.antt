@@ -9,9 +9,9 @@ use Rattle.std.proofs.lemmas.List.Elements.{Contains-append_left, Contains-appen
 use Rattle.words.specs.Interfaces.{has_interface}
 use Rattle.words.specs.Prefixes.{Network, mask_of, network_address}
 use Rattle.words.specs.declared.key.Key.{Key}
-use Rattle.lsa.specs.declared.body.Body.{Body}
-use Rattle.lsa.specs.declared.body.Body.TheVariants as body
-use Rattle.lsa.specs.declared.body.Link.{Link}
+use Rattle.lsa.specs.declared.body.LsaBody.{LsaBody}
+use Rattle.lsa.specs.declared.body.LsaBody.TheVariants as body
+use Rattle.lsa.specs.declared.body.RouterLink.{RouterLink}
 use Rattle.lsa.specs.declared.body.LinkKind.{LinkKind}
 use Rattle.lsa.specs.declared.body.LinkKind.TheVariants.{PointToPoint, Stub, Transit, Virtual}
 use Rattle.lsa.specs.declared.body.NetworkLsa.{NetworkLsa}
@@ -38,7 +38,7 @@ use Rattle.routes.specs.Said.{Said, said_at}
 abbrev pub Member : Type 0
 Member = (ℕ × ℕ) × ℕ
 
-abbrev pub listed_by : Key → Body → List Member
+abbrev pub listed_by : Key → LsaBody → List Member
 listed_by k (body.Router r) = []
 listed_by k (body.Network n) = map
     (λ (router : ℕ). ((k.link_state_id, k.advertising_router), router)) n.attached
@@ -58,7 +58,7 @@ member (s ∷ ss) k n router t among =
     let m : Member = ((k.link_state_id, k.advertising_router), router) in
     elim (of_cons s ss (k, body.Network n) t) [
       | inl e ↦
-          let P : Key × Body → Type 0 = λ x. Contains (listed_by x.0 x.1 ++ members_of ss) m in
+          let P : Key × LsaBody → Type 0 = λ x. Contains (listed_by x.0 x.1 ++ members_of ss) m in
           subst P (sym e) (Contains-append_left (listed_by k (body.Network n)) (members_of ss) m
           (mapped (λ (x : ℕ). ((k.link_state_id, k.advertising_router), x)) n.attached router
           among))
@@ -93,26 +93,27 @@ abbrev pub rises : ℕ → ℕ → ℕ → ℕ → ℕ → Bool → Bool
 rises dv hv price dw hw exits = nat_lt dw (dv + price) ||
     (nat_eq dw (dv + price) && (nat_eq (bit_or hv hw) hw && exits))
 
-abbrev pub leaves_by : Root → ℕ → Link → ℕ → Bool
+abbrev pub leaves_by : Root → ℕ → RouterLink → ℕ → Bool
 leaves_by root router l hops = not (nat_eq router root.router) || exits_in root.addresses
     l.link_data 0 hops
 
-abbrev pub point_rises : Root → (ℕ → ℕ) → (ℕ → ℕ) → ℕ × Link → Bool
+abbrev pub point_rises : Root → (ℕ → ℕ) → (ℕ → ℕ) → ℕ × RouterLink → Bool
 point_rises root dr hr x = not (is_point x.1.kind) || rises (dr x.0) (hr x.0) x.1.metric
     (dr x.1.link_id) (hr x.1.link_id) (leaves_by root x.0 x.1 (hr x.1.link_id))
 
 -- the link is between this router and this network
-abbrev pub between : Member → ℕ × Link → Bool → Bool
+abbrev pub between : Member → ℕ × RouterLink → Bool → Bool
 between m x says = not (is_transit x.1.kind) ||
     (not (nat_eq x.0 m.1) || (not (nat_eq x.1.link_id m.0.0) || says))
 
-abbrev pub enter_rises : Root → (ℕ → ℕ) → (ℕ → ℕ) → (ℕ → ℕ → ℕ) → (ℕ → ℕ → ℕ) → Member → ℕ × Link
-    → Bool
+abbrev pub enter_rises : Root → (ℕ → ℕ) → (ℕ → ℕ) → (ℕ → ℕ → ℕ) → (ℕ → ℕ → ℕ) → Member
+    → ℕ × RouterLink → Bool
 enter_rises root dr hr dn hn m x =
     between m x (rises (dr x.0) (hr x.0) x.1.metric (dn m.0.0 m.0.1) (hn m.0.0 m.0.1)
     (leaves_by root x.0 x.1 (hn m.0.0 m.0.1)))
 
-abbrev pub leave_rises : (ℕ → ℕ) → (ℕ → ℕ) → (ℕ → ℕ → ℕ) → (ℕ → ℕ → ℕ) → Member → ℕ × Link → Bool
+abbrev pub leave_rises : (ℕ → ℕ) → (ℕ → ℕ) → (ℕ → ℕ → ℕ) → (ℕ → ℕ → ℕ) → Member → ℕ × RouterLink
+    → Bool
 leave_rises dr hr dn hn m x = between m x
     (rises (dn m.0.0 m.0.1) (hn m.0.0 m.0.1) 0 (dr m.1) (hr m.1) true)
 
@@ -191,7 +192,7 @@ module _ (root : Root) (moment : ℕ) (es : Entries) (dr hr : ℕ → ℕ) (dn h
             ];
       })
 
-  is_between : (m : Member) (x : ℕ × Link) (says : Bool) → between m x says ≡ true
+  is_between : (m : Member) (x : ℕ × RouterLink) (says : Bool) → between m x says ≡ true
       → is_transit x.1.kind ≡ true → x.0 ≡ m.1 → x.1.link_id ≡ m.0.0 → says ≡ true
   is_between m x says e kind router id =
       let first = pass (is_transit x.1.kind)
@@ -230,7 +231,7 @@ module _ (root : Root) (moment : ℕ) (es : Entries) (dr hr : ℕ → ℕ) (dn h
       by_link a price exit (dn id by) (hn id by) Transit id k e
   edge (ANetwork id by) (ARouter b) price exit l =
       let m : Member = ((id, by), b) in
-      let back : Link = l.1.0 in
+      let back : RouterLink = l.1.0 in
       let row = all_pass (λ (x : Member). list_all (leave_rises dr hr dn hn x)
       (links_of (sayings es))) (members_of (sayings es)) are.leaves m
       (has_member moment es id by b l.0) in
@@ -266,7 +267,7 @@ arrives leads from (s ∷ rest) to p =
       | inr k ↦ inr k
     ]
 
-abbrev pub has_stubs_alone : ℕ → ℕ × Link → Bool
+abbrev pub has_stubs_alone : ℕ → ℕ × RouterLink → Bool
 has_stubs_alone router x = not (nat_eq x.0 router) || kind_is_stub x.1.kind
 
 module _ (root : Root) (moment : ℕ) (es : Entries) (router : ℕ)
@@ -315,7 +316,7 @@ pub record NetworkOffer (said : Said) (root : Root) (id by : ℕ) (lsa : Network
 
 module _ (moment : ℕ) (es : Entries) (root : Root) (P : Offer → Type 0) where
   -- the router of a stub link isn't reached, or its offer has the property P
-  abbrev pub IsStubKnown : ℕ → Link → Type 0
+  abbrev pub IsStubKnown : ℕ → RouterLink → Type 0
   IsStubKnown router l =
       ((way : Way) → IsWay (Leads (said_at moment (database es)) root) (ARouter root.router)
       (ARouter router) way → ⊥)
@@ -326,7 +327,7 @@ module _ (moment : ℕ) (es : Entries) (root : Root) (P : Offer → Type 0) wher
   IsNetworkKnown id by lsa = (length : ℕ) × (o : Offer)
       × NetworkOffer (said_at moment (database es)) root id by lsa length o × P o
 
-  module _ (stubs : (router : ℕ) (l : Link)
+  module _ (stubs : (router : ℕ) (l : RouterLink)
       → Contains (filter is_stub (links_of (sayings es))) (router, l) → IsStubKnown router l)
       (networks : (id by : ℕ) (lsa : NetworkLsa) → Contains (sayings es) (
         record {
@@ -358,7 +359,7 @@ module _ (moment : ℕ) (es : Entries) (root : Root) (P : Offer → Type 0) wher
         ∙ (λ i. intra (p i) ((w i).distance + m i) (h i)) in
         subst P same k.3
     by_node (ARouter router) prefix more a way reached hops by_root by_others =
-        let l : Link = a.0 in
+        let l : RouterLink = a.0 in
         elim (stubs router l (kept is_stub (links_of (sayings es)) (router, l)
         (has_link moment es router l a.1) (ap kind_is_stub a.2))) [
           | inl never ↦ absurd (never way reached)

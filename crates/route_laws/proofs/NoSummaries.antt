@@ -2,8 +2,8 @@
 use Rattle.std.proofs.Common.{◌≡◌, ℕ, inl, inr, Bool, true, false}
 use Rattle.std.specs.List.{list_all}
 use Rattle.words.specs.declared.key.Key.{Key}
-use Rattle.lsa.specs.declared.body.Body.{Body}
-use Rattle.lsa.specs.declared.body.Body.TheVariants as body
+use Rattle.lsa.specs.declared.body.LsaBody.{LsaBody}
+use Rattle.lsa.specs.declared.body.LsaBody.TheVariants as body
 use Rattle.routes.specs.Offers.{OffersWithin, ReachesBoundaryRouter}
 use Rattle.routes.specs.Paths.{Way}
 use Rattle.routes.specs.Said.{said_at}
@@ -14,7 +14,7 @@ use Rattle.routes.specs.declared.root.Root.{Root}
 use Rattle.route_laws.specs.Worked.{Entries, database}
 use Rattle.route_laws.proofs.Entries.{all_pass, is_said, sayings}
 
-abbrev pub is_no_summary : Key × Body → Bool
+abbrev pub is_no_summary : Key × LsaBody → Bool
 is_no_summary (k, body.Router r) = true
 is_no_summary (k, body.Network n) = true
 is_no_summary (k, body.NetworkSummary s) = false

@@ -4,9 +4,9 @@ use Rattle.std.proofs.Common.{filter, arith, refl, sym, ap, subst}
 use Rattle.std.specs.List.{Contains}
 use Rattle.words.specs.declared.key.Key.{Key}
 use Rattle.words.specs.declared.route.Route.{Route}
-use Rattle.lsa.specs.declared.body.Body.{Body}
-use Rattle.lsa.specs.declared.body.Body.TheVariants as body
-use Rattle.lsa.specs.declared.body.Link.{Link}
+use Rattle.lsa.specs.declared.body.LsaBody.{LsaBody}
+use Rattle.lsa.specs.declared.body.LsaBody.TheVariants as body
+use Rattle.lsa.specs.declared.body.RouterLink.{RouterLink}
 use Rattle.routes.specs.Candidates.{AreCandidates, IsCandidate, Offers}
 use Rattle.routes.specs.Candidates.Offers.{Between, External, Within}
 use Rattle.routes.specs.Links.{IsRouterLsa, Leads}
@@ -114,13 +114,14 @@ way_far =
 abbrev offer : Offer
 offer = intra (network_24 192 0 2) 20 6
 
-abbrev far_stub : Link
+abbrev far_stub : RouterLink
 far_stub = stub (ipv4 192 0 2 0) mask_24 10
 
-known : (router : ℕ) (l : Link) → Contains (filter is_stub (links_of (sayings square))) (router, l)
+known : (router : ℕ) (l : RouterLink)
+    → Contains (filter is_stub (links_of (sayings square))) (router, l)
     → Known 0 square square_root (λ o. offer ≡ o) router l
 known router l t =
-    let P : ℕ × Link → Type 0 = λ x. Known 0 square square_root (λ o. offer ≡ o) x.0 x.1 in
+    let P : ℕ × RouterLink → Type 0 = λ x. Known 0 square square_root (λ o. offer ≡ o) x.0 x.1 in
     elim (of_cons (far, far_stub) [] (router, l) t) [
       | inl e ↦ subst P e (
         24,
@@ -143,7 +144,7 @@ known router l t =
       | inr none ↦ absurd (of_empty (router, l) none)
     ]
 
-abbrev is_router : Key × Body → Bool
+abbrev is_router : Key × LsaBody → Bool
 is_router (k, body.Router r) = true
 is_router (k, body.Network n) = false
 is_router (k, body.NetworkSummary s) = false

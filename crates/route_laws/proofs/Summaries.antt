@@ -8,10 +8,10 @@ use Rattle.words.specs.Prefixes.{Network, network_address}
 use Rattle.words.specs.declared.key.Key.{Key}
 use Rattle.words.specs.declared.route.ExternalType.TheVariants.{Type1, Type2}
 use Rattle.words.specs.declared.route.Route.{Route}
-use Rattle.lsa.specs.declared.body.Body.{Body}
-use Rattle.lsa.specs.declared.body.Body.TheVariants as body
+use Rattle.lsa.specs.declared.body.LsaBody.{LsaBody}
+use Rattle.lsa.specs.declared.body.LsaBody.TheVariants as body
 use Rattle.lsa.specs.declared.body.ExternalLsa.{ExternalLsa}
-use Rattle.lsa.specs.declared.body.Link.{Link}
+use Rattle.lsa.specs.declared.body.RouterLink.{RouterLink}
 use Rattle.lsa.specs.declared.body.RouterLsa.{RouterLsa}
 use Rattle.lsa.specs.declared.body.SummaryLsa.{SummaryLsa}
 use Rattle.routes.specs.Candidates.{AreCandidates, IsCandidate, IsExternalWay, Offers}
@@ -67,7 +67,7 @@ distance r = cond (nat_eq r border) 10 (cond (nat_eq r distant) 100 0)
 abbrev hops : ℕ → ℕ
 hops r = cond (nat_eq r border) 2 (cond (nat_eq r distant) 4 0)
 
-abbrev flagged : ℕ → List Link → RouterLsa
+abbrev flagged : ℕ → List RouterLink → RouterLsa
 flagged flags links = record { flags = flags; links = links }
 
 only_two : (i : ℕ) → IsTrue (has_interface 4 i) → i ≡ 2
@@ -104,7 +104,7 @@ abbrev of_distant : Offer
 of_distant = external_offer Type1 (network_24 203 0 115) (external Type1 20 0 0) distant distant_way
 
 -- a router-LSA of another router than 9.9.9.9, or another LSA
-abbrev is_of_another : Key × Body → Bool
+abbrev is_of_another : Key × LsaBody → Bool
 is_of_another s = not (nat_eq s.0.ls_type 1 && nat_eq s.0.link_state_id beyond)
 
 -- ---- whatever flags the neighbors have
@@ -226,7 +226,7 @@ module _ (flags distant_flags : ℕ) (has_e : bit_and distant_flags 2 ≡ 2) whe
 
   -- ---- what is advertised
 
-  abbrev IsTold : Key → Body → Type 0
+  abbrev IsTold : Key → LsaBody → Type 0
   IsTold k (body.Router r) = Unit {0}
   IsTold k (body.Network n) = Unit {0}
   IsTold k (body.NetworkSummary s) = (k.advertising_router ≡ border)
@@ -235,7 +235,7 @@ module _ (flags distant_flags : ℕ) (has_e : bit_and distant_flags 2 ≡ 2) whe
       ⊎ ((k.advertising_router ≡ distant) × (s ≡ summary 1))
   IsTold k (body.External lsa) = Unit {0}
 
-  all_told : AllByRecursion (λ (s : Key × Body). IsTold s.0 s.1)
+  all_told : AllByRecursion (λ (s : Key × LsaBody). IsTold s.0 s.1)
       (sayings (told_entries flags distant_flags))
   all_told = (
     tt,
@@ -254,8 +254,8 @@ module _ (flags distant_flags : ℕ) (has_e : bit_and distant_flags 2 ≡ 2) whe
     ),
   )
 
-  told_of : (k : Key) (says_so : Body) → said k ≡ Some says_so → IsTold k says_so
-  told_of k says_so e = one_of (λ (s : Key × Body). IsTold s.0 s.1)
+  told_of : (k : Key) (says_so : LsaBody) → said k ≡ Some says_so → IsTold k says_so
+  told_of k says_so e = one_of (λ (s : Key × LsaBody). IsTold s.0 s.1)
       (sayings (told_entries flags distant_flags)) all_told (k, says_so)
       (is_said 0 (told_entries flags distant_flags) k says_so e)
 
@@ -370,7 +370,7 @@ module _ (flags distant_flags : ℕ) (has_e : bit_and distant_flags 2 ≡ 2) whe
       (first : (o : Offer) → Given (ipv4 203 0 113 0) beyond (external Type1 20 0 0) o → P o)
       (second : (o : Offer) → Given (ipv4 203 0 114 0) beyond (external Type2 20 0 0) o → P o)
       (third : (o : Offer) → Given (ipv4 203 0 115 0) distant (external Type1 20 0 0) o → P o) where
-    abbrev IsKnown : Key → Body → Type 0
+    abbrev IsKnown : Key → LsaBody → Type 0
     IsKnown k (body.Router r) = Unit {0}
     IsKnown k (body.Network n) = Unit {0}
     IsKnown k (body.NetworkSummary s) = Unit {0}
@@ -378,13 +378,13 @@ module _ (flags distant_flags : ℕ) (has_e : bit_and distant_flags 2 ≡ 2) whe
     IsKnown k (body.External lsa) = (o : Offer) → Given k.link_state_id k.advertising_router lsa o
         → P o
 
-    all_known : AllByRecursion (λ (s : Key × Body). IsKnown s.0 s.1)
+    all_known : AllByRecursion (λ (s : Key × LsaBody). IsKnown s.0 s.1)
         (sayings (told_entries flags distant_flags))
     all_known = (tt, (tt, (tt, (tt, (tt, (tt, (tt, (tt, (first, (second, (third, tt)))))))))))
 
     each_external : (o : Offer) → OffersExternal said summaries_root o → P o
     each_external o x =
-        one_of (λ (s : Key × Body). IsKnown s.0 s.1) (sayings (told_entries flags distant_flags))
+        one_of (λ (s : Key × LsaBody). IsKnown s.0 s.1) (sayings (told_entries flags distant_flags))
         all_known (key 5 x.id x.originator, body.External x.lsa)
         (is_said 0 (told_entries flags distant_flags) (key 5 x.id x.originator)
         (body.External x.lsa) x.its) o

@@ -8,10 +8,10 @@ use Rattle.words.specs.Prefixes.{Network, network_address}
 use Rattle.words.specs.declared.key.Key.{Key}
 use Rattle.words.specs.declared.route.ExternalType.TheVariants.{Type1}
 use Rattle.words.specs.declared.route.Route.{Route}
-use Rattle.lsa.specs.declared.body.Body.{Body}
-use Rattle.lsa.specs.declared.body.Body.TheVariants as body
+use Rattle.lsa.specs.declared.body.LsaBody.{LsaBody}
+use Rattle.lsa.specs.declared.body.LsaBody.TheVariants as body
 use Rattle.lsa.specs.declared.body.ExternalLsa.{ExternalLsa}
-use Rattle.lsa.specs.declared.body.Link.{Link}
+use Rattle.lsa.specs.declared.body.RouterLink.{RouterLink}
 use Rattle.routes.specs.Candidates.{IsBest, IsCandidate, IsExternalWay, Offers, external_offer}
 use Rattle.routes.specs.Routes.IsBefore.{ByAddress}
 use Rattle.routes.specs.Routes.IsNoLater.{ByOriginator, ByTag}
@@ -136,13 +136,13 @@ second_link = (
       (0, omega arith, refl),
 )
 
-abbrev designated_link : Link
+abbrev designated_link : RouterLink
 designated_link = transit network (ipv4 10 1 0 2) 5
 
-abbrev other_link : Link
+abbrev other_link : RouterLink
 other_link = transit network (ipv4 10 1 0 3) 1
 
-abbrev inner_link : Link
+abbrev inner_link : RouterLink
 inner_link = transit network (ipv4 10 1 0 5) 1
 
 network_link : leads (ARouter designated) to_network
@@ -265,13 +265,14 @@ nearby = wide_offer ∷ network_offer ∷ behind_offer ∷ []
 abbrev IsNearby : Offer → Type 0
 IsNearby o = Contains nearby o
 
-abbrev wide_stub : Link
+abbrev wide_stub : RouterLink
 wide_stub = stub (ipv4 10 0 0 0) (ipv4 255 0 0 0) 1
 
-abbrev behind_stub : Link
+abbrev behind_stub : RouterLink
 behind_stub = stub (ipv4 192 0 2 0) mask_24 10
 
-stubs_known : AllByRecursion (λ (x : ℕ × Link). IsStubKnown 0 transit_entries transit_root IsNearby
+stubs_known : AllByRecursion (λ (x : ℕ × RouterLink). IsStubKnown 0 transit_entries transit_root
+    IsNearby
     x.0 x.1) (filter is_stub (links_of (sayings transit_entries)))
 stubs_known = (
   inr (
@@ -315,7 +316,7 @@ stubs_known = (
   ),
 )
 
-abbrev IsSayingKnown : Key → Body → Type 0
+abbrev IsSayingKnown : Key → LsaBody → Type 0
 IsSayingKnown k (body.Router r) = Unit {0}
 IsSayingKnown k (body.Network n) =
     IsNetworkKnown 0 transit_entries transit_root IsNearby k.link_state_id k.advertising_router n
@@ -323,7 +324,7 @@ IsSayingKnown k (body.NetworkSummary s) = Unit {0}
 IsSayingKnown k (body.RouterSummary s) = Unit {0}
 IsSayingKnown k (body.External e) = Unit {0}
 
-networks_known : AllByRecursion (λ (s : Key × Body). IsSayingKnown s.0 s.1)
+networks_known : AllByRecursion (λ (s : Key × LsaBody). IsSayingKnown s.0 s.1)
     (sayings transit_entries)
 networks_known = (
   tt,
@@ -362,9 +363,10 @@ networks_known = (
 within : (o : Offer) → OffersWithin said transit_root o → Contains nearby o
 within o x =
     each_offer 0 transit_entries transit_root IsNearby
-    (λ router l t. one_of (λ (y : ℕ × Link). IsStubKnown 0 transit_entries transit_root IsNearby y.0
+    (λ router l t. one_of (λ (y : ℕ × RouterLink). IsStubKnown 0 transit_entries transit_root
+    IsNearby y.0
     y.1) (filter is_stub (links_of (sayings transit_entries))) stubs_known (router, l) t)
-    (λ id by lsa t. one_of (λ (s : Key × Body). IsSayingKnown s.0 s.1) (sayings transit_entries)
+    (λ id by lsa t. one_of (λ (s : Key × LsaBody). IsSayingKnown s.0 s.1) (sayings transit_entries)
     networks_known (
       record {
         ls_type = 2;
@@ -548,7 +550,7 @@ abbrev offers : List Offer
 offers = wide_offer ∷ network_offer ∷ behind_offer ∷ designated_offer ∷ other_offer
     ∷ forwarded_offer ∷ []
 
-abbrev IsKnown : Key → Body → Type 0
+abbrev IsKnown : Key → LsaBody → Type 0
 IsKnown k (body.Router r) = Unit {0}
 IsKnown k (body.Network n) = Unit {0}
 IsKnown k (body.NetworkSummary s) = Unit {0}
@@ -588,14 +590,14 @@ forwarded_known o g = (
 )
 
 -- the router-LSA of the inner router doesn't have flag E
-abbrev has_no_e : Body → Bool
+abbrev has_no_e : LsaBody → Bool
 has_no_e (body.Router r) = nat_eq (bit_and r.flags 2) 0
 has_no_e (body.Network n) = true
 has_no_e (body.NetworkSummary s) = true
 has_no_e (body.RouterSummary s) = true
 has_no_e (body.External e) = true
 
-abbrev is_plain : Key × Body → Bool
+abbrev is_plain : Key × LsaBody → Bool
 is_plain s = not (nat_eq s.0.link_state_id inner) || has_no_e s.1
 
 by_inner : IsKnown (key 5 (ipv4 203 0 115 0) inner) (body.External plain_lsa)
@@ -613,7 +615,7 @@ by_unlinked : IsKnown (key 5 (ipv4 203 0 116 0) unlinked) (body.External plain_l
 by_unlinked o g = absurd (never_unlinked g.is_way.boundary
     (reached_inside unlinked g.is_way.boundary g.is_way.reaches).reached)
 
-all_known : AllByRecursion (λ (s : Key × Body). IsKnown s.0 s.1) (sayings transit_entries)
+all_known : AllByRecursion (λ (s : Key × LsaBody). IsKnown s.0 s.1) (sayings transit_entries)
 all_known = (
   tt,
   (
@@ -636,7 +638,7 @@ complete o (Within x) = one_of (λ (y : Offer). Contains offers y) nearby
     ((0, omega arith, refl), ((1, omega arith, refl), ((2, omega arith, refl), tt))) o (within o x)
 complete o (Between x) = absurd (nothing_between 0 transit_entries refl transit_root o x)
 complete o (External x) =
-    one_of (λ (s : Key × Body). IsKnown s.0 s.1) (sayings transit_entries) all_known
+    one_of (λ (s : Key × LsaBody). IsKnown s.0 s.1) (sayings transit_entries) all_known
     (key 5 x.id x.originator, body.External x.lsa)
     (is_said 0 transit_entries _ (body.External x.lsa) x.its) o
     (record {

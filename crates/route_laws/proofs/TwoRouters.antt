@@ -11,10 +11,10 @@ use Rattle.words.specs.declared.key.Key.{Key}
 use Rattle.words.specs.declared.route.ExternalType.{ExternalType}
 use Rattle.words.specs.declared.route.ExternalType.TheVariants.{Type1, Type2}
 use Rattle.words.specs.declared.route.Route.{Route}
-use Rattle.lsa.specs.declared.body.Body.{Body}
-use Rattle.lsa.specs.declared.body.Body.TheVariants as body
+use Rattle.lsa.specs.declared.body.LsaBody.{LsaBody}
+use Rattle.lsa.specs.declared.body.LsaBody.TheVariants as body
 use Rattle.lsa.specs.declared.body.ExternalLsa.{ExternalLsa}
-use Rattle.lsa.specs.declared.body.Link.{Link}
+use Rattle.lsa.specs.declared.body.RouterLink.{RouterLink}
 use Rattle.routes.specs.Candidates.{AreCandidates, IsCandidate, Offers, OffersExternal}
 use Rattle.routes.specs.Candidates.{external_offer}
 use Rattle.routes.specs.Routes.IsBefore.{ByAddress}
@@ -72,10 +72,10 @@ abroad_offer t = external_offer t (network_24 203 0 113) (abroad_lsa t) far far_
 abbrev pub IsWithin : Offer → Type 0
 IsWithin o = (own_offer ≡ o) ⊎ ((other_offer ≡ o) ⊎ (next_offer ≡ o))
 
-abbrev own_stub : Link
+abbrev own_stub : RouterLink
 own_stub = stub (ipv4 10 0 1 0) mask_24 10
 
-abbrev next_stub : Link
+abbrev next_stub : RouterLink
 next_stub = stub (ipv4 10 0 2 0) mask_24 5
 
 no_hop : (i : ℕ) → IsTrue (has_interface 0 i) → ⊥
@@ -138,12 +138,13 @@ module _ (others : Entries) (labels : AreChecked near_router (sayings (two_route
         sym (only_one i t),
       ))
 
-  pub known : (router : ℕ) (l : Link)
-      → Contains {X = ℕ × Link} ((near, own_stub) ∷ (far, own_stub) ∷ (far, next_stub) ∷ [])
+  pub known : (router : ℕ) (l : RouterLink)
+      → Contains {X = ℕ × RouterLink} ((near, own_stub) ∷ (far, own_stub) ∷ (far, next_stub) ∷ [])
       (router, l) → Known 0 (two_routers others) near_router IsWithin router l
   known router l t =
-      let P : ℕ × Link → Type 0 = λ x. Known 0 (two_routers others) near_router IsWithin x.0 x.1 in
-      elim (of_cons {X = ℕ × Link} (near, own_stub) ((far, own_stub) ∷ (far, next_stub) ∷ [])
+      let P : ℕ × RouterLink → Type 0 =
+      λ x. Known 0 (two_routers others) near_router IsWithin x.0 x.1 in
+      elim (of_cons {X = ℕ × RouterLink} (near, own_stub) ((far, own_stub) ∷ (far, next_stub) ∷ [])
       (router, l) t) [
         | inl e ↦ subst P e (
           24,
@@ -164,7 +165,7 @@ module _ (others : Entries) (labels : AreChecked near_router (sayings (two_route
           inl refl,
         )
         | inr later ↦
-            elim (of_cons {X = ℕ × Link} (far, own_stub) ((far, next_stub) ∷ []) (router, l)
+            elim (of_cons {X = ℕ × RouterLink} (far, own_stub) ((far, next_stub) ∷ []) (router, l)
             later) [
               | inl e ↦ subst P e (
                 24,
@@ -182,7 +183,7 @@ module _ (others : Entries) (labels : AreChecked near_router (sayings (two_route
                 inr (inl refl),
               )
               | inr last ↦
-                  elim (of_cons {X = ℕ × Link} (far, next_stub) [] (router, l) last) [
+                  elim (of_cons {X = ℕ × RouterLink} (far, next_stub) [] (router, l) last) [
                     | inl e ↦ subst P e (
                       24,
                       next_offer,
@@ -198,7 +199,7 @@ module _ (others : Entries) (labels : AreChecked near_router (sayings (two_route
                       },
                       inr (inr refl),
                     )
-                    | inr none ↦ absurd (of_empty {X = ℕ × Link} (router, l) none)
+                    | inr none ↦ absurd (of_empty {X = ℕ × RouterLink} (router, l) none)
                   ]
             ]
       ]
@@ -380,7 +381,7 @@ three_ascend a b c first wide second =
 plain_labels : AreChecked near_router (sayings (two_routers [])) distance hops
 plain_labels = record { start = refl; routers = refl; links = refl }
 
-abbrev is_router : Key × Body → Bool
+abbrev is_router : Key × LsaBody → Bool
 is_router (k, body.Router r) = true
 is_router (k, body.Network n) = false
 is_router (k, body.NetworkSummary s) = false
@@ -420,29 +421,29 @@ module _ (t : ExternalType) where
       → Contains (sayings (two_routers (abroad t))) (key 5 id originator, body.External lsa)
       → Abroad id originator lsa
   which id originator lsa among =
-      let its : Key × Body = (key 5 id originator, body.External lsa) in
-      elim (of_cons {X = Key × Body} (key 1 near near, body.Router (router_lsa near_links))
+      let its : Key × LsaBody = (key 5 id originator, body.External lsa) in
+      elim (of_cons {X = Key × LsaBody} (key 1 near near, body.Router (router_lsa near_links))
       ((key 1 far far, body.Router (router_lsa far_links))
       ∷ (key 5 (ipv4 203 0 113 0) far, body.External (abroad_lsa t)) ∷ []) its among) [
         | inl e ↦ absurd (let says : body.Router (router_lsa near_links) ≡ body.External lsa =
-            ap (λ (x : Key × Body). x.1) e in cc)
+            ap (λ (x : Key × LsaBody). x.1) e in cc)
         | inr later ↦
-            elim (of_cons {X = Key × Body} (key 1 far far, body.Router (router_lsa far_links))
+            elim (of_cons {X = Key × LsaBody} (key 1 far far, body.Router (router_lsa far_links))
             ((key 5 (ipv4 203 0 113 0) far, body.External (abroad_lsa t)) ∷ []) its later) [
               | inl e ↦ absurd (let says : body.Router (router_lsa far_links) ≡ body.External lsa =
-                  ap (λ (x : Key × Body). x.1) e in cc)
+                  ap (λ (x : Key × LsaBody). x.1) e in cc)
               | inr last ↦
-                  elim (of_cons {X = Key × Body}
+                  elim (of_cons {X = Key × LsaBody}
                   (key 5 (ipv4 203 0 113 0) far, body.External (abroad_lsa t)) [] its last) [
                     | inl e ↦
                         let says : body.External (abroad_lsa t) ≡ body.External lsa =
-                        ap (λ (x : Key × Body). x.1) e in
+                        ap (λ (x : Key × LsaBody). x.1) e in
                         record {
-                          id_is = ap (λ (x : Key × Body). x.0.link_state_id) e;
-                          originator_is = ap (λ (x : Key × Body). x.0.advertising_router) e;
+                          id_is = ap (λ (x : Key × LsaBody). x.0.link_state_id) e;
+                          originator_is = ap (λ (x : Key × LsaBody). x.0.advertising_router) e;
                           lsa_is = cc;
                         }
-                    | inr none ↦ absurd (of_empty {X = Key × Body} its none)
+                    | inr none ↦ absurd (of_empty {X = Key × LsaBody} its none)
                   ]
             ]
       ]

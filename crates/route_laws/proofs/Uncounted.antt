@@ -6,9 +6,9 @@ use Rattle.std.proofs.Common.{arith, refl, sym, ◌∙◌, ap, subst}
 use Rattle.std.specs.List.{AllByRecursion, list_all}
 use Rattle.words.specs.declared.key.Key.{Key}
 use Rattle.words.specs.declared.route.Route.{Route}
-use Rattle.lsa.specs.declared.body.Body.{Body}
-use Rattle.lsa.specs.declared.body.Body.TheVariants as body
-use Rattle.lsa.specs.declared.body.Link.{Link}
+use Rattle.lsa.specs.declared.body.LsaBody.{LsaBody}
+use Rattle.lsa.specs.declared.body.LsaBody.TheVariants as body
+use Rattle.lsa.specs.declared.body.RouterLink.{RouterLink}
 use Rattle.lsa.specs.declared.body.LinkKind.TheVariants.{PointToPoint}
 use Rattle.routes.specs.Candidates.{IsCandidate, Offers}
 use Rattle.routes.specs.Candidates.Offers.{Between, External, Within}
@@ -54,18 +54,18 @@ no_exit (a ∷ addresses) address (suc n) e p =
 
 -- a point-to-point link of a router inside leads inside, has no link back, has metric 0, or is one
 -- of the root by an address that isn't its own
-abbrev has_no_back : List (ℕ × Link) → ℕ → ℕ → Bool
+abbrev has_no_back : List (ℕ × RouterLink) → ℕ → ℕ → Bool
 has_no_back links from to = list_all
-    (λ (y : ℕ × Link). not (nat_eq y.0 to) ||
+    (λ (y : ℕ × RouterLink). not (nat_eq y.0 to) ||
     (not (is_point y.1.kind) || not (nat_eq y.1.link_id from))) links
 
-abbrev stays_by : Root → (ℕ → Bool) → List (ℕ × Link) → ℕ × Link → Bool
+abbrev stays_by : Root → (ℕ → Bool) → List (ℕ × RouterLink) → ℕ × RouterLink → Bool
 stays_by root inside links x =
     inside x.1.link_id || (nat_eq x.1.metric 0 ||
     (has_no_back links x.0 x.1.link_id ||
     (nat_eq x.0 root.router && has_no_exit root.addresses x.1.link_data)))
 
-abbrev stays_in : Root → (ℕ → Bool) → List (ℕ × Link) → ℕ × Link → Bool
+abbrev stays_in : Root → (ℕ → Bool) → List (ℕ × RouterLink) → ℕ × RouterLink → Bool
 stays_in root inside links x = not (inside x.0) ||
     (not (is_point x.1.kind) || stays_by root inside links x)
 
@@ -80,7 +80,7 @@ module _ (root : Root) (es : Entries) (inside : ℕ → Bool)
     no_back : (a b : ℕ) → has_no_back (links_of (sayings es)) a b ≡ true
         → LinksBack (said_at 0 (database es)) b PointToPoint a → ⊥
     no_back a b e l =
-        let first = all_pass (λ (y : ℕ × Link). not (nat_eq y.0 b) ||
+        let first = all_pass (λ (y : ℕ × RouterLink). not (nat_eq y.0 b) ||
         (not (is_point y.1.kind) || not (nat_eq y.1.link_id a))) (links_of (sayings es)) e
         (b, l.0) (has_link 0 es b l.0 l.1) in
         let second = pass (nat_eq b b) (not (is_point l.0.kind) || not (nat_eq l.0.link_id a)) first
@@ -94,8 +94,8 @@ module _ (root : Root) (es : Entries) (inside : ℕ → Bool)
         → is_inside inside w ≡ true
     leads_inside (ARouter a) (ARouter b) price exit l t =
         let k = l.0 in
-        let x : ℕ × Link = (a, k.link) in
-        let links : List (ℕ × Link) = links_of (sayings es) in
+        let x : ℕ × RouterLink = (a, k.link) in
+        let links : List (ℕ × RouterLink) = links_of (sayings es) in
         let first = all_pass (stays_in root inside links) links stay x
         (has_link 0 es a k.link k.its)
         in
@@ -221,10 +221,10 @@ offer = intra (network_24 192 0 2) 11 2
 abbrev IsOffer : Offer → Type 0
 IsOffer o = offer ≡ o
 
-abbrev neighbor_stub : Link
+abbrev neighbor_stub : RouterLink
 neighbor_stub = stub (ipv4 192 0 2 0) mask_24 1
 
-abbrev IsKnown : ℕ × Link → Type 0
+abbrev IsKnown : ℕ × RouterLink → Type 0
 IsKnown x = IsStubKnown 0 uncounted_entries near_router IsOffer x.0 x.1
 
 stubs_known : AllByRecursion IsKnown (filter is_stub (links_of (sayings uncounted_entries)))
@@ -272,7 +272,7 @@ within o x =
     ) t in cc))
     o x
 
-abbrev is_router : Key × Body → Bool
+abbrev is_router : Key × LsaBody → Bool
 is_router (k, body.Router r) = true
 is_router (k, body.Network n) = false
 is_router (k, body.NetworkSummary s) = false

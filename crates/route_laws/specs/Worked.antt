@@ -8,10 +8,10 @@ use Rattle.words.specs.declared.route.ExternalType.{ExternalType}
 use Rattle.words.specs.declared.route.ExternalType.TheVariants.{Type1, Type2}
 use Rattle.words.specs.declared.route.Route.{Route}
 use Rattle.words.specs.declared.route.RouteKind.TheVariants.{External1, External2, Intra}
-use Rattle.lsa.specs.declared.body.Body.{Body}
-use Rattle.lsa.specs.declared.body.Body.TheVariants as body
+use Rattle.lsa.specs.declared.body.LsaBody.{LsaBody}
+use Rattle.lsa.specs.declared.body.LsaBody.TheVariants as body
 use Rattle.lsa.specs.declared.body.ExternalLsa.{ExternalLsa}
-use Rattle.lsa.specs.declared.body.Link.{Link}
+use Rattle.lsa.specs.declared.body.RouterLink.{RouterLink}
 use Rattle.lsa.specs.declared.body.LinkKind.TheVariants.{PointToPoint, Stub}
 use Rattle.lsa.specs.declared.body.RouterLsa.{RouterLsa}
 use Rattle.lsdb.specs.Copies.{Database, DatabaseCopy}
@@ -37,7 +37,7 @@ key ls_type id router =
     record { ls_type = ls_type; link_state_id = id; advertising_router = router }
 
 -- an LSA with age 0 that was stored at moment 0
-abbrev pub copy_of : Key → Body → DatabaseCopy
+abbrev pub copy_of : Key → LsaBody → DatabaseCopy
 copy_of k says = record {
   lsa = record {
     header = record {
@@ -57,22 +57,22 @@ copy_of k says = record {
   sent = None;
 }
 
-abbrev pub router_lsa : List Link → RouterLsa
+abbrev pub router_lsa : List RouterLink → RouterLsa
 router_lsa links = record { flags = 2; links = links }
 
 -- the router-LSA of an AS boundary router with these links
-abbrev pub of_router : ℕ → List Link → Key × DatabaseCopy
+abbrev pub of_router : ℕ → List RouterLink → Key × DatabaseCopy
 of_router router links =
     (key 1 router router, copy_of (key 1 router router) (body.Router (router_lsa links)))
 
 abbrev pub of_external : ℕ → ℕ → ExternalLsa → Key × DatabaseCopy
 of_external id router lsa = (key 5 id router, copy_of (key 5 id router) (body.External lsa))
 
-abbrev pub point_to_point : ℕ → ℕ → ℕ → Link
+abbrev pub point_to_point : ℕ → ℕ → ℕ → RouterLink
 point_to_point neighbor address cost =
     record { link_id = neighbor; link_data = address; kind = PointToPoint; metric = cost; tos = [] }
 
-abbrev pub stub : ℕ → ℕ → ℕ → Link
+abbrev pub stub : ℕ → ℕ → ℕ → RouterLink
 stub network mask cost =
     record { link_id = network; link_data = mask; kind = Stub; metric = cost; tos = [] }
 
@@ -87,22 +87,22 @@ network_24 a b c = record { address = ipv4 a b c 0; length = 24 }
 abbrev pub square_root : Root
 square_root = record { router = ipv4 1 1 1 1; addresses = ipv4 10 0 1 1 ∷ ipv4 10 0 2 1 ∷ [] }
 
-abbrev pub square_corner : List Link
+abbrev pub square_corner : List RouterLink
 square_corner =
     point_to_point (ipv4 2 2 2 2) (ipv4 10 0 1 1) 5
     ∷ point_to_point (ipv4 3 3 3 3) (ipv4 10 0 2 1) 5 ∷ []
 
-abbrev pub square_left : List Link
+abbrev pub square_left : List RouterLink
 square_left =
     point_to_point (ipv4 1 1 1 1) (ipv4 10 0 1 2) 5
     ∷ point_to_point (ipv4 4 4 4 4) (ipv4 10 0 3 1) 5 ∷ []
 
-abbrev pub square_right : List Link
+abbrev pub square_right : List RouterLink
 square_right =
     point_to_point (ipv4 1 1 1 1) (ipv4 10 0 2 2) 5
     ∷ point_to_point (ipv4 4 4 4 4) (ipv4 10 0 4 1) 5 ∷ []
 
-abbrev pub square_far : List Link
+abbrev pub square_far : List RouterLink
 square_far =
     point_to_point (ipv4 2 2 2 2) (ipv4 10 0 3 2) 5
     ∷ point_to_point (ipv4 3 3 3 3) (ipv4 10 0 4 2) 5 ∷ stub (ipv4 192 0 2 0) mask_24 10 ∷ []
@@ -127,11 +127,11 @@ pub record WorkedSquare : Type 0 where
 abbrev pub near_router : Root
 near_router = record { router = ipv4 1 1 1 1; addresses = ipv4 10 0 1 1 ∷ [] }
 
-abbrev pub near_links : List Link
+abbrev pub near_links : List RouterLink
 near_links =
     point_to_point (ipv4 2 2 2 2) (ipv4 10 0 1 1) 10 ∷ stub (ipv4 10 0 1 0) mask_24 10 ∷ []
 
-abbrev pub far_links : List Link
+abbrev pub far_links : List RouterLink
 far_links =
     point_to_point (ipv4 1 1 1 1) (ipv4 10 0 1 2) 10 ∷ stub (ipv4 10 0 1 0) mask_24 10
     ∷ stub (ipv4 10 0 2 0) mask_24 5 ∷ []

@@ -4,7 +4,7 @@ use Rattle.std.specs.Prelude.{◌≡◌, ◌≢◌, ◌==◌, ℕ, ℤ, pos, Opt
 use Rattle.std.specs.FinMap as finite
 use Rattle.words.specs.Numbers.{Moment, Seconds}
 use Rattle.words.specs.declared.key.Key.{Key}
-use Rattle.lsa.specs.declared.body.Body.{Body}
+use Rattle.lsa.specs.declared.body.LsaBody.{LsaBody}
 use Rattle.lsdb.specs.Copies.{Database, DatabaseCopy}
 use Rattle.kept_routes.specs.Sameness.{AreLeft, IsLeft, SayTheSame}
 use Rattle.routes.specs.Said.{Said}
@@ -12,7 +12,7 @@ use Rattle.routes.specs.Said.{Said}
 -- ---- one LSA
 
 -- a copy with this sequence number and body, which had this age at this moment
-abbrev pub copy : Body → ℤ → Seconds → Moment → DatabaseCopy
+abbrev pub copy : LsaBody → ℤ → Seconds → Moment → DatabaseCopy
 copy says number age stored = record {
   lsa = record {
     header = record {
@@ -38,51 +38,51 @@ IsLeftThen old new = IsLeft 100 110 old new
 pub record WorkedCopies : Type 0 where
   -- there is none, or it stays the same
   pub none : IsLeftThen None None
-  pub stays : (b : Body) → IsLeftThen (Some (copy b (pos 4) 10 90)) (Some (copy b (pos 4) 10 90))
+  pub stays : (b : LsaBody) → IsLeftThen (Some (copy b (pos 4) 10 90)) (Some (copy b (pos 4) 10 90))
   -- it was sent
-  pub was_sent : (b : Body) → IsLeftThen (Some (copy b (pos 4) 10 90))
+  pub was_sent : (b : LsaBody) → IsLeftThen (Some (copy b (pos 4) 10 90))
       (Some (record (copy b (pos 4) 10 90) { sent = Some 105 }))
   -- it is refreshed: a new instance says the same, even if the old one was close to MaxAge
-  pub refreshed : (b : Body)
+  pub refreshed : (b : LsaBody)
       → IsLeftThen (Some (copy b (pos 4) 1800 90)) (Some (copy b (pos 5) 0 105))
-  pub refreshed_late : (b : Body)
+  pub refreshed_late : (b : LsaBody)
       → IsLeftThen (Some (copy b (pos 4) 3579 90)) (Some (copy b (pos 5) 0 105))
   -- it had reached MaxAge before, at moment 100 at the latest
-  pub was_aged : (b : Body)
+  pub was_aged : (b : LsaBody)
       → IsLeftThen (Some (copy b (pos 4) 3600 90)) (Some (copy b (pos 4) 3600 90))
-  pub just_aged : (b : Body)
+  pub just_aged : (b : LsaBody)
       → IsLeftThen (Some (copy b (pos 4) 3590 90)) (Some (copy b (pos 4) 3590 90))
   -- it is added or removed, at MaxAge too
-  pub comes : (b : Body) → IsLeftThen None (Some (copy b (pos 4) 10 105)) → ⊥
-  pub comes_aged : (b : Body) → IsLeftThen None (Some (copy b (pos 4) 3600 105)) → ⊥
-  pub leaves : (b : Body) → IsLeftThen (Some (copy b (pos 4) 10 90)) None → ⊥
-  pub leaves_aged : (b : Body) → IsLeftThen (Some (copy b (pos 4) 3600 90)) None → ⊥
+  pub comes : (b : LsaBody) → IsLeftThen None (Some (copy b (pos 4) 10 105)) → ⊥
+  pub comes_aged : (b : LsaBody) → IsLeftThen None (Some (copy b (pos 4) 3600 105)) → ⊥
+  pub leaves : (b : LsaBody) → IsLeftThen (Some (copy b (pos 4) 10 90)) None → ⊥
+  pub leaves_aged : (b : LsaBody) → IsLeftThen (Some (copy b (pos 4) 3600 90)) None → ⊥
   -- it says something else, at MaxAge too
-  pub changes : (b c : Body) → b ≢ c
+  pub changes : (b c : LsaBody) → b ≢ c
       → IsLeftThen (Some (copy b (pos 4) 10 90)) (Some (copy c (pos 5) 0 105)) → ⊥
-  pub changes_aged : (b c : Body) → b ≢ c
+  pub changes_aged : (b c : LsaBody) → b ≢ c
       → IsLeftThen (Some (copy b (pos 4) 3600 90)) (Some (copy c (pos 4) 3600 90)) → ⊥
   -- it reaches MaxAge, at moment 101 or 110, and is flushed
-  pub ages : (b : Body)
+  pub ages : (b : LsaBody)
       → IsLeftThen (Some (copy b (pos 4) 3589 90)) (Some (copy b (pos 4) 3589 90)) → ⊥
-  pub ages_now : (b : Body)
+  pub ages_now : (b : LsaBody)
       → IsLeftThen (Some (copy b (pos 4) 3580 90)) (Some (copy b (pos 4) 3580 90)) → ⊥
-  pub is_flushed : (b : Body)
+  pub is_flushed : (b : LsaBody)
       → IsLeftThen (Some (copy b (pos 4) 10 90)) (Some (copy b (pos 4) 3600 105)) → ⊥
   -- it had MaxAge, or would have reached it, and another instance is there, young or at MaxAge
-  pub is_back : (b : Body)
+  pub is_back : (b : LsaBody)
       → IsLeftThen (Some (copy b (pos 4) 3600 90)) (Some (copy b (pos 5) 0 105)) → ⊥
-  pub is_back_at_once : (b : Body)
+  pub is_back_at_once : (b : LsaBody)
       → IsLeftThen (Some (copy b (pos 4) 3600 90)) (Some (copy b (pos 5) 0 90)) → ⊥
-  pub is_back_too_late : (b : Body)
+  pub is_back_too_late : (b : LsaBody)
       → IsLeftThen (Some (copy b (pos 4) 3580 90)) (Some (copy b (pos 5) 0 110)) → ⊥
-  pub is_flushed_again : (b : Body)
+  pub is_flushed_again : (b : LsaBody)
       → IsLeftThen (Some (copy b (pos 4) 3600 90)) (Some (copy b (pos 5) 3600 105)) → ⊥
 
 -- ---- types
 
 -- the LSAs of a type have this body, and no others say anything
-abbrev pub saying : ℕ → Body → Said
+abbrev pub saying : ℕ → LsaBody → Said
 saying ls_type says key = if key.ls_type == ls_type then Some says else None
 
 abbrev pub silent : Said
@@ -99,21 +99,21 @@ pub record Comes (key : Key) (copy : DatabaseCopy) (old new : Database) : Type 0
 
 pub record WorkedTypes : Type 0 where
   -- those of the last type and of types before it count, and those of later types don't
-  pub before : (b : Body) → SayTheSame (Some 2) silent (saying 1 b) → ⊥
-  pub last : (b : Body) → SayTheSame (Some 2) silent (saying 2 b) → ⊥
-  pub behind : (b : Body) → SayTheSame (Some 2) silent (saying 3 b)
+  pub before : (b : LsaBody) → SayTheSame (Some 2) silent (saying 1 b) → ⊥
+  pub last : (b : LsaBody) → SayTheSame (Some 2) silent (saying 2 b) → ⊥
+  pub behind : (b : LsaBody) → SayTheSame (Some 2) silent (saying 3 b)
   -- without a last type, all count
-  pub every : (b : Body) → SayTheSame None silent (saying 5 b) → ⊥
+  pub every : (b : LsaBody) → SayTheSame None silent (saying 5 b) → ⊥
   -- their bodies count, and whether one is removed
-  pub other : (b c : Body) → b ≢ c → SayTheSame (Some 2) (saying 2 b) (saying 2 c) → ⊥
-  pub leaves : (b : Body) → SayTheSame (Some 2) (saying 2 b) silent → ⊥
-  pub same : (b : Body) → SayTheSame (Some 2) (saying 2 b) (saying 2 b)
+  pub other : (b c : LsaBody) → b ≢ c → SayTheSame (Some 2) (saying 2 b) (saying 2 c) → ⊥
+  pub leaves : (b : LsaBody) → SayTheSame (Some 2) (saying 2 b) silent → ⊥
+  pub same : (b : LsaBody) → SayTheSame (Some 2) (saying 2 b) (saying 2 b)
   -- the same with copies, one of which is added between moments 100 and 110
-  pub comes_before : (b : Body) (old new : Database) → Comes (key 1) (copy b (pos 4) 10 105) old new
-      → AreLeft (Some 2) 100 110 old new → ⊥
-  pub comes_last : (b : Body) (old new : Database) → Comes (key 2) (copy b (pos 4) 10 105) old new
-      → AreLeft (Some 2) 100 110 old new → ⊥
-  pub comes_behind : (b : Body) (old new : Database) → Comes (key 3) (copy b (pos 4) 10 105) old new
-      → AreLeft (Some 2) 100 110 old new
-  pub comes_anywhere : (b : Body) (old new : Database)
+  pub comes_before : (b : LsaBody) (old new : Database)
+      → Comes (key 1) (copy b (pos 4) 10 105) old new → AreLeft (Some 2) 100 110 old new → ⊥
+  pub comes_last : (b : LsaBody) (old new : Database)
+      → Comes (key 2) (copy b (pos 4) 10 105) old new → AreLeft (Some 2) 100 110 old new → ⊥
+  pub comes_behind : (b : LsaBody) (old new : Database)
+      → Comes (key 3) (copy b (pos 4) 10 105) old new → AreLeft (Some 2) 100 110 old new
+  pub comes_anywhere : (b : LsaBody) (old new : Database)
       → Comes (key 5) (copy b (pos 4) 10 105) old new → AreLeft None 100 110 old new → ⊥

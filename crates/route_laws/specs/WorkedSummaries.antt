@@ -5,8 +5,8 @@ use Rattle.words.specs.declared.key.Key.{Key}
 use Rattle.words.specs.declared.route.ExternalType.TheVariants.{Type1, Type2}
 use Rattle.words.specs.declared.route.Route.{Route}
 use Rattle.words.specs.declared.route.RouteKind.TheVariants.{External1, External2, Inter}
-use Rattle.lsa.specs.declared.body.Body.TheVariants as body
-use Rattle.lsa.specs.declared.body.Link.{Link}
+use Rattle.lsa.specs.declared.body.LsaBody.TheVariants as body
+use Rattle.lsa.specs.declared.body.RouterLink.{RouterLink}
 use Rattle.lsa.specs.declared.body.SummaryLsa.{SummaryLsa}
 use Rattle.lsdb.specs.Copies.{DatabaseCopy}
 use Rattle.routes.specs.Candidates.{AreCandidates}
@@ -31,7 +31,7 @@ abbrev pub of_router_summary : ℕ → ℕ → ℕ → Key × DatabaseCopy
 of_router_summary router id metric =
     (key 4 id router, copy_of (key 4 id router) (body.RouterSummary (summary metric)))
 
-abbrev pub of_flagged : ℕ → ℕ → List Link → Key × DatabaseCopy
+abbrev pub of_flagged : ℕ → ℕ → List RouterLink → Key × DatabaseCopy
 of_flagged flags router links = (
   key 1 router router,
   copy_of (key 1 router router) (body.Router (record { flags = flags; links = links })),
@@ -43,15 +43,15 @@ abbrev pub summaries_root : Root
 summaries_root =
     record { router = ipv4 1 1 1 1; addresses = ipv4 10 0 1 1 ∷ ipv4 10 0 2 1 ∷ [] }
 
-abbrev pub summaries_links : List Link
+abbrev pub summaries_links : List RouterLink
 summaries_links =
     point_to_point (ipv4 2 2 2 2) (ipv4 10 0 1 1) 10
     ∷ point_to_point (ipv4 3 3 3 3) (ipv4 10 0 2 1) 100 ∷ []
 
-abbrev pub border_links : List Link
+abbrev pub border_links : List RouterLink
 border_links = point_to_point (ipv4 1 1 1 1) (ipv4 10 0 1 2) 10 ∷ []
 
-abbrev pub distant_links : List Link
+abbrev pub distant_links : List RouterLink
 distant_links = point_to_point (ipv4 1 1 1 1) (ipv4 10 0 2 2) 100 ∷ []
 
 -- 2.2.2.2 and 3.3.3.3 have these flags. The first advertises a network at 5, one that is

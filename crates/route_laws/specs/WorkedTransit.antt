@@ -6,8 +6,8 @@ use Rattle.words.specs.declared.key.Key.{Key}
 use Rattle.words.specs.declared.route.ExternalType.TheVariants.{Type1}
 use Rattle.words.specs.declared.route.Route.{Route}
 use Rattle.words.specs.declared.route.RouteKind.TheVariants.{External1, Intra}
-use Rattle.lsa.specs.declared.body.Body.TheVariants as body
-use Rattle.lsa.specs.declared.body.Link.{Link}
+use Rattle.lsa.specs.declared.body.LsaBody.TheVariants as body
+use Rattle.lsa.specs.declared.body.RouterLink.{RouterLink}
 use Rattle.lsa.specs.declared.body.LinkKind.TheVariants.{Transit}
 use Rattle.lsa.specs.declared.body.NetworkLsa.{NetworkLsa}
 use Rattle.lsa.specs.declared.body.RouterLsa.{RouterLsa}
@@ -21,7 +21,7 @@ use Rattle.routes.specs.Said.{said_at}
 
 -- a router's link to a transit network: the address of its Designated Router, and the router's own
 -- there
-abbrev pub transit : ℕ → ℕ → ℕ → Link
+abbrev pub transit : ℕ → ℕ → ℕ → RouterLink
 transit designated address cost =
     record { link_id = designated; link_data = address; kind = Transit; metric = cost; tos = [] }
 
@@ -34,26 +34,26 @@ abbrev pub transit_root : Root
 transit_root =
     record { router = ipv4 1 1 1 1; addresses = ipv4 10 0 1 1 ∷ ipv4 10 0 2 1 ∷ [] }
 
-abbrev pub root_links : List Link
+abbrev pub root_links : List RouterLink
 root_links =
     point_to_point (ipv4 2 2 2 2) (ipv4 10 0 1 1) 10
     ∷ point_to_point (ipv4 3 3 3 3) (ipv4 10 0 2 1) 15 ∷ []
 
 -- the Designated Router; its stub network contains the transit network, and is nearer
-abbrev pub designated_links : List Link
+abbrev pub designated_links : List RouterLink
 designated_links =
     point_to_point (ipv4 1 1 1 1) (ipv4 10 0 1 2) 10
     ∷ transit (ipv4 10 1 0 2) (ipv4 10 1 0 2) 5 ∷ stub (ipv4 10 0 0 0) (ipv4 255 0 0 0) 1
     ∷ []
 
 -- at the same cost over the network and by its own link
-abbrev pub other_links : List Link
+abbrev pub other_links : List RouterLink
 other_links =
     point_to_point (ipv4 1 1 1 1) (ipv4 10 0 2 2) 15
     ∷ transit (ipv4 10 1 0 2) (ipv4 10 1 0 3) 1 ∷ stub (ipv4 192 0 2 0) mask_24 10 ∷ []
 
 -- listed by the network, but without a link to it
-abbrev pub unlinked_links : List Link
+abbrev pub unlinked_links : List RouterLink
 unlinked_links = stub (ipv4 198 51 100 0) mask_24 1 ∷ []
 
 -- on the network, and no AS boundary router

@@ -3,25 +3,25 @@
 use Rattle.std.specs.Prelude.{ℕ, List, [], ◌∷◌}
 use Rattle.words.specs.declared.route.Route.{Route}
 use Rattle.words.specs.declared.route.RouteKind.TheVariants.{Intra}
-use Rattle.lsa.specs.declared.body.Link.{Link}
+use Rattle.lsa.specs.declared.body.RouterLink.{RouterLink}
 use Rattle.lsa.specs.declared.body.LinkKind.TheVariants.{Virtual}
 use Rattle.routes.specs.Candidates.{AreCandidates}
 use Rattle.route_laws.specs.Worked.{Entries, database, ipv4, mask_24, near_router, network_24}
 use Rattle.route_laws.specs.Worked.{of_router, point_to_point, stub}
 use Rattle.routes.specs.Said.{said_at}
 
-abbrev pub virtual : ℕ → ℕ → ℕ → Link
+abbrev pub virtual : ℕ → ℕ → ℕ → RouterLink
 virtual neighbor address cost =
     record { link_id = neighbor; link_data = address; kind = Virtual; metric = cost; tos = [] }
 
 -- to the neighbor; and to 3.3.3.3 by an address of none of this router's interfaces
-abbrev pub counting_links : List Link
+abbrev pub counting_links : List RouterLink
 counting_links =
     point_to_point (ipv4 2 2 2 2) (ipv4 10 0 1 1) 10
     ∷ point_to_point (ipv4 3 3 3 3) (ipv4 10 0 9 1) 1 ∷ []
 
 -- to 4.4.4.4 at metric 0, to 5.5.5.5 by a virtual link, and to 6.6.6.6, which has no link back
-abbrev pub neighbor_links : List Link
+abbrev pub neighbor_links : List RouterLink
 neighbor_links =
     point_to_point (ipv4 1 1 1 1) (ipv4 10 0 1 2) 10
     ∷ point_to_point (ipv4 4 4 4 4) (ipv4 10 0 4 1) 0

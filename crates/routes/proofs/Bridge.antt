@@ -5,19 +5,19 @@ use Rattle.std.proofs.lemmas.List.Sums.{sum_by-cons}
 use Rattle.routes.specs.Graphs.{Graph, IsAnswer, IsGraphOf, IsWalk, cost}
 use Rattle.routes.specs.Paths.{Step, price_of}
 use Rattle.routes.specs.Paths as paths
-use Rattle.routes.specs.declared.graph.Link.{Link}
+use Rattle.routes.specs.declared.graph.VertexLink.{VertexLink}
 use Rattle.routes.specs.declared.graph.Way.{Way}
 use Rattle.routes.specs.Answers.{GraphsCarryAnswers}
 use Rattle.routes.specs.Links.{Leads}
 use Rattle.routes.specs.declared.node.Node.TheVariants.{ARouter}
 use Rattle.routes.proofs.Determined.{bit_of_member, is_member}
 
-cost-cons : (l : Link) (ls : List Link) → cost (l ∷ ls) ≡ l.cost + cost ls
-cost-cons l ls = sum_by-cons (λ (link : Link). link.cost) l ls
+cost-cons : (l : VertexLink) (ls : List VertexLink) → cost (l ∷ ls) ≡ l.cost + cost ls
+cost-cons l ls = sum_by-cons (λ (link : VertexLink). link.cost) l ls
 
 -- a walk for a path, that costs no more
 record Walks (g : Graph) (at to price : ℕ) : Type 0 where
-  walk : List Link
+  walk : List VertexLink
   is_walk : IsWalk g at walk to
   cheap : cost walk ≤ price
 
@@ -46,8 +46,8 @@ walk_of {V} leads number g is v at (s ∷ ss) w to nv nw p =
     }
 
 path_of : {V : Type 0} (leads : V → Step V → Type 0) (number : V → ℕ → Type 0) (g : Graph)
-    → IsGraphOf leads number g → (v : V) (at : ℕ) (ls : List Link) (w : V) (to : ℕ) → number v at
-    → number w to → IsWalk g at ls to → Paths leads v w (cost ls)
+    → IsGraphOf leads number g → (v : V) (at : ℕ) (ls : List VertexLink) (w : V) (to : ℕ)
+    → number v at → number w to → IsWalk g at ls to → Paths leads v w (cost ls)
 path_of {V} leads number g is v at [] w to nv nw p =
     let P : ℕ → Type 0 = λ x. number w x in
     record { path = []; is_walk = is.one_vertex v w at nv (subst P (sym p) nw); same = refl }

@@ -1,7 +1,7 @@
 -- Ways depend on LSAs of types 1 and 2 alone.
 use Rattle.std.proofs.Common.{◌≡◌, ℕ, ◌≤◌, List, [], ◌∷◌, arith, sym, ◌∙◌}
 use Rattle.words.specs.declared.key.Key.{Key}
-use Rattle.lsa.specs.declared.body.Link.{Link}
+use Rattle.lsa.specs.declared.body.RouterLink.{RouterLink}
 use Rattle.lsa.specs.declared.body.LinkKind.{LinkKind}
 use Rattle.routes.specs.Laws.{WaysRestOnLinks}
 use Rattle.routes.specs.Links.{Counts, HasLink, Leads, LeadsTo, LinksBack, ListsRouter, network_key}
@@ -16,7 +16,7 @@ use Rattle.routes.specs.declared.root.Root.{Root}
 
 module _ (old new : Said) (same : (key : Key) → key.ls_type ≤ 2 → old key ≡ new key) (root : Root)
   where
-    has_link : (router : ℕ) (link : Link) → HasLink old router link → HasLink new router link
+    has_link : (router : ℕ) (link : RouterLink) → HasLink old router link → HasLink new router link
     has_link router link h = record {
       lsa = h.lsa;
       its = sym (same (router_key router) (omega arith)) ∙ h.its;

@@ -3,13 +3,13 @@
 use Rattle.std.specs.Prelude.{◌≡◌, ℕ, ◌+◌, ◌<◌, Some, slice_get}
 use Rattle.std.specs.List.{Contains}
 use Rattle.words.specs.declared.key.Key.{Key}
-use Rattle.lsa.specs.declared.body.Body.TheVariants as body
-use Rattle.lsa.specs.declared.body.Link.{Link}
+use Rattle.lsa.specs.declared.body.LsaBody.TheVariants as body
+use Rattle.lsa.specs.declared.body.RouterLink.{RouterLink}
 use Rattle.lsa.specs.declared.body.LinkKind.{LinkKind}
 use Rattle.lsa.specs.declared.body.LinkKind.TheVariants.{PointToPoint, Transit}
 use Rattle.lsa.specs.declared.body.NetworkLsa.{NetworkLsa}
 use Rattle.lsa.specs.declared.body.RouterLsa.{RouterLsa}
-use Rattle.lsa.specs.declared.body.Body.{Body}
+use Rattle.lsa.specs.declared.body.LsaBody.{LsaBody}
 use Rattle.routes.specs.Paths.{Step}
 use Rattle.routes.specs.declared.node.Node.{Node}
 use Rattle.routes.specs.declared.node.Node.TheVariants.{ANetwork, ARouter}
@@ -17,7 +17,7 @@ use Rattle.routes.specs.declared.root.Root.{Root}
 use Rattle.routes.specs.Said.{Said}
 
 -- the LSA of this key says this
-abbrev pub Says : Said → Key → Body → Type 0
+abbrev pub Says : Said → Key → LsaBody → Type 0
 Says said key body = said key ≡ Some body
 
 abbrev pub router_key : ℕ → Key
@@ -33,7 +33,7 @@ abbrev pub IsNetworkLsa : Said → ℕ → ℕ → NetworkLsa → Type 0
 IsNetworkLsa said id by n = Says said (network_key id by) (body.Network n)
 
 -- a link of the router's LSA
-pub record HasLink (said : Said) (router : ℕ) (link : Link) : Type 0 where
+pub record HasLink (said : Said) (router : ℕ) (link : RouterLink) : Type 0 where
   pub lsa : RouterLsa
   pub its : IsRouterLsa said router lsa
   pub among : Contains lsa.links link
@@ -49,7 +49,7 @@ pub record ListsRouter (said : Said) (id by router : ℕ) : Type 0 where
 -- is 0.
 pub record Counts (said : Said) (root : Root) (router : ℕ) (kind : LinkKind)
     (id price exit : ℕ) : Type 0 where
-  pub link : Link
+  pub link : RouterLink
   pub its : HasLink said router link
   pub is_kind : link.kind ≡ kind
   pub is_id : link.link_id ≡ id
@@ -62,7 +62,7 @@ pub record Counts (said : Said) (root : Root) (router : ℕ) (kind : LinkKind)
 -- some link of this kind back to this Link ID
 abbrev pub LinksBack : Said → ℕ → LinkKind → ℕ → Type 0
 LinksBack said router kind id =
-    (link : Link) × HasLink said router link × (link.kind ≡ kind) × (link.link_id ≡ id)
+    (link : RouterLink) × HasLink said router link × (link.kind ≡ kind) × (link.link_id ≡ id)
 
 -- a link counts only if the other end links back; a network leads to each router that it lists at
 -- cost 0

@@ -2,7 +2,7 @@
 use Rattle.std.specs.Prelude.{◌≡◌, ℕ, ◌+◌, ◌≤◌, bit_and}
 use Rattle.words.specs.declared.route.RouteKind.TheVariants.{Intra}
 use Rattle.words.specs.Prefixes.{Network, mask_of, network_address}
-use Rattle.lsa.specs.declared.body.Link.{Link}
+use Rattle.lsa.specs.declared.body.RouterLink.{RouterLink}
 use Rattle.lsa.specs.declared.body.LinkKind.TheVariants.{Stub}
 use Rattle.lsa.specs.declared.body.NetworkLsa.{NetworkLsa}
 use Rattle.lsa.specs.declared.body.RouterLsa.{RouterLsa}
@@ -40,7 +40,7 @@ abbrev pub Attaches : Said → Node → Network → ℕ → Type 0
 Attaches said (ANetwork id by) prefix more =
     (lsa : NetworkLsa) × IsNetworkLsa said id by lsa × IsPrefix id lsa.mask prefix × (more ≡ 0)
 Attaches said (ARouter router) prefix more =
-    (link : Link) × HasLink said router link × (link.kind ≡ Stub)
+    (link : RouterLink) × HasLink said router link × (link.kind ≡ Stub)
     × IsPrefix link.link_id link.link_data prefix × (more ≡ link.metric)
 
 -- a reachable node offers what it attaches, with the next hops of the way to it; the root's own

@@ -2,13 +2,13 @@
 use Rattle.std.specs.Prelude.{ℕ, Option}
 use Rattle.std.specs.FinMap as finite
 use Rattle.words.specs.declared.key.Key.{Key}
-use Rattle.lsa.specs.declared.body.Body.{Body}
+use Rattle.lsa.specs.declared.body.LsaBody.{LsaBody}
 use Rattle.lsdb.specs.Copies.{Database}
 pub use Rattle.lsdb.specs.Copies.{said_by}
 
 -- what the LSA of each key says, if there is one
 abbrev pub Said : Type 0
-Said = Key → Option Body
+Said = Key → Option LsaBody
 
 abbrev pub said_at : ℕ → Database → Said
 said_at moment db key = said_by moment (finite.get db key)

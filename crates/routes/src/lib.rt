@@ -11,7 +11,7 @@ mod root;
 mod search;
 
 pub use best::routes_in_order;
-pub use graph::{Kind, Link, Vertex, Way, is_graph};
+pub use graph::{Vertex, VertexKind, VertexLink, Way, is_graph};
 pub use node::Node;
 pub use offer::Offer;
 pub use root::Root;

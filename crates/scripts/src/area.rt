@@ -72,7 +72,7 @@ fn push_lsa_again(text: &mut String, alloc: Global, bytes: &[u8]) -> Result<(), 
             text.push_str("lsa ")?;
             push_hex(text, &lsa::write(alloc, &read)?)
         }
-        Err(lsa::ReadError::Memory) => Err(AllocError),
+        Err(lsa::LsaError::Memory) => Err(AllocError),
         Err(error) => push_refusal(text, error.number()),
     }
 }
@@ -84,7 +84,7 @@ fn push_packet_again(text: &mut String, alloc: Global, bytes: &[u8]) -> Result<(
             text.push_str("packet ")?;
             push_hex(text, &packet::write(alloc, &read)?)
         }
-        Err(packet::ReadError::Memory) => Err(AllocError),
+        Err(packet::PacketError::Memory) => Err(AllocError),
         Err(error) => push_refusal(text, error.number()),
     }
 }
@@ -117,7 +117,7 @@ impl ScriptArea {
                 self.database.settle();
                 Ok(true)
             }
-            Err(lsa::ReadError::Memory) => Err(AllocError),
+            Err(lsa::LsaError::Memory) => Err(AllocError),
             Err(_) => Ok(false),
         }
     }

@@ -17,8 +17,8 @@ use Rattle.machine.specs.Label.{Label, Silent}
 use Rattle.machine.specs.State.{held, operand, after_jump, moved_on}
 use Rattle.machine.specs.Steps.{IsAt, Does, Goes}
 use Rattle.machine.specs.Faults.{Stuck}
-use Rattle.kinds.specs.declared.state.State.{State}
-use Rattle.kinds.specs.declared.statement.Target.{Target}
+use Rattle.kinds.specs.declared.state.AbstractState.{AbstractState}
+use Rattle.kinds.specs.declared.statement.SegmentStart.{SegmentStart}
 use Rattle.kinds.specs.Meaning.{StateHolds, TargetHolds}
 use Rattle.transfer.specs.declared.branch.Edges.{Edges}
 use Rattle.transfer.specs.Given.{Given, blank, setting_of}
@@ -31,8 +31,9 @@ use Rattle.segments.specs.Places.{IsWellPlaced, goes_on, target_at}
 use Rattle.segments.specs.Segments.{Enters, EntersNext, GoesOn, IsFollowed, IsKnown, Knows}
 
 -- what is known says nothing of the slot
-pub moved : {D : Type 0} (contains : D → ℕ → Type 0) (state : State D) (start now next : Machine)
-    (slot : ℕ) → StateHolds contains state start now → next ≡ record now {
+pub moved : {D : Type 0} (contains : D → ℕ → Type 0) (state : AbstractState D)
+    (start now next : Machine) (slot : ℕ) → StateHolds contains state start now
+    → next ≡ record now {
       slot = slot;
     } → StateHolds contains state start next
 moved contains state start now next slot holds same = rw same (record {
@@ -44,8 +45,8 @@ moved contains state start now next slot holds same = rw same (record {
   stack = holds.stack;
 })
 
-pub besides : {D : Type 0} (contains : D → ℕ → Type 0) (left : ℕ) (right : Source) (state : State D)
-    (start now : Machine) → StateHolds contains state start now
+pub besides : {D : Type 0} (contains : D → ℕ → Type 0) (left : ℕ) (right : Source)
+    (state : AbstractState D) (start now : Machine) → StateHolds contains state start now
     → HoldsBesides contains left right state start now
 besides contains left right state start now holds = record {
   eleven = holds.eleven;
@@ -57,9 +58,10 @@ besides contains left right state start now holds = record {
 }
 
 -- a step forward to a slot with a statement
-pub enters_next : {D : Type 0} (contains : D → ℕ → Type 0) (targets : List (Option (Target D)))
-    (segment target : Target D) (slot to : ℕ) (start next : Machine) → slot < to → next.slot ≡ to
-    → target_at targets to ≡ Some target → Enters contains false segment target start next
+pub enters_next : {D : Type 0} (contains : D → ℕ → Type 0)
+    (targets : List (Option (SegmentStart D))) (segment target : SegmentStart D) (slot to : ℕ)
+    (start next : Machine) → slot < to → next.slot ≡ to → target_at targets to ≡ Some target
+    → Enters contains false segment target start next
     → EntersNext contains targets segment slot start next
 enters_next contains targets segment target slot to start next less at stated enters =
     let forward : nat_le next.slot slot ≡ false = grind (arith, nat_tests) in
@@ -67,7 +69,8 @@ enters_next contains targets segment target slot to start next less at stated en
     rw (there, forward) enters
 
 module _ {D : Type 0} (contains : D → ℕ → Type 0) (code : List Slot) (hook : Hook)
-    (targets : List (Option (Target D))) (segment : Target D) (slot : ℕ) (after : Known D) where
+    (targets : List (Option (SegmentStart D))) (segment : SegmentStart D) (slot : ℕ)
+    (after : Known D) where
   -- a step to the next slot
   Passes : Instruction → Machine → Machine → Type 0
   Passes i start next = EntersNext contains targets segment slot start next
@@ -91,7 +94,7 @@ module _ {D : Type 0} (contains : D → ℕ → Type 0) (code : List Slot) (hook
   }
 
   -- an instruction that is neither a jump nor EXIT
-  pub goes_straight : (i : Instruction) (state known : State D) → CanStepIsFree
+  pub goes_straight : (i : Instruction) (state known : AbstractState D) → CanStepIsFree
       → slice_get code slot ≡ Some (Start i) → IsWellPlaced code targets slot i → goes_on i ≡ true
       → IsSound contains hook i state known
       → ((start next : Machine) → next.slot ≡ slot + size i
@@ -135,7 +138,7 @@ module _ {D : Type 0} (contains : D → ℕ → Type 0) (code : List Slot) (hook
       (passes refl there)
 
   pub goes_by_test : (width : Width) (test : Test) (left : ℕ) (right : Source) (distance : ℤ)
-      (state : State D) (edges : Edges D) → CanStepIsFree
+      (state : AbstractState D) (edges : Edges D) → CanStepIsFree
       → slice_get code slot ≡ Some (Start (Branch width test left right distance))
       → IsWellPlaced code targets slot (Branch width test left right distance)
       → IsTested contains width test left right state edges
@@ -183,7 +186,7 @@ module _ {D : Type 0} (contains : D → ℕ → Type 0) (code : List Slot) (hook
       }
 
   -- a jump
-  pub goes_by_jump : (i : Instruction) (distance : ℤ) (state : State D) → CanStepIsFree
+  pub goes_by_jump : (i : Instruction) (distance : ℤ) (state : AbstractState D) → CanStepIsFree
       → slice_get code slot ≡ Some (Start i) → Begins code (slot_at_distance slot distance)
       → ((input : Given) (now next : Machine) (label : Label)
       → Does i (setting_of code hook input) now label next → Goes now distance label next)
@@ -213,7 +216,7 @@ module _ {D : Type 0} (contains : D → ℕ → Type 0) (code : List Slot) (hook
         record { begins = rw there begins; goes = inl (enters start now next is_known there) };
   }
 
-  pub goes_nowhere : (state : State D) → slice_get code slot ≡ Some (Start Exit)
+  pub goes_nowhere : (state : AbstractState D) → slice_get code slot ≡ Some (Start Exit)
       → ((input : Given) (start now : Machine) → StateHolds contains state start now
       → IsAt (setting_of code hook input) now Exit → (fault : Fault)
       → Stuck (setting_of code hook input) now fault → ⊥)

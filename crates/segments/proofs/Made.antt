@@ -9,7 +9,7 @@ use Rattle.isa.specs.declared.code.Slot.{Slot}
 use Rattle.isa.specs.declared.code.Slot.TheVariants.{Start}
 use Rattle.isa.specs.declared.instruction.Instruction.{Instruction}
 use Rattle.isa.specs.Flow.{Begins, BeginsAt, size, jump_target, slot_after}
-use Rattle.kinds.specs.declared.statement.Target.{Target}
+use Rattle.kinds.specs.declared.statement.SegmentStart.{SegmentStart}
 use Rattle.segments.specs.Places.{goes_on, target_at}
 use Rattle.segments.specs.Stated.{statement_at, AreTargets}
 use Rattle.segments.specs.Refusals.{JumpsNowhere, IsStray, IsBadTarget, FallsOff, IsCutOff}
@@ -88,22 +88,23 @@ module _ (code : List Slot) (slot : ℕ) (i : Instruction) (here : BeginsAt i co
   unreached statements cut none = record { begins = (i, here); cut_off = cut; unstated = none }
 
   module _ {D : Type 0} (contains : D → ℕ → Type 0) (statements : List StatementParts)
-      (targets : List (Option (Target D))) (are : AreTargets contains statements targets) where
-    pub met_stated : IfSome (jump_target slot i) (λ to. IsSome (target_at targets to))
-        → IsUnstated code statements slot → ⊥
-    met_stated stated bad =
-        stated_of contains statements targets bad.to are
-        (if_some (λ to. IsSome (target_at targets to)) (jump_target slot i) bad.to stated
-        (jump_of_one bad.instruction bad.to bad.at bad.jumps)) bad.unstated
+      (targets : List (Option (SegmentStart D))) (are : AreTargets contains statements targets)
+    where
+      pub met_stated : IfSome (jump_target slot i) (λ to. IsSome (target_at targets to))
+          → IsUnstated code statements slot → ⊥
+      met_stated stated bad =
+          stated_of contains statements targets bad.to are
+          (if_some (λ to. IsSome (target_at targets to)) (jump_target slot i) bad.to stated
+          (jump_of_one bad.instruction bad.to bad.at bad.jumps)) bad.unstated
 
-    pub jumps_unstated : IsSomeAnd (jump_target slot i) (λ to. target_at targets to ≡ None)
-        → IsUnstated code statements slot
-    jumps_unstated unstated =
-        let found = some_and (jump_target slot i) unstated in
-        record {
-          instruction = i;
-          at = here;
-          to = found.0;
-          jumps = found.1;
-          unstated = unstated_of contains statements targets found.0 are found.2;
-        }
+      pub jumps_unstated : IsSomeAnd (jump_target slot i) (λ to. target_at targets to ≡ None)
+          → IsUnstated code statements slot
+      jumps_unstated unstated =
+          let found = some_and (jump_target slot i) unstated in
+          record {
+            instruction = i;
+            at = here;
+            to = found.0;
+            jumps = found.1;
+            unstated = unstated_of contains statements targets found.0 are found.2;
+          }

@@ -11,8 +11,8 @@ use Rattle.isa.specs.Flow.{jump_target, register_written, slot_after}
 use Rattle.machine.specs.Faults.{writes_frame}
 use Rattle.kinds.specs.declared.state.Kind.{Kind}
 use Rattle.kinds.specs.declared.state.Kind.TheVariants as kinds
-use Rattle.kinds.specs.declared.state.State.{State}
-use Rattle.kinds.specs.declared.statement.Target.{Target}
+use Rattle.kinds.specs.declared.state.AbstractState.{AbstractState}
+use Rattle.kinds.specs.declared.statement.SegmentStart.{SegmentStart}
 use Rattle.kinds.specs.Plain.{IsFilled, IsNumber, kind_in}
 use Rattle.kinds.specs.Stated.{Admits, HasEveryNumber}
 use Rattle.transfer.specs.declared.rule.Rule.{Rule}
@@ -32,7 +32,7 @@ admits_kind contains (kinds.Number value) (kinds.Number wider) number every = ev
 admits_kind contains (kinds.Number value) (kinds.Pointer place) number every = absurd every
 admits_kind contains (kinds.Pointer place) other number every = absurd number
 
-pub asks_admits : {D : Type 0} (contains : D → ℕ → Type 0) (state : State D) (r : ℕ)
+pub asks_admits : {D : Type 0} (contains : D → ℕ → Type 0) (state : AbstractState D) (r : ℕ)
     (other : Kind D) → AsksAtMost contains (IsFilled state r) other
     → Admits contains (kind_in state.kinds.items r) other
 asks_admits contains state r kinds.Empty asks = tt
@@ -67,14 +67,14 @@ hands_on (Err other) error P is broken = subst P (sym is) broken
 -- ---- edges
 
 -- an instruction that writes no register fills none
-pub beside : {D : Type 0} (i : Instruction) (state : State D) → register_written i ≡ None → (r : ℕ)
-    → IsFilledBehind i state r → IsFilled state r
+pub beside : {D : Type 0} (i : Instruction) (state : AbstractState D) → register_written i ≡ None
+    → (r : ℕ) → IsFilledBehind i state r → IsFilled state r
 beside i state none r = ⊎_elim (λ (filled : IsFilled state r). filled)
     (λ (written : register_written i ≡ Some r). absurd
     (none_is_some (register_written i) none written))
 
-module _ {D : Type 0} (contains : D → ℕ → Type 0) (targets : List (Option (Target D)))
-    (segment : Target D) where
+module _ {D : Type 0} (contains : D → ℕ → Type 0) (targets : List (Option (SegmentStart D)))
+    (segment : SegmentStart D) where
   -- if more is filled, the edge is plain too
   pub enter_more : (back : Bool) (to : ℕ) (filled more : ℕ → Type 0) → ((r : ℕ) → filled r → more r)
       → MayEnter contains targets segment back to filled
@@ -90,7 +90,7 @@ module _ {D : Type 0} (contains : D → ℕ → Type 0) (targets : List (Option 
         falls = edge.falls;
       }
 
-  module _ (slot : ℕ) (i : Instruction) (state : State D)
+  module _ (slot : ℕ) (i : Instruction) (state : AbstractState D)
       (here : IsPlainHere contains targets segment slot i state) where
     pub jump_edge : (to : ℕ) → jump_target slot i ≡ Some to → register_written i ≡ None
         → MayEnter contains targets segment (nat_le to slot) to (IsFilled state)
@@ -99,7 +99,7 @@ module _ {D : Type 0} (contains : D → ℕ → Type 0) (targets : List (Option 
         (beside i state none)
         (here.edges to (inl jumps))
 
-    pub pass_edge : (after : State D) (next : ℕ) → slot < next → slot_after slot i ≡ next
+    pub pass_edge : (after : AbstractState D) (next : ℕ) → slot < next → slot_after slot i ≡ next
         → goes_on i ≡ true → ((r : ℕ) → IsFilledBehind i state r → IsFilled after r)
         → MayEnter contains targets segment false next (IsFilled after)
     pass_edge after next less behind on grows =
@@ -111,22 +111,24 @@ module _ {D : Type 0} (contains : D → ℕ → Type 0) (targets : List (Option 
 -- ---- what remains known
 
 -- an instruction that writes no register
-pub kept_beside : {D : Type 0} (i : Instruction) (state after : State D) → register_written i ≡ None
-    → length state.kinds.items ≡ 10 → KeepsNumbers state after → KeepsFilled i state after
+pub kept_beside : {D : Type 0} (i : Instruction) (state after : AbstractState D)
+    → register_written i ≡ None → length state.kinds.items ≡ 10 → KeepsNumbers state after
+    → KeepsFilled i state after
 kept_beside i state after none ten kept = record {
   ten = kept.long ∙ ten;
   written = λ r written. absurd (none_is_some (register_written i) none written);
   others = kept.others;
 }
 
-pub same_kept : {D : Type 0} (state after : State D) → after ≡ state → KeepsNumbers state after
+pub same_kept : {D : Type 0} (state after : AbstractState D) → after ≡ state
+    → KeepsNumbers state after
 same_kept state after same = rw same (record { long = refl; others = λ r filled. filled })
 
-pub kept_on : {D : Type 0} (state there after : State D) → KeepsNumbers state there → after ≡ there
-    → KeepsNumbers state after
+pub kept_on : {D : Type 0} (state there after : AbstractState D) → KeepsNumbers state there
+    → after ≡ there → KeepsNumbers state after
 kept_on state there after kept same = rw same kept
 
-pub kept_again : {D : Type 0} (state there after : State D) → KeepsNumbers state there
+pub kept_again : {D : Type 0} (state there after : AbstractState D) → KeepsNumbers state there
     → KeepsNumbers there after → KeepsNumbers state after
 kept_again state there after first second = record {
   long = second.long ∙ first.long;
@@ -134,7 +136,7 @@ kept_again state there after first second = record {
 }
 
 -- what was filled or is written
-pub filled_behind : {D : Type 0} (i : Instruction) (state after : State D)
+pub filled_behind : {D : Type 0} (i : Instruction) (state after : AbstractState D)
     → KeepsFilled i state after → (r : ℕ) → IsFilledBehind i state r → IsFilled after r
 filled_behind i state after kept r =
     ⊎_elim (λ (filled : IsFilled state r). kept.others r filled)

@@ -8,7 +8,7 @@ use Rattle.std.proofs.lemmas.Bool.Decides.{nat_tests}
 use Rattle.object.specs.Statements.{StatementParts}
 use Rattle.object.specs.Objects.{AreStatements}
 use Rattle.machine.specs.declared.state.State.{State as Machine}
-use Rattle.kinds.specs.declared.statement.Target.{Target}
+use Rattle.kinds.specs.declared.statement.SegmentStart.{SegmentStart}
 use Rattle.kinds.specs.Meaning.{TargetHolds}
 use Rattle.kinds.specs.Stated.{GivesStated, MeetsStatement}
 use Rattle.segments.specs.Places.{target_at}
@@ -32,19 +32,19 @@ none_isn't_some None none some = cc
 none_isn't_some (Some x) none some = cc
 
 stated_agrees : {D : Type 0} (contains : D → ℕ → Type 0) (stated : Option StatementParts)
-    (found : Option (Target D)) → Agrees contains stated found → found ≡ None → stated ≡ None
+    (found : Option (SegmentStart D)) → Agrees contains stated found → found ≡ None → stated ≡ None
 stated_agrees contains None found agrees none = refl
 stated_agrees contains (Some s) None agrees none = absurd agrees
 stated_agrees contains (Some s) (Some target) agrees none = cc
 
 found_agrees : {D : Type 0} (contains : D → ℕ → Type 0) (stated : Option StatementParts)
-    (found : Option (Target D)) → Agrees contains stated found → stated ≡ None → found ≡ None
+    (found : Option (SegmentStart D)) → Agrees contains stated found → stated ≡ None → found ≡ None
 found_agrees contains None None agrees none = refl
 found_agrees contains None (Some target) agrees none = absurd agrees
 found_agrees contains (Some s) found agrees none = cc
 
 target_agrees : {D : Type 0} (contains : D → ℕ → Type 0) (stated : Option StatementParts)
-    (found : Option (Target D)) (target : Target D) → Agrees contains stated found
+    (found : Option (SegmentStart D)) (target : SegmentStart D) → Agrees contains stated found
     → found ≡ Some target → (s : StatementParts) × (stated ≡ Some s)
     × IsTargetOf contains s target
 target_agrees contains None None target agrees some = cc
@@ -55,8 +55,8 @@ target_agrees contains (Some s) (Some other) target agrees some =
     (s, refl, subst (λ t. IsTargetOf contains s t) same agrees)
 
 statement_agrees : {D : Type 0} (contains : D → ℕ → Type 0) (stated : Option StatementParts)
-    (found : Option (Target D)) (s : StatementParts) → Agrees contains stated found
-    → stated ≡ Some s → (target : Target D) × (found ≡ Some target)
+    (found : Option (SegmentStart D)) (s : StatementParts) → Agrees contains stated found
+    → stated ≡ Some s → (target : SegmentStart D) × (found ≡ Some target)
     × IsTargetOf contains s target
 statement_agrees contains None found s agrees some = cc
 statement_agrees contains (Some other) None s agrees some = absurd agrees
@@ -66,36 +66,36 @@ statement_agrees contains (Some other) (Some target) s agrees some =
 
 -- the slot of a statement has its target
 pub target_stated : {D : Type 0} (contains : D → ℕ → Type 0) (statements : List StatementParts)
-    (targets : List (Option (Target D))) (slot : ℕ) (s : StatementParts)
+    (targets : List (Option (SegmentStart D))) (slot : ℕ) (s : StatementParts)
     → AreTargets contains statements targets → statement_at statements slot ≡ Some s
-    → (target : Target D) × (target_at targets slot ≡ Some target)
+    → (target : SegmentStart D) × (target_at targets slot ≡ Some target)
     × IsTargetOf contains s target
 target_stated contains statements targets slot s are some =
     statement_agrees contains (statement_at statements slot) (target_at targets slot) s (are slot)
     some
 
 pub unstated_of : {D : Type 0} (contains : D → ℕ → Type 0) (statements : List StatementParts)
-    (targets : List (Option (Target D))) (slot : ℕ) → AreTargets contains statements targets
+    (targets : List (Option (SegmentStart D))) (slot : ℕ) → AreTargets contains statements targets
     → target_at targets slot ≡ None → statement_at statements slot ≡ None
 unstated_of contains statements targets slot are none =
     stated_agrees contains (statement_at statements slot) (target_at targets slot) (are slot) none
 
 pub untargeted_of : {D : Type 0} (contains : D → ℕ → Type 0) (statements : List StatementParts)
-    (targets : List (Option (Target D))) (slot : ℕ) → AreTargets contains statements targets
+    (targets : List (Option (SegmentStart D))) (slot : ℕ) → AreTargets contains statements targets
     → statement_at statements slot ≡ None → target_at targets slot ≡ None
 untargeted_of contains statements targets slot are none =
     found_agrees contains (statement_at statements slot) (target_at targets slot) (are slot) none
 
 pub stated_of : {D : Type 0} (contains : D → ℕ → Type 0) (statements : List StatementParts)
-    (targets : List (Option (Target D))) (slot : ℕ) → AreTargets contains statements targets
+    (targets : List (Option (SegmentStart D))) (slot : ℕ) → AreTargets contains statements targets
     → IsSome (target_at targets slot) → statement_at statements slot ≡ None → ⊥
 stated_of contains statements targets slot are some none =
     none_isn't_some (target_at targets slot)
     (untargeted_of contains statements targets slot are none) some
 
 pub target_of_statement : {D : Type 0} (contains : D → ℕ → Type 0)
-    (statements : List StatementParts) (targets : List (Option (Target D))) (slot : ℕ)
-    (target : Target D) → AreTargets contains statements targets
+    (statements : List StatementParts) (targets : List (Option (SegmentStart D))) (slot : ℕ)
+    (target : SegmentStart D) → AreTargets contains statements targets
     → target_at targets slot ≡ Some target
     → (s : StatementParts) × (statement_at statements slot ≡ Some s)
     × IsTargetOf contains s target
@@ -107,12 +107,13 @@ target_of_statement contains statements targets slot target are some =
 
 -- the slot of a statement has its target; without one, what is stated is among the rest
 pub Found : {D : Type 0} → (D → ℕ → Type 0) → Option StatementParts → Option StatementParts
-    → Option (Target D) → Type 0
+    → Option (SegmentStart D) → Type 0
 Found contains whole rest None = whole ≡ rest
 Found contains whole rest (Some target) = IsSomeAnd whole (λ s. IsTargetOf contains s target)
 
 pub record AreFoundSoFar {D : Type 0} (contains : D → ℕ → Type 0) (gives : GivesStated D)
-    (statements rest : List StatementParts) (size : ℕ) (targets : List (Option (Target D))) : Type 0
+    (statements rest : List StatementParts) (size : ℕ) (targets : List (Option (SegmentStart D))) :
+    Type 0
   where
     pub long : length targets ≡ size
     pub found : (slot : ℕ) → Found contains (statement_at statements slot) (statement_at rest slot)
@@ -123,25 +124,27 @@ pub record AreFoundSoFar {D : Type 0} (contains : D → ℕ → Type 0) (gives :
     pub meet : MeetStatements contains gives targets
 
 found_none : {D : Type 0} (contains : D → ℕ → Type 0) (whole rest : Option StatementParts)
-    (found : Option (Target D)) → found ≡ None → whole ≡ rest → Found contains whole rest found
+    (found : Option (SegmentStart D)) → found ≡ None → whole ≡ rest
+    → Found contains whole rest found
 unfolding Found
 found_none contains whole rest None none same = same
 found_none contains whole rest (Some target) none same = cc
 
 found_whole : {D : Type 0} (contains : D → ℕ → Type 0) (whole rest : Option StatementParts)
-    (found : Option (Target D)) → found ≡ None → Found contains whole rest found → whole ≡ rest
+    (found : Option (SegmentStart D)) → found ≡ None → Found contains whole rest found
+    → whole ≡ rest
 unfolding Found
 found_whole contains whole rest None none same = same
 found_whole contains whole rest (Some target) none same = cc
 
 found_some : {D : Type 0} (contains : D → ℕ → Type 0) (whole rest : Option StatementParts)
-    (s : StatementParts) (target : Target D) → whole ≡ Some s → IsTargetOf contains s target
+    (s : StatementParts) (target : SegmentStart D) → whole ≡ Some s → IsTargetOf contains s target
     → Found contains whole rest (Some target)
 unfolding Found
 found_some contains whole rest s target same is = rw same is
 
 pub none_found : {D : Type 0} (contains : D → ℕ → Type 0) (gives : GivesStated D)
-    (statements : List StatementParts) (size : ℕ) (targets : List (Option (Target D)))
+    (statements : List StatementParts) (size : ℕ) (targets : List (Option (SegmentStart D)))
     → length targets ≡ size → ((slot : ℕ) → target_at targets slot ≡ None)
     → AreStatements 0 size statements
     → AreFoundSoFar contains gives statements statements size targets
@@ -155,7 +158,8 @@ none_found contains gives statements size targets long none ordered = record {
 }
 
 agrees_at_end : {D : Type 0} (contains : D → ℕ → Type 0) (whole : Option StatementParts)
-    (found : Option (Target D)) → Found contains whole None found → Agrees contains whole found
+    (found : Option (SegmentStart D)) → Found contains whole None found
+    → Agrees contains whole found
 unfolding Found
 agrees_at_end contains None None is = tt
 agrees_at_end contains (Some s) None is = cc
@@ -163,7 +167,7 @@ agrees_at_end contains None (Some target) is = absurd is
 agrees_at_end contains (Some s) (Some target) is = is
 
 pub all_found : {D : Type 0} (contains : D → ℕ → Type 0) (gives : GivesStated D)
-    (statements rest : List StatementParts) (size : ℕ) (targets : List (Option (Target D)))
+    (statements rest : List StatementParts) (size : ℕ) (targets : List (Option (SegmentStart D)))
     → AreFoundSoFar contains gives statements rest size targets → rest ≡ []
     → AreTargets contains statements targets
 all_found contains gives statements rest size targets so_far none slot =
@@ -185,8 +189,8 @@ some_is_one o first second = cc
 
 module _ {D : Type 0} (contains : D → ℕ → Type 0) (gives : GivesStated D)
     (statements : List StatementParts) (s : StatementParts) (ss : List StatementParts) (size : ℕ)
-    (targets : List (Option (Target D))) (target : Target D) where
-  put : List (Option (Target D))
+    (targets : List (Option (SegmentStart D))) (target : SegmentStart D) where
+  put : List (Option (SegmentStart D))
   put = set targets s.slot (Some target)
 
   found_here : AreFoundSoFar contains gives statements (s ∷ ss) size targets

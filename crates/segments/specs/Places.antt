@@ -5,7 +5,7 @@ use Rattle.isa.specs.declared.code.Slot.{Slot}
 use Rattle.isa.specs.declared.instruction.Instruction.{Instruction}
 use Rattle.isa.specs.declared.instruction.Instruction.TheVariants as instructions
 use Rattle.isa.specs.Flow.{Begins, size, jump_target}
-use Rattle.kinds.specs.declared.statement.Target.{Target}
+use Rattle.kinds.specs.declared.statement.SegmentStart.{SegmentStart}
 
 -- whether the instruction may fall through: all but EXIT and the unconditional jumps
 abbrev pub goes_on : Instruction → Bool
@@ -15,23 +15,24 @@ goes_on instructions.Exit = false
 goes_on other = true
 
 -- what is stated at a slot; the list has an element for each slot of the code
-abbrev pub target_at : {D : Type 0} → List (Option (Target D)) → ℕ → Option (Target D)
+abbrev pub target_at : {D : Type 0} → List (Option (SegmentStart D)) → ℕ → Option (SegmentStart D)
 target_at targets slot = slice_index_or targets slot None
 
 -- the start of a segment: the entry, or the statement at a slot
-abbrev pub segment_of : {D : Type 0} → List (Option (Target D)) → Target D → Option ℕ → Target D
+abbrev pub segment_of : {D : Type 0} → List (Option (SegmentStart D)) → SegmentStart D → Option ℕ
+    → SegmentStart D
 segment_of targets entry None = entry
 segment_of targets entry (Some slot) = unwrap_or (target_at targets slot) entry
 
 -- an instruction with a statement begins at the slot
-pub record IsEntry {D : Type 0} (code : List Slot) (targets : List (Option (Target D)))
+pub record IsEntry {D : Type 0} (code : List Slot) (targets : List (Option (SegmentStart D)))
     (slot : ℕ) : Type 0 where
   pub begins : Begins code slot
   pub stated : IsSome (target_at targets slot)
 
 -- The slots that may come after the instruction are valid: a jump's target has a statement, and an
 -- instruction that falls through is followed by another.
-pub record IsWellPlaced {D : Type 0} (code : List Slot) (targets : List (Option (Target D)))
+pub record IsWellPlaced {D : Type 0} (code : List Slot) (targets : List (Option (SegmentStart D)))
     (slot : ℕ) (i : Instruction) : Type 0 where
   pub jump : IfSome (jump_target slot i) (IsEntry code targets)
   pub on : goes_on i ≡ true → Begins code (slot + size i)

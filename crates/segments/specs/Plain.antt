@@ -7,8 +7,8 @@ use Rattle.machine.specs.Faults.{writes_frame}
 use Rattle.object.specs.Sets.{has_byte}
 use Rattle.kinds.specs.declared.state.Kind.{Kind}
 use Rattle.kinds.specs.declared.state.Kind.TheVariants as kinds
-use Rattle.kinds.specs.declared.state.State.{State}
-use Rattle.kinds.specs.declared.statement.Target.{Target}
+use Rattle.kinds.specs.declared.state.AbstractState.{AbstractState}
+use Rattle.kinds.specs.declared.statement.SegmentStart.{SegmentStart}
 use Rattle.kinds.specs.Plain.{IsFilled, kind_in}
 use Rattle.kinds.specs.Stated.{HasEveryNumber}
 use Rattle.ranks.specs.Lines.{IsConstant}
@@ -21,7 +21,7 @@ LeadsTo slot i to =
     (jump_target slot i ≡ Some to) ⊎ ((goes_on i ≡ true) × (slot_after slot i ≡ to))
 
 -- after the instruction the register is known to hold a number: it was before, or is written
-abbrev pub IsFilledBehind : {D : Type 0} → Instruction → State D → ℕ → Type 0
+abbrev pub IsFilledBehind : {D : Type 0} → Instruction → AbstractState D → ℕ → Type 0
 IsFilledBehind i state r = IsFilled state r ⊎ (register_written i ≡ Some r)
 
 -- Nothing is required of a register, or that it is any number, and then it is filled.
@@ -35,7 +35,7 @@ AsksAtMost contains filled other = ⊥
 -- and no bytes. Both ranks are constants, and the target's is at most the segment's, less on a
 -- backward jump.
 pub record IsPlainEdge {D : Type 0} (contains : D → ℕ → Type 0) (back : Bool)
-    (segment target : Target D) (filled : ℕ → Type 0) : Type 0 where
+    (segment target : SegmentStart D) (filled : ℕ → Type 0) : Type 0 where
   pub asks : (r : ℕ) → AsksAtMost contains (filled r) (kind_in target.kinds.items r)
   pub no_bytes : (at : ℕ) → has_byte target.statement.now.stack at ≡ false
   pub own : IsConstant segment.statement.now.rank
@@ -44,17 +44,17 @@ pub record IsPlainEdge {D : Type 0} (contains : D → ℕ → Type 0) (back : Bo
       ≤ segment.statement.now.rank.constant
 
 -- if the slot has a statement, the edge to it is plain
-abbrev pub MayEnter : {D : Type 0} → (D → ℕ → Type 0) → List (Option (Target D)) → Target D → Bool
-    → ℕ → (ℕ → Type 0) → Type 0
+abbrev pub MayEnter : {D : Type 0} → (D → ℕ → Type 0) → List (Option (SegmentStart D))
+    → SegmentStart D → Bool → ℕ → (ℕ → Type 0) → Type 0
 MayEnter {D} contains targets segment back to filled =
-    (target : Target D) → target_at targets to ≡ Some target
+    (target : SegmentStart D) → target_at targets to ≡ Some target
     → IsPlainEdge contains back segment target filled
 
 -- An instruction of a plain program that doesn't write r10: what it reads is known to be numbers,
 -- and each edge from it is plain.
 pub record IsPlainHere {D : Type 0} (contains : D → ℕ → Type 0)
-    (targets : List (Option (Target D))) (segment : Target D)
-    (slot : ℕ) (i : Instruction) (state : State D) : Type 0 where
+    (targets : List (Option (SegmentStart D))) (segment : SegmentStart D)
+    (slot : ℕ) (i : Instruction) (state : AbstractState D) : Type 0 where
   pub plain : IsPlainInstruction i
   pub frame : writes_frame i ≡ false
   pub reads : ReadsFilled i state
@@ -63,6 +63,6 @@ pub record IsPlainHere {D : Type 0} (contains : D → ℕ → Type 0)
       → MayEnter contains targets segment (nat_le to slot) to (IsFilledBehind i state)
 
 -- as many registers as before, and numbers remain numbers
-pub record KeepsNumbers {D : Type 0} (state after : State D) : Type 0 where
+pub record KeepsNumbers {D : Type 0} (state after : AbstractState D) : Type 0 where
   pub long : length after.kinds.items ≡ length state.kinds.items
   pub others : (r : ℕ) → IsFilled state r → IsFilled after r

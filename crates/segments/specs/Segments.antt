@@ -10,8 +10,8 @@ use Rattle.machine.specs.Label.{Label}
 use Rattle.machine.specs.State.{Setting}
 use Rattle.machine.specs.Steps.{IsAt, Does}
 use Rattle.machine.specs.Faults.{Stuck}
-use Rattle.kinds.specs.declared.state.State.{State}
-use Rattle.kinds.specs.declared.statement.Target.{Target}
+use Rattle.kinds.specs.declared.state.AbstractState.{AbstractState}
+use Rattle.kinds.specs.declared.statement.SegmentStart.{SegmentStart}
 use Rattle.kinds.specs.Meaning.{StateHolds, TargetHolds}
 use Rattle.transfer.specs.Given.{Given, setting_of}
 use Rattle.isa.specs.Flow.{Begins, size}
@@ -25,15 +25,15 @@ use Rattle.segments.specs.Places.{target_at}
 -- 0 has no statement, or at a statement, and goes from an instruction to the one after it, as long
 -- as that has no statement.
 pub data Visits {D : Type 0} (contains : D → ℕ → Type 0) (setting : Setting)
-    (targets : List (Option (Target D))) (entry : Target D) : Target D
+    (targets : List (Option (SegmentStart D))) (entry : SegmentStart D) : SegmentStart D
     → Machine → Machine → Type 0 where
   at_entry : {start : Machine} → start.slot ≡ 0 → target_at targets start.slot ≡ None
       → TargetHolds contains entry start
       → Visits contains setting targets entry entry start start
-  at_target : {target : Target D} {start : Machine} → target_at targets start.slot ≡ Some target
-      → TargetHolds contains target start
+  at_target : {target : SegmentStart D} {start : Machine}
+      → target_at targets start.slot ≡ Some target → TargetHolds contains target start
       → Visits contains setting targets entry target start start
-  falls : {segment : Target D} {start next : Machine} (now : Machine) (label : Label)
+  falls : {segment : SegmentStart D} {start next : Machine} (now : Machine) (label : Label)
       (i : Instruction)
       → Visits contains setting targets entry segment start now
       → IsAt setting now i → Does i setting now label next → next.slot ≡ now.slot + size i
@@ -42,7 +42,8 @@ pub data Visits {D : Type 0} (contains : D → ℕ → Type 0) (setting : Settin
 
 -- The machine is as the target's statement says, and the rank there is at most the one at the start
 -- of the segment, less on a backward jump.
-pub record Enters {D : Type 0} (contains : D → ℕ → Type 0) (back : Bool) (segment target : Target D)
+pub record Enters {D : Type 0} (contains : D → ℕ → Type 0) (back : Bool)
+    (segment target : SegmentStart D)
     (start next : Machine) : Type 0 where
   pub holds : TargetHolds contains target next
   pub rank : rank_value target.statement.now.rank next + (if back then 1 else 0)
@@ -50,8 +51,8 @@ pub record Enters {D : Type 0} (contains : D → ℕ → Type 0) (back : Bool) (
 
 -- a step from the slot leads to a statement and enters it; a step to the slot itself or an earlier
 -- one is a backward jump
-abbrev pub EntersNext : {D : Type 0} → (D → ℕ → Type 0) → List (Option (Target D)) → Target D → ℕ
-    → Machine → Machine → Type 0
+abbrev pub EntersNext : {D : Type 0} → (D → ℕ → Type 0) → List (Option (SegmentStart D))
+    → SegmentStart D → ℕ → Machine → Machine → Type 0
 EntersNext contains targets segment slot start next =
     IsSomeAnd (target_at targets next.slot)
     (λ target. Enters contains (nat_le next.slot slot) segment target start next)
@@ -59,7 +60,8 @@ EntersNext contains targets segment slot start next =
 -- where a step of the segment leads: to an instruction whose statement it enters, or to the next
 -- one, which has none
 pub record LeadsOn {D : Type 0} (contains : D → ℕ → Type 0) (code : List Slot)
-    (targets : List (Option (Target D))) (segment : Target D) (slot : ℕ) (i : Instruction)
+    (targets : List (Option (SegmentStart D))) (segment : SegmentStart D) (slot : ℕ)
+    (i : Instruction)
     (start next : Machine) : Type 0 where
   pub begins : Begins code next.slot
   pub leads : EntersNext contains targets segment slot start next
@@ -67,12 +69,12 @@ pub record LeadsOn {D : Type 0} (contains : D → ℕ → Type 0) (code : List S
 
 -- No visit of the slot is stuck, and each step from it leads on, on any input.
 pub record IsFine {D : Type 0} (contains : D → ℕ → Type 0) (code : List Slot) (hook : Hook)
-    (targets : List (Option (Target D))) (entry : Target D) (slot : ℕ) : Type 0 where
-  pub free : (input : Given) (segment : Target D) (start now : Machine) (fault : Fault)
+    (targets : List (Option (SegmentStart D))) (entry : SegmentStart D) (slot : ℕ) : Type 0 where
+  pub free : (input : Given) (segment : SegmentStart D) (start now : Machine) (fault : Fault)
       → Visits contains (setting_of code hook input) targets entry segment start now
       → now.slot ≡ slot → Stuck (setting_of code hook input) now fault → ⊥
-  pub leads_on : (input : Given) (segment : Target D) (start now next : Machine) (label : Label)
-      (i : Instruction)
+  pub leads_on : (input : Given) (segment : SegmentStart D) (start now next : Machine)
+      (label : Label) (i : Instruction)
       → Visits contains (setting_of code hook input) targets entry segment start now
       → now.slot ≡ slot → IsAt (setting_of code hook input) now i
       → Does i (setting_of code hook input) now label next
@@ -81,20 +83,23 @@ pub record IsFine {D : Type 0} (contains : D → ℕ → Type 0) (code : List Sl
 -- ---- what the verifier knows
 
 -- a state of the machine in the segment, by all that is known
-pub record IsKnown {D : Type 0} (contains : D → ℕ → Type 0) (segment : Target D) (state : State D)
+pub record IsKnown {D : Type 0} (contains : D → ℕ → Type 0) (segment : SegmentStart D)
+    (state : AbstractState D)
     (start now : Machine) : Type 0 where
   pub begins : TargetHolds contains segment start
   pub holds : StateHolds contains state start now
 
 -- the same, if the slot may be reached
-pub record Knows {D : Type 0} (contains : D → ℕ → Type 0) (segment : Target D) (known : Known D)
+pub record Knows {D : Type 0} (contains : D → ℕ → Type 0) (segment : SegmentStart D)
+    (known : Known D)
     (start now : Machine) : Type 0 where
   pub live : known.is_live ≡ true
   pub is_known : IsKnown contains segment known.state start now
 
 -- a step leads to the next slot, which has no statement, and what holds there is known
 pub record FallsThrough {D : Type 0} (contains : D → ℕ → Type 0)
-    (targets : List (Option (Target D))) (segment : Target D) (slot : ℕ) (i : Instruction)
+    (targets : List (Option (SegmentStart D))) (segment : SegmentStart D) (slot : ℕ)
+    (i : Instruction)
     (after : Known D) (start next : Machine) : Type 0 where
   pub behind : next.slot ≡ slot + size i
   pub unstated : target_at targets next.slot ≡ None
@@ -102,15 +107,16 @@ pub record FallsThrough {D : Type 0} (contains : D → ℕ → Type 0)
 
 -- a step to the next slot enters the statement there, or there is none and what holds there is
 -- known
-abbrev pub PassesTo : {D : Type 0} → (D → ℕ → Type 0) → List (Option (Target D)) → Target D → ℕ → ℕ
-    → Known D → Machine → Machine → Type 0
+abbrev pub PassesTo : {D : Type 0} → (D → ℕ → Type 0) → List (Option (SegmentStart D))
+    → SegmentStart D → ℕ → ℕ → Known D → Machine → Machine → Type 0
 PassesTo contains targets segment slot next_slot after start next =
     EntersNext contains targets segment slot start next
     ⊎ ((target_at targets next_slot ≡ None) × Knows contains segment after start next)
 
 -- where a step from what is known leads
 pub record GoesOn {D : Type 0} (contains : D → ℕ → Type 0) (code : List Slot)
-    (targets : List (Option (Target D))) (segment : Target D) (slot : ℕ) (i : Instruction)
+    (targets : List (Option (SegmentStart D))) (segment : SegmentStart D) (slot : ℕ)
+    (i : Instruction)
     (after : Known D) (start next : Machine) : Type 0 where
   pub begins : Begins code next.slot
   pub goes : EntersNext contains targets segment slot start next
@@ -119,8 +125,9 @@ pub record GoesOn {D : Type 0} (contains : D → ℕ → Type 0) (code : List Sl
 -- In each state that is known at the slot, the instruction isn't stuck, and each step goes on as it
 -- should.
 pub record IsFollowed {D : Type 0} (contains : D → ℕ → Type 0) (code : List Slot) (hook : Hook)
-    (targets : List (Option (Target D))) (segment : Target D) (slot : ℕ) (i : Instruction)
-    (state : State D) (after : Known D) : Type 0 where
+    (targets : List (Option (SegmentStart D))) (segment : SegmentStart D) (slot : ℕ)
+    (i : Instruction)
+    (state : AbstractState D) (after : Known D) : Type 0 where
   pub free : (input : Given) (start now : Machine) (fault : Fault) → now.slot ≡ slot
       → StateHolds contains state start now
       → Stuck (setting_of code hook input) now fault → ⊥
@@ -131,14 +138,15 @@ pub record IsFollowed {D : Type 0} (contains : D → ℕ → Type 0) (code : Lis
 
 -- Every visit of the slot, on any input, is in this segment and known.
 pub record IsCurrent {D : Type 0} (contains : D → ℕ → Type 0) (code : List Slot) (hook : Hook)
-    (targets : List (Option (Target D))) (entry : Target D) (slot : ℕ) (segment : Target D)
+    (targets : List (Option (SegmentStart D))) (entry : SegmentStart D) (slot : ℕ)
+    (segment : SegmentStart D)
     (known : Known D) : Type 0 where
-  pub visits : (input : Given) (other : Target D) (start now : Machine)
+  pub visits : (input : Given) (other : SegmentStart D) (start now : Machine)
       → Visits contains (setting_of code hook input) targets entry other start now
       → now.slot ≡ slot → (segment ≡ other) × Knows contains segment known start now
 
 -- the same, unless the slot has a statement
 abbrev pub IsCurrentUnlessStated : {D : Type 0} → (D → ℕ → Type 0) → List Slot → Hook
-    → List (Option (Target D)) → Target D → ℕ → Target D → Known D → Type 0
+    → List (Option (SegmentStart D)) → SegmentStart D → ℕ → SegmentStart D → Known D → Type 0
 IsCurrentUnlessStated contains code hook targets entry slot segment known =
     target_at targets slot ≡ None → IsCurrent contains code hook targets entry slot segment known

@@ -7,17 +7,17 @@ ghost use Rattle.segments.specs.Refusals.{IsOfEdge};
 ghost use Rattle.segments.specs.Segments.{Enters, IsKnown};
 
 use absdom::Domain;
-use kinds::{State, Target, bytes_within, kinds_within};
+use kinds::{AbstractState, SegmentStart, bytes_within, kinds_within};
 use ranks::{bound_of, falls};
 use transfer::rule::Rule;
 
 /// Checks that what is known at an edge is within the statement at its target, and that the rank
 /// decreases as required.
 pub fn enter<'a, D: Domain>(
-    target: &Target<'a, D>,
+    target: &SegmentStart<'a, D>,
     back: bool,
-    segment: &Target<'a, D>,
-    state: &State<D>,
+    segment: &SegmentStart<'a, D>,
+    state: &AbstractState<D>,
 ) -> Result<(), Rule>
     ensures enters { IfOk result (λ _. (start now : Machine)
         → IsKnown D.contains segment.now state.now start now

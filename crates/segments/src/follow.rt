@@ -27,7 +27,7 @@ use crate::places::{jumped, jumped_near, slots_of};
 use crate::target::stated_at;
 use absdom::Domain;
 use isa::{Code, Hook, Instruction, Register, Source, Test, Width};
-use kinds::{State, Target};
+use kinds::{AbstractState, SegmentStart};
 use transfer::branch::{refined, tested};
 use transfer::exit::answers;
 use transfer::laws::{
@@ -45,9 +45,9 @@ pub struct Operands {
 
 /// Checks that a jump may enter the statement at its target.
 pub fn jump_to<'a, D: Domain>(
-    targets: &[Option<Target<'a, D>>],
-    segment: &Target<'a, D>,
-    state: &State<D>,
+    targets: &[Option<SegmentStart<'a, D>>],
+    segment: &SegmentStart<'a, D>,
+    state: &AbstractState<D>,
     slot: usize,
     to: usize,
 ) -> Result<(), Rule>
@@ -68,9 +68,9 @@ pub fn jump_to<'a, D: Domain>(
 /// What is known at the next slot. If that has a statement, the edge to it is checked, and nothing
 /// is known beyond the statement.
 pub fn pass_on<'a, D: Domain>(
-    targets: &[Option<Target<'a, D>>],
-    segment: &Target<'a, D>,
-    state: State<D>,
+    targets: &[Option<SegmentStart<'a, D>>],
+    segment: &SegmentStart<'a, D>,
+    state: AbstractState<D>,
     next_slot: usize,
 ) -> Result<Known<D>, Rule>
     ensures passes { IfOk result (λ after. (start next : Machine) (slot : ℕ)
@@ -98,14 +98,14 @@ pub fn pass_on<'a, D: Domain>(
 /// Checks that a conditional jump may enter the statement at its target, if its test can hold. The
 /// resulting state serves the other edge, where what it says of the two operands is replaced.
 fn take<'a, D: Domain>(
-    targets: &[Option<Target<'a, D>>],
-    segment: &Target<'a, D>,
-    state: State<D>,
+    targets: &[Option<SegmentStart<'a, D>>],
+    segment: &SegmentStart<'a, D>,
+    state: AbstractState<D>,
     slot: usize,
     operands: &Operands,
     taken: Option<(D, D)>,
     to: usize,
-) -> Result<State<D>, Rule>
+) -> Result<AbstractState<D>, Rule>
     requires stated { IsSome (target_at targets.now to) }
     ensures besides { IfOk result (λ after. (start now : Machine)
         → HoldsBesides D.contains operands.now.left operands.now.right state start now
@@ -132,9 +132,9 @@ fn take<'a, D: Domain>(
 
 /// What is known at the next slot after a conditional jump, if its test can fail.
 fn stay<'a, D: Domain>(
-    targets: &[Option<Target<'a, D>>],
-    segment: &Target<'a, D>,
-    state: State<D>,
+    targets: &[Option<SegmentStart<'a, D>>],
+    segment: &SegmentStart<'a, D>,
+    state: AbstractState<D>,
     operands: &Operands,
     passed: Option<(D, D)>,
     next_slot: usize,
@@ -166,9 +166,9 @@ fn stay<'a, D: Domain>(
 fn branch<'a, D: Domain>(
     code: &Code,
     hook: Hook,
-    targets: &[Option<Target<'a, D>>],
-    segment: &Target<'a, D>,
-    state: State<D>,
+    targets: &[Option<SegmentStart<'a, D>>],
+    segment: &SegmentStart<'a, D>,
+    state: AbstractState<D>,
     slot: usize,
     width: Width,
     test: Test,
@@ -200,9 +200,9 @@ fn branch<'a, D: Domain>(
 /// Checks that an unconditional jump may enter the statement at its target; nothing is known after
 /// it.
 fn leave<'a, D: Domain>(
-    targets: &[Option<Target<'a, D>>],
-    segment: &Target<'a, D>,
-    state: State<D>,
+    targets: &[Option<SegmentStart<'a, D>>],
+    segment: &SegmentStart<'a, D>,
+    state: AbstractState<D>,
     slot: usize,
     to: usize,
 ) -> Result<Known<D>, Rule>
@@ -223,7 +223,7 @@ fn leave<'a, D: Domain>(
 }
 
 /// Checks that EXIT has an answer; nothing is known after it.
-fn end<D: Domain>(state: State<D>) -> Result<Known<D>, Rule>
+fn end<D: Domain>(state: AbstractState<D>) -> Result<Known<D>, Rule>
     ensures free { IfOk result (λ _. (code : List AnySlot) (hook : AnyHook) (input : Given)
         (start now : Machine) → StateHolds D.contains state start now
         → IsAt (setting_of code hook input) now Exit
@@ -244,9 +244,9 @@ fn end<D: Domain>(state: State<D>) -> Result<Known<D>, Rule>
 fn go_on<'a, D: Domain>(
     code: &Code,
     hook: Hook,
-    targets: &[Option<Target<'a, D>>],
-    segment: &Target<'a, D>,
-    state: State<D>,
+    targets: &[Option<SegmentStart<'a, D>>],
+    segment: &SegmentStart<'a, D>,
+    state: AbstractState<D>,
     slot: usize,
     instruction: Instruction,
 ) -> Result<Known<D>, Rule>
@@ -274,9 +274,9 @@ fn go_on<'a, D: Domain>(
 pub fn follow<'a, D: Domain>(
     code: &Code,
     hook: Hook,
-    targets: &[Option<Target<'a, D>>],
-    segment: &Target<'a, D>,
-    state: State<D>,
+    targets: &[Option<SegmentStart<'a, D>>],
+    segment: &SegmentStart<'a, D>,
+    state: AbstractState<D>,
     slot: usize,
     instruction: Instruction,
 ) -> Result<Known<D>, Rule>

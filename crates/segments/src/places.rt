@@ -13,7 +13,7 @@ use crate::target::is_stated;
 use absdom::Domain;
 use isa::laws::an_instruction_is_followed;
 use isa::{Code, Instruction, Slot};
-use kinds::Target;
+use kinds::SegmentStart;
 use transfer::rule::Rule;
 
 /// The number of slots that the instruction takes.
@@ -86,7 +86,7 @@ fn jumps_nowhere(code: &Code, to: Option<usize>) -> bool
 }
 
 /// Whether the instruction jumps to a slot without a statement: rule 4.
-fn jumps_unstated<'a, D: Domain>(targets: &[Option<Target<'a, D>>], to: Option<usize>) -> bool
+fn jumps_unstated<'a, D: Domain>(targets: &[Option<SegmentStart<'a, D>>], to: Option<usize>) -> bool
     ensures stated { result ≡ false → IfSome to (λ slot. IsSome (target_at targets.now slot)) }
     ensures unstated { result ≡ true → IsSomeAnd to (λ slot. target_at targets.now slot ≡ None) }
 {
@@ -109,7 +109,7 @@ fn falls_off(code: &Code, slot: usize, instruction: &Instruction) -> bool
 
 /// Whether nothing leads to the slot: rule 3.
 fn is_unreached<'a, D: Domain>(
-    targets: &[Option<Target<'a, D>>],
+    targets: &[Option<SegmentStart<'a, D>>],
     is_passed_to: bool,
     slot: usize,
 ) -> bool
@@ -124,7 +124,7 @@ fn is_unreached<'a, D: Domain>(
 /// Checks the slots that may come after the instruction: rules 1 to 4.
 pub fn check_places<'a, D: Domain>(
     code: &Code,
-    targets: &[Option<Target<'a, D>>],
+    targets: &[Option<SegmentStart<'a, D>>],
     is_passed_to: bool,
     slot: usize,
     instruction: &Instruction,

@@ -6,15 +6,15 @@ ghost use Rattle.segments.specs.Places.{target_at};
 ghost use Rattle.segments.specs.Stated.{AreTargets, MeetStatements};
 
 use absdom::Domain;
-use kinds::{Target, target_of};
+use kinds::{SegmentStart, target_of};
 use object::Statement;
 use std::alloc::{AllocError, Global};
 
 /// What is stated at a slot.
 pub fn stated_at<'t, 'a, D: Domain>(
-    targets: &'t [Option<Target<'a, D>>],
+    targets: &'t [Option<SegmentStart<'a, D>>],
     slot: usize,
-) -> Option<&'t Target<'a, D>>
+) -> Option<&'t SegmentStart<'a, D>>
     ensures { MatchOption result (target_at targets.now slot ≡ None)
         (λ target. target_at targets.now slot ≡ Some target.now) }
 {
@@ -25,7 +25,7 @@ pub fn stated_at<'t, 'a, D: Domain>(
 }
 
 /// Whether the slot has a statement.
-pub fn is_stated<'a, D: Domain>(targets: &[Option<Target<'a, D>>], slot: usize) -> bool
+pub fn is_stated<'a, D: Domain>(targets: &[Option<SegmentStart<'a, D>>], slot: usize) -> bool
     ensures { IsTrue result ↔ IsSome (target_at targets.now slot) }
 {
     stated_at(targets, slot).is_some()
@@ -35,7 +35,7 @@ pub fn is_stated<'a, D: Domain>(targets: &[Option<Target<'a, D>>], slot: usize) 
 fn unstated<'a, D: Domain>(
     alloc: Global,
     size: usize,
-) -> Result<Vec<Option<Target<'a, D>>>, AllocError>
+) -> Result<Vec<Option<SegmentStart<'a, D>>>, AllocError>
     ensures long { IfOk result (λ targets. length targets.items ≡ size) }
     ensures none { IfOk result (λ targets. (slot : ℕ) → target_at targets.items slot ≡ None) }
 {
@@ -51,7 +51,7 @@ pub fn targets_of<'a, D: Domain>(
     alloc: Global,
     size: usize,
     statements: &'a [Statement],
-) -> Result<Vec<Option<Target<'a, D>>>, AllocError>
+) -> Result<Vec<Option<SegmentStart<'a, D>>>, AllocError>
     requires { AreStatements 0 size statements.now }
     ensures are { IfOk result (λ targets. AreTargets D.contains statements.now targets.items) }
     ensures meet { IfOk result (λ targets.

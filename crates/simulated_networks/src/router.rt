@@ -2,7 +2,7 @@
 use crate::addresses::on_link;
 use crate::fault::NetworkError;
 use crate::topology::FarEnd;
-use flood::{Config, Core, Interface, State};
+use flood::{Config, Core, Interface, NeighborState};
 use lsa::Header;
 use std::alloc::Global;
 use words::{Address, Hops, Key, RouterId, Second, Sequence};
@@ -85,7 +85,7 @@ pub fn begun(
 /// Whether the router's neighbor at the interface is Full.
 pub fn sees_full(core: &Core, interface: u8) -> bool {
     match core.neighbor(u16::from(interface)) {
-        Some((_, State::Full)) => true,
+        Some((_, NeighborState::Full)) => true,
         _ => false,
     }
 }

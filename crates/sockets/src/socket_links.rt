@@ -12,7 +12,7 @@ use crate::refusals::{came, sent};
 use crate::socket::DatagramSocket;
 use crate::waiting::{Ear, ListensAt, SystemPoller, Waits};
 use crate::wire::{Wire, wire_at};
-use links::{Link, LinkFault, datagram};
+use links::{LinkFault, Transport, datagram};
 use mio::net::UdpSocket;
 use std::alloc::Global;
 use std::io::ErrorKind;
@@ -241,7 +241,7 @@ fn say<S: DatagramSocket>(wire: &Wire<S>, bytes: &[u8]) -> Result<bool, LinkFaul
     sent(wire.socket.send(bytes, wire.peer))
 }
 
-impl<'a, S: DatagramSocket, E: Waits> Link for Sockets<'a, S, E> {
+impl<'a, S: DatagramSocket, E: Waits> Transport for Sockets<'a, S, E> {
     ghost use Rattle.std.specs.Prelude.{◌⊎◌, None};
     ghost use Rattle.sockets.specs.Wires.{HasWaited, IsHandedOver, IsHeardAt};
 

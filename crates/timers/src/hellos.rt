@@ -8,7 +8,7 @@ ghost use Rattle.events.specs.Hellos.{heard_of, hello_is_due, hello_on, is_due};
 ghost use Rattle.events.specs.Ticks.{send_hellos};
 ghost use Rattle.timers.specs.Greetings.{routers_of};
 
-use flooding::{Area, Draft, Link, LinkStep, Lsdb, State};
+use flooding::{Area, Draft, Link, LinkStep, Lsdb, NeighborState};
 use packet::Hello;
 use std::alloc::{AllocError, Global};
 use words::{E_BIT, RouterId, Second, Sequence};
@@ -56,7 +56,7 @@ fn mask(length: u8) -> u32
 
 fn routers_of(
     alloc: Global,
-    neighbor: Option<(RouterId, State)>,
+    neighbor: Option<(RouterId, NeighborState)>,
 ) -> Result<Sequence<RouterId>, AllocError>
     ensures { IfOk result (λ rs. rs ≡ routers_of neighbor) }
 {

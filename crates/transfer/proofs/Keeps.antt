@@ -11,7 +11,7 @@ use Rattle.isa.specs.declared.instruction.Operation.TheVariants as operations
 use Rattle.isa.specs.declared.instruction.Source.{Source}
 use Rattle.kinds.specs.declared.state.Kind.{Kind}
 use Rattle.kinds.specs.declared.state.Kind.TheVariants.{Empty}
-use Rattle.kinds.specs.declared.state.State.{State}
+use Rattle.kinds.specs.declared.state.AbstractState.{AbstractState}
 use Rattle.kinds.specs.Plain.{IsNumber, IsFilled}
 use Rattle.isa.specs.Flow.{register_written, operation_registers, source_registers}
 use Rattle.transfer.specs.Plain.{FillsNumber, KeepsFilled}
@@ -37,9 +37,9 @@ number_set xs i kind new r old =
     apart : r ≢ i → IsNumber (get_or (slice_set xs i kind) r Empty)
     apart other = rw (get_or-set_other xs i r kind Empty other) old
 
-pub filled_set : {D : Type 0} (state after : State D) (i : ℕ) (kind : Kind D) → IsNumber kind
-    → after.kinds.items ≡ slice_set state.kinds.items i kind → (r : ℕ) → IsFilled state r
-    → IsFilled after r
+pub filled_set : {D : Type 0} (state after : AbstractState D) (i : ℕ) (kind : Kind D)
+    → IsNumber kind → after.kinds.items ≡ slice_set state.kinds.items i kind → (r : ℕ)
+    → IsFilled state r → IsFilled after r
 filled_set state after i kind new is r filled = record {
   low = filled.low;
   number = rw is (number_set state.kinds.items i kind new r filled.number);
@@ -49,7 +49,7 @@ same_register : (written : Option ℕ) (a b : ℕ) → written ≡ Some a → wr
 same_register written a b e f = cc
 
 -- an instruction that fills its target with a number keeps all numbers
-pub keeps : {D : Type 0} (instruction : Instruction) (state after : State D) (target : ℕ)
+pub keeps : {D : Type 0} (instruction : Instruction) (state after : AbstractState D) (target : ℕ)
     → register_written instruction ≡ Some target → FillsNumber state target after
     → length state.kinds.items ≡ 10 → KeepsFilled instruction state after
 keeps instruction state after target names fills ten =

@@ -5,7 +5,7 @@ use Rattle.isa.specs.declared.instruction.Instruction.{Instruction}
 use Rattle.isa.specs.declared.instruction.Instruction.TheVariants as instructions
 use Rattle.isa.specs.Flow.{registers_read, register_written}
 use Rattle.kinds.specs.declared.state.Kind.{Kind}
-use Rattle.kinds.specs.declared.state.State.{State}
+use Rattle.kinds.specs.declared.state.AbstractState.{AbstractState}
 use Rattle.kinds.specs.Plain.{IsNumber, IsFilled}
 
 -- It always falls through: it is neither a jump nor EXIT.
@@ -37,19 +37,19 @@ IsPlainInstruction other = IsPlainStep other
 -- ---- what is known
 
 -- each register that it reads is known to hold a number
-abbrev pub ReadsFilled : {D : Type 0} → Instruction → State D → Type 0
+abbrev pub ReadsFilled : {D : Type 0} → Instruction → AbstractState D → Type 0
 ReadsFilled instruction state = AllByRecursion (IsFilled state) (registers_read instruction)
 
 -- What the instruction writes is a number, and numbers remain numbers.
 pub record KeepsFilled {D : Type 0} (instruction : Instruction)
-    (state after : State D) : Type 0 where
+    (state after : AbstractState D) : Type 0 where
   pub ten : length after.kinds.items ≡ 10
   pub written : (r : ℕ) → register_written instruction ≡ Some r → IsFilled after r
   pub others : (r : ℕ) → IsFilled state r → IsFilled after r
 
 -- the register, which isn't r10, is known to hold a number, and the same is known of the others
-pub record FillsNumber {D : Type 0} (state : State D) (target : ℕ)
-    (after : State D) : Type 0 where
+pub record FillsNumber {D : Type 0} (state : AbstractState D) (target : ℕ)
+    (after : AbstractState D) : Type 0 where
   pub kind : Kind D
   pub number : IsNumber kind
   pub low : target < 10

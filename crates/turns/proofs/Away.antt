@@ -5,7 +5,7 @@ use Rattle.words.specs.Numbers.{Moment}
 use Rattle.words.specs.declared.route.External.{External}
 use Rattle.words.specs.declared.route.Route.{Route}
 use Rattle.words.specs.declared.route.TableRow.{TableRow}
-use Rattle.hooks.specs.declared.operation.Operation.{Operation}
+use Rattle.hooks.specs.declared.operation.LoaderOperation.{LoaderOperation}
 use Rattle.hooks.specs.Questions.{price_input, tag_input, veto_input}
 use Rattle.hooks.proofs.Fronts.{prefix_self}
 use Rattle.turns.specs.Turns.{IsLacking, IsUnaskedFor, Lack, Refuses}
@@ -31,6 +31,6 @@ of_veto refuses route moment rows lacking =
     inl (refl, (veto_input route moment rows, lacking, (route, rows, refl)))
 
 -- what is known still begins with itself
-pub begins : (before now : List Operation) → now ≡ before → IsPrefix before now
-begins before now same = subst (λ (l : List Operation). IsPrefix before l) (sym same)
+pub begins : (before now : List LoaderOperation) → now ≡ before → IsPrefix before now
+begins before now same = subst (λ (l : List LoaderOperation). IsPrefix before l) (sym same)
     (prefix_self before)

@@ -5,7 +5,7 @@ use Rattle.words.specs.declared.route.External.{External}
 use Rattle.words.specs.declared.route.Route.{Route}
 use Rattle.words.specs.declared.route.TableRow.{TableRow}
 use Rattle.maps.specs.Words.{SeatView}
-use Rattle.hooks.specs.declared.operation.Operation.{Operation}
+use Rattle.hooks.specs.declared.operation.LoaderOperation.{LoaderOperation}
 use Rattle.hooks.specs.Questions.{ExternalAnswer, price_input, tag_input}
 use Rattle.hooks.specs.Vacant.{IsAnsweredByNone}
 use Rattle.book.specs.events.Routers.{Router}
@@ -15,7 +15,7 @@ use Rattle.turns.specs.Laws.{AnswersAreBesideATable}
 use Rattle.turns.specs.Turns.{AreAsked, AreBeside, IsOfferedBySome, IsRedistribute, Offers}
 use Rattle.turns.proofs.Vetoes.{is_word}
 
-pub configured : (offers : Offers) (known now : List Operation) (seat : SeatView)
+pub configured : (offers : Offers) (known now : List LoaderOperation) (seat : SeatView)
     (external : External) (moment : Moment) (tag price : ExternalAnswer)
     → (tag.external ≡ external) × (tag.moment ≡ moment)
     → (price.external ≡ external) × (price.moment ≡ moment)
@@ -35,7 +35,7 @@ configured offers known now seat external moment tag price on_tag on_price tagge
   refl,
 )
 
-asked_beside : (origin : Router) (known now : List Operation) (moment : Moment)
+asked_beside : (origin : Router) (known now : List LoaderOperation) (moment : Moment)
     (external : External) (candidates : List Route) (rows : List TableRow)
     (tag price : ExternalAnswer) → IsOfferedBySome origin candidates rows
     → AreAsked (IsOfferedBySome origin) known now external moment tag price

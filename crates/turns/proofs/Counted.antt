@@ -4,7 +4,7 @@ use Rattle.std.specs.Prelude.{IfNone, IfSome}
 use Rattle.words.specs.Numbers.{InterfaceNumber, Moment}
 use Rattle.maps.specs.Words.{SeatView}
 use Rattle.book.specs.events.declared.model.CoreError.TheVariants as core_error
-use Rattle.hooks.specs.declared.operation.Operation.{Operation}
+use Rattle.hooks.specs.declared.operation.LoaderOperation.{LoaderOperation}
 use Rattle.hooks.specs.Answered.{IsAnswered}
 use Rattle.hooks.specs.Questions.{count_input}
 use Rattle.book.specs.declared.error.BookError.TheVariants as book_error
@@ -16,7 +16,7 @@ use Rattle.turns.specs.declared.turned.TurnError.TheVariants as turn_error
 use Rattle.turns.specs.declared.work.Work.{Work}
 use Rattle.turns.specs.declared.work.Work.TheVariants as work
 
-module _ {A : Type 0} (word : A → ℕ) (refuses : Refuses) (before now : List Operation)
+module _ {A : Type 0} (word : A → ℕ) (refuses : Refuses) (before now : List LoaderOperation)
     (old new : SeatView) (number : InterfaceNumber) (moment : Moment) (packet : List ℕ) where
   counted : (r : Option A) → IfNone r ((now ≡ before) × (new ≡ old))
       → IfNone r (refuses.lacks (Lack.Reading (count_input number moment packet)))
@@ -43,7 +43,7 @@ asks took number moment packet bytes w same is asked =
     subst (λ (x : Work). AsksFor took moment x) (sym is)
     (subst (λ (p : List ℕ). took.asked (count_input number moment p)) same asked)
 
-pub installs : (offers : Offers) (known now : List Operation) (w : Work) (moment : Moment)
+pub installs : (offers : Offers) (known now : List LoaderOperation) (w : Work) (moment : Moment)
     (e : Event) → IsFor offers known now w moment e → w ≡ work.Refresh → IsInstalling e
 installs offers known now w moment e is refresh =
     let i = subst (λ (x : Work). IsFor offers known now x moment e) refresh is in (i.2, i.5)

@@ -5,7 +5,7 @@ use Rattle.words.specs.Numbers.{Moment}
 use Rattle.words.specs.declared.route.Route.{Route}
 use Rattle.words.specs.declared.route.TableRow.{TableRow}
 use Rattle.maps.specs.Words.{SeatView}
-use Rattle.hooks.specs.declared.operation.Operation.{Operation}
+use Rattle.hooks.specs.declared.operation.LoaderOperation.{LoaderOperation}
 use Rattle.hooks.specs.Questions.{RouteAnswer, veto_input}
 use Rattle.hooks.specs.Vacant.{IsAnsweredByNone, let_in}
 use Rattle.turns.specs.Turns.{AreVetoes, IsVetoOn}
@@ -16,7 +16,7 @@ routes_of : (moment : Moment) (routes : List Route)
 routes_of moment [] = refl
 routes_of moment (route ∷ routes) = ap (λ l. route ∷ l) (routes_of moment routes)
 
-pub all_let_in : (known now : List Operation) (seat : SeatView) (moment : Moment)
+pub all_let_in : (known now : List LoaderOperation) (seat : SeatView) (moment : Moment)
     (rows : List TableRow) (asked routes : List Route) (answers : List RouteAnswer) → asked ≡ routes
     → answers ≡ map (let_in moment) asked
     → ((route : Route) (rows : List TableRow)

@@ -11,7 +11,7 @@ use Rattle.words.specs.declared.route.Route.{Route}
 use Rattle.words.specs.declared.route.TableRow.{TableRow}
 use Rattle.hooks.specs.machine.Given.{Given}
 use Rattle.book.specs.events.declared.model.Out.{Out}
-use Rattle.hooks.specs.declared.operation.Operation.{Operation}
+use Rattle.hooks.specs.declared.operation.LoaderOperation.{LoaderOperation}
 use Rattle.hooks.specs.Questions.{ExternalAnswer, RouteAnswer}
 use Rattle.hooks.proofs.Fronts.{prefix_trans}
 use Rattle.book.specs.Event.{Event}
@@ -24,7 +24,7 @@ use Rattle.turns.specs.declared.turned.TurnError.{TurnError}
 use Rattle.turns.specs.declared.work.Work.{Work}
 use Rattle.turns.specs.declared.work.Work.TheVariants as work
 
-module _ (known more now most : List Operation) (longer : IsPrefix known more)
+module _ (known more now most : List LoaderOperation) (longer : IsPrefix known more)
     (grown : IsPrefix now most) where
   pub word_longer : (input : Given) (word : ℕ) → IsWordOn more now input word
       → IsWordOn known most input word

@@ -10,18 +10,18 @@ use Rattle.words.specs.declared.route.Route.{Route}
 use Rattle.words.specs.declared.route.TableRow.{TableRow}
 use Rattle.hooks.specs.machine.Given.{Given}
 use Rattle.maps.specs.Words.{SeatView}
-use Rattle.hooks.specs.declared.operation.Operation.{Operation}
+use Rattle.hooks.specs.declared.operation.LoaderOperation.{LoaderOperation}
 use Rattle.hooks.specs.Answered.{IsAnswered}
 use Rattle.hooks.specs.Questions.{ExternalAnswer, RouteAnswer}
 use Rattle.hooks.specs.Questions.{price_input, tag_input, veto_input}
 use Rattle.hooks.proofs.Fronts.{prefix_self}
 use Rattle.turns.specs.Turns.{AreVetoes, IsPriceOn, IsTagOn, IsVetoOn, IsWordOn}
 
-pub is_word : {before now : List Operation} {old new : SeatView} {input : Given} {word : ℕ}
+pub is_word : {before now : List LoaderOperation} {old new : SeatView} {input : Given} {word : ℕ}
     → IsAnswered before now old new input word → IsWordOn before now input word
 is_word {now = now} h = (now, h.labels, h.begins, prefix_self now, h.answers)
 
-pub is_veto : {before now : List Operation} {old new : SeatView} (moment : Moment)
+pub is_veto : {before now : List LoaderOperation} {old new : SeatView} (moment : Moment)
     (rows : List TableRow) (route : Route) (a : RouteAnswer)
     → (a.route ≡ route) × (a.moment ≡ moment)
     → IsAnswered before now old new (veto_input route moment rows) a.word
@@ -32,7 +32,7 @@ is_veto {before = before} {now = now} moment rows route a asked answered =
       record { asked = asked.1; answered = subst P (sym asked.0) (is_word answered) },
     )
 
-pub is_tag : {before now : List Operation} {old new : SeatView} (external : External)
+pub is_tag : {before now : List LoaderOperation} {old new : SeatView} (external : External)
     (moment : Moment) (rows : List TableRow) (a : ExternalAnswer)
     → (a.external ≡ external) × (a.moment ≡ moment)
     → IsAnswered before now old new (tag_input external moment rows) a.word
@@ -40,7 +40,7 @@ pub is_tag : {before now : List Operation} {old new : SeatView} (external : Exte
 is_tag external moment rows a on answered =
     record { destination = on.0; asked = on.1; answered = is_word answered }
 
-pub is_price : {before now : List Operation} {old new : SeatView} (external : External)
+pub is_price : {before now : List LoaderOperation} {old new : SeatView} (external : External)
     (moment : Moment) (rows : List TableRow) (a : ExternalAnswer)
     → (a.external ≡ external) × (a.moment ≡ moment)
     → IsAnswered before now old new (price_input external moment rows) a.word
@@ -52,11 +52,11 @@ alone : (P : RouteAnswer → Type 0) (a : RouteAnswer) → P a → All P (a ∷ 
 alone P a p zero d lt = p
 alone P a p (suc k) d lt = absurd (omega arith)
 
-pub one_more : (known now : List Operation) (moment : Moment) (rows asked_rows : List TableRow)
-    (routes items : List Route) (i : ℕ) (answers after : List RouteAnswer) (route : Route)
-    (a : RouteAnswer) → asked_rows ≡ rows → items ≡ routes
-    → AreVetoes known now moment rows (take i routes) answers → i < length items
-    → route ≡ get_or items i route → after ≡ answers ++ a ∷ []
+pub one_more : (known now : List LoaderOperation) (moment : Moment)
+    (rows asked_rows : List TableRow) (routes items : List Route) (i : ℕ)
+    (answers after : List RouteAnswer) (route : Route) (a : RouteAnswer) → asked_rows ≡ rows
+    → items ≡ routes → AreVetoes known now moment rows (take i routes) answers
+    → i < length items → route ≡ get_or items i route → after ≡ answers ++ a ∷ []
     → (a.route ≡ route) × IsVetoOn known now moment asked_rows a
     → AreVetoes known now moment rows (take (i + 1) routes) after
 one_more known now moment rows asked_rows routes items i answers after route a same_rows same_routes

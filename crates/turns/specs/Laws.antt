@@ -6,7 +6,7 @@ use Rattle.words.specs.declared.route.Route.{Route}
 use Rattle.words.specs.declared.route.TableRow.{TableRow}
 use Rattle.book.specs.events.declared.model.Out.{Out}
 use Rattle.book.specs.events.Routers.{Router}
-use Rattle.hooks.specs.declared.operation.Operation.{Operation}
+use Rattle.hooks.specs.declared.operation.LoaderOperation.{LoaderOperation}
 use Rattle.hooks.specs.Questions.{ExternalAnswer}
 use Rattle.book.specs.Event.{Event}
 use Rattle.book.specs.Event.TheVariants as event
@@ -17,7 +17,7 @@ use Rattle.turns.specs.declared.work.Work.TheVariants as work
 -- what the router sends at it, whatever programs are loaded.
 abbrev pub CountReachesNoEvent : Type 0
 CountReachesNoEvent =
-    (origin : Router) (known now : List Operation) (events : ℕ) (moment : Moment)
+    (origin : Router) (known now : List LoaderOperation) (events : ℕ) (moment : Moment)
     (number : InterfaceNumber) (bytes : List ℕ) (outs : List Out) (stale : Option Bool)
     → TakesFor (IsOfferedBySome origin) (took_from origin) known now events moment
     (work.Datagram number bytes) outs stale
@@ -28,7 +28,7 @@ CountReachesNoEvent =
 abbrev pub AnswersAreBesideATable : Type 0
 AnswersAreBesideATable =
     (origin : Router) (candidates : List Route) (rows : List TableRow)
-    (known now : List Operation) (moment : Moment) (external : External) (e : Event)
+    (known now : List LoaderOperation) (moment : Moment) (external : External) (e : Event)
     → IsOfferedBySome origin candidates rows
     → IsFor (IsOfferedBySome origin) known now (work.Add external) moment e
     → (candidates : List Route) × (rows : List TableRow)

@@ -20,7 +20,7 @@ use Rattle.book.specs.events.Commands.{is_for}
 use Rattle.book.specs.events.Events.{Happens}
 use Rattle.book.specs.events.Originations.{external_key}
 use Rattle.book.specs.events.Routers.{Router}
-use Rattle.hooks.specs.declared.operation.Operation.{Operation}
+use Rattle.hooks.specs.declared.operation.LoaderOperation.{LoaderOperation}
 use Rattle.hooks.specs.Answered.{IsAnswered}
 use Rattle.hooks.specs.Operations.{Answers}
 use Rattle.hooks.specs.Questions.{ExternalAnswer, RouteAnswer}
@@ -48,7 +48,7 @@ use Rattle.turns.specs.declared.work.Work.TheVariants as work
 -- these operations leave; and the programs at `count` were asked about this input.
 pub record Took : Type 1 where
   pub taken : (events : ℕ) → Moment → Event → List Out → (stale : Option Bool) → Type 0
-  pub told : List Operation → Type 0
+  pub told : List LoaderOperation → Type 0
   pub asked : Given → Type 0
 
 -- what a question is refused for: no reading of the programs for its input, or no memory
@@ -69,7 +69,7 @@ abbrev pub IsTaken : Took → (events : ℕ) → Moment → Event → List Out �
     → Type 0
 IsTaken took = took.taken
 
-abbrev pub IsTold : Took → List Operation → Type 0
+abbrev pub IsTold : Took → List LoaderOperation → Type 0
 IsTold took = took.told
 
 abbrev pub IsAsked : Took → Given → Type 0
@@ -182,39 +182,39 @@ IsListed {B = B} own at interfaces neighbors =
 
 -- the word that the programs answer to this input, after operations of the loader that begin with
 -- all that the asker knew, and that begin all that it knows now
-abbrev pub IsWordOn : (known now : List Operation) → Given → (word : ℕ) → Type 0
+abbrev pub IsWordOn : (known now : List LoaderOperation) → Given → (word : ℕ) → Type 0
 IsWordOn known now input word =
-    (operations : List Operation) × (labels : List Label)
+    (operations : List LoaderOperation) × (labels : List Label)
     × IsPrefix known operations × IsPrefix operations now × Answers operations input labels word
 
 -- the answer is on this destination, at this moment, beside these rows
-pub record IsTagOn (known now : List Operation) (external : External) (moment : Moment)
+pub record IsTagOn (known now : List LoaderOperation) (external : External) (moment : Moment)
     (rows : List TableRow) (a : ExternalAnswer) : Type 0 where
   pub destination : a.external ≡ external
   pub asked : a.moment ≡ moment
   pub answered : IsWordOn known now (tag_input external moment rows) a.word
 
-pub record IsPriceOn (known now : List Operation) (external : External) (moment : Moment)
+pub record IsPriceOn (known now : List LoaderOperation) (external : External) (moment : Moment)
     (rows : List TableRow) (a : ExternalAnswer) : Type 0 where
   pub destination : a.external ≡ external
   pub asked : a.moment ≡ moment
   pub answered : IsWordOn known now (price_input external moment rows) a.word
 
 -- the answer is on its route, at this moment, beside these rows
-pub record IsVetoOn (known now : List Operation) (moment : Moment) (rows : List TableRow)
+pub record IsVetoOn (known now : List LoaderOperation) (moment : Moment) (rows : List TableRow)
     (a : RouteAnswer) : Type 0 where
   pub asked : a.moment ≡ moment
   pub answered : IsWordOn known now (veto_input a.route moment rows) a.word
 
 -- the answers are on these routes, in their order
-abbrev pub AreVetoes : (known now : List Operation) → Moment → List TableRow → List Route
+abbrev pub AreVetoes : (known now : List LoaderOperation) → Moment → List TableRow → List Route
     → List RouteAnswer → Type 0
 AreVetoes known now moment rows routes answers =
     (map (λ a. a.route) answers ≡ routes) × All (IsVetoOn known now moment rows) answers
 
 -- The datagram was counted as one of the interface: an asker's list and its seat are those after a
 -- word that the programs answer of it; or they are as before, where it got no reading.
-abbrev pub IsCounted : Refuses → (before now : List Operation) → (old new : SeatView)
+abbrev pub IsCounted : Refuses → (before now : List LoaderOperation) → (old new : SeatView)
     → InterfaceNumber → Moment → (packet : List ℕ) → Type 0
 IsCounted refuses before now old new number moment packet =
     ((now ≡ before) × (new ≡ old)
@@ -222,7 +222,7 @@ IsCounted refuses before now old new number moment packet =
     ⊎ ((word : ℕ) × IsAnswered before now old new (count_input number moment packet) word)
 
 -- where the work is a datagram, that is counted
-abbrev pub CountsFor : Refuses → (before now : List Operation) → (old new : SeatView) → Work
+abbrev pub CountsFor : Refuses → (before now : List LoaderOperation) → (old new : SeatView) → Work
     → Moment → Type 0
 CountsFor refuses before now old new (work.Datagram number bytes) moment =
     IsCounted refuses before now old new number moment bytes
@@ -234,10 +234,10 @@ CountsFor refuses before now old new work.Refresh moment = Unit {0}
 
 -- Where the work is a datagram, that is counted, by a port that had such a seat and knew the first
 -- of these operations, and knows the last ones in the end: what it knew as it counted begins them.
-abbrev pub HasCountedFor : Refuses → (before after : List Operation) → (old : SeatView) → Work
+abbrev pub HasCountedFor : Refuses → (before after : List LoaderOperation) → (old : SeatView) → Work
     → Moment → Type 0
 HasCountedFor refuses before after old w moment =
-    (known : List Operation) × (seat : SeatView)
+    (known : List LoaderOperation) × (seat : SeatView)
     × CountsFor refuses before known old seat w moment × IsPrefix known after
 
 -- where the work is a datagram, the programs at `count` were asked about it
@@ -252,21 +252,21 @@ AsksFor took moment work.Refresh = Unit {0}
 -- ---- the event of a work
 
 -- it installs an answer on each candidate that was offered at once
-abbrev pub IsInstall : Offers → (known now : List Operation) → Moment → Event → Type 0
+abbrev pub IsInstall : Offers → (known now : List LoaderOperation) → Moment → Event → Type 0
 IsInstall offers known now moment e =
     (candidates : List Route) × (rows : List TableRow) × (answers : List RouteAnswer)
     × offers candidates rows × AreVetoes known now moment rows candidates answers
     × (e ≡ event.Install answers)
 
 -- both answers are on this destination, at this moment, beside these rows
-abbrev pub AreBeside : (known now : List Operation) → External → Moment → List TableRow
+abbrev pub AreBeside : (known now : List LoaderOperation) → External → Moment → List TableRow
     → (tag : ExternalAnswer) → (price : ExternalAnswer) → Type 0
 AreBeside known now external moment rows tag price =
     IsTagOn known now external moment rows tag × IsPriceOn known now external moment rows price
 
 -- They are beside the rows of a table that was offered; or beside whatever rows, as they are where
 -- no program stands at `tag` and none at `price`: then no table was asked for.
-abbrev pub AreAsked : Offers → (known now : List Operation) → External → Moment
+abbrev pub AreAsked : Offers → (known now : List LoaderOperation) → External → Moment
     → (tag : ExternalAnswer) → (price : ExternalAnswer) → Type 0
 AreAsked offers known now external moment tag price =
     ((candidates : List Route) × (rows : List TableRow)
@@ -274,7 +274,7 @@ AreAsked offers known now external moment tag price =
     ⊎ ((rows : List TableRow) → AreBeside known now external moment rows tag price)
 
 -- it announces the destination, with the answers of the programs
-abbrev pub IsRedistribute : Offers → (known now : List Operation) → External → Moment → Event
+abbrev pub IsRedistribute : Offers → (known now : List LoaderOperation) → External → Moment → Event
     → Type 0
 IsRedistribute offers known now external moment e =
     (tag : ExternalAnswer) × (price : ExternalAnswer)
@@ -282,7 +282,7 @@ IsRedistribute offers known now external moment e =
 
 -- the event is that of the work, with answers to its questions, by a port that knew the first of
 -- these operations when it began to ask, and knows the others then
-abbrev pub IsFor : Offers → (known now : List Operation) → Work → Moment → Event → Type 0
+abbrev pub IsFor : Offers → (known now : List LoaderOperation) → Work → Moment → Event → Type 0
 IsFor offers known now (work.Datagram number bytes) moment e = e ≡ event.Packet number bytes
 IsFor offers known now work.Tick moment e = e ≡ event.Tick
 IsFor offers known now (work.Add external) moment e =
@@ -293,8 +293,8 @@ IsFor offers known now work.Refresh moment e = IsInstall offers known now moment
 
 -- the work's event was given at this moment, by a port whose events until then are so many, sent
 -- these, and left the router so
-abbrev pub TakesFor : Offers → Took → (known now : List Operation) → (events : ℕ) → Moment → Work
-    → List Out → (stale : Option Bool) → Type 0
+abbrev pub TakesFor : Offers → Took → (known now : List LoaderOperation) → (events : ℕ) → Moment
+    → Work → List Out → (stale : Option Bool) → Type 0
 TakesFor offers took known now events moment w outs stale =
     (e : Event) × IsFor offers known now w moment e × took.taken events moment e outs stale
 
@@ -337,15 +337,15 @@ IsUnaskedFor refuses work.Refresh moment error =
 
 -- the work's event was given at this moment, by a port whose events until then are so many, and
 -- refused, for this
-abbrev pub IsGivenInVain : Offers → Refuses → (known now : List Operation) → (events : ℕ) → Moment
-    → Work → TurnError → Type 0
+abbrev pub IsGivenInVain : Offers → Refuses → (known now : List LoaderOperation) → (events : ℕ)
+    → Moment → Work → TurnError → Type 0
 IsGivenInVain offers refuses known now events moment w error =
     (e : Event) × (why : BookError) × IsFor offers known now w moment e
     × refuses.refused events moment e why × (error ≡ turn_error.Book why)
 
 -- that is why, or one of its questions was refused before
-abbrev pub RefusesFor : Offers → Refuses → (known now : List Operation) → (events : ℕ) → Moment
-    → Work → TurnError → Type 0
+abbrev pub RefusesFor : Offers → Refuses → (known now : List LoaderOperation) → (events : ℕ)
+    → Moment → Work → TurnError → Type 0
 RefusesFor offers refuses known now events moment w error =
     IsUnaskedFor refuses w moment error
     ⊎ IsGivenInVain offers refuses known now events moment w error
@@ -357,8 +357,8 @@ IsChangedSince refuses events before = (now : ℕ) × refuses.counted events now
 -- The refresh that was due isn't taken: the programs were changed meanwhile, as the number of
 -- changes tells that was read before the event, beside the one after it; or it was refused, as any
 -- refresh is.
-abbrev pub IsUnrefreshed : Offers → Refuses → (known now : List Operation) → Moment → (events : ℕ)
-    → Type 0
+abbrev pub IsUnrefreshed : Offers → Refuses → (known now : List LoaderOperation) → Moment
+    → (events : ℕ) → Type 0
 IsUnrefreshed offers refuses known now moment events =
     ((before : ℕ) × refuses.counted events before × IsChangedSince refuses (events + 1) before)
     ⊎ ((error : TurnError)
@@ -378,7 +378,8 @@ IsUnchanged refuses events =
 -- meanwhile. The events count in the port's share, which grew from one number to the other: the
 -- work's event is among those that count where the refresh is given.
 pub record IsTurned (offers : Offers) (took : Took) (refuses : Refuses)
-    (known now : List Operation) (moment : Moment) (w : Work) (before after : ℕ) (turned : Turned)
+    (known now : List LoaderOperation) (moment : Moment) (w : Work) (before after : ℕ)
+    (turned : Turned)
     : Type 0 where
   pub stale : Option Bool
   pub outs : TakesFor offers took known now before moment w turned.outs.items stale

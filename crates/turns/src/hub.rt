@@ -25,7 +25,7 @@ use crate::port::Port;
 use crate::site::Site;
 use crate::taker::{Taken, Taker};
 use crate::turned::TurnError;
-use book::{Book, BookError, CoreError, Event, Offered, State};
+use book::{Book, BookError, CoreError, Event, NeighborState, Offered};
 use hooks::Notice;
 use maps::Shared;
 use std::alloc::{AllocError, Global};
@@ -51,7 +51,7 @@ fn neighbors_of<L: Site, B: Taker<L>>(
     alloc: Global,
     book: &B,
     interfaces: u16,
-) -> Result<Vec<Option<(RouterId, State)>>, AllocError>
+) -> Result<Vec<Option<(RouterId, NeighborState)>>, AllocError>
     ensures neighbors { IfOk result (λ all.
         AreNeighbors (B.neighbor_at book.now) interfaces all.items) }
     ensures own { 0 < interfaces → IfOk result (λ _. B.own book.now) }
@@ -195,7 +195,7 @@ impl<L: Site, B: Taker<L>> Hub<L, B> {
 
     /// The neighbor at the interface of this number and its state, or None where it is Down or
     /// there is no such interface.
-    pub fn neighbor<R: Wait>(&self, rt: &R, interface: u16) -> Option<(RouterId, State)>
+    pub fn neighbor<R: Wait>(&self, rt: &R, interface: u16) -> Option<(RouterId, NeighborState)>
         ensures { (book : B) × B.own book × (result ≡ B.neighbor_at book interface) }
     {
         let guard = self.book.lock(rt);
@@ -210,7 +210,7 @@ impl<L: Site, B: Taker<L>> Hub<L, B> {
         rt: &R,
         alloc: Global,
         interfaces: u16,
-    ) -> Result<Vec<Option<(RouterId, State)>>, AllocError>
+    ) -> Result<Vec<Option<(RouterId, NeighborState)>>, AllocError>
         ensures { IfOk result (λ all.
             IsListed B.own B.neighbor_at interfaces all.items) }
     {

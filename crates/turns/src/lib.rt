@@ -17,13 +17,13 @@ mod turns;
 mod work;
 
 pub use book::{
-    Book, BookError, Config, ConfigError, Core, CoreError, Event, Interface, Offered, Origin, Out,
-    State,
+    Book, BookError, Config, ConfigError, Core, CoreError, Event, Interface, NeighborState,
+    Offered, Origin, Out,
 };
 pub use gate::{Gate, Open};
 pub use hub::Hub;
 pub use port::Port;
-pub use site::{Place, Site};
+pub use site::{Site, WorkerSeat};
 pub use taker::{Taken, Taker};
 pub use turned::{TurnError, Turned};
 pub use turns::turn;

@@ -4,7 +4,7 @@ ghost use mathlib.Core.List.{IsPrefix};
 ghost use Rattle.maps.specs.Words.{IsOf};
 ghost use Rattle.hooks.specs.Known.{asks_of, known_to, tells_of, told_by};
 
-use crate::site::{Place, Site};
+use crate::site::{Site, WorkerSeat};
 use hooks::{Asker, Notice};
 use maps::Seat;
 use std::sync::ledger::Share;
@@ -25,12 +25,12 @@ pub struct Port<L: Site> {
 
 impl<L: Site> Port<L> {
     /// A port of this number: 0 is the console's, n that of interface n.
-    pub fn new(number: u16, share: Share<L>, place: Place<L>) -> Port<L>
+    pub fn new(number: u16, share: Share<L>, place: WorkerSeat<L>) -> Port<L>
         requires one_part { share.parts ≡ 1 }
         ensures share { result.share ≡ share }
         ensures number { result.number ≡ number }
     {
-        let Place { seat, asker, of: _ } = place;
+        let WorkerSeat { seat, asker, of: _ } = place;
         Port {
             number,
             share,

@@ -38,7 +38,7 @@ impl Site for Brand {
 
 /// A seat of the table, and an asker of the published programs.
 #[derive(Drop)]
-pub struct Place<L: Site> {
+pub struct WorkerSeat<L: Site> {
     pub(crate) seat: Seat,
     pub(crate) asker: Asker,
     pub(crate) of: PhantomData<L>,
@@ -46,13 +46,13 @@ pub struct Place<L: Site> {
     pub ghost asks: { asks_of asker ≡ L.history },
 }
 
-impl<L: Site> Place<L> {
+impl<L: Site> WorkerSeat<L> {
     /// A place with these.
-    pub fn new(seat: Seat, asker: Asker) -> Place<L>
+    pub fn new(seat: Seat, asker: Asker) -> WorkerSeat<L>
         requires seated { IsOf L.words seat }
         requires asks { asks_of asker ≡ L.history }
     {
-        Place {
+        WorkerSeat {
             seat,
             asker,
             of: PhantomData,

@@ -42,8 +42,8 @@ ghost use Rattle.turns.specs.Turns.{
   took_from,
 };
 
-use book::{Book, BookError, CoreError, Event, Offered, Origin, Out, State};
-use hooks::{Answer, Asker, Notice, PriceAnswer, TagAnswer, VetoAnswer};
+use book::{Book, BookError, CoreError, Event, NeighborState, Offered, Origin, Out};
+use hooks::{Asker, HookAnswer, Notice, PriceAnswer, TagAnswer, VetoAnswer};
 use maps::{Seat, Shared};
 use std::alloc::{AllocError, Global};
 use std::sync::atomic::{AtomicU64, Ordering};
@@ -78,7 +78,7 @@ pub trait Taker<L: Origin> {
 
     ghost own: { Self → Type 0 };
 
-    ghost neighbor_at: { Self → InterfaceNumber → Option (RouterNumber × State) };
+    ghost neighbor_at: { Self → InterfaceNumber → Option (RouterNumber × NeighborState) };
 
     ghost moment_of: { Self → Moment };
 
@@ -122,7 +122,7 @@ pub trait Taker<L: Origin> {
 
     /// The neighbor at the interface of this number and its state now, or None where it is Down or
     /// there is no such interface.
-    fn neighbor(&self, interface: u16) -> Option<(RouterId, State)>
+    fn neighbor(&self, interface: u16) -> Option<(RouterId, NeighborState)>
         ensures at { result ≡ neighbor_at self.now interface }
         ensures own { own self.now };
 
@@ -134,7 +134,7 @@ pub trait Taker<L: Origin> {
         packet: &[u8],
         shared: &Shared,
         seat: &mut Seat,
-    ) -> Option<Answer>
+    ) -> Option<HookAnswer>
         requires { IsOf shared.now seat.old }
         ensures history { asks_of asker.new ≡ asks_of asker.old }
         ensures asked { IsAsked took (count_input interface moment packet.now) }
@@ -333,7 +333,8 @@ impl<L: Origin> Taker<L> for Book<L> {
 
     fn candidates(&self) -> Result<Vec<Route>, AllocError>
         ensures now { IfOk result (λ c. AreCandidatesNow self.now.current c.items) }
-        ensures some { IfOk result (λ c. (rows : List TableRow) × IsOfferedBySome L.origin c.items rows) }
+        ensures some { IfOk result
+            (λ c. (rows : List TableRow) × IsOfferedBySome L.origin c.items rows) }
     {
         self.now().candidates()
     }
@@ -347,7 +348,7 @@ impl<L: Origin> Taker<L> for Book<L> {
         self.now().wants(prefix)
     }
 
-    fn neighbor(&self, interface: u16) -> Option<(RouterId, State)> {
+    fn neighbor(&self, interface: u16) -> Option<(RouterId, NeighborState)> {
         self.now().neighbor(interface)
     }
 
@@ -358,7 +359,7 @@ impl<L: Origin> Taker<L> for Book<L> {
         packet: &[u8],
         shared: &Shared,
         seat: &mut Seat,
-    ) -> Option<Answer> {
+    ) -> Option<HookAnswer> {
         asker.count(interface, moment, packet, shared, seat)
     }
 

@@ -10,8 +10,8 @@ use Rattle.machine.specs.declared.state.State.{State as Machine}
 use Rattle.machine.specs.State.{start, held}
 use Rattle.kinds.specs.declared.state.Kind.{Kind}
 use Rattle.kinds.specs.declared.state.Kind.TheVariants.{Empty, Pointer}
-use Rattle.kinds.specs.declared.state.Place.TheVariants.{Context}
-use Rattle.kinds.specs.declared.statement.Target.{Target}
+use Rattle.kinds.specs.declared.state.PointerPlace.TheVariants.{Context}
+use Rattle.kinds.specs.declared.statement.SegmentStart.{SegmentStart}
 use Rattle.kinds.specs.Meaning.{KindHolds, TargetHolds}
 use Rattle.segments.specs.Places.{target_at}
 use Rattle.segments.specs.Segments.{Enters}
@@ -43,7 +43,7 @@ none_stated at =
     (past_end no_bytes at (omega (arith, high, length-replicate 512 false))))
     (cases_lt at 512)
 
-pub entry_holds : {D : Type 0} (contains : D → ℕ → Type 0) (entry : Target D)
+pub entry_holds : {D : Type 0} (contains : D → ℕ → Type 0) (entry : SegmentStart D)
     → entry.statement.now.stack ≡ no_bytes
     → ((r : ℕ) → get_or entry.kinds.items r Empty ≡ get_or entry_kinds r Empty)
     → TargetHolds contains entry start
@@ -59,13 +59,13 @@ some_is_one : {A : Type 0} {x y : A} (o : Option A) → o ≡ Some x → o ≡ S
 some_is_one o first second = cc
 
 -- the statement that is found is the one that is there
-pub edge_of : {D : Type 0} (contains : D → ℕ → Type 0) (targets : List (Option (Target D)))
-    (entry found target : Target D) → target_at targets 0 ≡ Some found
+pub edge_of : {D : Type 0} (contains : D → ℕ → Type 0) (targets : List (Option (SegmentStart D)))
+    (entry found target : SegmentStart D) → target_at targets 0 ≡ Some found
     → target_at targets 0 ≡ Some target
     → ((machine : Machine) → TargetHolds contains entry machine
     → Enters contains false entry found machine machine) → (machine : Machine)
     → TargetHolds contains entry machine
     → Enters contains false entry target machine machine
 edge_of {D} contains targets entry found target is_found stated enters machine holds =
-    subst (λ (t : Target D). Enters contains false entry t machine machine)
+    subst (λ (t : SegmentStart D). Enters contains false entry t machine machine)
     (some_is_one (target_at targets 0) is_found stated) (enters machine holds)

@@ -15,8 +15,8 @@ use Rattle.isa.specs.Flow.{Begins, BeginsAt, jump_target, registers_read, slot_a
 use Rattle.machine.specs.Faults.{writes_frame}
 use Rattle.object.specs.Numbers.{Numbers}
 use Rattle.object.specs.Statements.{StatementParts}
-use Rattle.object.specs.declared.kind.Kind.{Kind}
-use Rattle.object.specs.declared.kind.Kind.TheVariants as kinds
+use Rattle.object.specs.declared.kind.StatedKind.{StatedKind}
+use Rattle.object.specs.declared.kind.StatedKind.TheVariants as kinds
 use Rattle.kinds.specs.Stated.{any_number}
 use Rattle.transfer.specs.Plain.{IsPlainInstruction}
 use Rattle.segments.specs.Places.{goes_on}
@@ -86,7 +86,7 @@ leads_from = each (λ slot i. LeadsTo slot i 2 → slot ≡ 1)
     (⊎_elim (λ (jumps : None ≡ Some 2). absurd (none_is_some jumps))
     (λ (on : (false ≡ true) × (3 ≡ 2)). never on.0))
 
-empty_is_number : (said : Kind) (numbers : Numbers) → said ≡ kinds.Empty
+empty_is_number : (said : StatedKind) (numbers : Numbers) → said ≡ kinds.Empty
     → said ≡ kinds.Number numbers → ⊥
 empty_is_number said numbers empty number = cc
 
@@ -232,7 +232,7 @@ is_stray plain = (plain.made 5).target (inr (record {
 only_is_empty : only_seven ≡ kinds.Empty → ⊥
 only_is_empty is = cc
 
-abbrev low_of : Kind → ℕ
+abbrev low_of : StatedKind → ℕ
 low_of (kinds.Number numbers) = numbers.low
 low_of other = 0
 

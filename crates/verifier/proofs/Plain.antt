@@ -17,12 +17,12 @@ use Rattle.machine.specs.Faults.{writes_frame}
 use Rattle.object.specs.Numbers.{Numbers}
 use Rattle.object.specs.Sets.{has_byte, no_bytes}
 use Rattle.object.specs.Statements.{StatementParts}
-use Rattle.object.specs.declared.kind.Kind.{Kind as Stated}
-use Rattle.object.specs.declared.kind.Kind.TheVariants as said
+use Rattle.object.specs.declared.kind.StatedKind.{StatedKind as Stated}
+use Rattle.object.specs.declared.kind.StatedKind.TheVariants as said
 use Rattle.kinds.specs.declared.state.Kind.{Kind}
 use Rattle.kinds.specs.declared.state.Kind.TheVariants as kinds
-use Rattle.kinds.specs.declared.state.State.{State}
-use Rattle.kinds.specs.declared.statement.Target.{Target}
+use Rattle.kinds.specs.declared.state.AbstractState.{AbstractState}
+use Rattle.kinds.specs.declared.statement.SegmentStart.{SegmentStart}
 use Rattle.machine.specs.declared.state.State.{State as Machine}
 use Rattle.kinds.specs.Meaning.{StateHolds, TargetHolds}
 use Rattle.kinds.specs.Plain.{IsFilled, IsNumber, kind_in}
@@ -162,10 +162,10 @@ nothing_filled code statements none slot r zeroth (is_written before i unstated 
 -- ---- the pass
 
 module _ {D : Type 0} (contains : D → ℕ → Type 0) (code : List Slot) (entry_rank : ℕ)
-    (statements : List StatementParts) (targets : List (Option (Target D)))
+    (statements : List StatementParts) (targets : List (Option (SegmentStart D)))
     (program : IsPlainProgram contains code entry_rank statements targets) where
   -- what the target requires of a register
-  asks_at : (s : StatementParts) (target : Target D) → IsTargetOf contains s target
+  asks_at : (s : StatementParts) (target : SegmentStart D) → IsTargetOf contains s target
       → IsPlainStatement s → (filled : ℕ → Type 0) → ((r : ℕ) → IsNumberIn s r → filled r) → (r : ℕ)
       → AsksAtMost contains (filled r) (kind_in target.kinds.items r)
   asks_at s target is plain filled gives r =
@@ -178,7 +178,7 @@ module _ {D : Type 0} (contains : D → ℕ → Type 0) (code : List Slot) (entr
       (get_or-eq_default target.kinds.items kinds.Empty (omega (arith, high, is.ten))))
       (cases_lt r 10)
 
-  edge_of : (s : StatementParts) (segment target : Target D) → IsTargetOf contains s target
+  edge_of : (s : StatementParts) (segment target : SegmentStart D) → IsTargetOf contains s target
       → IsPlainStatement s → (back : Bool) (filled : ℕ → Type 0)
       → ((r : ℕ) → IsNumberIn s r → filled r) → (rank : ℕ) → HasRank segment rank
       → Falls back s.rank.constant rank → IsPlainEdge contains back segment target filled
@@ -191,7 +191,7 @@ module _ {D : Type 0} (contains : D → ℕ → Type 0) (code : List Slot) (entr
   }
 
   -- at the start of a segment, the stated numbers are known
-  filled_stated : (slot : ℕ) (target : Target D) (state : State D)
+  filled_stated : (slot : ℕ) (target : SegmentStart D) (state : AbstractState D)
       → target_at targets slot ≡ Some target
       → ((r : ℕ) → r < 10 → kind_in state.kinds.items r ≡ kind_in target.kinds.items r)
       → (r : ℕ) → IsFilledAt code statements slot r → IsFilled state r
@@ -229,7 +229,7 @@ module _ {D : Type 0} (contains : D → ℕ → Type 0) (code : List Slot) (entr
       let one_instruction : j ≡ i = same_instruction (slice_get code slot) i j here begins in
       inr (subst (λ k. register_written k ≡ Some r) one_instruction writes)
 
-  filled_known : (slot : ℕ) (i : Instruction) (segment : Target D) (known : Known D)
+  filled_known : (slot : ℕ) (i : Instruction) (segment : SegmentStart D) (known : Known D)
       → KnowsPlain code entry_rank statements slot segment known → known.is_live ≡ true → (r : ℕ)
       → IsFilledAfter code statements slot i r → IsFilledBehind i known.state r
   filled_known slot i segment known knows live r =
@@ -238,7 +238,7 @@ module _ {D : Type 0} (contains : D → ℕ → Type 0) (code : List Slot) (entr
 
   -- the instruction at a slot that may be reached
   pub plain_here : (slot : ℕ) (i : Instruction) → BeginsAt i code slot
-      → (segment : Target D) (known : Known D) → length known.state.kinds.items ≡ 10
+      → (segment : SegmentStart D) (known : Known D) → length known.state.kinds.items ≡ 10
       → KnowsPlain code entry_rank statements slot segment known
       → IsPlainIfLive contains targets segment slot i known
   plain_here slot i here segment known ten knows live = record {
@@ -268,7 +268,7 @@ module _ {D : Type 0} (contains : D → ℕ → Type 0) (code : List Slot) (entr
 
   -- the next slot
   pub comes_behind : OneEndsAtASlot → IsCode code → (slot : ℕ) (i : Instruction)
-      → BeginsAt i code slot → (segment : Target D) (known after : Known D)
+      → BeginsAt i code slot → (segment : SegmentStart D) (known after : Known D)
       → KnowsPlain code entry_rank statements slot segment known → KeepsPlain i known after
       → ComesPlainly code entry_rank statements (slot + size i) segment after
   comes_behind one is_code slot i here segment known after knows keeps = record {
@@ -286,7 +286,7 @@ module _ {D : Type 0} (contains : D → ℕ → Type 0) (code : List Slot) (entr
     };
   }
 
-  pub comes_first : (entry : Target D) (known : Known D) → HasRank entry entry_rank
+  pub comes_first : (entry : SegmentStart D) (known : Known D) → HasRank entry entry_rank
       → length known.state.kinds.items ≡ 10 → ComesPlainly code entry_rank statements 0 entry known
   comes_first entry known has ten = record {
     ten = ten;
@@ -298,7 +298,7 @@ module _ {D : Type 0} (contains : D → ℕ → Type 0) (code : List Slot) (entr
   }
 
   -- the entry leads to the statement at slot 0
-  pub entry_edge : (entry : Target D) → HasRank entry entry_rank
+  pub entry_edge : (entry : SegmentStart D) → HasRank entry entry_rank
       → MayEnter contains targets entry false 0 (λ r. ⊥)
   entry_edge entry has target there =
       let found = target_of_statement contains statements targets 0 target program.are there in
@@ -309,7 +309,7 @@ module _ {D : Type 0} (contains : D → ℕ → Type 0) (code : List Slot) (entr
 
   -- ---- a slot
 
-  knows_stated : (slot : ℕ) (target : Target D) (known : Known D)
+  knows_stated : (slot : ℕ) (target : SegmentStart D) (known : Known D)
       → target_at targets slot ≡ Some target
       → ((r : ℕ) → r < 10 → kind_in known.state.kinds.items r ≡ kind_in target.kinds.items r)
       → KnowsPlain code entry_rank statements slot target known
@@ -325,14 +325,14 @@ module _ {D : Type 0} (contains : D → ℕ → Type 0) (code : List Slot) (entr
   unstated_here : (slot : ℕ) → target_at targets slot ≡ None → statement_at statements slot ≡ None
   unstated_here slot none = unstated_of contains statements targets slot program.are none
 
-  arrived_at : (entry : Target D) (slot : ℕ) (begun here : Option ℕ) (known found : Known D)
+  arrived_at : (entry : SegmentStart D) (slot : ℕ) (begun here : Option ℕ) (known found : Known D)
       → ComesPlainly code entry_rank statements slot (segment_of targets entry begun) known
-      → (there : Option (Target D)) → target_at targets slot ≡ there
+      → (there : Option (SegmentStart D)) → target_at targets slot ≡ there
       → MatchOption there ((here ≡ begun) × (found ≡ known))
       (λ target. (here ≡ Some slot) × (found.is_live ≡ true)
       × ((machine : Machine) → TargetHolds contains target machine
       → StateHolds contains found.state machine machine))
-      → ((target : Target D) → target_at targets slot ≡ Some target
+      → ((target : SegmentStart D) → target_at targets slot ≡ Some target
       → (r : ℕ) → r < 10 → kind_in found.state.kinds.items r
       ≡ kind_in target.kinds.items r)
       → KnowsPlain code entry_rank statements slot
@@ -346,17 +346,17 @@ module _ {D : Type 0} (contains : D → ℕ → Type 0) (code : List Slot) (entr
       let same : unwrap_or (target_at targets slot) entry ≡ target = rw there refl in
       subst (λ (b : Option ℕ). KnowsPlain code entry_rank statements slot
       (segment_of targets entry b) found) (sym new.0)
-      (subst (λ (t : Target D). KnowsPlain code entry_rank statements slot t found) (sym same)
+      (subst (λ (t : SegmentStart D). KnowsPlain code entry_rank statements slot t found) (sym same)
       (knows_stated slot target found there (kinds_are target there)))
 
   -- a statement, if the slot has one, else what comes from the slot before
-  pub arrives : (entry : Target D) (slot : ℕ) (begun here : Option ℕ) (known found : Known D)
+  pub arrives : (entry : SegmentStart D) (slot : ℕ) (begun here : Option ℕ) (known found : Known D)
       → ComesPlainly code entry_rank statements slot (segment_of targets entry begun) known
       → MatchOption (target_at targets slot) ((here ≡ begun) × (found ≡ known))
       (λ target. (here ≡ Some slot) × (found.is_live ≡ true)
       × ((machine : Machine) → TargetHolds contains target machine
       → StateHolds contains found.state machine machine))
-      → ((target : Target D) → target_at targets slot ≡ Some target → (r : ℕ)
+      → ((target : SegmentStart D) → target_at targets slot ≡ Some target → (r : ℕ)
       → r < 10 → kind_in found.state.kinds.items r
       ≡ kind_in target.kinds.items r)
       → KnowsPlain code entry_rank statements slot

@@ -13,7 +13,7 @@ use Rattle.isa.specs.declared.instruction.Instruction.TheVariants as instruction
 use Rattle.isa.specs.Code.{IsCode, is_wide}
 use Rattle.isa.specs.Flow.{Begins, BeginsAt, size}
 use Rattle.isa.specs.Laws.{OneEndsAtASlot, WideHasSecondHalf}
-use Rattle.kinds.specs.declared.statement.Target.{Target}
+use Rattle.kinds.specs.declared.statement.SegmentStart.{SegmentStart}
 use Rattle.transfer.specs.declared.rule.Rule.{Rule}
 use Rattle.transfer.specs.declared.rule.Rule.TheVariants as rules
 use Rattle.transfer.specs.Rules.{LacksHelper}
@@ -221,7 +221,8 @@ made_inside code statements slot nothing none = record {
 }
 
 module _ {D : Type 0} (contains : D → ℕ → Type 0) (second : WideHasSecondHalf) (code : List Slot)
-    (is_code : IsCode code) (statements : List StatementParts) (targets : List (Option (Target D)))
+    (is_code : IsCode code) (statements : List StatementParts)
+    (targets : List (Option (SegmentStart D)))
     (are : AreTargets contains statements targets)
     (slot : ℕ) (i : Instruction) (here : BeginsAt i code slot) where
   made_up_to : ((k : ℕ) → k < slot → IsWellMade code statements k) → IsWellMade code statements slot

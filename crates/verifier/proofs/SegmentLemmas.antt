@@ -13,7 +13,7 @@ use Rattle.isa.specs.Flow.{Begins, size}
 use Rattle.isa.specs.Laws.{OneEndsAtASlot, WideHasSecondHalf}
 use Rattle.machine.specs.declared.state.State.{State as Machine}
 use Rattle.machine.specs.Steps.{Does}
-use Rattle.kinds.specs.declared.statement.Target.{Target}
+use Rattle.kinds.specs.declared.statement.SegmentStart.{SegmentStart}
 use Rattle.kinds.specs.Meaning.{StateHolds, TargetHolds}
 use Rattle.transfer.specs.Given.{Given, setting_of}
 use Rattle.segments.specs.declared.known.Known.{Known}
@@ -75,9 +75,9 @@ code_begins code is =
     (starts is.whole.instructions))
 
 module _ {D : Type 0} (contains : D → ℕ → Type 0) (code : List Slot) (hook : Hook)
-    (targets : List (Option (Target D))) (entry : Target D) where
+    (targets : List (Option (SegmentStart D))) (entry : SegmentStart D) where
   -- a new segment starts at a statement's slot
-  stated_visit : {target other : Target D} {input : Given} {start now : Machine}
+  stated_visit : {target other : SegmentStart D} {input : Given} {start now : Machine}
       → target_at targets now.slot ≡ Some target
       → Visits contains (setting_of code hook input) targets entry other start now
       → (target ≡ other) × TargetHolds contains target start × (start ≡ now)
@@ -89,7 +89,7 @@ module _ {D : Type 0} (contains : D → ℕ → Type 0) (code : List Slot) (hook
       absurd (none_is_some _ unstated stated)
 
   -- what is known of a segment's first state
-  known_at_start : {segment : Target D} {known : Known D} {start now : Machine}
+  known_at_start : {segment : SegmentStart D} {known : Known D} {start now : Machine}
       → known.is_live ≡ true → ((machine : Machine) → TargetHolds contains segment machine
       → StateHolds contains known.state machine machine) → TargetHolds contains segment start
       → start ≡ now → Knows contains segment known start now
@@ -101,7 +101,7 @@ module _ {D : Type 0} (contains : D → ℕ → Type 0) (code : List Slot) (hook
     };
   }
 
-  pub current_stated : {slot : ℕ} {target : Target D} {known : Known D}
+  pub current_stated : {slot : ℕ} {target : SegmentStart D} {known : Known D}
       → target_at targets slot ≡ Some target → known.is_live ≡ true
       → ((machine : Machine) → TargetHolds contains target machine
       → StateHolds contains known.state machine machine)
@@ -113,7 +113,7 @@ module _ {D : Type 0} (contains : D → ℕ → Type 0) (code : List Slot) (hook
         (found.0, known_at_start live own found.1 found.2);
   }
 
-  next_leads : (segment : Target D) (slot : ℕ) (i : Instruction) (after : Known D)
+  next_leads : (segment : SegmentStart D) (slot : ℕ) (i : Instruction) (after : Known D)
       (start next : Machine) → EntersNext contains targets segment slot start next
       ⊎ FallsThrough contains targets segment slot i after start next
       → EntersNext contains targets segment slot start next
@@ -121,7 +121,7 @@ module _ {D : Type 0} (contains : D → ℕ → Type 0) (code : List Slot) (hook
   next_leads segment slot i after start next (inl enters) = inl enters
   next_leads segment slot i after start next (inr through) = inr (through.behind, through.unstated)
 
-  pub current_fine : {slot : ℕ} {segment : Target D} (known after : Known D) (i : Instruction)
+  pub current_fine : {slot : ℕ} {segment : SegmentStart D} (known after : Known D) (i : Instruction)
       → slice_get code slot ≡ Some (Start i)
       → IsCurrent contains code hook targets entry slot segment known
       → (known.is_live ≡ true → IsFollowed contains code hook targets segment slot i
@@ -141,12 +141,12 @@ module _ {D : Type 0} (contains : D → ℕ → Type 0) (code : List Slot) (hook
           begins = goes.begins;
           leads = next_leads segment slot i after start next goes.goes;
         } in
-        subst (λ (s : Target D). LeadsOn contains code targets s slot j start next) found.0
+        subst (λ (s : SegmentStart D). LeadsOn contains code targets s slot j start next) found.0
         (subst (λ k. LeadsOn contains code targets segment slot k start next) (sym same) leads);
   }
 
   -- a step to a slot without a statement is no jump
-  through_only : (segment : Target D) (slot : ℕ) (i : Instruction) (after : Known D)
+  through_only : (segment : SegmentStart D) (slot : ℕ) (i : Instruction) (after : Known D)
       (start next : Machine) → target_at targets next.slot ≡ None
       → EntersNext contains targets segment slot start next
       ⊎ FallsThrough contains targets segment slot i after start next
@@ -157,7 +157,7 @@ module _ {D : Type 0} (contains : D → ℕ → Type 0) (code : List Slot) (hook
   through_only segment slot i after start next unstated (inr through) = through.knows
 
   -- A visit of the next slot comes from the instruction that ends there, and there is only one.
-  next_visit : {slot : ℕ} {segment other : Target D} {input : Given} {start next : Machine}
+  next_visit : {slot : ℕ} {segment other : SegmentStart D} {input : Given} {start next : Machine}
       (known after : Known D) (i : Instruction) → OneEndsAtASlot → IsCode code
       → slice_get code slot ≡ Some (Start i) → target_at targets (slot + size i) ≡ None
       → IsCurrent contains code hook targets entry slot segment known
@@ -182,7 +182,7 @@ module _ {D : Type 0} (contains : D → ℕ → Type 0) (code : List Slot) (hook
       let goes = (passed found.1.live).goes_on input start now next label at found.1.is_known did in
       (found.0, through_only segment slot i after start next still goes.goes)
 
-  pub next_current : {slot : ℕ} {segment : Target D} (known after : Known D) (i : Instruction)
+  pub next_current : {slot : ℕ} {segment : SegmentStart D} (known after : Known D) (i : Instruction)
       → OneEndsAtASlot → IsCode code → slice_get code slot ≡ Some (Start i)
       → IsCurrent contains code hook targets entry slot segment known
       → (known.is_live ≡ true → IsFollowed contains code hook targets segment slot i
@@ -194,7 +194,7 @@ module _ {D : Type 0} (contains : D → ℕ → Type 0) (code : List Slot) (hook
   }
 
   -- the entry's slot
-  entry_visit : {other : Target D} {input : Given} {start now : Machine}
+  entry_visit : {other : SegmentStart D} {input : Given} {start now : Machine}
       → target_at targets 0 ≡ None → Visits contains (setting_of code hook input) targets entry
       other start now → now.slot ≡ 0 → (entry ≡ other) × TargetHolds contains entry start
       × (start ≡ now)
@@ -218,7 +218,7 @@ module _ {D : Type 0} (contains : D → ℕ → Type 0) (code : List Slot) (hook
   -- a statement, if the slot has one, else what comes from the slot before
   arrived_at : (slot : ℕ) (begun here : Option ℕ) (known found : Known D)
       → IsCurrentUnlessStated contains code hook targets entry slot (segment_of targets entry begun)
-      known → (stated : Option (Target D)) → target_at targets slot ≡ stated
+      known → (stated : Option (SegmentStart D)) → target_at targets slot ≡ stated
       → MatchOption stated ((here ≡ begun) × (found ≡ known))
       (λ target. (here ≡ Some slot) × (found.is_live ≡ true)
       × ((machine : Machine) → TargetHolds contains target machine
@@ -236,7 +236,8 @@ module _ {D : Type 0} (contains : D → ℕ → Type 0) (code : List Slot) (hook
       let same : unwrap_or (target_at targets slot) entry ≡ target = rw stated refl in
       subst (λ (b : Option ℕ). IsCurrent contains code hook targets entry slot
       (segment_of targets entry b) found) (sym new.0)
-      (subst (λ (t : Target D). IsCurrent contains code hook targets entry slot t found) (sym same)
+      (subst (λ (t : SegmentStart D). IsCurrent contains code hook targets entry slot t found)
+      (sym same)
       own)
 
   pub arrived : (slot : ℕ) (begun here : Option ℕ) (known found : Known D)

@@ -15,7 +15,7 @@ use Rattle.machine.specs.State.{Setting, start}
 use Rattle.machine.specs.Steps.{Step}
 use Rattle.machine.specs.Faults.{Stuck}
 use Rattle.machine.specs.Runs.{Leads, Run, Safe}
-use Rattle.kinds.specs.declared.statement.Target.{Target}
+use Rattle.kinds.specs.declared.statement.SegmentStart.{SegmentStart}
 use Rattle.kinds.specs.Meaning.{TargetHolds}
 use Rattle.kinds.specs.Stated.{GivesStated, MeetsStatement}
 use Rattle.object.specs.Statements.{StatementParts}
@@ -78,8 +78,8 @@ some_is_one o first second = cc
 
 -- a visit of a slot with a statement is as stated there
 visited_as_stated : {D : Type 0} (contains : D → ℕ → Type 0) (setting : Setting)
-    (targets : List (Option (Target D))) (entry segment target : Target D) (begin now : Machine)
-    → Visits contains setting targets entry segment begin now
+    (targets : List (Option (SegmentStart D))) (entry segment target : SegmentStart D)
+    (begin now : Machine) → Visits contains setting targets entry segment begin now
     → target_at targets now.slot ≡ Some target → TargetHolds contains target now
 visited_as_stated contains setting targets entry segment target begin now
     (at_entry zeroth unstated holds) stated =
@@ -92,154 +92,158 @@ visited_as_stated contains setting targets entry segment target begin now
     absurd (none_is_some (target_at targets now.slot) unstated stated)
 
 module _ {D : Type 0} (contains : D → ℕ → Type 0) (code : List Slot) (hook : Hook)
-    (targets : List (Option (Target D))) (entry : Target D) (limit : ℕ) (input : Given) where
-  -- the machine is in a segment, at an instruction, and has steps left
-  record Reached (steps : ℕ) (machine : Machine) : Type 0 where
-    segment : Target D
-    begin : Machine
-    visit : Visits contains (setting_of code hook input) targets entry segment begin machine
-    begins : Begins code machine.slot
-    bounded : steps + Left (length code) (rank_value segment.statement.now.rank begin) machine.slot
-        ≤ limit
+    (targets : List (Option (SegmentStart D))) (entry : SegmentStart D) (limit : ℕ) (input : Given)
+  where
+    -- the machine is in a segment, at an instruction, and has steps left
+    record Reached (steps : ℕ) (machine : Machine) : Type 0 where
+      segment : SegmentStart D
+      begin : Machine
+      visit : Visits contains (setting_of code hook input) targets entry segment begin machine
+      begins : Begins code machine.slot
+      bounded : steps + Left (length code) (rank_value segment.statement.now.rank begin)
+          machine.slot
+          ≤ limit
 
-  -- a step from there leads there
-  reached_next : (steps : ℕ) (now next : Machine) (label : Label)
-      → ((slot : ℕ) → Begins code slot → IsFine contains code hook targets entry slot)
-      → Reached steps now → Step (setting_of code hook input) now label next
-      → Reached (suc steps) next
-  reached_next steps now next label fine reached step =
-      let leads = (fine now.slot reached.begins).leads_on input reached.segment reached.begin now
-      next label step.instruction reached.visit refl step.at step.does in
-      let inside = inside_code code now.slot reached.begins in
-      let inside' = inside_code code next.slot leads.begins in
-      ⊎_elim
-      (λ (enters : EntersNext contains targets reached.segment now.slot reached.begin next).
-      let target = some_and {P = λ t. Enters contains (nat_le next.slot now.slot) reached.segment t
-      reached.begin next} (target_at targets next.slot) enters in
-      let less = left_jump (length code)
-      (rank_value reached.segment.statement.now.rank reached.begin)
-      (rank_value target.0.statement.now.rank next) now.slot next.slot inside inside'
-      target.2.rank in
-      let result : Reached (suc steps) next = record {
-        segment = target.0;
-        begin = next;
-        visit = at_target target.1 target.2.holds;
-        begins = leads.begins;
-        bounded = omega (arith, less, reached.bounded);
-      } in
-      result)
-      (λ (through : (next.slot ≡ now.slot + size step.instruction)
-      × (target_at targets next.slot ≡ None)).
-      let some = size_some step.instruction in
-      let less = left_on (length code) (rank_value reached.segment.statement.now.rank reached.begin)
-      (rank_value reached.segment.statement.now.rank reached.begin) now.slot next.slot
-      (omega (arith, through.0, some)) inside' (omega arith) in
-      let result : Reached (suc steps) next = record {
-        segment = reached.segment;
-        begin = reached.begin;
-        visit = falls now label step.instruction reached.visit step.at step.does through.0
-            through.1;
-        begins = leads.begins;
-        bounded = omega (arith, less, reached.bounded);
-      } in
-      result)
-      leads.leads
+    -- a step from there leads there
+    reached_next : (steps : ℕ) (now next : Machine) (label : Label)
+        → ((slot : ℕ) → Begins code slot → IsFine contains code hook targets entry slot)
+        → Reached steps now → Step (setting_of code hook input) now label next
+        → Reached (suc steps) next
+    reached_next steps now next label fine reached step =
+        let leads = (fine now.slot reached.begins).leads_on input reached.segment reached.begin now
+        next label step.instruction reached.visit refl step.at step.does in
+        let inside = inside_code code now.slot reached.begins in
+        let inside' = inside_code code next.slot leads.begins in
+        ⊎_elim
+        (λ (enters : EntersNext contains targets reached.segment now.slot reached.begin next).
+        let target = some_and {P = λ t. Enters contains (nat_le next.slot now.slot)
+        reached.segment t
+        reached.begin next} (target_at targets next.slot) enters in
+        let less = left_jump (length code)
+        (rank_value reached.segment.statement.now.rank reached.begin)
+        (rank_value target.0.statement.now.rank next) now.slot next.slot inside inside'
+        target.2.rank in
+        let result : Reached (suc steps) next = record {
+          segment = target.0;
+          begin = next;
+          visit = at_target target.1 target.2.holds;
+          begins = leads.begins;
+          bounded = omega (arith, less, reached.bounded);
+        } in
+        result)
+        (λ (through : (next.slot ≡ now.slot + size step.instruction)
+        × (target_at targets next.slot ≡ None)).
+        let some = size_some step.instruction in
+        let less = left_on (length code)
+        (rank_value reached.segment.statement.now.rank reached.begin)
+        (rank_value reached.segment.statement.now.rank reached.begin) now.slot next.slot
+        (omega (arith, through.0, some)) inside' (omega arith) in
+        let result : Reached (suc steps) next = record {
+          segment = reached.segment;
+          begin = reached.begin;
+          visit = falls now label step.instruction reached.visit step.at step.does through.0
+              through.1;
+          begins = leads.begins;
+          bounded = omega (arith, less, reached.bounded);
+        } in
+        result)
+        leads.leads
 
-  -- so every run stays there
-  reached_along : ((slot : ℕ) → Begins code slot → IsFine contains code hook targets entry slot)
-      → (labels : List Label) (steps : ℕ) (now end : Machine) → Reached steps now
-      → Leads (setting_of code hook input) now labels end → Reached (steps + length labels) end
-  reached_along fine [] steps now end reached same =
-      let sum : steps + 0 ≡ steps = omega arith in
-      rw sum (subst (λ m. Reached steps m) same reached)
-  reached_along fine (label ∷ labels) steps now end reached leads =
-      let next = reached_next steps now leads.0 label fine reached leads.1 in
-      let later = reached_along fine labels (suc steps) leads.0 end next leads.2 in
-      let sum : steps + suc (length labels) ≡ suc steps + length labels = omega arith in
-      rw sum later
+    -- so every run stays there
+    reached_along : ((slot : ℕ) → Begins code slot → IsFine contains code hook targets entry slot)
+        → (labels : List Label) (steps : ℕ) (now end : Machine) → Reached steps now
+        → Leads (setting_of code hook input) now labels end → Reached (steps + length labels) end
+    reached_along fine [] steps now end reached same =
+        let sum : steps + 0 ≡ steps = omega arith in
+        rw sum (subst (λ m. Reached steps m) same reached)
+    reached_along fine (label ∷ labels) steps now end reached leads =
+        let next = reached_next steps now leads.0 label fine reached leads.1 in
+        let later = reached_along fine labels (suc steps) leads.0 end next leads.2 in
+        let sum : steps + suc (length labels) ≡ suc steps + length labels = omega arith in
+        rw sum later
 
-  -- the entry goes into its own segment, or into the statement of slot 0
-  first_reached : Begins code 0 → TargetHolds contains entry start
-      → ((target : Target D) → target_at targets 0 ≡ Some target
-      → Enters contains false entry target start start)
-      → (rank_value entry.statement.now.rank start + 1) * length code ≤ limit
-      → (stated : Option (Target D)) → target_at targets 0 ≡ stated → Reached 0 start
-  first_reached begins holds edge room None unstated = record {
-    segment = entry;
-    begin = start;
-    visit = at_entry refl unstated holds;
-    begins = begins;
-    bounded = unfold Left in omega (arith, room);
-  }
-  first_reached begins holds edge room (Some target) stated =
-      let enters = edge target stated in
-      record {
-        segment = target;
-        begin = start;
-        visit = at_target stated enters.holds;
-        begins = begins;
-        bounded = unfold Left in omega (
-          arith,
-          room,
-          enters.rank,
-          mul-le-mul_left (length code) enters.rank,
-        );
-      }
+    -- the entry goes into its own segment, or into the statement of slot 0
+    first_reached : Begins code 0 → TargetHolds contains entry start
+        → ((target : SegmentStart D) → target_at targets 0 ≡ Some target
+        → Enters contains false entry target start start)
+        → (rank_value entry.statement.now.rank start + 1) * length code ≤ limit
+        → (stated : Option (SegmentStart D)) → target_at targets 0 ≡ stated → Reached 0 start
+    first_reached begins holds edge room None unstated = record {
+      segment = entry;
+      begin = start;
+      visit = at_entry refl unstated holds;
+      begins = begins;
+      bounded = unfold Left in omega (arith, room);
+    }
+    first_reached begins holds edge room (Some target) stated =
+        let enters = edge target stated in
+        record {
+          segment = target;
+          begin = start;
+          visit = at_target stated enters.holds;
+          begins = begins;
+          bounded = unfold Left in omega (
+            arith,
+            room,
+            enters.rank,
+            mul-le-mul_left (length code) enters.rank,
+          );
+        }
 
-  pub met : ((slot : ℕ) → Begins code slot → IsFine contains code hook targets entry slot)
-      → Begins code 0 → TargetHolds contains entry start
-      → ((target : Target D) → target_at targets 0 ≡ Some target
-      → Enters contains false entry target start start)
-      → (rank_value entry.statement.now.rank start + 1) * length code ≤ limit
-      → (m : ℕ) (labels : List Label) (s : Machine)
-      → Run (setting_of code hook input) m labels s
-      → (m < limit) × ((fault : Fault)
-      → Stuck (setting_of code hook input) s fault → ⊥)
-  unfolding Left
-  met fine begins holds edge room m labels s run =
-      let reached = reached_along fine labels 0 start s
-      (first_reached begins holds edge room (target_at targets 0) refl) run.leads in
-      let inside = inside_code code s.slot reached.begins in (
-        omega (arith, run.steps, reached.bounded, inside),
-        λ fault stuck. (fine s.slot reached.begins).free input reached.segment reached.begin s
-            fault reached.visit refl stuck,
-      )
+    pub met : ((slot : ℕ) → Begins code slot → IsFine contains code hook targets entry slot)
+        → Begins code 0 → TargetHolds contains entry start
+        → ((target : SegmentStart D) → target_at targets 0 ≡ Some target
+        → Enters contains false entry target start start)
+        → (rank_value entry.statement.now.rank start + 1) * length code ≤ limit
+        → (m : ℕ) (labels : List Label) (s : Machine)
+        → Run (setting_of code hook input) m labels s
+        → (m < limit) × ((fault : Fault)
+        → Stuck (setting_of code hook input) s fault → ⊥)
+    unfolding Left
+    met fine begins holds edge room m labels s run =
+        let reached = reached_along fine labels 0 start s
+        (first_reached begins holds edge room (target_at targets 0) refl) run.leads in
+        let inside = inside_code code s.slot reached.begins in (
+          omega (arith, run.steps, reached.bounded, inside),
+          λ fault stuck. (fine s.slot reached.begins).free input reached.segment reached.begin s
+              fault reached.visit refl stuck,
+        )
 
-  pub met_stated : ((slot : ℕ) → Begins code slot → IsFine contains code hook targets entry slot)
-      → Begins code 0 → TargetHolds contains entry start
-      → ((target : Target D) → target_at targets 0 ≡ Some target
-      → Enters contains false entry target start start)
-      → (rank_value entry.statement.now.rank start + 1) * length code ≤ limit
-      → (m : ℕ) (labels : List Label) (s : Machine)
-      → Run (setting_of code hook input) m labels s → (target : Target D)
-      → target_at targets s.slot ≡ Some target
-      → TargetHolds contains target s
-  met_stated fine begins holds edge room m labels s run target stated =
-      let reached = reached_along fine labels 0 start s
-      (first_reached begins holds edge room (target_at targets 0) refl) run.leads in
-      visited_as_stated contains (setting_of code hook input) targets entry reached.segment target
-      reached.begin s reached.visit stated
+    pub met_stated : ((slot : ℕ) → Begins code slot → IsFine contains code hook targets entry slot)
+        → Begins code 0 → TargetHolds contains entry start
+        → ((target : SegmentStart D) → target_at targets 0 ≡ Some target
+        → Enters contains false entry target start start)
+        → (rank_value entry.statement.now.rank start + 1) * length code ≤ limit
+        → (m : ℕ) (labels : List Label) (s : Machine)
+        → Run (setting_of code hook input) m labels s → (target : SegmentStart D)
+        → target_at targets s.slot ≡ Some target
+        → TargetHolds contains target s
+    met_stated fine begins holds edge room m labels s run target stated =
+        let reached = reached_along fine labels 0 start s
+        (first_reached begins holds edge room (target_at targets 0) refl) run.leads in
+        visited_as_stated contains (setting_of code hook input) targets entry reached.segment target
+        reached.begin s reached.visit stated
 
-  pub met_kept : ((slot : ℕ) → Begins code slot → IsFine contains code hook targets entry slot)
-      → Begins code 0 → TargetHolds contains entry start
-      → ((target : Target D) → target_at targets 0 ≡ Some target
-      → Enters contains false entry target start start)
-      → (rank_value entry.statement.now.rank start + 1) * length code ≤ limit
-      → (kept : List Region) → ((slot : ℕ) → Begins code slot
-      → IsKept contains code hook targets entry kept slot)
-      → (m : ℕ) (labels : List Label) (s : Machine)
-      → Run (setting_of code hook input) m labels s
-      → IsKeptAt (setting_of code hook input) kept s
-  met_kept fine begins holds edge room kept keeps m labels s run =
-      let reached = reached_along fine labels 0 start s
-      (first_reached begins holds edge room (target_at targets 0) refl) run.leads in
-      (keeps s.slot reached.begins).keeps input reached.segment reached.begin s reached.visit refl
+    pub met_kept : ((slot : ℕ) → Begins code slot → IsFine contains code hook targets entry slot)
+        → Begins code 0 → TargetHolds contains entry start
+        → ((target : SegmentStart D) → target_at targets 0 ≡ Some target
+        → Enters contains false entry target start start)
+        → (rank_value entry.statement.now.rank start + 1) * length code ≤ limit
+        → (kept : List Region) → ((slot : ℕ) → Begins code slot
+        → IsKept contains code hook targets entry kept slot)
+        → (m : ℕ) (labels : List Label) (s : Machine)
+        → Run (setting_of code hook input) m labels s
+        → IsKeptAt (setting_of code hook input) kept s
+    met_kept fine begins holds edge room kept keeps m labels s run =
+        let reached = reached_along fine labels 0 start s
+        (first_reached begins holds edge room (target_at targets 0) refl) run.leads in
+        (keeps s.slot reached.begins).keeps input reached.segment reached.begin s reached.visit refl
 
 -- A program that the verifier accepts is safe.
 pub safe_program : {D : Type 0} (contains : D → ℕ → Type 0) (code : List Slot) (hook : Hook)
-    (targets : List (Option (Target D))) (entry : Target D) (rank : ℕ) → Begins code 0
+    (targets : List (Option (SegmentStart D))) (entry : SegmentStart D) (rank : ℕ) → Begins code 0
     → TargetHolds contains entry start → rank_value entry.statement.now.rank start ≡ rank
-    → ((target : Target D) → target_at targets 0 ≡ Some target
+    → ((target : SegmentStart D) → target_at targets 0 ≡ Some target
     → Enters contains false entry target start start)
     → ((slot : ℕ) → Begins code slot → IsFine contains code hook targets entry slot)
     → Safe code hook ((rank + 1) * length code)
@@ -249,9 +253,9 @@ safe_program contains code hook targets entry rank begins holds rank_is edge fin
 
 -- And the regions that it recorded are those of the program's loads and stores.
 pub kept_regions : {D : Type 0} (contains : D → ℕ → Type 0) (code : List Slot) (hook : Hook)
-    (targets : List (Option (Target D))) (entry : Target D) → Begins code 0
+    (targets : List (Option (SegmentStart D))) (entry : SegmentStart D) → Begins code 0
     → TargetHolds contains entry start
-    → ((target : Target D) → target_at targets 0 ≡ Some target
+    → ((target : SegmentStart D) → target_at targets 0 ≡ Some target
     → Enters contains false entry target start start)
     → ((slot : ℕ) → Begins code slot → IsFine contains code hook targets entry slot)
     → (kept : List Region) → ((slot : ℕ) → Begins code slot
@@ -264,9 +268,9 @@ kept_regions contains code hook targets entry begins holds edge fine kept keeps 
 
 -- And each run that reaches a slot with a statement is as stated there.
 pub runs_as_stated : {D : Type 0} (contains : D → ℕ → Type 0) (gives : GivesStated D)
-    (code : List Slot) (hook : Hook) (targets : List (Option (Target D))) (entry : Target D)
-    → Begins code 0 → TargetHolds contains entry start
-    → ((target : Target D) → target_at targets 0 ≡ Some target
+    (code : List Slot) (hook : Hook) (targets : List (Option (SegmentStart D)))
+    (entry : SegmentStart D) → Begins code 0 → TargetHolds contains entry start
+    → ((target : SegmentStart D) → target_at targets 0 ≡ Some target
     → Enters contains false entry target start start)
     → ((slot : ℕ) → Begins code slot → IsFine contains code hook targets entry slot)
     → (statements : List StatementParts)

@@ -11,8 +11,8 @@ use Rattle.isa.specs.declared.instruction.Test.TheVariants.{Equal}
 use Rattle.isa.specs.declared.instruction.Width.TheVariants.{Bits64}
 use Rattle.object.specs.Sets.{no_bytes, with_range}
 use Rattle.object.specs.Statements.{StatementParts}
-use Rattle.object.specs.declared.kind.Kind.{Kind}
-use Rattle.object.specs.declared.kind.Kind.TheVariants as kinds
+use Rattle.object.specs.declared.kind.StatedKind.{StatedKind}
+use Rattle.object.specs.declared.kind.StatedKind.TheVariants as kinds
 use Rattle.object.specs.declared.rank.Rank.{Rank}
 use Rattle.kinds.specs.Stated.{any_number}
 
@@ -51,7 +51,7 @@ constant_rank constant = record { constant = constant; first = None; second = No
 
 -- at the slot r0 is of the kind, nothing is said of the other registers and the stack, and the rank
 -- is the constant
-abbrev pub says : ℕ → Kind → ℕ → StatementParts
+abbrev pub says : ℕ → StatedKind → ℕ → StatementParts
 says slot kind constant = record {
   slot = slot;
   rank = constant_rank constant;
@@ -60,7 +60,7 @@ says slot kind constant = record {
 }
 
 -- 7 alone
-abbrev pub only_seven : Kind
+abbrev pub only_seven : StatedKind
 only_seven = kinds.Number (record { low = 7; high = 7; mask = 0; value = 0 })
 
 -- byte 0 of the stack is a byte of a number

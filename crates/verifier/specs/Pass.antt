@@ -3,7 +3,7 @@ use Rattle.std.specs.Prelude.{◌≡◌, ℕ, true, List, Option, None, length}
 use Rattle.isa.specs.declared.code.Slot.{Slot}
 use Rattle.isa.specs.declared.instruction.Instruction.{Instruction}
 use Rattle.object.specs.Statements.{StatementParts}
-use Rattle.kinds.specs.declared.statement.Target.{Target}
+use Rattle.kinds.specs.declared.statement.SegmentStart.{SegmentStart}
 use Rattle.kinds.specs.Plain.{IsFilled}
 use Rattle.ranks.specs.Lines.{IsConstant}
 use Rattle.transfer.specs.Plain.{KeepsFilled}
@@ -15,19 +15,19 @@ use Rattle.verifier.specs.Plain.{IsFilledAt, IsPlain, IsRankAt}
 -- a plain program, and the list of its targets
 pub record IsPlainProgram {D : Type 0} (contains : D → ℕ → Type 0) (code : List Slot)
     (entry_rank : ℕ) (statements : List StatementParts)
-    (targets : List (Option (Target D))) : Type 0 where
+    (targets : List (Option (SegmentStart D))) : Type 0 where
   pub are : AreTargets contains statements targets
   pub plain : IsPlain code entry_rank statements
 
 -- the rank is this constant
-pub record HasRank {D : Type 0} (target : Target D) (rank : ℕ) : Type 0 where
+pub record HasRank {D : Type 0} (target : SegmentStart D) (rank : ℕ) : Type 0 where
   pub constant : IsConstant target.statement.now.rank
   pub same : target.statement.now.rank.constant ≡ rank
 
 -- If the slot may be reached, registers that are filled there are known to hold numbers; and the
 -- segment's rank is the one there.
 pub record KnowsPlain {D : Type 0} (code : List Slot) (entry_rank : ℕ)
-    (statements : List StatementParts) (slot : ℕ) (segment : Target D)
+    (statements : List StatementParts) (slot : ℕ) (segment : SegmentStart D)
     (known : Known D) : Type 0 where
   pub filled : known.is_live ≡ true → (r : ℕ) → IsFilledAt code statements slot r
       → IsFilled known.state r
@@ -36,15 +36,15 @@ pub record KnowsPlain {D : Type 0} (code : List Slot) (entry_rank : ℕ)
 
 -- what comes from the slot before, unless the slot has a statement
 pub record ComesPlainly {D : Type 0} (code : List Slot) (entry_rank : ℕ)
-    (statements : List StatementParts) (slot : ℕ) (segment : Target D)
+    (statements : List StatementParts) (slot : ℕ) (segment : SegmentStart D)
     (known : Known D) : Type 0 where
   pub ten : length known.state.kinds.items ≡ 10
   pub knows : statement_at statements slot ≡ None
       → KnowsPlain code entry_rank statements slot segment known
 
 -- if the slot may be reached, the instruction is one of a plain program
-abbrev pub IsPlainIfLive : {D : Type 0} → (D → ℕ → Type 0) → List (Option (Target D)) → Target D
-    → ℕ → Instruction → Known D → Type 0
+abbrev pub IsPlainIfLive : {D : Type 0} → (D → ℕ → Type 0) → List (Option (SegmentStart D))
+    → SegmentStart D → ℕ → Instruction → Known D → Type 0
 IsPlainIfLive contains targets segment slot i known =
     known.is_live ≡ true → IsPlainHere contains targets segment slot i known.state
 

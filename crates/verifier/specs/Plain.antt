@@ -9,8 +9,8 @@ use Rattle.isa.specs.Flow.{BeginsAt, register_written, registers_read, slot_afte
 use Rattle.object.specs.Numbers.{Numbers}
 use Rattle.object.specs.Sets.{no_bytes}
 use Rattle.object.specs.Statements.{StatementParts}
-use Rattle.object.specs.declared.kind.Kind.{Kind}
-use Rattle.object.specs.declared.kind.Kind.TheVariants as kinds
+use Rattle.object.specs.declared.kind.StatedKind.{StatedKind}
+use Rattle.object.specs.declared.kind.StatedKind.TheVariants as kinds
 use Rattle.kinds.specs.Stated.{any_number}
 use Rattle.ranks.specs.Lines.{IsConstant}
 use Rattle.transfer.specs.Plain.{IsPlainInstruction}
@@ -21,7 +21,7 @@ use Rattle.segments.specs.Stated.{statement_at}
 -- ---- statements
 
 -- what is said of a register
-abbrev pub said_of : StatementParts → ℕ → Kind
+abbrev pub said_of : StatementParts → ℕ → StatedKind
 said_of s r = slice_index_or s.kinds r kinds.Empty
 
 -- it says of each register nothing, or that it is any number, and nothing of the stack; its rank is

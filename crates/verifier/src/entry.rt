@@ -3,7 +3,7 @@ ghost use Rattle.std.specs.Prelude.{◌≡◌, ℕ, true, false, length, IfErr, 
 ghost use Rattle.machine.specs.declared.state.State.{State as Machine};
 ghost use Rattle.machine.specs.State.{start};
 ghost use Rattle.object.specs.Sets.{no_bytes};
-ghost use Rattle.kinds.specs.declared.statement.Target.{Target as AnyTarget};
+ghost use Rattle.kinds.specs.declared.statement.SegmentStart.{SegmentStart as AnyTarget};
 ghost use Rattle.kinds.specs.Meaning.{TargetHolds, StateHolds};
 ghost use Rattle.ranks.specs.Lines.{IsConstant, rank_value};
 ghost use Rattle.segments.specs.Places.{target_at};
@@ -13,8 +13,8 @@ ghost use Rattle.segments.specs.Segments.{Enters};
 
 use crate::refusal::Refusal;
 use absdom::Domain;
-use kinds::{Entry, Kind, Place, State, Target, reset};
-use object::{Kind as Stated, Rank, StackBytes, Statement};
+use kinds::{AbstractState, Kind, PointerPlace, SegmentStart, StackEntry, reset};
+use object::{Rank, StackBytes, StatedKind as Stated, Statement};
 use segments::edge::enter;
 use segments::known::Known;
 use segments::target::stated_at;
@@ -42,22 +42,22 @@ pub fn entry_statement(rank: u32) -> Statement
 pub fn entry_of<'a, D: Domain>(
     alloc: Global,
     statement: &'a Statement,
-) -> Result<Target<'a, D>, AllocError>
+) -> Result<SegmentStart<'a, D>, AllocError>
     requires { statement.now.stack ≡ no_bytes }
     ensures statement { IfOk result (λ entry. entry.statement.now ≡ statement.now) }
     ensures holds { IfOk result (λ entry. TargetHolds D.contains entry start) }
 {
     let mut kinds = Vec::new(alloc);
     kinds.push(Kind::Empty)?;
-    kinds.push(Kind::Pointer(Place::Context(0)))?;
+    kinds.push(Kind::Pointer(PointerPlace::Context(0)))?;
     for register in 2..10usize {
         kinds.push(Kind::Empty)?;
     }
-    Ok(Target { statement, kinds })
+    Ok(SegmentStart { statement, kinds })
 }
 
 /// A state in which nothing is known, whose memory the pass reuses at each slot.
-pub fn unknown<D: Domain>(alloc: Global) -> Result<State<D>, AllocError>
+pub fn unknown<D: Domain>(alloc: Global) -> Result<AbstractState<D>, AllocError>
     ensures ten { IfOk result (λ state. length state.kinds.items ≡ 10) }
 {
     let mut kinds = Vec::new(alloc);
@@ -68,9 +68,9 @@ pub fn unknown<D: Domain>(alloc: Global) -> Result<State<D>, AllocError>
     }
     let mut entries = Vec::new(alloc);
     for place in 0..512usize {
-        entries.push(Entry::Unknown)?;
+        entries.push(StackEntry::Unknown)?;
     }
-    Ok(State {
+    Ok(AbstractState {
         kinds,
         facts,
         entries,
@@ -79,9 +79,9 @@ pub fn unknown<D: Domain>(alloc: Global) -> Result<State<D>, AllocError>
 
 /// What is known at the start of a run. If slot 0 has a statement, the edge to it is checked.
 pub fn enter_start<'a, D: Domain>(
-    targets: &[Option<Target<'a, D>>],
-    entry: &Target<'a, D>,
-    room: State<D>,
+    targets: &[Option<SegmentStart<'a, D>>],
+    entry: &SegmentStart<'a, D>,
+    room: AbstractState<D>,
 ) -> Result<Known<D>, Refusal>
     ensures live { IfOk result (λ known. known.is_live ≡ true) }
     ensures own { IfOk result (λ known. (machine : Machine)

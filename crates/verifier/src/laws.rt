@@ -3,7 +3,7 @@ ghost use Rattle.std.specs.Prelude.{[], ◌∷◌, pos};
 ghost use Rattle.isa.specs.declared.code.Slot.TheVariants.{Start};
 ghost use Rattle.isa.specs.declared.instruction.Instruction.TheVariants.{Call, Exit};
 ghost use Rattle.isa.specs.declared.instruction.Source.TheVariants.{Immediate, Register};
-ghost use Rattle.object.specs.declared.kind.Kind.TheVariants.{Empty};
+ghost use Rattle.object.specs.declared.kind.StatedKind.TheVariants.{Empty};
 ghost use Rattle.kinds.specs.Stated.{any_number};
 ghost use Rattle.verifier.specs.Examples.{then_exit, endless_code, move_of};
 ghost use Rattle.verifier.specs.Examples.{only_seven, says, says_byte};

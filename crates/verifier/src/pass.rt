@@ -8,7 +8,7 @@ ghost use Rattle.machine.specs.declared.state.State.{State as Machine};
 ghost use Rattle.kinds.specs.Meaning.{StateHolds, TargetHolds};
 ghost use Rattle.object.specs.Statements.{StatementParts};
 ghost use Rattle.kinds.specs.Plain.{kind_in};
-ghost use Rattle.kinds.specs.declared.statement.Target.{Target as AnyTarget};
+ghost use Rattle.kinds.specs.declared.statement.SegmentStart.{SegmentStart as AnyTarget};
 ghost use Rattle.verifier.specs.Kept.{GoesInto, IsKept};
 ghost use Rattle.verifier.specs.Pass.{ComesPlainly, HasRank, IsPlainIfLive, IsPlainProgram};
 ghost use Rattle.verifier.specs.Pass.{KeepsPlain};
@@ -26,7 +26,7 @@ use isa::laws::{
     one_instruction_ends_at_a_slot,
 };
 use isa::{Code, Hook, Instruction, Slot};
-use kinds::{Target, reset};
+use kinds::{SegmentStart, reset};
 use regions::Region;
 use segments::follow::follow;
 use segments::known::Known;
@@ -37,7 +37,7 @@ use transfer::rule::Rule;
 /// What is known at the slot, with the start of the segment that it is in; a statement starts a new
 /// one.
 fn arrive<'a, D: Domain>(
-    targets: &[Option<Target<'a, D>>],
+    targets: &[Option<SegmentStart<'a, D>>],
     slot: usize,
     begun: Option<usize>,
     known: Known<D>,
@@ -68,8 +68,8 @@ fn arrive<'a, D: Domain>(
 fn pass<'a, D: Domain>(
     code: &Code,
     hook: Hook,
-    targets: &[Option<Target<'a, D>>],
-    segment: &Target<'a, D>,
+    targets: &[Option<SegmentStart<'a, D>>],
+    segment: &SegmentStart<'a, D>,
     known: Known<D>,
     slot: usize,
     instruction: Instruction,
@@ -97,8 +97,8 @@ fn pass<'a, D: Domain>(
 fn pass_in<'a, D: Domain>(
     code: &Code,
     hook: Hook,
-    targets: &[Option<Target<'a, D>>],
-    entry: &Target<'a, D>,
+    targets: &[Option<SegmentStart<'a, D>>],
+    entry: &SegmentStart<'a, D>,
     begun: Option<usize>,
     known: Known<D>,
     slot: usize,
@@ -133,8 +133,8 @@ fn pass_in<'a, D: Domain>(
 fn step<'a, D: Domain>(
     code: &Code,
     hook: Hook,
-    targets: &[Option<Target<'a, D>>],
-    entry: &Target<'a, D>,
+    targets: &[Option<SegmentStart<'a, D>>],
+    entry: &SegmentStart<'a, D>,
     begun: Option<usize>,
     known: Known<D>,
     is_passed_to: bool,
@@ -186,7 +186,7 @@ fn step<'a, D: Domain>(
 
 /// Whether there is a statement for the second half of the instruction.
 fn splits<'a, D: Domain>(
-    targets: &[Option<Target<'a, D>>],
+    targets: &[Option<SegmentStart<'a, D>>],
     slot: usize,
     instruction: &Instruction,
 ) -> bool
@@ -204,8 +204,8 @@ fn splits<'a, D: Domain>(
 pub fn pass_all<'a, D: Domain>(
     code: &Code,
     hook: Hook,
-    targets: &[Option<Target<'a, D>>],
-    entry: &Target<'a, D>,
+    targets: &[Option<SegmentStart<'a, D>>],
+    entry: &SegmentStart<'a, D>,
     start: Known<D>,
     mut regions: Vec<Region>,
 ) -> Result<Vec<Region>, Refusal>

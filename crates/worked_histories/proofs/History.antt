@@ -6,7 +6,7 @@ use Rattle.lsdb.specs.Copies.{DatabaseCopy}
 use Rattle.lsdb.specs.Headers.{Lsa, key_of}
 use Rattle.lsdb.specs.Keys.{key_cmp}
 use Rattle.lsdb.specs.Instances.{aged_header}
-use Rattle.packet.specs.declared.model.Body.TheVariants as body
+use Rattle.packet.specs.declared.model.PacketBody.TheVariants as body
 use Rattle.packet.specs.declared.model.Packet.{Packet}
 use Rattle.packet.specs.Text.{canonical}
 use Rattle.adjacency.specs.Adjacencies.{initial_description}

@@ -13,10 +13,10 @@ use Rattle.lsdb.specs.Headers.{lsa_key}
 use Rattle.lsdb.specs.Instances.{ListEntry, aged_header}
 use Rattle.lsdb.specs.Keys.{ByKey, key_cmp}
 use Rattle.lsdb.proofs.Keys.{keys_exact, keys_total}
-use Rattle.packet.specs.declared.model.Body.TheVariants as body
+use Rattle.packet.specs.declared.model.PacketBody.TheVariants as body
 use Rattle.packet.specs.declared.model.Description.{Description}
 use Rattle.packet.specs.declared.model.Packet.{Packet}
-use Rattle.adjacency.specs.declared.state.State.TheVariants.{Exchange, Full, Loading}
+use Rattle.adjacency.specs.declared.state.NeighborState.TheVariants.{Exchange, Full, Loading}
 use Rattle.adjacency.specs.Adjacencies.{enter_exstart, initial_description}
 use Rattle.adjacency.specs.Contents.{Describes, Step, no_sends, then_}
 use Rattle.adjacency.specs.Contents as contents

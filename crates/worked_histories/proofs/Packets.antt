@@ -3,7 +3,7 @@ use Rattle.std.proofs.Common.{[], ◌∷◌, None, Some, refl, arith, rules}
 use Rattle.lsa.specs.Origination.{sealed_lsa}
 use Rattle.lsdb.specs.Headers.{key_of}
 use Rattle.lsdb.specs.Instances.{aged_header}
-use Rattle.packet.specs.declared.model.Body.TheVariants as body
+use Rattle.packet.specs.declared.model.PacketBody.TheVariants as body
 use Rattle.packet.specs.Text.{canonical, closed_fields}
 use Rattle.adjacency.specs.Adjacencies.{initial_description}
 use Rattle.events.specs.Hellos.{hello_on}

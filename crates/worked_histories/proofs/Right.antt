@@ -15,10 +15,10 @@ use Rattle.lsdb.specs.Headers.{Header, key_of, lsa_key}
 use Rattle.lsdb.specs.Instances.{ListEntry, aged_header}
 use Rattle.lsdb.specs.Keys.{ByKey, key_cmp}
 use Rattle.lsdb.proofs.Keys.{keys_total}
-use Rattle.packet.specs.declared.model.Body.TheVariants as body
+use Rattle.packet.specs.declared.model.PacketBody.TheVariants as body
 use Rattle.packet.specs.declared.model.Description.{Description}
 use Rattle.packet.specs.declared.model.Packet.{Packet}
-use Rattle.adjacency.specs.declared.state.State.TheVariants.{Exchange}
+use Rattle.adjacency.specs.declared.state.NeighborState.TheVariants.{Exchange}
 use Rattle.adjacency.specs.Adjacencies.{enter_exstart, initial_description, mismatch_step}
 use Rattle.adjacency.specs.Contents.{Content, Describes, Step, no_sends}
 use Rattle.adjacency.specs.Contents as contents

@@ -2,7 +2,7 @@
 use Rattle.std.proofs.Common.{◌≡◌, ℕ, List, Result, Ok, Err, IfErr, IfOk, subst}
 use mathlib.Core.List.{IsPrefix}
 use Rattle.words.specs.Numbers.{Moment}
-use Rattle.hooks.specs.declared.operation.Operation.{Operation}
+use Rattle.hooks.specs.declared.operation.LoaderOperation.{LoaderOperation}
 use Rattle.hooks.proofs.Fronts.{prefix_self, prefix_trans}
 use Rattle.turns.specs.Turns.{IsTurned, Offers, Refuses, RefusesFor, Took}
 use Rattle.turns.specs.declared.turned.Turned.{Turned}
@@ -12,7 +12,7 @@ use Rattle.turns.proofs.Longer.{refused_longer, turned_longer}
 
 -- what it gives is of all that the port knew at first and knows now
 pub turned_first : (offers : Offers) (took : Took) (refuses : Refuses)
-    (known more most : List Operation) (moment : Moment) (w : Work) (before now after : ℕ)
+    (known more most : List LoaderOperation) (moment : Moment) (w : Work) (before now after : ℕ)
     (turned : Turned) → IsPrefix known more → now ≡ before
     → IsTurned offers took refuses more most moment w now after turned
     → IsTurned offers took refuses known most moment w before after turned
@@ -23,7 +23,7 @@ turned_first offers took refuses known more most moment w before now after turne
 
 -- so it is of what was answered
 pub answered_first : (offers : Offers) (took : Took) (refuses : Refuses)
-    (known more most : List Operation) (moment : Moment) (w : Work) (before now after : ℕ)
+    (known more most : List LoaderOperation) (moment : Moment) (w : Work) (before now after : ℕ)
     (outcome : Result Turned TurnError) → IsPrefix known more → now ≡ before
     → IfOk outcome (λ turned. IsTurned offers took refuses more most moment w now after turned)
     → IfOk outcome (λ turned. IsTurned offers took refuses known most moment w before after
@@ -35,7 +35,7 @@ answered_first offers took refuses known more most moment w before now after (Er
     h = h
 
 -- and of what was refused
-pub refused_first : (offers : Offers) (refuses : Refuses) (known more most : List Operation)
+pub refused_first : (offers : Offers) (refuses : Refuses) (known more most : List LoaderOperation)
     (before now : ℕ) (moment : Moment) (w : Work) (outcome : Result Turned TurnError)
     → IsPrefix known more → now ≡ before
     → IfErr outcome (λ error. RefusesFor offers refuses more most now moment w error)
@@ -47,7 +47,7 @@ refused_first offers refuses known more most before now moment w (Err error) lon
     h)
 
 -- so a turn that is tried again was refused at the moment before
-pub refused_so : (offers : Offers) (refuses : Refuses) (known more most : List Operation)
+pub refused_so : (offers : Offers) (refuses : Refuses) (known more most : List LoaderOperation)
     (before now : ℕ) (moment : Moment) (w : Work) (outcome : Result Turned TurnError)
     (error : TurnError) → IsPrefix known more → now ≡ before → outcome ≡ Err error
     → IfErr outcome (λ error. RefusesFor offers refuses more most now moment w error)
@@ -57,7 +57,7 @@ refused_so offers refuses known more most before now moment w outcome error long
     (refused_first offers refuses known more most before now moment w outcome longer same h)
 
 -- what was refused so by a port that knows more now
-pub refused_still : (offers : Offers) (refuses : Refuses) (known more most : List Operation)
+pub refused_still : (offers : Offers) (refuses : Refuses) (known more most : List LoaderOperation)
     (events : ℕ) (moment : Moment) (w : Work) (error : TurnError) → IsPrefix more most
     → RefusesFor offers refuses known more events moment w error
     → RefusesFor offers refuses known most events moment w error
@@ -65,9 +65,9 @@ refused_still offers refuses known more most events moment w error grown h =
     refused_longer known known more most (prefix_self known) grown offers refuses events moment w
     error h
 
-pub known_first : (known : List Operation) → IsPrefix known known
+pub known_first : (known : List LoaderOperation) → IsPrefix known known
 known_first known = prefix_self known
 
-pub known_still : (known more most : List Operation) → IsPrefix known more → IsPrefix more most
-    → IsPrefix known most
+pub known_still : (known more most : List LoaderOperation) → IsPrefix known more
+    → IsPrefix more most → IsPrefix known most
 known_still known more most first then = prefix_trans known more most first then

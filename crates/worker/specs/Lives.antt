@@ -4,7 +4,7 @@ use Rattle.std.specs.Prelude.{◌≡◌, ◌≢◌, ◌⊎◌, ℕ, zero, suc, �
 use Rattle.std.specs.Prelude.{Bool, true, false, Option, Some, None, MatchOption}
 use Rattle.std.specs.Prelude.{Result, Ok, Err, MatchResult}
 use mathlib.Core.List.{IsPrefix}
-use Rattle.hooks.specs.declared.operation.Operation.{Operation}
+use Rattle.hooks.specs.declared.operation.LoaderOperation.{LoaderOperation}
 use Rattle.turns.specs.Turns.{AsksFor, IsTurned, Offers, Refuses, RefusesFor, Took}
 use Rattle.turns.specs.declared.turned.Turned.{Turned}
 use Rattle.turns.specs.declared.turned.TurnError.{TurnError}
@@ -30,12 +30,14 @@ Hears Link = (before : Link) → (heard : Option (List ℕ)) → (after : Link) 
 -- a turn at a moment, for a work, which operations its port knew before it and knows after it, and
 -- how many events that had given before and after
 abbrev pub Turns : Type 1
-Turns = (known now : List Operation) → (moment : ℕ) → Work → (before after : ℕ) → Turned → Type 0
+Turns = (known now : List LoaderOperation) → (moment : ℕ) → Work → (before after : ℕ) → Turned
+    → Type 0
 
 -- a turn at a moment, for a work, that was refused, what its port knew and knows, how many events
 -- that had given before it, and why
 abbrev pub Refusals : Type 1
-Refusals = (known now : List Operation) → (events : ℕ) → (moment : ℕ) → Work → TurnError → Type 0
+Refusals = (known now : List LoaderOperation) → (events : ℕ) → (moment : ℕ) → Work → TurnError
+    → Type 0
 
 -- a turn at a moment, for a work, whose datagram the programs at `count` were asked about, where it
 -- is one
@@ -57,11 +59,11 @@ pub record Senses (Link Clock : Type 0) : Type 1 where
 pub record Standing (Link Clock : Type 0) : Type 0 where
   pub link : Link
   pub clock : Clock
-  pub known : List Operation
+  pub known : List LoaderOperation
   pub events : ℕ
 
-abbrev pub standing : {Link Clock : Type 0} → Link → Clock → (known : List Operation) → (events : ℕ)
-    → Standing Link Clock
+abbrev pub standing : {Link Clock : Type 0} → Link → Clock → (known : List LoaderOperation)
+    → (events : ℕ) → Standing Link Clock
 standing link clock known events = record {
   link = link;
   clock = clock;

@@ -14,6 +14,7 @@ pub use serving::{Ended, run, send_all, tried};
 pub use settling::{Closed, Settled, close_hub, settle};
 pub use setup::Setup;
 pub use turns::{
-    Book, BookError, Config, ConfigError, Core, CoreError, Event, Gate, Hub, Interface, Offered,
-    Open, Origin, Out, Place, Port, Site, State, Taken, Taker, TurnError, Turned, Work, turn,
+    Book, BookError, Config, ConfigError, Core, CoreError, Event, Gate, Hub, Interface,
+    NeighborState, Offered, Open, Origin, Out, Port, Site, Taken, Taker, TurnError, Turned, Work,
+    WorkerSeat, turn,
 };

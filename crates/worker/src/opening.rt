@@ -10,7 +10,7 @@ use hooks::Asker;
 use maps::Seat;
 use std::alloc::{AllocError, Global};
 use std::sync::ledger::Share;
-use turns::{Book, Core, Hub, Place, Port, Site};
+use turns::{Book, Core, Hub, Port, Site, WorkerSeat};
 
 /// Opens a hub with a book that begins with this router, the one that its type names, and a port
 /// for each seat of the setup. The last port has number 0, the one before it number 1, and so on.
@@ -69,7 +69,7 @@ fn places<L: Site>(
     alloc: Global,
     seats: Vec<Seat>,
     askers: Vec<Asker>,
-) -> Result<Vec<Place<L>>, AllocError>
+) -> Result<Vec<WorkerSeat<L>>, AllocError>
     requires enough { vec_len askers ≡ vec_len seats }
     requires seated { All (IsOf L.words) seats.items }
     requires asks { All (λ a. asks_of a ≡ L.history) askers.items }
@@ -84,7 +84,7 @@ fn places<L: Site>(
 }
 
 // A place with the last seat and the last asker.
-fn next_place<L: Site>(seats: &mut Vec<Seat>, askers: &mut Vec<Asker>) -> Option<Place<L>>
+fn next_place<L: Site>(seats: &mut Vec<Seat>, askers: &mut Vec<Asker>) -> Option<WorkerSeat<L>>
     requires enough { vec_len askers.old ≡ vec_len seats.old }
     requires seated { All (IsOf L.words) seats.old.items }
     requires asks { All (λ a. asks_of a ≡ L.history) askers.old.items }
@@ -98,14 +98,14 @@ fn next_place<L: Site>(seats: &mut Vec<Seat>, askers: &mut Vec<Asker>) -> Option
     let Some(asker) = askers.pop() else {
         unreachable!()
     };
-    Some(Place::new(seat, asker))
+    Some(WorkerSeat::new(seat, asker))
 }
 
 // A port for each place, with one part of the ledger each, the last place first.
 fn ports<L: Site>(
     alloc: Global,
     all: &mut Share<L>,
-    places: Vec<Place<L>>,
+    places: Vec<WorkerSeat<L>>,
 ) -> Result<Vec<Port<L>>, AllocError>
     requires parts { (all.old.parts ≡ vec_len places) × (all.old.amount ≡ 0) }
     requires few { vec_len places ≤ 64 }

@@ -11,7 +11,7 @@ ghost use Rattle.worker.specs.Lives.{Serves, Ticks, senses_of, standing};
 ghost use Rattle.worker.specs.declared.serving.Ended.TheVariants.{Fault, Quit};
 
 use crate::flag::Flag;
-use links::{Link, LinkFault, Seconds};
+use links::{LinkFault, Seconds, Transport};
 use std::alloc::Global;
 use std::sync::Wait;
 use turns::{
@@ -49,7 +49,7 @@ impl Ended {
 /// A refused turn sends nothing. After a fault in the midst of a turn's outs the event stands, and
 /// the later outs aren't sent.
 #[tactic(auto, using(crate::proofs::Living::found_set, crate::proofs::Living::has_lived, crate::proofs::Tries::known_first))]
-pub fn run<L: Site, B: Taker<L>, G: Gate, K: Link, S: Seconds, F: Flag, R: Wait>(
+pub fn run<L: Site, B: Taker<L>, G: Gate, K: Transport, S: Seconds, F: Flag, R: Wait>(
     rt: &R,
     alloc: Global,
     hub: &Hub<L, B>,
@@ -99,7 +99,7 @@ pub fn run<L: Site, B: Taker<L>, G: Gate, K: Link, S: Seconds, F: Flag, R: Wait>
 
 // A round: first the time, and then the link. `ticked` is the moment of the last Tick.
 #[tactic(auto, using(crate::proofs::Tries::known_still))]
-fn round<L: Site, B: Taker<L>, G: Gate, K: Link, S: Seconds, R: Wait>(
+fn round<L: Site, B: Taker<L>, G: Gate, K: Transport, S: Seconds, R: Wait>(
     rt: &R,
     alloc: Global,
     hub: &Hub<L, B>,
@@ -127,7 +127,7 @@ fn round<L: Site, B: Taker<L>, G: Gate, K: Link, S: Seconds, R: Wait>(
 // A Tick's turn, if the second has changed since this worker's last one. Each worker takes such
 // turns: of those in one second the first does what is due.
 #[tactic(auto, using(crate::proofs::Living::ticked_then, crate::proofs::Living::ticks_now, crate::proofs::Tries::known_first))]
-fn tick<L: Site, B: Taker<L>, G: Gate, K: Link, S: Seconds, R: Wait>(
+fn tick<L: Site, B: Taker<L>, G: Gate, K: Transport, S: Seconds, R: Wait>(
     rt: &R,
     hub: &Hub<L, B>,
     port: &mut Port<L>,
@@ -157,7 +157,7 @@ fn tick<L: Site, B: Taker<L>, G: Gate, K: Link, S: Seconds, R: Wait>(
 
 // A turn with the datagram that the link gives, if it gives one.
 #[tactic(auto, using(crate::proofs::Living::listened, crate::proofs::Tries::known_first))]
-fn listen<L: Site, B: Taker<L>, G: Gate, K: Link, S: Seconds, R: Wait>(
+fn listen<L: Site, B: Taker<L>, G: Gate, K: Transport, S: Seconds, R: Wait>(
     rt: &R,
     alloc: Global,
     hub: &Hub<L, B>,
@@ -184,7 +184,7 @@ fn listen<L: Site, B: Taker<L>, G: Gate, K: Link, S: Seconds, R: Wait>(
 
 // A turn with a datagram.
 #[tactic(auto, using(crate::proofs::Living::turned_to, crate::proofs::Tries::known_first))]
-fn hear<L: Site, B: Taker<L>, G: Gate, K: Link, S: Seconds, R: Wait>(
+fn hear<L: Site, B: Taker<L>, G: Gate, K: Transport, S: Seconds, R: Wait>(
     rt: &R,
     hub: &Hub<L, B>,
     port: &mut Port<L>,
@@ -211,7 +211,7 @@ fn hear<L: Site, B: Taker<L>, G: Gate, K: Link, S: Seconds, R: Wait>(
 // Takes a turn, and sends its outs; a refused one sends nothing. Afterwards `moment` is that of the
 // turn's last try.
 #[tactic(auto, using(crate::proofs::Living::served, crate::proofs::Living::refused, crate::proofs::Tries::known_first))]
-fn serve<L: Site, B: Taker<L>, G: Gate, K: Link, S: Seconds, R: Wait>(
+fn serve<L: Site, B: Taker<L>, G: Gate, K: Transport, S: Seconds, R: Wait>(
     rt: &R,
     hub: &Hub<L, B>,
     port: &mut Port<L>,
@@ -290,7 +290,7 @@ pub fn tried<L: Site, B: Taker<L>, G: Gate, S: Seconds, R: Wait>(
 /// Sends what a turn sends, and then what its refresh sends: each out once, in their order, at its
 /// interface. An out that would wait is dropped; after a fault the later ones aren't sent.
 #[tactic(auto, using(crate::proofs::Sending::given_both))]
-pub fn send_all<K: Link>(link: &mut K, turned: &Turned) -> Result<(), LinkFault>
+pub fn send_all<K: Transport>(link: &mut K, turned: &Turned) -> Result<(), LinkFault>
     ensures each { OnOk result (MatchOption turned.now.refreshed
         (IsGivenEach K.gives link.old turned.now.outs.items link.new)
         (λ outs. IsGivenEach K.gives link.old (turned.now.outs.items ++ outs.items) link.new)) }
@@ -304,7 +304,7 @@ pub fn send_all<K: Link>(link: &mut K, turned: &Turned) -> Result<(), LinkFault>
     }
 }
 
-fn send_each<K: Link>(link: &mut K, outs: &Vec<Out>) -> Result<(), LinkFault>
+fn send_each<K: Transport>(link: &mut K, outs: &Vec<Out>) -> Result<(), LinkFault>
     ensures each { OnOk result (IsGivenEach K.gives link.old outs.now.items link.new) }
     ensures fine { OnOk result (K.faults link.new ≡ K.faults link.old) }
     ensures fault { OnErr result (K.faults link.old < K.faults link.new) }

@@ -5,7 +5,7 @@ ghost use Rattle.std.specs.Prelude.{ℕ};
 ghost use Rattle.worker.specs.Lives.{senses_of};
 ghost use Rattle.worker_laws.specs.Deeds.{LivesAreDeedsInOrder};
 
-use links::{Link, Seconds};
+use links::{Seconds, Transport};
 use worker::{Flag, Site, Taker};
 
 /// Whatever rounds a worker has lived, it did one thing after the other: it looked at its clock, it
@@ -15,7 +15,7 @@ use worker::{Flag, Site, Taker};
 /// was for a datagram that had just been heard, and was followed by that one's turn. So it is of
 /// any link, any clock, any flag and whatever takes the events.
 #[tactic(auto, using(crate::proofs::InOrder::in_order))]
-pub fn lives_are_deeds_in_order<L: Site, B: Taker<L>, K: Link, S: Seconds, F: Flag>()
+pub fn lives_are_deeds_in_order<L: Site, B: Taker<L>, K: Transport, S: Seconds, F: Flag>()
     ensures { (number : ℕ) → LivesAreDeedsInOrder
         (senses_of K.gives K.hears S.shows B.offers B.took B.refuses number) F.reads }
 {}

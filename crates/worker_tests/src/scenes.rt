@@ -7,7 +7,7 @@ use crate::failing_links::serve;
 use crate::operated::operate;
 use crate::samples::{destination, first};
 use crate::side_by_side::{Holds, hold, tick};
-use crate::stage::{Stage, Step};
+use crate::stage::{Stage, StageStep};
 use crate::times::{follow, try_again};
 use crate::watching::watch;
 use hooks::{HookError, Loader};
@@ -25,7 +25,7 @@ use worker::{Book, Core, Hub, Port, Setup, Site, Taker, open_hub};
 #[derive(Clone, Copy)]
 pub enum Scene<'a> {
     /// One step after the other.
-    Steps(&'a [Step]),
+    Steps(&'a [StageStep]),
     /// The worker at interface 1 runs over a link whose call of this number fails.
     FailingLink(usize),
     /// Port 1 makes a Tick's turn at each moment below this.

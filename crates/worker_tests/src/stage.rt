@@ -49,7 +49,7 @@ pub struct Seen {
 }
 
 /// A moment, what is done at it, and what is seen after it.
-pub type Step = (u64, Deed, Seen);
+pub type StageStep = (u64, Deed, Seen);
 
 /// The ports 0, 1 and 2 of a router, and the loader of their programs.
 #[derive(Drop)]
@@ -268,7 +268,7 @@ impl<L: Site, Q: Wait + Drop> Stage<L, Q> {
         rt: &R,
         alloc: Global,
         hub: &Hub<L, B>,
-        step: &Step,
+        step: &StageStep,
     ) -> Result<Seen, Fail> {
         let (moment, deed, wanted) = *step;
         let mut answer = self.perform(rt, alloc, hub, moment, deed)?;
@@ -284,7 +284,7 @@ impl<L: Site, Q: Wait + Drop> Stage<L, Q> {
         rt: &R,
         alloc: Global,
         hub: &Hub<L, B>,
-        steps: &[Step],
+        steps: &[StageStep],
     ) -> Result<(), Fail> {
         for (number, step) in steps.iter().enumerate() {
             let seen = self.seen_after(rt, alloc, hub, step)?;

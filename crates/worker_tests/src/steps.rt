@@ -3,10 +3,10 @@
 use crate::samples::{COUNTING, VETOING};
 use crate::scenes::{End, Scene, ends};
 use crate::side_by_side::Holds;
-use crate::stage::{Deed, Seen, Step};
+use crate::stage::{Deed, Seen, StageStep};
 use events::CoreError;
 use isa::Hook;
-use packet::Fault;
+use packet::PacketFault;
 use std::test::Fail;
 use worker::{BookError, TurnError};
 
@@ -31,7 +31,7 @@ const HEARD: Seen = Seen {
 
 const WITHOUT_ROWS: Seen = Seen { rows: 0, ..STARTED };
 
-const FOLLOWED: &[Step] = &[
+const FOLLOWED: &[StageStep] = &[
     (1, Deed::Tick, FIRST),
     (2, Deed::Tick, STARTED),
     (2, Deed::Attach(VETOING), STARTED),
@@ -42,7 +42,7 @@ const FOLLOWED: &[Step] = &[
 ];
 
 // What was asked before the programs were changed isn't taken; the next turn tries again.
-const CHANGED: &[Step] = &[
+const CHANGED: &[StageStep] = &[
     (1, Deed::TickAtChange, WITHOUT_ROWS),
     (2, Deed::Tick, FIRST),
     (3, Deed::TickAtChange, STARTED),
@@ -64,7 +64,7 @@ const FIRST_IS_DOWN: Seen = Seen {
     ..STARTED
 };
 
-const BROUGHT: &[Step] = &[
+const BROUGHT: &[StageStep] = &[
     (5, Deed::Hear(1, 0), ONE_HEARD),
     (5, Deed::Hear(2, 0), HEARD),
     (6, Deed::Add, ANNOUNCED),
@@ -85,11 +85,11 @@ const NO_INTERFACE: Seen = Seen {
 
 // A datagram of more than 8,192 bytes, or with a byte behind it.
 const WRONG_LENGTH: Seen = Seen {
-    answer: Err(TurnError::Book(BookError::Core(CoreError::BadPacket(Fault::Length)))),
+    answer: Err(TurnError::Book(BookError::Core(CoreError::BadPacket(PacketFault::Length)))),
     ..STARTED
 };
 
-const REFUSED: &[Step] = &[
+const REFUSED: &[StageStep] = &[
     (5, Deed::Tick, FIRST),
     (4, Deed::Tick, TOO_EARLY),
     (4, Deed::Hear(1, 0), TOO_EARLY),
@@ -116,7 +116,7 @@ const REFUSED_AND_COUNTED: Seen = Seen {
 
 // The program adds 3 at counter 5 for each datagram of interface 1, a refused one too, and for
 // nothing else: those of interface 2 count elsewhere.
-const COUNTED: &[Step] = &[
+const COUNTED: &[StageStep] = &[
     (5, Deed::Hear(1, 0), ONE_HEARD),
     (5, Deed::Hear(2, 0), HEARD),
     (5, Deed::Attach(COUNTING), HEARD),

@@ -7,7 +7,7 @@ ghost use Rattle.worker.specs.Opening.{IsSetUpFor};
 use crate::samples::{destination, first};
 use crate::scenes::set_up;
 use crate::side_by_side::number_of;
-use hooks::{Answer, Asker, Loader, Notice, PriceAnswer, TagAnswer, VetoAnswer};
+use hooks::{Asker, HookAnswer, Loader, Notice, PriceAnswer, TagAnswer, VetoAnswer};
 use maps::{Seat, Shared};
 use std::alloc::{AllocError, Global};
 use std::marker::Brand;
@@ -17,8 +17,8 @@ use std::sync::ledger::Share;
 use std::test::Fail;
 use words::{External, ExternalType, Prefix, Route, RouterId, Second, Sequence, TableRow};
 use worker::{
-    Book, BookError, Core, Event, Hub, Offered, Open, Port, Setup, Site, State, Taken, Taker, Work,
-    open_hub, turn,
+    Book, BookError, Core, Event, Hub, NeighborState, Offered, Open, Port, Setup, Site, Taken,
+    Taker, Work, open_hub, turn,
 };
 
 // A book that is refused memory for its table and its candidates.
@@ -71,7 +71,7 @@ impl<L: Site> Taker<L> for Tableless<L> {
         self.book.wants(mine, prefix)
     }
 
-    fn neighbor(&self, interface: u16) -> Option<(RouterId, State)> {
+    fn neighbor(&self, interface: u16) -> Option<(RouterId, NeighborState)> {
         self.book.neighbor(interface)
     }
 
@@ -82,7 +82,7 @@ impl<L: Site> Taker<L> for Tableless<L> {
         packet: &[u8],
         shared: &Shared,
         seat: &mut Seat,
-    ) -> Option<Answer> {
+    ) -> Option<HookAnswer> {
         asker.count(interface, moment, packet, shared, seat)
     }
 

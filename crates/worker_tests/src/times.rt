@@ -6,9 +6,9 @@ use std::sync::Wait;
 use std::sync::atomic::AtomicBool;
 use worker::{Hub, Open, Port, Signal, Site, Taker, Work, run, tried};
 
-/// After a Tick at moment 6, what a turn is answered that tells that an interface went down, or of a
-/// Tick if it is none; 9 where the clock then shows another moment than the next. The clock shows the
-/// moments, at the first of which it is tried the first time.
+/// After a Tick at moment 6, what a turn is answered that tells that an interface went down, or of
+/// a Tick if it is none; 9 where the clock then shows another moment than the next. The clock shows
+/// the moments, at the first of which it is tried the first time.
 pub fn try_again<L: Site, B: Taker<L>, R: Wait>(
     rt: &R,
     alloc: Global,

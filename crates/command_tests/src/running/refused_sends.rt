@@ -1,5 +1,5 @@
 //! A link whose socket refuses sends, as by a rule of a firewall, for some calls.
-use links::{Link, LinkFault};
+use links::{LinkFault, Transport};
 use sockets::{DatagramSocket, Sockets, Wire, came, sent};
 use std::io;
 use std::process::Abort;
@@ -61,12 +61,12 @@ impl<'a> DatagramSocket for Refusing<'a> {
 }
 
 // Whether a send at the interface is sent, or lost, as it is to be.
-fn goes<L: Link>(link: &mut L, interface: u16, bytes: &[u8], is_sent: bool) -> bool {
+fn goes<L: Transport>(link: &mut L, interface: u16, bytes: &[u8], is_sent: bool) -> bool {
     link.send(interface, bytes) == Ok(is_sent)
 }
 
 // Each refused send is lost, and one at the other interface goes out.
-fn loses_each<L: Link>(rt: &impl Abort, link: &mut L) {
+fn loses_each<L: Transport>(rt: &impl Abort, link: &mut L) {
     for number in &OF_A_SEND {
         let is_so = goes(link, 2, b"lost", false) && goes(link, 1, b"at 1", true);
         assert!(rt; is_so, "{number}");
@@ -74,7 +74,7 @@ fn loses_each<L: Link>(rt: &impl Abort, link: &mut L) {
 }
 
 // Whether the next send goes out, and none at an interface that there isn't.
-fn goes_on<L: Link>(link: &mut L) -> bool {
+fn goes_on<L: Transport>(link: &mut L) -> bool {
     goes(link, 2, b"sent", true) && goes(link, 0, b"none", false) && goes(link, 3, b"none", false)
 }
 
@@ -92,7 +92,7 @@ fn a_send_that_is_refused_is_a_lost_packet(rt: HostRuntime) {
 }
 
 // Whether the first send is a fault, and the link sends nothing more.
-fn ends<L: Link>(link: &mut L) -> bool {
+fn ends<L: Transport>(link: &mut L) -> bool {
     link.send(1, b"fault").is_err() && goes(link, 1, b"none", false)
 }
 

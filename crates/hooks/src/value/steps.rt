@@ -8,10 +8,10 @@ ghost use Rattle.hooks.specs.Operations.{leaves, Answers, IsAsked};
 ghost use Rattle.hooks.specs.Shown.{published_operations, Stands, after_operation, vacant};
 ghost use Rattle.hooks.specs.Vacant.{AreVacancies};
 
-use super::{Entry, Programs, Vacancies};
+use super::{HistoryEntry, Programs, Vacancies};
 use crate::history::Front;
 use crate::input::{default_word, hook_of};
-use crate::slot::Slot;
+use crate::slot::ProgramSlot;
 use left_right::Absorb;
 use machine::{Hook, Input};
 use maps::{Seat, Shared};
@@ -23,15 +23,15 @@ impl Programs {
         ensures { IfOk result (λ p. p ≡ vacant front) }
     {
         Ok(Programs {
-            count: Slot::empty(alloc)?,
-            tag: Slot::empty(alloc)?,
-            price: Slot::empty(alloc)?,
-            veto: Slot::empty(alloc)?,
+            count: ProgramSlot::empty(alloc)?,
+            tag: ProgramSlot::empty(alloc)?,
+            price: ProgramSlot::empty(alloc)?,
+            veto: ProgramSlot::empty(alloc)?,
             front,
         })
     }
 
-    fn slot(&self, hook: Hook) -> &Slot
+    fn slot(&self, hook: Hook) -> &ProgramSlot
         requires { Stands self.now }
         ensures { result.now ≡ leaves hook (published_operations self.now) }
     {
@@ -78,7 +78,7 @@ impl Programs {
     }
 }
 
-impl Absorb<Entry> for Programs {
+impl Absorb<HistoryEntry> for Programs {
     type State = Programs;
 
     ghost state = { λ p. p };
@@ -88,7 +88,7 @@ impl Absorb<Entry> for Programs {
     ghost never_fails = { Unit {0} };
 
     /// Allocates nothing.
-    fn absorb_first(&mut self, entry: &Entry, _other: &Programs) -> Result<(), AllocError> {
+    fn absorb_first(&mut self, entry: &HistoryEntry, _other: &Programs) -> Result<(), AllocError> {
         match entry.operation.hook() {
             Hook::Count => self.count.change(&entry.operation),
             Hook::Tag => self.tag.change(&entry.operation),

@@ -8,7 +8,7 @@ ghost use Rattle.lsdb.specs.Copies.{said_by};
 ghost use Rattle.words.specs.declared.key.Key.{Key as KeyValue};
 
 use super::{Lsdb, SameUpTo};
-use lsa::Body;
+use lsa::LsaBody;
 use std::alloc::{AllocError, Global};
 use words::{Key, Second};
 
@@ -37,7 +37,7 @@ impl Lsdb {
 
     /// The body that the copy of this key had when the database was last settled, if there was one
     /// below MaxAge at the moment. It visits the edits since then.
-    pub fn settled_body_at(&self, moment: Second, key: &Key) -> Option<&Body>
+    pub fn settled_body_at(&self, moment: Second, key: &Key) -> Option<&LsaBody>
         ensures { option_copied result ≡ said_by moment (finite.get self.now.settled key.now) }
     {
         match self.copies.settled_get(key) {

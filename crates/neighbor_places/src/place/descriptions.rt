@@ -9,7 +9,7 @@ ghost use Rattle.adjacency.specs.Exchanges.{verdict_of};
 
 use super::Place;
 use adjacency::descriptions::starts_over;
-use adjacency::{Draft, Lsdb, State, Verdict};
+use adjacency::{Draft, Lsdb, NeighborState, Verdict};
 use packet::Description;
 use std::alloc::{AllocError, Global};
 use words::{RouterId, Second};
@@ -21,15 +21,15 @@ fn is_too_large(description: &Description) -> bool
     description.mtu > 8192
 }
 
-fn is_init(state: State) -> bool
+fn is_init(state: NeighborState) -> bool
     ensures { result ≡ is_init state }
 {
     match state {
-        State::Init => true,
-        State::ExStart => false,
-        State::Exchange => false,
-        State::Loading => false,
-        State::Full => false,
+        NeighborState::Init => true,
+        NeighborState::ExStart => false,
+        NeighborState::Exchange => false,
+        NeighborState::Loading => false,
+        NeighborState::Full => false,
     }
 }
 

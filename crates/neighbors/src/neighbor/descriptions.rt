@@ -28,7 +28,7 @@ use super::Neighbor;
 use super::negotiation::remove_keys;
 use crate::connectives::either;
 use adjacency::descriptions::as_received;
-use adjacency::{Draft, ListEntry, Lsdb, State, Verdict, age_at, instance_of, newer};
+use adjacency::{Draft, ListEntry, Lsdb, NeighborState, Verdict, age_at, instance_of, newer};
 use keyed_map::KeyedMap;
 use lsa::Header;
 use packet::Description;
@@ -150,10 +150,14 @@ fn headers_of(
 }
 
 // `Full` if the request list is empty: the databases are synchronized then.
-fn done_state(nothing: bool) -> State
-    ensures { result ≡ (if nothing then State.Full else State.Loading) }
+fn done_state(nothing: bool) -> NeighborState
+    ensures { result ≡ (if nothing then NeighborState.Full else NeighborState.Loading) }
 {
-    if nothing { State::Full } else { State::Loading }
+    if nothing {
+        NeighborState::Full
+    } else {
+        NeighborState::Loading
+    }
 }
 
 impl Neighbor {

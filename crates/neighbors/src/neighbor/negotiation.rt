@@ -7,7 +7,7 @@ ghost use Rattle.adjacency.specs.Descriptions.{aged_copies, negotiated_neighbor,
 ghost use Rattle.adjacency.specs.Exchanges.{is_young, with_key};
 
 use super::Neighbor;
-use adjacency::{ListEntry, Lsdb, State};
+use adjacency::{ListEntry, Lsdb, NeighborState};
 use keyed_map::KeyedMap;
 use std::alloc::{AllocError, Global};
 use words::{Key, Second};
@@ -110,14 +110,14 @@ impl Neighbor {
     fn enter_exchange(&mut self, moment: Second, is_master: bool, sequence: u32)
         ensures { self.new ≡ record self.old {
           present = record self.old.present {
-            state = State.Exchange;
+            state = NeighborState.Exchange;
             is_master = is_master;
             sequence = sequence;
             retransmitted_at = moment;
           };
         } }
     {
-        self.standing.state = State::Exchange;
+        self.standing.state = NeighborState::Exchange;
         self.standing.is_master = is_master;
         self.standing.sequence = sequence;
         self.standing.retransmitted_at = moment;

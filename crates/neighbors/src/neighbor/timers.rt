@@ -20,7 +20,7 @@ ghost use Rattle.adjacency.specs.Timers.{retransmission_is_due, that_fit_after};
 
 use super::Neighbor;
 use crate::connectives::both;
-use adjacency::{DatabaseCopy, Draft, ListEntry, Lsdb, State};
+use adjacency::{DatabaseCopy, Draft, ListEntry, Lsdb, NeighborState};
 use keyed_map::{KeyTest, KeyedMap};
 use std::alloc::{AllocError, Global};
 use words::{Key, Second, Sequence};
@@ -48,35 +48,35 @@ fn is_over_for(moment: Second, dead: u32, exchanged: Option<Second>) -> bool
 }
 
 // From Loading to Full if the request list is empty.
-fn full_where(state: State, unrequested: bool) -> State
+fn full_where(state: NeighborState, unrequested: bool) -> NeighborState
     ensures { result ≡ full_where state unrequested }
 {
     match state {
-        State::Init => State::Init,
-        State::ExStart => State::ExStart,
-        State::Exchange => State::Exchange,
-        State::Loading => {
+        NeighborState::Init => NeighborState::Init,
+        NeighborState::ExStart => NeighborState::ExStart,
+        NeighborState::Exchange => NeighborState::Exchange,
+        NeighborState::Loading => {
             if unrequested {
-                State::Full
+                NeighborState::Full
             } else {
-                State::Loading
+                NeighborState::Loading
             }
         }
-        State::Full => State::Full,
+        NeighborState::Full => NeighborState::Full,
     }
 }
 
 // Whether the last Database Description is retransmitted in this state: in ExStart, and by the
 // master in Exchange.
-fn repeats_description(state: State, is_master: bool) -> bool
+fn repeats_description(state: NeighborState, is_master: bool) -> bool
     ensures { result ≡ repeats_description state is_master }
 {
     match state {
-        State::Init => false,
-        State::ExStart => true,
-        State::Exchange => is_master,
-        State::Loading => false,
-        State::Full => false,
+        NeighborState::Init => false,
+        NeighborState::ExStart => true,
+        NeighborState::Exchange => is_master,
+        NeighborState::Loading => false,
+        NeighborState::Full => false,
     }
 }
 

@@ -8,7 +8,7 @@ use adjacency::descriptions::{
     ExchangeTests, changes_options, expected, follows, is_duplicate, leads, negotiation,
     repetition, same_flag,
 };
-use adjacency::{Mismatch, State, Verdict};
+use adjacency::{Mismatch, NeighborState, Verdict};
 use packet::Description;
 use words::RouterId;
 
@@ -67,11 +67,11 @@ impl Neighbor {
     {
         let standing = self.standing();
         match standing.state {
-            State::Init => Verdict::Discarded,
-            State::ExStart => self.negotiating(own, description),
-            State::Exchange => self.exchanging(description),
-            State::Loading => self.exchange_over(description),
-            State::Full => self.exchange_over(description),
+            NeighborState::Init => Verdict::Discarded,
+            NeighborState::ExStart => self.negotiating(own, description),
+            NeighborState::Exchange => self.exchanging(description),
+            NeighborState::Loading => self.exchange_over(description),
+            NeighborState::Full => self.exchange_over(description),
         }
     }
 }

@@ -1,6 +1,7 @@
 //! The file: a header, and records.
 ghost use Rattle.std.specs.Prelude.{◌≡◌, ◌≤◌, ◌↔◌, length, IfErr, IfOk, IsTrue, MatchOption};
-ghost use Rattle.object_trials.specs.Captures.{AreRecords, IsCapture, IsCutAt, IsHeader, IsRecordAt};
+ghost use Rattle.object_trials.specs.Captures.{AreRecords, IsCapture, IsCutAt, IsHeader};
+ghost use Rattle.object_trials.specs.Captures.{IsRecordAt};
 ghost use Rattle.object_trials.specs.Captures.{Refuses};
 ghost use Rattle.object_trials.specs.declared.captures.number.Order.{Order};
 

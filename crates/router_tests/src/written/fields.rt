@@ -1,5 +1,5 @@
-//! What bytes and texts say, by all fields. What is encoded again, and what is refused, are rows of trials/{lsas,packets,configurations}.rows. Another program computed the
-//! checksums.
+//! What bytes and texts say, by all fields. What is encoded again, and what is refused, are rows of
+//! trials/{lsas,packets,configurations}.rows. Another program computed the checksums.
 use console::read_configuration;
 use std::alloc::Global;
 use std::process::Abort;
@@ -26,7 +26,7 @@ const TOS: &[u8] =
 const BODIES: &[(&[u8], &str)] = &[
     (
         LINKS,
-        "Router(RouterLsa { flags: 2, links: Sequence { items: [Link { link_id: 33686018, link_data: 167772417, kind: PointToPoint, metric: 10, tos: Sequence { items: [LinkTos { tos: 8, unused: 0, metric: 20 }, LinkTos { tos: 12, unused: 255, metric: 7 }] } }, Link { link_id: 167772416, link_data: 4294967040, kind: Stub, metric: 10, tos: Sequence { items: [] } }] } })",
+        "Router(RouterLsa { flags: 2, links: Sequence { items: [RouterLink { link_id: 33686018, link_data: 167772417, kind: PointToPoint, metric: 10, tos: Sequence { items: [LinkTos { tos: 8, unused: 0, metric: 20 }, LinkTos { tos: 12, unused: 255, metric: 7 }] } }, RouterLink { link_id: 167772416, link_data: 4294967040, kind: Stub, metric: 10, tos: Sequence { items: [] } }] } })",
     ),
     (
         TOS,

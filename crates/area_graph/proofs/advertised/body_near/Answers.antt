@@ -1,6 +1,6 @@
 use Rattle.std.proofs.Common.{◌≡◌, Some, length, slice_get, arith, refl, sym, ◌∙◌, ap}
 use Rattle.std.proofs.lemmas.Option.{slice_get_read}
-use Rattle.lsa.specs.declared.body.Body.{Body}
+use Rattle.lsa.specs.declared.body.LsaBody.{LsaBody}
 use Rattle.routes.specs.Said.{said_at}
 use Rattle.area_graph.proofs.Whole.{contained}
 use Rattle.area_graph.proofs.advertised.body_near.Goals as goal
@@ -16,5 +16,5 @@ returns-then-is_same_key c =
     (omega (arith, c.few_from-end.ensures, c.loop-at-test.true)) c.index-bodies-at.is in
     let says : said one.0 ≡ Some one.1 =
     ((c.requires.each one.0 one.1).0 (contained bodies at one here)).1 in
-    ap (λ (b : Body). Some b) c.body.ensures ∙ sym says
+    ap (λ (b : LsaBody). Some b) c.body.ensures ∙ sym says
     ∙ ap said (sym c.key.ensures ∙ c.is_same_key.ensures.0 c.if-is_same_key.true)

@@ -1,20 +1,22 @@
 use Rattle.std.proofs.Common.{◌≡◌, List, Some, None, sym, ◌∙◌, subst}
 use Rattle.std.proofs.lemmas.Option.{none-some, same_Some}
-use Rattle.lsa.specs.declared.body.Link.{Link}
+use Rattle.lsa.specs.declared.body.RouterLink.{RouterLink}
 use Rattle.area_graph.specs.Entries.{entry_of}
 use Rattle.area_graph.specs.Graphs.{Adds, OfEach}
-use Rattle.area_graph.specs.declared.entry.Entry.{Entry}
+use Rattle.area_graph.specs.declared.entry.AdvertisedLink.{AdvertisedLink}
 use Rattle.area_graph.proofs.Lists.{adds_one, each_all, each_more, each_none, each_skip}
 use Rattle.area_graph.proofs.entries.add_links.Goals as goal
 use Rattle.area_graph.proofs.entries.add_links.Goals.{in-Some+in_ok-push, in_default}
 
 pub loop-link-init : goal.loop-link-init
-loop-link-init c = each_none (λ (link : Link) (entry : Entry). entry_of c.args.router link
+loop-link-init c = each_none (λ (link : RouterLink) (entry : AdvertisedLink). entry_of c.args.router
+    link
     ≡ Some entry) c.as_slice-link-items.result.now c.args.entries.now.items
 
 pub loop-link-preserved : goal.loop-link-preserved
 loop-link-preserved c =
-    let Q : Link → Entry → Type 0 = λ link entry. entry_of c.args.router link ≡ Some entry in
+    let Q : RouterLink → AdvertisedLink → Type 0 =
+    λ link entry. entry_of c.args.router link ≡ Some entry in
     let items = c.as_slice-link-items.result.now in
     let i = c.loop-link.link-index in
     let link = c.link-item.result in
@@ -37,8 +39,9 @@ loop-link-preserved c =
 
 pub returns : goal.returns
 returns c =
-    let Q : Link → Entry → Type 0 = λ link entry. entry_of c.args.router link ≡ Some entry in
-    let P : List Link → Type 0 = λ links. Adds (OfEach Q links) c.args.entries.now.items
+    let Q : RouterLink → AdvertisedLink → Type 0 =
+    λ link entry. entry_of c.args.router link ≡ Some entry in
+    let P : List RouterLink → Type 0 = λ links. Adds (OfEach Q links) c.args.entries.now.items
     c.loop-link.entries.items in
     subst P c.as_slice-link-items.ensures
     (each_all Q c.as_slice-link-items.result.now c.loop-link.link-index c.args.entries.now.items

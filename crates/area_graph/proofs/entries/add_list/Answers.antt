@@ -1,18 +1,18 @@
 use Rattle.std.proofs.Common.{◌≡◌, ℕ, List, sym, ◌∙◌, subst}
 use Rattle.area_graph.specs.Entries.{attached_entry}
 use Rattle.area_graph.specs.Graphs.{Adds, OfEach}
-use Rattle.area_graph.specs.declared.entry.Entry.{Entry}
+use Rattle.area_graph.specs.declared.entry.AdvertisedLink.{AdvertisedLink}
 use Rattle.area_graph.proofs.Lists.{adds_one, each_all, each_more, each_none}
 use Rattle.area_graph.proofs.entries.add_list.Goals as goal
 
 pub loop-router-init : goal.loop-router-init
-loop-router-init c = each_none (λ (router : ℕ) (entry : Entry). entry
+loop-router-init c = each_none (λ (router : ℕ) (entry : AdvertisedLink). entry
     ≡ attached_entry c.args.id c.args.place router) c.as_slice-router-items.result.now
     c.args.entries.now.items
 
 pub loop-router-preserved : goal.loop-router-preserved
 loop-router-preserved c =
-    let Q : ℕ → Entry → Type 0 = λ router entry. entry
+    let Q : ℕ → AdvertisedLink → Type 0 = λ router entry. entry
     ≡ attached_entry c.args.id c.args.place router in
     let router = c.router-item.result in
     let old = c.loop-router.entries.items in
@@ -24,7 +24,7 @@ loop-router-preserved c =
 
 pub returns : goal.returns
 returns c =
-    let Q : ℕ → Entry → Type 0 = λ router entry. entry
+    let Q : ℕ → AdvertisedLink → Type 0 = λ router entry. entry
     ≡ attached_entry c.args.id c.args.place router in
     let P : List ℕ → Type 0 = λ routers. Adds (OfEach Q routers) c.args.entries.now.items
     c.loop-router.entries.items in

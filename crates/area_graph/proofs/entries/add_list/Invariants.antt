@@ -1,11 +1,12 @@
 use Rattle.std.proofs.Common.{◌≡◌, ℕ}
 use Rattle.area_graph.specs.Entries.{attached_entry}
 use Rattle.area_graph.specs.Graphs.{Adds}
-use Rattle.area_graph.specs.declared.entry.Entry.{Entry}
+use Rattle.area_graph.specs.declared.entry.AdvertisedLink.{AdvertisedLink}
 use Rattle.area_graph.proofs.Lists.{OfFront}
 use Rattle.area_graph.proofs.entries.add_list.Given as goal
 
 abbrev pub invariant-loop-router : goal.invariant-loop-router
 invariant-loop-router l = Adds (OfFront
-    (λ (router : ℕ) (entry : Entry). entry ≡ attached_entry l.id l.place router) l.router-items
+    (λ (router : ℕ) (entry : AdvertisedLink). entry ≡ attached_entry l.id l.place router)
+    l.router-items
     l.router-index) l.fn.entries.items l.entries.items

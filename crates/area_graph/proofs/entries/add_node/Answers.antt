@@ -1,12 +1,12 @@
 use Rattle.std.proofs.Common.{◌≡◌, ℕ, Some, sym, ◌∙◌, ap, subst}
 use Rattle.std.specs.Option.{option_copied}
-use Rattle.lsa.specs.declared.body.Link.{Link}
+use Rattle.lsa.specs.declared.body.RouterLink.{RouterLink}
 use Rattle.routes.specs.Said.{said_at}
 use Rattle.routes.specs.declared.node.Node.{Node}
 use Rattle.area_graph.specs.Entries.{TellsOf, attached_entry, entry_of}
 use Rattle.area_graph.specs.Graphs.{Adds, OfEach}
 use Rattle.area_graph.specs.Nodes.{network_lsa, router_lsa}
-use Rattle.area_graph.specs.declared.entry.Entry.{Entry}
+use Rattle.area_graph.specs.declared.entry.AdvertisedLink.{AdvertisedLink}
 use Rattle.area_graph.proofs.Steps.{on_ok}
 use Rattle.area_graph.proofs.Told.{network_tells, router_tells}
 use Rattle.area_graph.proofs.entries.add_node.Goals as goal
@@ -22,7 +22,8 @@ returns-in-Some c =
     sym c.router_lsa.ensures ∙ ap option_copied c.in-Some.is in
     let P : Node → Type 0 = λ n. Adds (TellsOf said n c.args.place) old new in
     on_ok c.add_links.result (Adds (OfEach
-    (λ (link : Link) (entry : Entry). entry_of router link ≡ Some entry) lsa.links) old new)
+    (λ (link : RouterLink) (entry : AdvertisedLink). entry_of router link ≡ Some entry) lsa.links)
+    old new)
     (Adds (TellsOf said c.args.node.now c.args.place) old new)
     (λ a. subst P (sym c.in-ARouter.is) (router_tells said c.args.place router lsa old new is a))
     c.add_links.ensures
@@ -39,7 +40,7 @@ returns-in-Some-network_lsa c =
     sym c.network_lsa.ensures ∙ ap option_copied c.in-Some-network_lsa.is in
     let P : Node → Type 0 = λ n. Adds (TellsOf said n c.args.place) old new in
     on_ok c.add_list.result (Adds (OfEach
-    (λ (router : ℕ) (entry : Entry). entry ≡ attached_entry id c.args.place router)
+    (λ (router : ℕ) (entry : AdvertisedLink). entry ≡ attached_entry id c.args.place router)
     lsa.attached) old new) (Adds (TellsOf said c.args.node.now c.args.place) old new)
     (λ a. subst P (sym c.in-ANetwork.is) (network_tells said c.args.place id by lsa old new is a))
     c.add_list.ensures

@@ -2,14 +2,14 @@ use Rattle.std.proofs.Common.{List, [], length, arith, refl, sym, subst}
 use Rattle.std.proofs.lemmas.Option.{slice_get_read}
 use Rattle.routes.specs.Said.{said_at}
 use Rattle.area_graph.specs.Graphs.{Adds, StandsAt}
-use Rattle.area_graph.specs.declared.entry.Entry.{Entry}
+use Rattle.area_graph.specs.declared.entry.AdvertisedLink.{AdvertisedLink}
 use Rattle.area_graph.proofs.Told.{FromBelow, are_entries, below_more, below_none}
 use Rattle.area_graph.proofs.entries.entries_of.Goals as goal
 
 pub loop-at-init : goal.loop-at-init
 loop-at-init c =
     let said = said_at c.args.told.now.moment c.args.told.now.db.now.present in
-    let P : List Entry → Type 0 = λ es. Adds (FromBelow said c.args.nodes.now 0) [] es in
+    let P : List AdvertisedLink → Type 0 = λ es. Adds (FromBelow said c.args.nodes.now 0) [] es in
     subst P (sym c.new-entries.ensures.items) (below_none said c.args.nodes.now [])
 
 pub loop-at-preserved : goal.loop-at-preserved

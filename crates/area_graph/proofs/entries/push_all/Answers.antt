@@ -1,17 +1,18 @@
 use Rattle.std.proofs.Common.{◌≡◌, refl, sym, subst}
 use Rattle.std.specs.List.{Contains}
 use Rattle.area_graph.specs.Graphs.{OfEach}
-use Rattle.area_graph.specs.declared.entry.Entry.{Entry}
+use Rattle.area_graph.specs.declared.entry.AdvertisedLink.{AdvertisedLink}
 use Rattle.area_graph.proofs.Lists.{adds_one, adds_same, each_all, each_more, each_none}
 use Rattle.area_graph.proofs.entries.push_all.Goals as goal
 
 pub loop-entry-init : goal.loop-entry-init
-loop-entry-init c = each_none (λ (one : Entry) (entry : Entry). entry ≡ one) c.args.own.now
+loop-entry-init c = each_none (λ (one : AdvertisedLink) (entry : AdvertisedLink). entry ≡ one)
+    c.args.own.now
     c.args.entries.now.items
 
 pub loop-entry-preserved : goal.loop-entry-preserved
 loop-entry-preserved c =
-    let Q : Entry → Entry → Type 0 = λ one entry. entry ≡ one in
+    let Q : AdvertisedLink → AdvertisedLink → Type 0 = λ one entry. entry ≡ one in
     let one = c.entry-item.result in
     let old = c.loop-entry.entries.items in
     rw c.in_ok-push.ensures.items
@@ -21,10 +22,11 @@ loop-entry-preserved c =
 
 pub returns : goal.returns
 returns c =
-    let Q : Entry → Entry → Type 0 = λ one entry. entry ≡ one in
+    let Q : AdvertisedLink → AdvertisedLink → Type 0 = λ one entry. entry ≡ one in
     adds_same (OfEach Q c.args.own.now) (λ entry. Contains c.args.own.now entry)
     c.args.entries.now.items c.loop-entry.entries.items
-    (λ x o. let P : Entry → Type 0 = λ e. Contains c.args.own.now e in subst P (sym o.2) o.1)
+    (λ x o. let P : AdvertisedLink → Type 0 = λ e. Contains c.args.own.now e in
+    subst P (sym o.2) o.1)
     (λ x among. (x, among, refl))
     (each_all Q c.args.own.now c.loop-entry.entry-index c.args.entries.now.items
     c.loop-entry.entries.items c.loop-entry-test.false c.loop-entry.invariant)

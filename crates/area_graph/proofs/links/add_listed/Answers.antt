@@ -1,5 +1,5 @@
 use Rattle.std.proofs.Common.{◌≡◌, ℕ, List, Option, None, Some, refl, subst, arith}
-use Rattle.routes.specs.declared.graph.Link.{Link}
+use Rattle.routes.specs.declared.graph.VertexLink.{VertexLink}
 use Rattle.area_graph.specs.Graphs.{Adds, OfEach}
 use Rattle.area_graph.specs.Links.{IsToListed}
 use Rattle.area_graph.specs.declared.entry.EntryKind.TheVariants.{Transit}
@@ -20,7 +20,7 @@ loop-router-preserved c =
     let nodes = c.args.area.now.nodes.now in
     let entries = c.args.area.now.entries.now in
     let router = c.router-item.result in
-    let Q : ℕ → Link → Type 0 = IsToListed nodes entries c.args.id in
+    let Q : ℕ → VertexLink → Type 0 = IsToListed nodes entries c.args.id in
     let items = c.as_slice-router-items.result.now in
     let i = c.loop-router.router-index in
     let first = c.args.links.now.items in
@@ -55,7 +55,8 @@ loop-router-preserved c =
 
 pub returns-clause-adds : goal.returns-clause-adds
 returns-clause-adds c =
-    let Q : ℕ → Link → Type 0 = IsToListed c.args.area.now.nodes.now c.args.area.now.entries.now
+    let Q : ℕ → VertexLink → Type 0 =
+    IsToListed c.args.area.now.nodes.now c.args.area.now.entries.now
     c.args.id in
     let P : List ℕ → Type 0 = λ routers. Adds (OfEach Q routers) c.args.links.now.items
     c.loop-router.links.items in

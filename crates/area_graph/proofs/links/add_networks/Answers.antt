@@ -5,13 +5,13 @@ use Rattle.std.proofs.lemmas.Grind.{common_steps}
 use Rattle.std.proofs.lemmas.Option.{slice_get_read}
 use Rattle.std.specs.declared.cmp.Ordering.TheVariants.{Less}
 use Rattle.area_graph.specs.Entries.{attached_entry, entry_cmp}
-use Rattle.area_graph.specs.declared.entry.Entry.{Entry}
+use Rattle.area_graph.specs.declared.entry.AdvertisedLink.{AdvertisedLink}
 use Rattle.area_graph.proofs.Steps.{walk_end, walk_more, walk_none, walk_stop}
 use Rattle.area_graph.proofs.links.add_networks.Goals as goal
 
 pub loop-at-init : goal.loop-at-init
 loop-at-init c =
-    let P : Entry → Type 0 = λ least. (k : ℕ) (other : Entry)
+    let P : AdvertisedLink → Type 0 = λ least. (k : ℕ) (other : AdvertisedLink)
     → slice_get c.args.entries.now k ≡ Some other → k < c.first_at_near-first.result
     → entry_cmp other least ≡ Less in
     record {
@@ -53,7 +53,8 @@ returns-then-not-is_listed-clause-adds c =
     slice_get_read entries (length entries) c.loop-at.at c.index-entries-at.result refl
     (omega arith) c.index-entries-at.is in
     let away : c.is_listed.result ≡ false = grind (arith, common_steps) in
-    let P : Entry → Type 0 = λ least. (k : ℕ) (other : Entry) → slice_get entries k ≡ Some other
+    let P : AdvertisedLink → Type 0 = λ least. (k : ℕ) (other : AdvertisedLink)
+    → slice_get entries k ≡ Some other
     → c.first_at_near-first.result ≤ k → entry_cmp other least ≡ Less → ⊥ in
     walk_stop c.args.root.now entries c.args.router c.args.lsa.now.links
     c.first_at_near-first.result c.loop-at.at c.index-entries-at.result c.args.links.now.items

@@ -1,7 +1,7 @@
 use Rattle.std.proofs.Common.{List, sym, ◌∙◌, subst}
 use Rattle.std.proofs.lemmas.Bool.{false≢true}
-use Rattle.lsa.specs.declared.body.Link.{Link as Told}
-use Rattle.routes.specs.declared.graph.Link.{Link}
+use Rattle.lsa.specs.declared.body.RouterLink.{RouterLink as Told}
+use Rattle.routes.specs.declared.graph.VertexLink.{VertexLink}
 use Rattle.area_graph.specs.Graphs.{Adds, OfEach}
 use Rattle.area_graph.specs.Links.{IsOwnTo, IsOwnTransit}
 use Rattle.area_graph.proofs.Lists.{adds_same, each_all, each_more, each_none, each_skip}
@@ -18,7 +18,7 @@ loop-told-init c = record {
 
 pub loop-told-preserved : goal.loop-told-preserved
 loop-told-preserved c =
-    let Q : Told → Link → Type 0 = IsOwnTransit c.args.root.now c.args.id c.args.to in
+    let Q : Told → VertexLink → Type 0 = IsOwnTransit c.args.root.now c.args.id c.args.to in
     let items = c.as_slice-told-items.result.now in
     let i = c.loop-told.told-index in
     let told = c.told-item.result in
@@ -55,7 +55,7 @@ loop-told-preserved c =
 
 pub returns-clause-adds : goal.returns-clause-adds
 returns-clause-adds c =
-    let Q : Told → Link → Type 0 = IsOwnTransit c.args.root.now c.args.id c.args.to in
+    let Q : Told → VertexLink → Type 0 = IsOwnTransit c.args.root.now c.args.id c.args.to in
     let P : List Told → Type 0 = λ told_links. Adds (OfEach Q told_links) c.args.links.now.items
     c.loop-told.links.items in
     subst P c.as_slice-told-items.ensures

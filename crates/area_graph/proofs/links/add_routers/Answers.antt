@@ -1,7 +1,7 @@
 use Rattle.std.proofs.Common.{List, sym, ◌∙◌, subst}
 use Rattle.std.proofs.lemmas.Bool.{false≢true}
-use Rattle.lsa.specs.declared.body.Link.{Link as Told}
-use Rattle.routes.specs.declared.graph.Link.{Link}
+use Rattle.lsa.specs.declared.body.RouterLink.{RouterLink as Told}
+use Rattle.routes.specs.declared.graph.VertexLink.{VertexLink}
 use Rattle.area_graph.specs.Graphs.{Adds, OfEach}
 use Rattle.area_graph.specs.Links.{IsToRouter}
 use Rattle.area_graph.proofs.Lists.{each_all, each_more, each_none, each_skip}
@@ -18,7 +18,7 @@ loop-told-init c = record {
 
 pub loop-told-preserved : goal.loop-told-preserved
 loop-told-preserved c =
-    let Q : Told → Link → Type 0 = IsToRouter c.args.root.now c.args.area.now.nodes.now
+    let Q : Told → VertexLink → Type 0 = IsToRouter c.args.root.now c.args.area.now.nodes.now
     c.args.area.now.entries.now c.args.router in
     let items = c.as_slice-told-items.result.now in
     let i = c.loop-told.told-index in
@@ -46,7 +46,7 @@ loop-told-preserved c =
 
 pub returns-clause-adds : goal.returns-clause-adds
 returns-clause-adds c =
-    let Q : Told → Link → Type 0 = IsToRouter c.args.root.now c.args.area.now.nodes.now
+    let Q : Told → VertexLink → Type 0 = IsToRouter c.args.root.now c.args.area.now.nodes.now
     c.args.area.now.entries.now c.args.router in
     let P : List Told → Type 0 = λ told_links. Adds (OfEach Q told_links) c.args.links.now.items
     c.loop-told.links.items in

@@ -1,7 +1,7 @@
 use Rattle.std.proofs.Common.{◌≡◌, List, Some, None, sym, ◌∙◌, ap, subst}
 use Rattle.std.specs.Option.{option_copied}
 use Rattle.routes.specs.Said.{said_at}
-use Rattle.routes.specs.declared.graph.Link.{Link}
+use Rattle.routes.specs.declared.graph.VertexLink.{VertexLink}
 use Rattle.routes.specs.declared.node.Node.{Node}
 use Rattle.area_graph.specs.Graphs.{Adds, AreLinksFrom, OfEach}
 use Rattle.area_graph.specs.Links.{IsToListed, IsToRouter}
@@ -29,7 +29,7 @@ returns-clause-links c =
           let new = w.add_networks.new.links.items in
           let lsa = w.in-Some.lsa.now in
           let R : Node → Type 0 = λ n. AreLinksFrom said root nodes n new in
-          let B : List Link → Type 0 = λ old. Adds
+          let B : List VertexLink → Type 0 = λ old. Adds
           (OfEach (IsToRouter root nodes entries router) lsa.links) old middle in
           let is : router_lsa said router ≡ Some lsa =
           sym w.router_lsa.ensures ∙ ap option_copied w.in-Some.is in
@@ -51,7 +51,7 @@ returns-clause-links c =
           let new = w.add_listed.new.links.items in
           let lsa = w.in-Some-network_lsa.lsa.now in
           let R : Node → Type 0 = λ n. AreLinksFrom said root nodes n new in
-          let B : List Link → Type 0 = λ old. Adds
+          let B : List VertexLink → Type 0 = λ old. Adds
           (OfEach (IsToListed nodes entries id) lsa.attached) old new in
           let is : network_lsa said id by ≡ Some lsa =
           sym w.network_lsa.ensures ∙ ap option_copied w.in-Some-network_lsa.is in

@@ -2,7 +2,7 @@ use Rattle.std.proofs.Common.{◌≡◌, rules}
 use Rattle.std.proofs.lemmas.Fn.{always_returns_same}
 use Rattle.std.specs.Ordering.{is_lt}
 use Rattle.area_graph.specs.Entries.{entry_cmp}
-use Rattle.area_graph.specs.declared.entry.Entry.{Entry}
+use Rattle.area_graph.specs.declared.entry.AdvertisedLink.{AdvertisedLink}
 use Rattle.area_graph.proofs.Order.{IsPoint, before, beyond, parted}
 use Rattle.area_graph.proofs.lookups.first_at.Goals as goal
 
@@ -12,7 +12,7 @@ returns c =
     let entry = c.args.entry.now in
     let at = c.partition_point.result in
     let point : IsPoint entries entry at =
-    c.partition_point.ensures.partitioned (λ (y : Entry). is_lt (entry_cmp y entry))
+    c.partition_point.ensures.partitioned (λ (y : AdvertisedLink). is_lt (entry_cmp y entry))
     (always_returns_same _ (λ a r. r ≡ is_lt (entry_cmp a.0.now entry)) _
     (λ a r q k. search rules)) (parted entries entry c.requires) in
     record {

@@ -1,13 +1,13 @@
 use Rattle.std.proofs.Common.{◌≡◌, Some, length, slice_get, arith, refl, sym, ◌∙◌}
 use Rattle.std.proofs.lemmas.Bool.{false≢true}
 use Rattle.std.proofs.lemmas.Option.{slice_get_read}
-use Rattle.area_graph.specs.declared.entry.Entry.{Entry}
+use Rattle.area_graph.specs.declared.entry.AdvertisedLink.{AdvertisedLink}
 use Rattle.area_graph.proofs.Order.{least_beside, none_beside, none_left}
 use Rattle.area_graph.proofs.lookups.least_metric.Goals as goal
 
 pub returns-then-at-entries : goal.returns-then-at-entries
 returns-then-at-entries c =
-    let low : Entry = record {
+    let low : AdvertisedLink = record {
       router = c.args.router;
       kind = c.args.kind;
       id = c.args.id;
@@ -19,7 +19,7 @@ returns-then-at-entries c =
 
 pub returns-then-is_beside : goal.returns-then-is_beside
 returns-then-is_beside c =
-    let low : Entry = record {
+    let low : AdvertisedLink = record {
       router = c.args.router;
       kind = c.args.kind;
       id = c.args.id;
@@ -38,7 +38,7 @@ returns-then-is_beside c =
 
 pub returns-else-is_beside : goal.returns-else-is_beside
 returns-else-is_beside c =
-    let low : Entry = record {
+    let low : AdvertisedLink = record {
       router = c.args.router;
       kind = c.args.kind;
       id = c.args.id;

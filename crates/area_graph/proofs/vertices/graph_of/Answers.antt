@@ -1,24 +1,24 @@
 use Rattle.std.proofs.Common.{List, Some, sym, subst}
-use Rattle.lsa.specs.declared.body.Body.{Body}
+use Rattle.lsa.specs.declared.body.LsaBody.{LsaBody}
 use Rattle.lsdb.specs.Bodies.{AreBodies}
 use Rattle.words.specs.declared.key.Key.{Key}
 use Rattle.routes.specs.Said.{said_at}
 use Rattle.area_graph.specs.Entries.{AreEntries}
-use Rattle.area_graph.specs.declared.entry.Entry.{Entry}
+use Rattle.area_graph.specs.declared.entry.AdvertisedLink.{AdvertisedLink}
 use Rattle.area_graph.proofs.Whole.{is_graph, is_graph_of}
 use Rattle.area_graph.proofs.vertices.graph_of.Goals as goal
 
 pub entries_of-requires-clause-bodies : goal.entries_of-requires-clause-bodies
 entries_of-requires-clause-bodies c =
-    let P : List (Key × Body) → Type 0 =
+    let P : List (Key × LsaBody) → Type 0 =
     λ es. AreBodies (Some 2) (said_at c.args.moment c.args.db.now.present) es in
     subst P (sym c.deref.ensures.value) c.in_ok-bodies.ensures.bodies
 
 pub vertices_of-requires-clause-area : goal.vertices_of-requires-clause-area
 vertices_of-requires-clause-area c =
     let said = said_at c.args.moment c.args.db.now.present in
-    let P : List (Key × Body) → Type 0 = λ es. AreBodies (Some 2) said es in
-    let Q : List Entry → Type 0 = λ es. AreEntries said c.args.nodes.now es in
+    let P : List (Key × LsaBody) → Type 0 = λ es. AreBodies (Some 2) said es in
+    let Q : List AdvertisedLink → Type 0 = λ es. AreEntries said c.args.nodes.now es in
     record {
       are_bodies = subst P (sym c.deref.ensures.value) c.in_ok-bodies.ensures.bodies;
       are_nodes = c.requires.nodes;

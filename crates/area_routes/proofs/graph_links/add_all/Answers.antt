@@ -1,6 +1,6 @@
 use Rattle.std.proofs.Common.{List, subst}
-use Rattle.lsa.specs.declared.body.Link.{Link as Told}
-use Rattle.routes.specs.declared.graph.Link.{Link}
+use Rattle.lsa.specs.declared.body.RouterLink.{RouterLink as Told}
+use Rattle.routes.specs.declared.graph.VertexLink.{VertexLink}
 use Rattle.area_graph.specs.Graphs.{Adds, OfEach}
 use Rattle.area_graph.proofs.Lists.{each_all, each_more, each_none}
 use Rattle.area_routes.specs.GraphLinks.{IsToEnd}
@@ -9,7 +9,7 @@ use Rattle.area_routes.proofs.graph_links.add_all.Goals as goal
 
 pub loop-told-init : goal.loop-told-init
 loop-told-init c =
-    let Q : Told → Link → Type 0 = IsToEnd
+    let Q : Told → VertexLink → Type 0 = IsToEnd
     (said_at c.args.at.now.moment c.args.at.now.db.now.present) c.args.root.now
     c.args.at.now.nodes.now c.args.router in
     record {
@@ -19,7 +19,7 @@ loop-told-init c =
 
 pub loop-told-preserved : goal.loop-told-preserved
 loop-told-preserved c =
-    let Q : Told → Link → Type 0 = IsToEnd
+    let Q : Told → VertexLink → Type 0 = IsToEnd
     (said_at c.args.at.now.moment c.args.at.now.db.now.present) c.args.root.now
     c.args.at.now.nodes.now c.args.router in
     record {
@@ -32,7 +32,7 @@ loop-told-preserved c =
 
 pub returns-clause-adds : goal.returns-clause-adds
 returns-clause-adds c =
-    let Q : Told → Link → Type 0 = IsToEnd
+    let Q : Told → VertexLink → Type 0 = IsToEnd
     (said_at c.args.at.now.moment c.args.at.now.db.now.present) c.args.root.now
     c.args.at.now.nodes.now c.args.router in
     let P : List Told → Type 0 = λ told_links. Adds (OfEach Q told_links) c.args.links.now.items

@@ -1,6 +1,6 @@
 use Rattle.std.proofs.Common.{◌≡◌, ℕ, List, Option, None, Some, subst, arith}
 use Rattle.lsa.specs.declared.body.LinkKind.TheVariants.{Transit}
-use Rattle.routes.specs.declared.graph.Link.{Link}
+use Rattle.routes.specs.declared.graph.VertexLink.{VertexLink}
 use Rattle.area_graph.specs.Graphs.{Adds, OfEach}
 use Rattle.area_graph.proofs.Lists.{each_all, each_more, each_none}
 use Rattle.area_graph.proofs.Steps.{pushed_fits}
@@ -25,7 +25,7 @@ loop-router-preserved c =
     let nodes = c.args.at.now.nodes.now in
     let router = c.router-item.result in
     let id = c.args.id in
-    let Q : ℕ → Link → Type 0 = IsAttached said nodes id in
+    let Q : ℕ → VertexLink → Type 0 = IsAttached said nodes id in
     let items = c.as_slice-router-items.result.now in
     let i = c.loop-router.router-index in
     let first = c.args.links.now.items in
@@ -61,7 +61,7 @@ loop-router-preserved c =
 pub returns-clause-adds : goal.returns-clause-adds
 returns-clause-adds c =
     let said = said_at c.args.at.now.moment c.args.at.now.db.now.present in
-    let Q : ℕ → Link → Type 0 = IsAttached said c.args.at.now.nodes.now c.args.id in
+    let Q : ℕ → VertexLink → Type 0 = IsAttached said c.args.at.now.nodes.now c.args.id in
     let P : List ℕ → Type 0 = λ routers. Adds (OfEach Q routers) c.args.links.now.items
     c.loop-router.links.items in
     subst P c.as_slice-router-items.ensures

@@ -2,20 +2,22 @@ use Rattle.std.proofs.Common.{List, Option, subst, sym}
 use Rattle.std.specs.Prelude.{IfSome}
 use Rattle.std.specs.Global.{Vec}
 use Rattle.candidates.specs.Externals.{AreExternals}
-use Rattle.candidates.specs.declared.externals.External.{External}
+use Rattle.candidates.specs.declared.externals.ExternalAdvertisement.{ExternalAdvertisement}
 use Rattle.routes.specs.Said.{said_at}
 use Rattle.area_routes.proofs.kept.calculated.Goals as goal
 
 pub calculate_by-requires-clause-externals : goal.calculate_by-requires-clause-externals
 calculate_by-requires-clause-externals c =
     let said = said_at c.args.moment c.args.area.now.present.database in
-    subst (λ (xs : List External). AreExternals said xs) (sym c.deref.ensures.value)
-    (subst (λ (o : Option (Vec External)). IfSome o (λ told. AreExternals said told.items))
+    subst (λ (xs : List ExternalAdvertisement). AreExternals said xs) (sym c.deref.ensures.value)
+    (subst (λ (o : Option (Vec ExternalAdvertisement)). IfSome o
+    (λ told. AreExternals said told.items))
     c.in-Some.is c.requires.externals)
 
 pub calculate_by-requires-in-None-clause-externals :
     goal.calculate_by-requires-in-None-clause-externals
 calculate_by-requires-in-None-clause-externals c =
     let said = said_at c.args.moment c.args.area.now.present.database in
-    subst (λ (xs : List External). AreExternals said xs) (sym c.deref-in-None.ensures.value)
+    subst (λ (xs : List ExternalAdvertisement). AreExternals said xs)
+    (sym c.deref-in-None.ensures.value)
     c.in_ok-told-in-None.ensures

@@ -1,6 +1,6 @@
 use Rattle.std.proofs.Common.{◌≡◌, ◌∙◌, ℕ, ◌+◌, ◌<◌, ◌++◌, [], List, length, drop, subst, sym, ap}
 use Rattle.std.proofs.Common.{get_or, string_bytes, arith}
-use Rattle.object.specs.declared.kind.Kind.{Kind}
+use Rattle.object.specs.declared.kind.StatedKind.{StatedKind}
 use Rattle.asm_lines.specs.declared.line.AssemblyLine.TheVariants as lines
 use Rattle.asm_lines.specs.Written.{line_text}
 use Rattle.asm.specs.Listed.{Listed, AddsLine, AreStated, gives_number}
@@ -17,7 +17,7 @@ loop-index-preserved c =
     let at : ℕ = c.loop-index.index in
     let within : at < 10 = omega (arith, c.loop-index-test.true) in
     let inside : at < length ks = omega (arith, within, c.requires) in
-    let k : Kind = c.index-kinds-from.result in
+    let k : StatedKind = c.index-kinds-from.result in
     let here : get_or ks at k ≡ k = ap (λ n. get_or ks n k) (sym c.from.ensures)
     ∙ sym c.index-kinds-from.is in
     let old = string_bytes c.loop-index.text in
@@ -38,7 +38,7 @@ loop-index-preserved c =
             (λ t. Listed (string_bytes t) (stating f slot rank (kinds_up_to ks (at + 1)))
             (AreStated ks (at + 1))) (sym w.text-is)
             (empty_step old f slot rank ks at c.requires within
-            (ap (λ (d : Kind). get_or ks at d) (sym w.in_default-content_of.ensures.again)
+            (ap (λ (d : StatedKind). get_or ks at d) (sym w.in_default-content_of.ensures.again)
             ∙ here ∙ w.in_default-content_of.ensures.again)
             (c.loop-index.invariant.says f slot rank h))
       ];

@@ -1,5 +1,5 @@
 use Rattle.std.proofs.Common.{◌≡◌, ◌++◌, ℕ, List, length, map, drop, ◌≤◌, ◌-◌, string_bytes}
-use Rattle.object.specs.declared.kind.Kind.{Kind}
+use Rattle.object.specs.declared.kind.StatedKind.{StatedKind}
 use Rattle.object.specs.declared.rank.Rank.{Rank}
 use Rattle.object.specs.Sets.{no_bytes}
 use Rattle.asm.specs.Listed.{Listed, Any, Front}
@@ -12,7 +12,7 @@ abbrev pub invariant-loop-start : goal.invariant-loop-start
 invariant-loop-start l = record {
   within : l.start ≤ 512;
   long : 1 ≤ l.start → length l.stack ≡ 512;
-  listed : (f : Front) (slot : ℕ) (rank : Rank) (kinds : List Kind)
+  listed : (f : Front) (slot : ℕ) (rank : Rank) (kinds : List StatedKind)
       → Listed (string_bytes l.fn.text) (filling f slot rank kinds no_bytes) Any
       → Listed (string_bytes l.text) (filling f slot rank kinds (bytes_up_to l.stack l.start))
       Any;

@@ -1,5 +1,5 @@
 use Rattle.words.specs.declared.key.Key.{Key}
-use Rattle.lsa.specs.declared.body.Body.{Body}
+use Rattle.lsa.specs.declared.body.LsaBody.{LsaBody}
 use Rattle.candidates.specs.Sources.{OfNetwork, OfSummary}
 use Rattle.candidates.proofs.Gathered.{adds_just, cheap_more}
 use Rattle.candidates.proofs.Made.{of_inner}
@@ -7,7 +7,7 @@ use Rattle.candidates.proofs.area.push_inner.Goals as goal
 
 pub returns : goal.returns
 returns g c =
-    let one : Key × Body = (c.args.key.now, c.args.body.now) in
+    let one : Key × LsaBody = (c.args.key.now, c.args.body.now) in
     record {
       adds = of_inner c.args.root.now (g.W.Ways.ways c.args.ways.now) c.args.routers.now one
           c.args.offers.now.items c.push_router.new.offers.items c.push_offer.new.offers.items

@@ -13,7 +13,7 @@ use Rattle.candidates.proofs.All.{are_candidates}
 use Rattle.routes.proofs.OneMore.{same_offers}
 use Rattle.routes.specs.Candidates.{AreCandidates}
 use Rattle.routes.specs.Routes.{AreRoutesAmong}
-use Rattle.candidates.specs.declared.externals.External.{External}
+use Rattle.candidates.specs.declared.externals.ExternalAdvertisement.{ExternalAdvertisement}
 use Rattle.candidates.proofs.calculation.with_externals.Goals as goal
 
 pub push_externals-requires-clause-routers : goal.push_externals-requires-clause-routers
@@ -72,7 +72,8 @@ returns-then-is_empty c said ways are inner tell =
     let it = c.args.inner.now in
     let offers = it.offers.items in
     let networks = it.networks.items in
-    let nothing : List External → Type 0 = λ es. (e : External) → Contains es e → ⊥ in
+    let nothing : List ExternalAdvertisement → Type 0 = λ es. (e : ExternalAdvertisement)
+    → Contains es e → ⊥ in
     let none : nothing c.args.externals.now =
     λ e t. omega (
       arith,

@@ -1,7 +1,7 @@
 use Rattle.std.proofs.Common.{◌≡◌, arith, subst}
 use Rattle.std.specs.declared.cmp.Ordering.TheVariants.{Less}
 use Rattle.words.specs.declared.key.Key.{Key}
-use Rattle.lsa.specs.declared.body.Body.{Body}
+use Rattle.lsa.specs.declared.body.LsaBody.{LsaBody}
 use Rattle.lsdb.specs.Keys.{key_cmp}
 use Rattle.candidates.specs.Borders.{TellsFlags}
 use Rattle.candidates.specs.Gathering.{IsJust}
@@ -20,13 +20,13 @@ loop-one-preserved g c =
     let same : (c.key.result.now, c.body.result.now) ≡ one =
     λ i. (c.key.ensures i, c.body.ensures i) in
     let its : IsJust (Q one) c.flagged_at.result =
-    subst (λ (x : Key × Body). IsJust (Q x) c.flagged_at.result) same c.flagged_at.ensures in
+    subst (λ (x : Key × LsaBody). IsJust (Q x) c.flagged_at.result) same c.flagged_at.ensures in
     elim c.match-flagged_at.branch [
       | in-Some+in_ok-push w ↦
           let just = subst (λ o. IsJust (Q one) o) w.in-Some.is its in
           rw (w.routers-is, w.in_ok-push.ensures.items)
           (told_more Q bodies i one c.one-item.is c.loop-one-test.true c.loop-one.routers.items
-          c.loop-one.invariant (λ (a : Key × Body) (b : Key × Body). key_cmp a.0 b.0 ≡ Less)
+          c.loop-one.invariant (λ (a : Key × LsaBody) (b : Key × LsaBody). key_cmp a.0 b.0 ≡ Less)
           (routers_ascend ways) c.requires.order w.in-Some.router just)
       | in_default w ↦
           let none = subst (λ o. IsJust (Q one) o) w.in_default.is its in

@@ -1,6 +1,6 @@
 use Rattle.std.proofs.Common.{◌≡◌, arith, subst}
 use Rattle.words.specs.declared.key.Key.{Key}
-use Rattle.lsa.specs.declared.body.Body.{Body}
+use Rattle.lsa.specs.declared.body.LsaBody.{LsaBody}
 use Rattle.candidates.specs.Externals.{TellsExternal}
 use Rattle.candidates.specs.Gathering.{IsJust}
 use Rattle.candidates.proofs.Told.{all_told, told_more, told_same}
@@ -15,7 +15,7 @@ loop-one-preserved c =
     let same : (c.key.result.now, c.body.result.now) ≡ one =
     λ i. (c.key.ensures i, c.body.ensures i) in
     let its : IsJust (TellsExternal one) c.told_external.result =
-    subst (λ (x : Key × Body). IsJust (TellsExternal x) c.told_external.result) same
+    subst (λ (x : Key × LsaBody). IsJust (TellsExternal x) c.told_external.result) same
     c.told_external.ensures in
     elim c.match-told_external.branch [
       | in-Some+in_ok-push w ↦

@@ -3,7 +3,7 @@ use Rattle.std.specs.List.{Contains}
 use Rattle.std.specs.Prelude.{◌↔◌, Option, option_copied}
 use Rattle.words.specs.declared.key.Key.{Key}
 use Rattle.words.specs.declared.route.Route.{Route}
-use Rattle.lsa.specs.declared.body.Body.{Body}
+use Rattle.lsa.specs.declared.body.LsaBody.{LsaBody}
 use Rattle.routes.proofs.Lists.{of_empty}
 use Rattle.routes.specs.Links.{router_key}
 use Rattle.routes.specs.Routes.{AreRoutesAmong}
@@ -60,7 +60,7 @@ returns-clause-inner g c =
     let ways = g.W.Ways.ways c.args.ways.now in
     let said : Said = said_at c.args.moment c.args.db.now.present in
     let own_key : Key = router_key root.router in
-    let told : Option Body = option_copied c.body_at-body.result in
+    let told : Option LsaBody = option_copied c.body_at-body.result in
     let own : told ≡ said own_key = c.body_at-body.ensures ∙ ap said c.own_key-key.ensures in
     let just : IsJust (OfOne (TellsFlags ways) own_key told) c.flagged_by.result =
     subst (λ (k : Key). IsJust (OfOne (TellsFlags ways) k told) c.flagged_by.result)

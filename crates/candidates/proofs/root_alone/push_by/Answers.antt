@@ -1,6 +1,6 @@
 use Rattle.std.proofs.Common.{◌≡◌, Some, ap}
 use Rattle.std.specs.Prelude.{Option, option_copied}
-use Rattle.lsa.specs.declared.body.Body.{Body}
+use Rattle.lsa.specs.declared.body.LsaBody.{LsaBody}
 use Rattle.std.proofs.lemmas.Result.{on_ok_weaker}
 use Rattle.candidates.specs.Sources.{IsInner}
 use Rattle.candidates.proofs.Gathered.{adds_same}
@@ -11,8 +11,8 @@ pub returns-in-Some-clause-adds : goal.returns-in-Some-clause-adds
 returns-in-Some-clause-adds g c =
     let Q = IsInner c.args.root.now (g.W.Ways.ways c.args.ways.now) c.args.routers.now in
     let key = c.args.key.now in
-    let says : Body = c.in-Some.body.now in
-    let told : Option Body = option_copied c.args.body in
+    let says : LsaBody = c.in-Some.body.now in
+    let told : Option LsaBody = option_copied c.args.body in
     let is : told ≡ Some says = ap option_copied c.in-Some.is in
     on_ok_weaker c.push_inner.result (λ adds. adds_same _ _ _ _ (of_it Q key says told is)
     (by_it Q key says told is) adds) c.push_inner.ensures.adds

@@ -1,7 +1,7 @@
 use Rattle.std.proofs.Common.{List, sym, subst}
 use Rattle.words.specs.declared.key.Key.{Key}
 use Rattle.words.specs.declared.route.Route.{Route}
-use Rattle.lsa.specs.declared.body.Body.{Body}
+use Rattle.lsa.specs.declared.body.LsaBody.{LsaBody}
 use Rattle.candidates.specs.Borders.{AreBelow, AreCloseBy, Ascend, AscendByRouter, HasLengths}
 use Rattle.candidates.specs.declared.flagged.Flagged.{Flagged}
 use Rattle.candidates.specs.Gathering.{IsJust}
@@ -32,7 +32,7 @@ external_offer-requires-clause-lengths c =
 pub returns-in-None : goal.returns-in-None
 returns-in-None c =
     let root = c.args.root.now in
-    let one : Key × Body = (c.args.key.now, c.args.says.now) in
+    let one : Key × LsaBody = (c.args.key.now, c.args.says.now) in
     let it = c.args.inner.now in
     let o = c.external_offer.result in
     let Q : List Flagged → List Route → List Route → Type 0 =
@@ -50,7 +50,7 @@ returns-in-None c =
 pub returns-in-Some : goal.returns-in-Some
 returns-in-Some c =
     let root = c.args.root.now in
-    let one : Key × Body = (c.args.key.now, c.args.says.now) in
+    let one : Key × LsaBody = (c.args.key.now, c.args.says.now) in
     let it = c.args.inner.now in
     let o = c.external_offer.result in
     let Q : List Flagged → List Route → List Route → Type 0 =

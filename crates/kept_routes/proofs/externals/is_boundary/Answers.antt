@@ -1,7 +1,7 @@
 use Rattle.std.proofs.Common.{◌≡◌, Some, sym, subst, ◌∙◌, ap}
 use mathlib.Core.Bool.{false≢true}
 use Rattle.std.specs.Prelude.{bit_and, is_some}
-use Rattle.lsa.specs.declared.body.Body.TheVariants.{Router}
+use Rattle.lsa.specs.declared.body.LsaBody.TheVariants.{Router}
 use Rattle.lsa.specs.declared.body.RouterLsa.{RouterLsa}
 use Rattle.routes.specs.Said.{said_at}
 use Rattle.routes.specs.declared.node.Node.TheVariants.{ARouter}

@@ -1,5 +1,5 @@
 use Rattle.std.proofs.Common.{ap, ◌∙◌}
-use Rattle.keyed_map.specs.declared.slot.Slot.TheVariants.{Holds}
+use Rattle.keyed_map.specs.declared.slot.KeySlot.TheVariants.{Holds}
 use Rattle.keyed_map.specs.Slots.{live, slots_of}
 use Rattle.keyed_map.proofs.Slots.{live_put, slots_insert}
 use Rattle.keyed_map.proofs.map.put_value.Goals as goal

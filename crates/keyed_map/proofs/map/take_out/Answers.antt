@@ -1,6 +1,6 @@
 use Rattle.std.proofs.Common.{IsSome, Some, refl, ap, sym, subst, ◌∙◌}
 use Rattle.std.specs.FinMap as map
-use Rattle.keyed_map.specs.declared.slot.Slot.TheVariants.{Gone}
+use Rattle.keyed_map.specs.declared.slot.KeySlot.TheVariants.{Gone}
 use Rattle.keyed_map.specs.Changes.{held_before}
 use Rattle.keyed_map.specs.Slots.{slots_of}
 use Rattle.keyed_map.proofs.Slots.{get-slots, same_again, slots_insert}

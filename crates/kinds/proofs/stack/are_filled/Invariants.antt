@@ -1,7 +1,7 @@
 use Rattle.std.proofs.Common.{◌≢◌, ℕ, ◌<◌, ◌≤◌, List, get_or}
 use Rattle.machine.specs.declared.state.StackByte.{StackByte}
 use Rattle.machine.specs.declared.state.StackByte.TheVariants.{Nothing}
-use Rattle.kinds.specs.declared.state.Entry.TheVariants.{Unknown}
+use Rattle.kinds.specs.declared.state.StackEntry.TheVariants.{Unknown}
 use Rattle.kinds.specs.Filled.{IsKnownFilled}
 use Rattle.kinds.specs.Meaning.{StackHolds, stack_byte}
 use Rattle.kinds.proofs.stack.are_filled.Given as goal

@@ -1,6 +1,6 @@
 use Rattle.std.proofs.Common.{◌≡◌, ◌+◌, ◌-◌, ◌*◌, take, drop, Some, refl, sym, ap, ◌∙◌, arith}
 use Rattle.std.proofs.lemmas.List.Elements.{All-get_or}
-use Rattle.object.specs.declared.kind.Kind.TheVariants.{Empty}
+use Rattle.object.specs.declared.kind.StatedKind.TheVariants.{Empty}
 use Rattle.object.specs.Statements.{IsKind}
 use Rattle.object.proofs.Parts.{kind_at, read_none, read_more, read_text, read_same}
 use Rattle.object.proofs.reading.kinds.Goals as goal

@@ -1,5 +1,5 @@
 use Rattle.std.proofs.Common.{◌≡◌, Some, refl}
-use Rattle.ranks.specs.declared.line.Line.{Line}
+use Rattle.ranks.specs.declared.line.LinearBound.{LinearBound}
 use Rattle.ranks.specs.Lines.{IsConstant, flat}
 use Rattle.segments.proofs.edge.enter.Goals as goal
 
@@ -21,7 +21,7 @@ returns-then-falls-clause-enters g c = λ start now known.
       rank = rw (← c.rank.ensures.value) (c.if-falls.ensures.holds refl start _ known.begins line);
     }
 
-some_same : (a b : Line) → Some a ≡ Some b → a ≡ b
+some_same : (a b : LinearBound) → Some a ≡ Some b → a ≡ b
 some_same a b same = cc
 
 pub returns-else-falls-clause-plain : goal.returns-else-falls-clause-plain

@@ -2,7 +2,7 @@ use Rattle.std.proofs.Common.{Option, ap, subst, sym, ◌∙◌}
 use Rattle.std.specs.Prelude.{IfSome}
 use Rattle.std.specs.Global.{Vec}
 use Rattle.candidates.specs.Externals.{AreExternals}
-use Rattle.candidates.specs.declared.externals.External.{External}
+use Rattle.candidates.specs.declared.externals.ExternalAdvertisement.{ExternalAdvertisement}
 use Rattle.area_routes.specs.Kept.{AreOffersOf, KeptRoutes, KnowsAnswered, ServesOnlyThen}
 use Rattle.area_routes.specs.Offers.{root_by}
 use Rattle.area_routes.proofs.Externals.{both_else, externals_after, same_but}
@@ -39,7 +39,8 @@ returns-clause-routes c =
       walk = offers.walk;
       candidates = offers.candidates;
       inner = offers.inner;
-      externals = subst (λ (o : Option (Vec External)). IfSome o (λ e. AreExternals new e.items))
+      externals = subst (λ (o : Option (Vec ExternalAdvertisement)). IfSome o
+          (λ e. AreExternals new e.items))
           (sym (ap (λ (k : KeptRoutes). k.externals) c.follow_graph.ensures.others)) told;
       graph = c.follow_graph.ensures.graph;
     }

@@ -6,7 +6,7 @@ use Rattle.area_routes.specs.Kept.{AreInnerBy, KeptRoutes, KnowsExternals}
 use Rattle.area_routes.specs.Offers.{root_by}
 use Rattle.kept_routes.specs.Kept.{IsWalkOf}
 use Rattle.candidates.specs.Externals.{AreExternals}
-use Rattle.candidates.specs.declared.externals.External.{External}
+use Rattle.candidates.specs.declared.externals.ExternalAdvertisement.{ExternalAdvertisement}
 use Rattle.routes.specs.Candidates.{AreCandidates}
 use Rattle.routes.specs.Said.{said_at}
 use Rattle.routes.specs.declared.root.Root.{Root}
@@ -65,6 +65,7 @@ returns-clause-externals c =
     let knew = subst (λ (k : KeptRoutes). KnowsExternals said k) (sym c.self.view_is)
     c.requires.routes.externals in
     c.kept_or.ensures said
-    (subst (λ (o : Option (Vec External)). IfSome o (λ told. AreExternals said told.items))
+    (subst (λ (o : Option (Vec ExternalAdvertisement)). IfSome o
+    (λ told. AreExternals said told.items))
     (sym c.take-kept.ensures.value) knew)
     c.in_ok-made.ensures.externals

@@ -1,6 +1,6 @@
 use Rattle.std.proofs.Common.{◌≡◌, ◌+◌, List, [], ◌∷◌, ◌++◌, Some, sym, subst, ap, ◌∙◌, rules}
 use Rattle.events.specs.Routers.{Router}
-use Rattle.book.specs.declared.entry.Entry.{Entry}
+use Rattle.book.specs.declared.entry.JournalEntry.{JournalEntry}
 use Rattle.book.specs.Bytes.{bytes_of, with_event}
 use Rattle.book.specs.Replay.{Replays, entry, start_of}
 use Rattle.book.proofs.Noted.{where_ok}
@@ -19,7 +19,8 @@ invariant_of-self-in-Ok g c =
     let grown : c.push_reserved.new.self.items ≡ journal ++ last ∷ [] =
     c.push_reserved.ensures.items ∙ ap (λ l. l ++ last ∷ []) c.reserve.ensures.items in record {
       replays =
-          (let P : List Entry → Type 0 = λ l. Replays (start_of c.hold.new.start after) l after in
+          (let P : List JournalEntry → Type 0 =
+          λ l. Replays (start_of c.hold.new.start after) l after in
           subst P (sym grown)
           (subst (λ (r : Router). Replays r (journal ++ last ∷ []) after)
           (sym (ap (λ o. start_of o after) held))

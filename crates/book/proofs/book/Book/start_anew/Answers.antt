@@ -1,5 +1,5 @@
 use Rattle.std.proofs.Common.{◌≡◌, ◌≤◌, List, [], length, refl, sym, subst, ap, rules}
-use Rattle.book.specs.declared.entry.Entry.{Entry}
+use Rattle.book.specs.declared.entry.JournalEntry.{JournalEntry}
 use Rattle.book.specs.Bytes.{bytes_of}
 use Rattle.book.specs.Replay.{Replays, start_of}
 use Rattle.book.proofs.book.Book.start_anew.Goals as goal
@@ -11,13 +11,13 @@ invariant_of-self g c =
     let emptied : c.clear.new.self.items ≡ [] = c.clear.ensures.items in
     record {
       replays =
-          (let P : List Entry → Type 0 = λ journal. Replays (start_of c.replace.new.dest now)
+          (let P : List JournalEntry → Type 0 = λ journal. Replays (start_of c.replace.new.dest now)
           journal now in
           subst P (sym emptied) ([], refl, sym (ap (λ o. start_of o now) c.replace.ensures.after)));
       leads = kept.leads;
-      weighed = (let P : List Entry → Type 0 = λ journal. 0 ≡ bytes_of journal in
+      weighed = (let P : List JournalEntry → Type 0 = λ journal. 0 ≡ bytes_of journal in
           subst P (sym emptied) refl);
-      room = (let P : List Entry → Type 0 = λ journal. length journal ≤ 65536 in
+      room = (let P : List JournalEntry → Type 0 = λ journal. length journal ≤ 65536 in
           subst P (sym emptied) (search rules));
       few = kept.few;
       counted = kept.counted;

@@ -1,7 +1,7 @@
 use Rattle.std.proofs.Common.{◌≡◌, [], ◌∷◌, ◌++◌, ap, sym, subst, ◌∙◌, true}
 use Rattle.std.specs.FinMap as map
 use Rattle.keyed_map.specs.declared.slot.Edit.{Edit}
-use Rattle.keyed_map.specs.declared.slot.Slot.TheVariants.{Holds}
+use Rattle.keyed_map.specs.declared.slot.KeySlot.TheVariants.{Holds}
 use Rattle.keyed_map.specs.Slots.{AllFit, count_after_change, live, slots_of, undone}
 use Rattle.keyed_map.proofs.Changes.{was_there}
 use Rattle.keyed_map.proofs.Slots.{AllFit-push, get-slots, has_place, len_put, live_put}

@@ -1,7 +1,7 @@
 use Rattle.std.proofs.Common.{◌∷◌, Some, map, ap, sym, ◌∙◌}
 use Rattle.std.specs.Prelude.{slice_get}
 use Rattle.std.specs.FinMap as finite
-use Rattle.keyed_map.specs.declared.slot.Slot.{Slot}
+use Rattle.keyed_map.specs.declared.slot.KeySlot.{KeySlot}
 use Rattle.keyed_map.specs.Slots.{kept, keys_from}
 use Rattle.keyed_map.proofs.Orders.{kept_from, live_entries}
 use Rattle.keyed_map.proofs.map.KeyedMap.next_from.Goals as goal
@@ -18,7 +18,7 @@ returns-in-Holds g c =
     ∙ ap (keys_from c.args.key.now) (sym shown ∙ ap (λ h. finite.keys h.present) c.self.view_is)
     in
     ap Some c.same.ensures ∙ ap (λ ks. slice_get ks 0)
-    (ap (λ (s : Slot _). map (λ e. e.0) (kept ((c.in-Some.first.now, s) ∷ c.next.new.self)))
+    (ap (λ (s : KeySlot _). map (λ e. e.0) (kept ((c.in-Some.first.now, s) ∷ c.next.new.self)))
     (sym c.in-Holds.is) ∙ ap (λ es. map (λ e. e.0) (kept es)) (sym c.in-Some.ensures.steps)
     ∙ whole)
 

@@ -1,7 +1,7 @@
 use Rattle.std.proofs.Common.{◌≡◌, ◌-◌, [], ◌∷◌, ◌++◌, Some, false, refl, ap, sym, subst, ◌∙◌}
 use Rattle.std.specs.FinMap as map
 use Rattle.keyed_map.specs.declared.slot.Edit.{Edit}
-use Rattle.keyed_map.specs.declared.slot.Slot.TheVariants.{Gone, Holds}
+use Rattle.keyed_map.specs.declared.slot.KeySlot.TheVariants.{Gone, Holds}
 use Rattle.keyed_map.specs.Slots.{AllFit, count_after_change, live, slots_of, undone}
 use Rattle.keyed_map.proofs.Changes.{held_same, holds_is, was_there}
 use Rattle.keyed_map.proofs.Slots.{AllFit-push, absent, get-live, has_place, len_put, live_put}

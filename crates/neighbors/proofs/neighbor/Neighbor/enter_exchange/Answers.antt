@@ -1,5 +1,5 @@
 use Rattle.std.proofs.Common.{ap, ◌∙◌}
-use Rattle.adjacency.specs.declared.state.State.TheVariants.{Exchange}
+use Rattle.adjacency.specs.declared.state.NeighborState.TheVariants.{Exchange}
 use Rattle.neighbors.proofs.Exchanges.{enters_exchange}
 use Rattle.adjacency.proofs.Neighbors.{kept_is}
 use Rattle.neighbors.proofs.neighbor.Neighbor.enter_exchange.Goals as goal

@@ -1,5 +1,5 @@
 use Rattle.std.proofs.Common.{cond, ap, ◌∙◌}
-use Rattle.adjacency.specs.declared.state.State.TheVariants.{Full, Loading}
+use Rattle.adjacency.specs.declared.state.NeighborState.TheVariants.{Full, Loading}
 use Rattle.adjacency.specs.Descriptions.{exchange_done}
 use Rattle.neighbors.proofs.Exchanges.{finishes}
 use Rattle.adjacency.proofs.Neighbors.{kept_is}
