@@ -5,13 +5,13 @@ use Rattle.words.specs.Numbers.{Moment, RouterNumber}
 use Rattle.packet.specs.declared.model.Hello.{Hello}
 use Rattle.flooding.specs.adjacency.Adjacencies.{after_hello}
 use Rattle.flooding.specs.adjacency.Contents.{Content, Step}
-use Rattle.flooding.specs.adjacency.declared.state.State.{State}
+use Rattle.flooding.specs.adjacency.declared.state.NeighborState.{NeighborState}
 use Rattle.flooding.specs.received.Links.{Link}
 use Rattle.events.specs.Hellos.{accepts, names}
 use Rattle.flooding.specs.Links.{with_neighbor}
 
 -- another router becomes the neighbor only if there is none
-abbrev pub may_be_named : Option (RouterNumber × State) → RouterNumber → Bool
+abbrev pub may_be_named : Option (RouterNumber × NeighborState) → RouterNumber → Bool
 may_be_named None from = true
 may_be_named (Some named) from = named.0 == from
 

@@ -19,7 +19,7 @@ use Rattle.lsa.specs.declared.body.RouterLink.{RouterLink}
 use Rattle.flooding.specs.adjacency.Kept.{Kept}
 use Rattle.flooding.specs.adjacency.Neighbors.{Neighbor, fresh, is_full}
 use Rattle.flooding.specs.adjacency.declared.interface.Interface.{Interface}
-use Rattle.flooding.specs.adjacency.declared.state.State.TheVariants.{Full}
+use Rattle.flooding.specs.adjacency.declared.state.NeighborState.TheVariants.{Full}
 use Rattle.flooding.specs.received.Links.{Link}
 use Rattle.events.specs.Endings.{links_differ, same_body}
 use Rattle.events.specs.Originations.{links_of, point_to_point, router_body, stub}

@@ -7,11 +7,11 @@ use Rattle.lsa.specs.declared.body.RouterLink.{RouterLink}
 use Rattle.lsa.specs.declared.body.LinkKind.TheVariants.{PointToPoint}
 use Rattle.flooding.specs.adjacency.Neighbors.{Neighbor, is_full}
 use Rattle.flooding.specs.adjacency.declared.interface.Interface.{Interface}
-use Rattle.flooding.specs.adjacency.declared.state.State.{State}
+use Rattle.flooding.specs.adjacency.declared.state.NeighborState.{NeighborState}
 use Rattle.flooding.specs.received.Links.{Link}
 use Rattle.events.specs.Originations.{stub}
 
-abbrev pub full_router : Option (RouterNumber × State) → Option RouterNumber
+abbrev pub full_router : Option (RouterNumber × NeighborState) → Option RouterNumber
 full_router None = None
 full_router (Some p) = if is_full p.1 then Some p.0 else None
 

@@ -33,7 +33,7 @@ use Rattle.book.specs.Occurrences.{occurrence_of}
 use Rattle.book.specs.Offers.{IsOffered, IsStaleNow}
 use Rattle.book.specs.Refusals.{AnswersAnew}
 use Rattle.book.specs.Replay.{BookView, Leads}
-use Rattle.book.specs.State.{State}
+use Rattle.book.specs.NeighborState.{NeighborState}
 use Rattle.turns.specs.declared.turned.Turned.{Turned}
 use Rattle.turns.specs.declared.turned.TurnError.{TurnError}
 use Rattle.turns.specs.declared.turned.TurnError.TheVariants as turn_error
@@ -166,15 +166,15 @@ abbrev pub IsOwn : (origin : Router) → BookView → Type 0
 IsOwn origin b = Leads origin b.taken b.current
 
 -- the neighbors at the interfaces 1 to so many, each as it is found at its own
-pub record AreNeighbors (at : InterfaceNumber → Option (RouterNumber × State))
-    (interfaces : ℕ) (neighbors : List (Option (RouterNumber × State))) : Type 0 where
+pub record AreNeighbors (at : InterfaceNumber → Option (RouterNumber × NeighborState))
+    (interfaces : ℕ) (neighbors : List (Option (RouterNumber × NeighborState))) : Type 0 where
   pub all : length neighbors ≡ interfaces
   pub each : (k : ℕ) → k < interfaces → slice_get neighbors k ≡ Some (at (k + 1))
 
 -- they are the neighbors of one book, of which `own` is so if there is an interface
 abbrev pub IsListed : {B : Type 0} → (own : B → Type 0)
-    → (at : B → InterfaceNumber → Option (RouterNumber × State)) → (interfaces : ℕ)
-    → List (Option (RouterNumber × State)) → Type 0
+    → (at : B → InterfaceNumber → Option (RouterNumber × NeighborState)) → (interfaces : ℕ)
+    → List (Option (RouterNumber × NeighborState)) → Type 0
 IsListed {B = B} own at interfaces neighbors =
     (book : B) × (0 < interfaces → own book) × AreNeighbors (at book) interfaces neighbors
 

@@ -18,7 +18,7 @@ ghost use Rattle.book.specs.events.Routers.{shown_at};
 ghost use Rattle.book.specs.Event.{Event};
 ghost use Rattle.book.specs.Occurrences.{occurrence_of};
 ghost use Rattle.book.specs.Offers.{AreCandidatesNow, IsOffered, IsStaleNow};
-ghost use Rattle.book.specs.State.{State};
+ghost use Rattle.book.specs.NeighborState.{NeighborState};
 ghost use Rattle.turns.specs.Turns.{
   IsAsked,
   IsInstalling,
