@@ -5,8 +5,8 @@ use Rattle.worker.proofs.serving.round.Goals as goal
 
 pub returns-clause-round : goal.returns-clause-round
 returns-clause-round g c =
-    in_turn g.K.Link.gives g.K.Link.hears g.S.Seconds.shows g.B.Taker.offers g.B.Taker.took
-    g.B.Taker.refuses
+    in_turn g.K.Transport.gives g.K.Transport.hears g.S.Seconds.shows g.B.Taker.offers
+    g.B.Taker.took g.B.Taker.refuses
     c.args.port.now.number c.tick.new.port.number c.args.ticked.now
     (standing c.args.link.now c.args.clock.now (known_to c.args.port.now.asker)
     c.args.port.now.share.amount)

@@ -7,8 +7,8 @@ use Rattle.worker.proofs.serving.run.Goals as goal
 
 pub loop-preserved : goal.loop-preserved
 loop-preserved g c =
-    let senses = senses_of g.K.Link.gives g.K.Link.hears g.S.Seconds.shows g.B.Taker.offers
-    g.B.Taker.took g.B.Taker.refuses in
+    let senses = senses_of g.K.Transport.gives g.K.Transport.hears g.S.Seconds.shows
+    g.B.Taker.offers g.B.Taker.took g.B.Taker.refuses in
     let now = standing c.loop.link c.loop.clock (known_to c.loop.port.asker)
     c.loop.port.share.amount in
     let then = standing c.round.new.link c.round.new.clock (known_to c.round.new.port.asker)
@@ -32,8 +32,8 @@ loop-preserved g c =
 
 pub returns-in_default-clause-lived_on : goal.returns-in_default-clause-lived_on
 returns-in_default-clause-lived_on g c fault =
-    has_lived_on (senses_of g.K.Link.gives g.K.Link.hears g.S.Seconds.shows g.B.Taker.offers
-    g.B.Taker.took g.B.Taker.refuses c.args.port.now.number)
+    has_lived_on (senses_of g.K.Transport.gives g.K.Transport.hears g.S.Seconds.shows
+    g.B.Taker.offers g.B.Taker.took g.B.Taker.refuses c.args.port.now.number)
     g.F.Flag.reads c.args.quit.now
     (standing c.args.link.now c.args.clock.now (known_to c.args.port.now.asker)
     c.args.port.now.share.amount)

@@ -6,10 +6,10 @@ use Rattle.worker.proofs.serving.run.Given as goal
 
 abbrev pub invariant-loop : goal.invariant-loop
 invariant-loop g l = record {
-  fine : ◌≡◌ {A = ℕ} (g.K.Link.faults l.link) (g.K.Link.faults l.initial.link);
+  fine : ◌≡◌ {A = ℕ} (g.K.Transport.faults l.link) (g.K.Transport.faults l.initial.link);
   number : l.port.number ≡ l.initial.port.number;
   known : IsPrefix (known_to l.initial.port.asker) (known_to l.port.asker);
-  lived : (rounds : ℕ) × Lives (senses_of g.K.Link.gives g.K.Link.hears g.S.Seconds.shows
+  lived : (rounds : ℕ) × Lives (senses_of g.K.Transport.gives g.K.Transport.hears g.S.Seconds.shows
       g.B.Taker.offers g.B.Taker.took g.B.Taker.refuses l.initial.port.number) g.F.Flag.reads
       l.initial.quit
       (standing l.initial.link l.initial.clock (known_to l.initial.port.asker)

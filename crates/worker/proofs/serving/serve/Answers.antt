@@ -5,8 +5,8 @@ use Rattle.worker.proofs.serving.serve.Goals as goal
 
 pub returns-in-Ok-clause-serves : goal.returns-in-Ok-clause-serves
 returns-in-Ok-clause-serves g c =
-    let senses = senses_of g.K.Link.gives g.K.Link.hears g.S.Seconds.shows g.B.Taker.offers
-    g.B.Taker.took g.B.Taker.refuses c.args.port.now.number in
+    let senses = senses_of g.K.Transport.gives g.K.Transport.hears g.S.Seconds.shows
+    g.B.Taker.offers g.B.Taker.took g.B.Taker.refuses c.args.port.now.number in
     on_ok c.send_all.result
     (served senses c.args.moment.now c.args.work.now
     (standing c.args.link.now c.args.clock.now (known_to c.args.port.now.asker)

@@ -13,8 +13,8 @@ returns-clause-taken g c = (
 
 pub returns-in_err-turned-clause-served : goal.returns-in_err-turned-clause-served
 returns-in_err-turned-clause-served g c fine =
-    let senses = senses_of g.K.Link.gives g.K.Link.hears g.C.Seconds.shows g.B.Taker.offers
-    g.B.Taker.took g.B.Taker.refuses c.args.port.now.number in
+    let senses = senses_of g.K.Transport.gives g.K.Transport.hears g.C.Seconds.shows
+    g.B.Taker.offers g.B.Taker.took g.B.Taker.refuses c.args.port.now.number in
     unserved senses c.args.work.now
     (standing c.args.self.now.link c.args.self.now.clock (known_to c.args.port.now.asker)
     c.args.port.now.share.amount)
@@ -27,8 +27,8 @@ returns-in_err-turned-clause-served g c fine =
 
 pub returns-clause-served : goal.returns-clause-served
 returns-clause-served g c fine =
-    let senses = senses_of g.K.Link.gives g.K.Link.hears g.C.Seconds.shows g.B.Taker.offers
-    g.B.Taker.took g.B.Taker.refuses c.args.port.now.number in
+    let senses = senses_of g.K.Transport.gives g.K.Transport.hears g.C.Seconds.shows
+    g.B.Taker.offers g.B.Taker.took g.B.Taker.refuses c.args.port.now.number in
     served senses c.args.work.now
     (standing c.args.self.now.link c.args.self.now.clock (known_to c.args.port.now.asker)
     c.args.port.now.share.amount)
