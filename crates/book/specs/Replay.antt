@@ -5,6 +5,7 @@ use Rattle.std.specs.FinMap as finite
 use Rattle.words.specs.Numbers.{Moment}
 use Rattle.events.specs.Events.{Run, Step}
 use Rattle.events.specs.Routers.{Occurrence, Router}
+use Rattle.router_runs.specs.Clocks.{ClockRunsOn}
 use Rattle.flood.specs.declared.event.Event.{Event}
 use Rattle.flood.specs.declared.event.Event.TheVariants as event
 use Rattle.flood.specs.Occurrences.{brings_answers, occurrence_of}
@@ -27,9 +28,12 @@ Replays start journal now =
     (steps : List Step) × (map step_occurrence steps ≡ map entry_occurrence journal)
     × Run start steps now
 
--- so many events, one after the other, lead from one router to the other, whatever they sent
+-- so many events, one after the other, lead from one router to the other, whatever they sent; none
+-- is earlier than the one before it, and the first no earlier than the router's last moment
 abbrev pub Leads : (origin : Router) → (taken : ℕ) → (now : Router) → Type 0
-Leads origin taken now = (steps : List Step) × Run origin steps now × (length steps ≡ taken)
+Leads origin taken now =
+    (steps : List Step) × Run origin steps now × (length steps ≡ taken)
+    × ClockRunsOn origin.moment steps
 
 -- what contracts see of a book
 pub record BookView : Type 0 where

@@ -25,7 +25,8 @@ use Rattle.events.specs.Originations.{originate_or_wait, router_body, router_key
 use Rattle.events.specs.Routers.{Occurrence, Router, unannounced_router}
 use Rattle.events.specs.Ticks.{after_tick}
 use Rattle.flood_laws.proofs.Retransmitted.{retransmissions_are_of_the_database}
-use Rattle.own_lsa_laws.specs.OwnCopies.{ClockRunsOn, EndsWithTick, IsHeldBack, IsOwnCopy}
+use Rattle.router_runs.specs.Clocks.{ClockRunsOn}
+use Rattle.own_lsa_laws.specs.OwnCopies.{EndsWithTick, IsHeldBack, IsOwnCopy}
 use Rattle.own_lsa_laws.specs.OwnCopies.{IsToBeReplaced, NobodySpeaksForThisRouter}
 use Rattle.own_lsa_laws.specs.OwnCopies.{SaysWhatIsWanted}
 use Rattle.own_lsa_laws.proofs.Agreeing.{same_of_text, tick_agrees}

@@ -1,7 +1,7 @@
 -- The copies in the database with this router's own Advertising Router, whoever originated them:
 -- the router wants to say what they say, or they are replaced or flushed, as soon as MinLSInterval
 -- allows it (RFC 2328, sections 12.4 and 13.4).
-use Rattle.std.specs.Prelude.{◌≡◌, ◌≤◌, ◌<◌, ◌+◌, ◌⊎◌, true, false, List, [], ◌∷◌, Some}
+use Rattle.std.specs.Prelude.{◌≡◌, ◌≤◌, ◌<◌, ◌+◌, ◌⊎◌, true, false, List, Some}
 use Rattle.std.specs.FinMap as finite
 use Rattle.std.specs.FinSet as set
 use Rattle.words.specs.Constants.{min_ls_interval}
@@ -15,6 +15,7 @@ use Rattle.events.specs.Endings.{same_body}
 use Rattle.events.specs.Events.{Happens, Run, Step, initial}
 use Rattle.events.specs.Originations.{wanted_body}
 use Rattle.events.specs.Routers.{Occurrence, Router}
+use Rattle.router_runs.specs.Clocks.{ClockRunsOn}
 
 -- ---- a copy in this router's name
 
@@ -58,11 +59,6 @@ SpeaksForItselfAfterTick r = (key : Key) (copy : DatabaseCopy) → IsOwnCopy r k
     → SaysWhatIsWanted r key copy ⊎ IsHeldBack r key copy
 
 -- ---- the law
-
--- no event is earlier than the one before it
-abbrev pub ClockRunsOn : Moment → List Step → Type 0
-ClockRunsOn moment [] = Unit {0}
-ClockRunsOn moment (s ∷ steps) = (moment ≤ s.moment) × ClockRunsOn s.moment steps
 
 -- a run from the start that ends with a Tick
 pub record EndsWithTick (c : Config) (moment : Moment) (r : Router) : Type 0 where

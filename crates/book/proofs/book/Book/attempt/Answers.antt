@@ -1,10 +1,11 @@
 use Rattle.std.proofs.Common.{◌≡◌, ◌+◌, List, [], ◌∷◌, ◌++◌, Some, sym, subst, ap, ◌∙◌, rules}
 use Rattle.events.specs.Routers.{Router}
+use Rattle.flood.specs.Occurrences.{occurrence_of}
 use Rattle.book.specs.declared.entry.JournalEntry.{JournalEntry}
 use Rattle.book.specs.Bytes.{bytes_of, with_event}
 use Rattle.book.specs.Replay.{Replays, entry, start_of}
 use Rattle.book.proofs.Noted.{where_ok}
-use Rattle.book.proofs.Replayed.{bytes_with, leads_on, replays_on}
+use Rattle.book.proofs.Replayed.{bytes_with, late_enough, leads_on, replays_on}
 use Rattle.book.proofs.book.Book.attempt.Goals as goal
 
 pub invariant_of-self-in-Ok : goal.invariant_of-self-in-Ok
@@ -26,6 +27,8 @@ invariant_of-self-in-Ok g c =
           (sym (ap (λ o. start_of o after) held))
           (replays_on from journal _ _ last _ kept.replays c.in-Ok.ensures.ok)));
       leads = leads_on _ c.self.inside.taken c.self.inside.current after last _ kept.leads
+          (late_enough c.self.inside.current c.args.moment (occurrence_of c.args.event)
+          c.in-Ok.outs c.in-Ok.ensures.refused)
           c.in-Ok.ensures.ok;
       weighed =
           c.with_event-self-inside.ensures ∙ (ap (λ n. with_event n c.args.event) kept.weighed

@@ -1,0 +1,137 @@
+-- A router's moment is that of its last event, and never falls.
+use Rattle.std.proofs.Common.{◌≡◌, ℕ, ◌≤◌, Bool, true, false, cond, ◌&&◌, List, [], ◌∷◌, ◌++◌}
+use Rattle.std.proofs.Common.{Option, None, Some, refl, sym, ap, subst, arith, ltb-false}
+use Rattle.std.specs.Prelude.{◌||◌, nat_le, nat_lt, if◌then◌else◌}
+use Rattle.std.specs.FinMap as finite
+use Rattle.words.specs.Constants.{clock_end}
+use Rattle.words.specs.declared.key.Key.{Key}
+use Rattle.lsa.specs.declared.body.LsaBody.{LsaBody}
+use Rattle.events.specs.declared.model.Config.{Config}
+use Rattle.events.specs.declared.model.CoreError.{CoreError}
+use Rattle.events.specs.declared.model.CoreError.TheVariants as error
+use Rattle.events.specs.declared.model.Out.{Out}
+use Rattle.events.specs.EventState.{EventState, on_router}
+use Rattle.events.specs.Events.{Happens, Run, Step, initial}
+use Rattle.events.specs.Originations.{flush, has_max_sequence, has_room, may_originate, originate}
+use Rattle.events.specs.Originations.{originate_body, router_key, wait, wanted_body}
+use Rattle.events.specs.Refusals.{first_refusal, is_clock_back, of_event}
+use Rattle.events.specs.Routers.{Occurrence, Router, unannounced_router}
+use Rattle.router_runs.specs.Clocks.{ClockRunsOn, RoutersRefuseClocksThatGoBack, RunOfTaken}
+
+-- ---- the start
+
+either_moment : (b c : Bool) (x y z : EventState) (m : ℕ) → x.router.moment ≡ m
+    → y.router.moment ≡ m → z.router.moment ≡ m
+    → (cond b x (cond c y z)).router.moment ≡ m
+either_moment true c x y z m a b e = a
+either_moment false true x y z m a b e = b
+either_moment false false x y z m a b e = e
+
+originated_moment : (may_now : Bool) (moment : ℕ) (key : Key) (says : Option LsaBody)
+    (p : EventState) → (originate_body may_now moment key says p).router.moment ≡ p.router.moment
+originated_moment may_now moment key None p = refl
+originated_moment may_now moment key (Some says) p =
+    either_moment (has_max_sequence (finite.get p.router.area.database key))
+    (may_now && may_originate moment key p.router) (flush moment key p)
+    (originate moment key says p) (on_router (wait key) p) p.router.moment refl refl refl
+
+start_moment : (c : Config) → (initial c).moment ≡ c.start
+start_moment c =
+    let bare : EventState = record { router = unannounced_router c; sends = [] } in
+    let key : Key = router_key c.router in
+    originated_moment (has_room key bare.router) c.start key (wanted_body bare.router key) bare
+
+-- ---- an event
+
+pub event_moment : (old : Router) (moment : ℕ) (event : Occurrence) (outs : List Out)
+    (new : Router) → Happens old moment event outs new → new.moment ≡ moment
+event_moment old moment event outs new happens = ap (λ (r : Router). r.moment) happens.router
+
+taken_clock : (back : Bool) (late : Option CoreError)
+    → (if back then Some error.ClockBack else late) ≡ None → back ≡ false
+taken_clock true late is = absurd cc
+taken_clock false late is = refl
+
+pub taken_moment : (old : Router) (moment : ℕ) (event : Occurrence)
+    → first_refusal old moment event ≡ None → is_clock_back moment old ≡ false
+taken_moment old moment event is =
+    taken_clock (is_clock_back moment old) (of_event old event) is
+
+first_of : (a b : Bool) → (a || b) ≡ false → a ≡ false
+first_of true b is = absurd cc
+first_of false b is = refl
+
+pub later_moment : (old : Router) (moment : ℕ) → is_clock_back moment old ≡ false
+    → old.moment ≤ moment
+later_moment old moment is =
+    ltb-false moment old.moment (first_of (nat_lt moment old.moment) (nat_le clock_end moment) is)
+
+-- ---- runs
+
+-- the clock of the events that follow, from the router that the first one leaves
+from_middle : (old : Router) (s : Step) (middle : Router) (steps : List Step)
+    → Happens old s.moment s.event s.outs middle → ClockRunsOn middle.moment steps
+    → ClockRunsOn s.moment steps
+from_middle old s middle steps happens =
+    subst (λ (m : ℕ). ClockRunsOn m steps)
+    (event_moment old s.moment s.event s.outs middle happens)
+
+to_middle : (old : Router) (s : Step) (middle : Router) (steps : List Step)
+    → Happens old s.moment s.event s.outs middle → ClockRunsOn s.moment steps
+    → ClockRunsOn middle.moment steps
+to_middle old s middle steps happens =
+    subst (λ (m : ℕ). ClockRunsOn m steps)
+    (sym (event_moment old s.moment s.event s.outs middle happens))
+
+taken_run : (steps : List Step) (old new : Router) → RunOfTaken old steps new
+    → Run old steps new × ClockRunsOn old.moment steps
+taken_run [] old new same = (same, tt)
+taken_run (s ∷ steps) old new (on, (middle, happens, rest)) =
+    let later = taken_run steps middle new rest in (
+      (middle, happens, later.0),
+      (later_moment old s.moment on, from_middle old s middle steps happens later.1),
+    )
+
+pub one_more : (steps : List Step) (old before after : Router) (s : Step) → Run old steps before
+    → ClockRunsOn old.moment steps → before.moment ≤ s.moment
+    → Happens before s.moment s.event s.outs after
+    → Run old (steps ++ s ∷ []) after × ClockRunsOn old.moment (steps ++ s ∷ [])
+one_more [] old before after s same clock late now = (
+  (after, subst (λ (r : Router). Happens r s.moment s.event s.outs after) same now, refl),
+  (subst (λ (r : Router). r.moment ≤ s.moment) same late, tt),
+)
+one_more (x ∷ steps) old before after s (middle, happens, run) (first, clock) late now =
+    let longer = one_more steps middle before after s run
+    (to_middle old x middle steps happens clock) late now in (
+      (middle, happens, longer.0),
+      (first, from_middle old x middle (steps ++ s ∷ []) happens longer.1),
+    )
+
+itself : (m : ℕ) → m ≤ m
+itself m = omega arith
+
+before_all : (a b c : ℕ) → a ≤ b → b ≤ c → a ≤ c
+before_all a b c first second = omega arith
+
+pub never_falls : (steps : List Step) (old new : Router) → Run old steps new
+    → ClockRunsOn old.moment steps → old.moment ≤ new.moment
+never_falls [] old new same clock =
+    subst (λ (r : Router). old.moment ≤ r.moment) (sym same) (itself old.moment)
+never_falls (s ∷ steps) old new (middle, happens, run) (first, clock) =
+    before_all old.moment middle.moment new.moment
+    (subst (λ (m : ℕ). old.moment ≤ m)
+    (sym (event_moment old s.moment s.event s.outs middle happens)) first)
+    (never_falls steps middle new run (to_middle old s middle steps happens clock))
+
+-- ---- the law
+
+pub clocks_run_on : RoutersRefuseClocksThatGoBack
+clocks_run_on = record {
+  start = start_moment;
+  moment = event_moment;
+  taken = taken_moment;
+  event = later_moment;
+  run = taken_run;
+  more = one_more;
+  later = never_falls;
+}

@@ -1,0 +1,12 @@
+//! Runs of a router in which its clock doesn't go back, as laws, each carried by a function with an
+//! empty body.
+#![tactic(auto)]
+
+ghost use Rattle.router_runs.specs.Clocks.{RoutersRefuseClocksThatGoBack};
+
+/// A router refuses an event that is earlier than the one before it, or than its start. So in a run
+/// of events none of which is refused for its moment the clock doesn't go back, whatever they are,
+/// and the router's moment, which is that of the last event, is no earlier than it was.
+pub fn routers_refuse_clocks_that_go_back()
+    ensures { RoutersRefuseClocksThatGoBack }
+{}
