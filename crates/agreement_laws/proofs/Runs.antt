@@ -35,7 +35,8 @@ use Rattle.events.proofs.Walk.{outcome}
 use Rattle.flood_laws.specs.InOrder.{IsInOrder}
 use Rattle.flood_laws.proofs.Acknowledged.{routers_stay_in_order}
 use Rattle.flood_laws.proofs.Leaving.{stepped_kept}
-use Rattle.agreement_laws.specs.Exchanged.{ClockRunsOn, Conversation, Converses, GoesOn}
+use Rattle.router_runs.specs.Clocks.{ClockRunsOn}
+use Rattle.agreement_laws.specs.Exchanged.{Conversation, Converses, GoesOn}
 use Rattle.agreement_laws.specs.Exchanged.{IsExchanged, WasExchanged, conversation_with}
 use Rattle.agreement_laws.specs.HeldWasTold.{FullNeighborsWereTold, WasExchangedAsNew, IsNotOwed}
 use Rattle.agreement_laws.specs.HeldWasTold.{WhatIsHeldWasTold, is_exchange_done}

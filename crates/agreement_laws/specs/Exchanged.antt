@@ -1,9 +1,9 @@
 -- What a router and its neighbor say to each other about LSAs in one conversation (RFC 2328,
 -- sections 10.6, 13 and 13.7): the headers in the neighbor's packets, and those that the router
 -- describes to it.
-use Rattle.std.specs.Prelude.{◌≡◌, ℕ, ◌≤◌, true, List, [], ◌∷◌, Option, Some, map}
+use Rattle.std.specs.Prelude.{◌≡◌, ℕ, true, List, [], ◌∷◌, Option, Some, map}
 use Rattle.std.specs.List.{Contains, filter_map}
-use Rattle.words.specs.Numbers.{InterfaceNumber, Moment, RouterNumber}
+use Rattle.words.specs.Numbers.{InterfaceNumber, RouterNumber}
 use Rattle.lsa.specs.Reading.{lsa_in}
 use Rattle.lsdb.specs.Headers.{Header, Lsa}
 use Rattle.lsdb.specs.Instances.{ListEntry}
@@ -96,8 +96,3 @@ pub data WasExchanged (number : InterfaceNumber) (with_it : Conversation) (entry
       → Happens old step.moment step.event step.outs middle
       → WasExchanged number with_it entry middle rest new
       → WasExchanged number with_it entry old (step ∷ rest) new
-
--- no event is earlier than the one before it
-abbrev pub ClockRunsOn : Moment → List Step → Type 0
-ClockRunsOn moment [] = Unit {0}
-ClockRunsOn moment (s ∷ steps) = (moment ≤ s.moment) × ClockRunsOn s.moment steps

@@ -19,8 +19,8 @@ use Rattle.received.specs.Links.{neighbor_at}
 use Rattle.events.specs.declared.model.Config.{Config}
 use Rattle.events.specs.Events.{Run, Step, initial}
 use Rattle.events.specs.Routers.{Router}
-use Rattle.agreement_laws.specs.Exchanged.{ClockRunsOn, Conversation, WasExchanged}
-use Rattle.agreement_laws.specs.Exchanged.{conversation_with}
+use Rattle.router_runs.specs.Clocks.{ClockRunsOn}
+use Rattle.agreement_laws.specs.Exchanged.{Conversation, WasExchanged, conversation_with}
 use Rattle.agreement_laws.specs.Ranks.{is_at_least}
 
 -- a header of the key was exchanged in the conversation that, with its age now, is at least as new
