@@ -8,8 +8,8 @@ returns-clause-ran g c =
     c.in_ok-configured.ensures.said c.as_slice.ensures c.in_ok-wires.ensures.bound
     c.deref.ensures.value c.in_ok-ran.ensures.ran
 
-pub run_over-requires : goal.run_over-requires
-run_over-requires g c κs within =
+pub run_over-requires-after_bounds : goal.run_over-requires-after_bounds
+run_over-requires-after_bounds g c κs within =
     bound_still _ c.as_slice.result.now c.in_ok-configured.configured.interfaces
     c.in_ok-wires.wires.items c.deref.result.now c.as_slice.ensures c.deref.ensures.value
     c.in_ok-wires.ensures.bound
