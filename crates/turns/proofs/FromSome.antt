@@ -20,16 +20,17 @@ use Rattle.turns.proofs.Tables.{rows_beside}
 
 pub sent_by_some : (origin : Router) (events taken : ℕ) (moment at : Moment) (e : Event)
     (old new : Router) (outs : List Out) (stale : Option Bool) → events ≤ taken
-    → Leads origin taken old → at ≡ taken_at e moment old.moment
+    → Leads origin taken old → at ≡ taken_at e moment old.moment → old.moment ≤ at
     → Happens old at (occurrence_of e) outs new
     → IfSome stale (λ is. IsTrue is ↔ IsStaleNow new)
     → Sends origin events moment e outs stale
-sent_by_some origin events taken moment at e old new outs stale least leads is h left = (
+sent_by_some origin events taken moment at e old new outs stale least leads is late h left = (
   taken,
   old,
   new,
   least,
   leads,
+  subst (λ (m : Moment). old.moment ≤ m) is late,
   subst (λ (m : Moment). Happens old m (occurrence_of e) outs new) is h,
   left,
 )

@@ -108,11 +108,13 @@ IsAtTheEndOfTheClock {B = B} own moment_of moment =
 
 -- A book that began with this router says to a port whose events until then are so many: the event
 -- that is given at this moment sends these, from a router to which events lead from there, at least
--- as many as the port's, and leaves one that is stale or isn't, where that is known.
+-- as many as the port's, of which none is later; it leaves one that is stale or isn't, where that is
+-- known.
 abbrev pub Sends : (origin : Router) → (events : ℕ) → Moment → Event → List Out
     → (stale : Option Bool) → Type 0
 Sends origin events moment e outs stale =
     (taken : ℕ) × (old : Router) × (new : Router) × (events ≤ taken) × Leads origin taken old
+    × (old.moment ≤ taken_at e moment old.moment)
     × Happens old (taken_at e moment old.moment) (occurrence_of e) outs new
     × IfSome stale (λ is. IsTrue is ↔ IsStaleNow new)
 

@@ -4,6 +4,7 @@ use Rattle.book.specs.declared.error.BookError.{BookError}
 use Rattle.book.specs.events.Routers.{Router}
 use Rattle.book.specs.Offers.{IsStaleNow}
 use Rattle.book.specs.Replay.{BookView}
+use Rattle.book.proofs.Late.{no_earlier}
 use Rattle.turns.specs.Turns.{IsRefusedBySome, taken_at}
 use Rattle.turns.proofs.FromSome.{left_stale, refused_by_some, sent_by_some}
 use Rattle.turns.proofs.taker.BookTaker.take.Goals as goal
@@ -26,7 +27,9 @@ returns-in-Ok-clause-ok g c =
     (subst (λ (b : BookView). c.args.mine.now.amount ≤ b.taken) (sym c.compare.ensures.book)
     c.compare.ensures.least)
     c.now.ensures.leads
-    (c.taken_at-at.ensures ∙ ap (taken_at c.args.event c.args.moment) last) c.in-Ok.ensures.ok
+    (c.taken_at-at.ensures ∙ ap (taken_at c.args.event c.args.moment) last)
+    (no_earlier c.compare.new.self c.taken_at-at.result c.args.event c.in-Ok.outs
+    c.in-Ok.ensures.refused) c.in-Ok.ensures.ok
     (left_stale c.apply_anew.new.self.current c.is_stale.result c.known-stale.result
     c.is_stale.ensures.stale c.known-stale.ensures)
 
