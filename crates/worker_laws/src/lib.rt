@@ -1,11 +1,15 @@
-//! What a worker's rounds come to, as laws, each carried by a function with an empty body.
+//! What a worker's rounds come to, and what the router that workers serve says of itself, as laws,
+//! each carried by a function that does nothing.
 #![tactic(auto)]
 
 ghost use Rattle.std.specs.Prelude.{ℕ};
 ghost use Rattle.worker.specs.Lives.{senses_of};
 ghost use Rattle.worker_laws.specs.Deeds.{LivesAreDeedsInOrder};
+ghost use Rattle.worker_laws.specs.OwnLsas.{NobodySpeaksForTheRunningRouter};
 
 use links::{Seconds, Transport};
+use own_lsa_laws::nobody_speaks_for_this_router;
+use router_runs::routers_refuse_clocks_that_go_back;
 use worker::{Flag, Site, Taker};
 
 /// Whatever rounds a worker has lived, it did one thing after the other: it looked at its clock, it
@@ -19,3 +23,16 @@ pub fn lives_are_deeds_in_order<L: Site, B: Taker<L>, K: Transport, S: Seconds, 
     ensures { (number : ℕ) → LivesAreDeedsInOrder
         (senses_of K.gives K.hears S.shows B.offers B.took B.refuses number) F.reads }
 {}
+
+/// No other router speaks for the running one for longer than MinLSInterval, five seconds, whatever
+/// it receives (RFC 2328, section 13.4): a book takes no event that is earlier than the last one, so
+/// what holds of every run in which the clock doesn't go back holds of all that a book ever took.
+/// Each copy in the router's own name that is below MaxAge has the wanted body, or waits for a Tick
+/// to be replaced. After each Tick that a turn gives only MinLSInterval prevents that, and no copy
+/// that was stored five seconds before the Tick has another body.
+pub fn nobody_speaks_for_the_running_router()
+    ensures { NobodySpeaksForTheRunningRouter }
+{
+    nobody_speaks_for_this_router();
+    routers_refuse_clocks_that_go_back();
+}

@@ -1,0 +1,60 @@
+-- The premises of the law about own LSAs, met by the events that lead to a running router.
+use Rattle.std.proofs.Common.{◌≡◌, ℕ, ◌≤◌, Bool, List, Option, sym, subst}
+use Rattle.words.specs.Numbers.{Moment}
+use Rattle.events.specs.declared.model.Config.{Config}
+use Rattle.events.specs.declared.model.Out.{Out}
+use Rattle.events.specs.Events.{Happens, Step, initial}
+use Rattle.events.specs.Routers.{Occurrence, Router}
+use Rattle.router_runs.specs.Clocks.{ClockRunsOn, RoutersRefuseClocksThatGoBack}
+use Rattle.own_lsa_laws.specs.OwnCopies.{EndsWithTick, NobodySpeaksForThisRouter, SpeaksForItself}
+use Rattle.book.specs.Event.{Event}
+use Rattle.book.specs.Event.TheVariants as event
+use Rattle.worker.specs.Replay.{Leads}
+use Rattle.worker.specs.Turns.{IsOfferedBySome, Sends, TakesFor, took_from}
+use Rattle.worker.specs.Work.TheVariants.{Tick}
+use Rattle.worker_laws.specs.OwnLsas.{IsTicked, NobodySpeaksForTheRunningRouter}
+
+from_start : RoutersRefuseClocksThatGoBack → (c : Config) (steps : List Step)
+    → ClockRunsOn (initial c).moment steps → ClockRunsOn c.start steps
+from_start clocks c steps = subst (λ (m : ℕ). ClockRunsOn m steps) (clocks.start c)
+
+always : NobodySpeaksForThisRouter → RoutersRefuseClocksThatGoBack → (c : Config) (taken : ℕ)
+    (r : Router) → Leads (initial c) taken r → SpeaksForItself r
+always law clocks c taken r (steps, run, many, clock) =
+    law.always c steps r (from_start clocks c steps clock) run
+
+ends : RoutersRefuseClocksThatGoBack → (c : Config) (taken : ℕ) (moment : Moment) (old new : Router)
+    (outs : List Out) → Leads (initial c) taken old → old.moment ≤ moment
+    → Happens old moment Occurrence.Tick outs new → EndsWithTick c moment new
+ends clocks c taken moment old new outs (steps, run, many, clock) later happens = record {
+  steps = steps;
+  before = old;
+  outs = outs;
+  run = run;
+  clock = from_start clocks c steps clock;
+  later = later;
+  tick = happens;
+}
+
+ticked : NobodySpeaksForThisRouter → RoutersRefuseClocksThatGoBack → (c : Config) (events : ℕ)
+    (moment : Moment) (outs : List Out) (stale : Option Bool)
+    → Sends (initial c) events moment event.Tick outs stale → IsTicked c moment outs
+ticked law clocks c events moment outs stale (taken, old, new, least, leads, later, happens, left) =
+    let its_end = ends clocks c taken moment old new outs leads later happens in record {
+      taken = taken;
+      old = old;
+      new = new;
+      leads = leads;
+      happens = happens;
+      speaks = law.tick c moment new its_end;
+      in_five_seconds = law.in_five_seconds c moment new its_end;
+    }
+
+pub nobody_speaks : NobodySpeaksForThisRouter → RoutersRefuseClocksThatGoBack
+    → NobodySpeaksForTheRunningRouter
+nobody_speaks law clocks = record {
+  always = always law clocks;
+  tick = λ c known now events moment outs stale given.
+      ticked law clocks c events moment outs stale
+      (subst (λ (e : Event). Sends (initial c) events moment e outs stale) given.1 given.2);
+}
