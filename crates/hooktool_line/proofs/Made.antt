@@ -129,7 +129,7 @@ no_test rows none (requests.Test file) named has = none file.now has
 -- without a question there is no request
 pub no_question : (rows : List Row) (lack : NotRead) → ReadsOrLacks (HasQuestion rows) (Err lack)
     → IsMade (codes "try") rows (Err lack)
-no_question rows not_read.Meaningless none =
+no_question rows (not_read.Meaningless why) none =
     no_try rows (λ object question a has. none question has)
 no_question rows not_read.OutOfMemory none = tt
 

@@ -1,6 +1,6 @@
 -- Packets that are read of words.
 use Rattle.std.proofs.Common.{◌≡◌, ◌≢◌, ◌∙◌, ◌+◌, ℕ, List, ◌∷◌, Option, Some, None, Ok, Err, sym}
-use Rattle.std.proofs.Common.{subst, lit<, length, drop, inl, inr, refl}
+use Rattle.std.proofs.Common.{subst, lit<, length, drop, inl, inr}
 use Rattle.std.specs.Prelude.{◌⊎◌, MatchOption, Result}
 use Rattle.std.specs.Str.Pattern.{FindsCharPrefix}
 use Rattle.std.proofs.lemmas.Str.Pattern.{strip_prefix_char}
@@ -39,11 +39,14 @@ pub no_packet : (w : List ℕ) (e : FromHexError) → ((rest : List ℕ) → w �
 no_packet w e plain bad (packets.Bytes bytes) has = err≢ok bytes.items e (sym bad ∙ has.1)
 no_packet w e plain bad (packets.File path) has = plain path.now has
 
+memory≢meaningless : (why : Bor (List ℕ)) → not_read.Meaningless why ≡ not_read.OutOfMemory → ⊥
+memory≢meaningless why e = cc
+
 pub lacks : (w : List ℕ) (e : FromHexError) (lack : NotRead) → ((rest : List ℕ) → w ≢ 64 ∷ rest)
-    → (e ≡ OutOfMemory) ⊎ (decode_of w ≡ Err e) → (lack ≡ not_read.Meaningless → e ≢ OutOfMemory)
-    → ReadsOrLacks (IsPacket w) (Err lack)
-lacks w e not_read.Meaningless plain bad other = elim bad [
-  | inl memory ↦ absurd (other refl memory)
+    → (e ≡ OutOfMemory) ⊎ (decode_of w ≡ Err e)
+    → (e ≡ OutOfMemory → lack ≡ not_read.OutOfMemory) → ReadsOrLacks (IsPacket w) (Err lack)
+lacks w e (not_read.Meaningless why) plain bad other = elim bad [
+  | inl memory ↦ absurd (memory≢meaningless why (other memory))
   | inr refused ↦ no_packet w e plain refused
 ]
 lacks w e not_read.OutOfMemory plain bad other = tt

@@ -12,7 +12,7 @@ use Rattle.isa.specs.Hooks.{hook_name}
 use Rattle.isa.specs.declared.hook.Hook.{Hook}
 use Rattle.hooktool_line.specs.CommandLine.{line}
 use Rattle.hooktool_line.specs.Questions.{HasQuestion}
-use Rattle.hooktool_line.specs.Words.{IsNumber, OrElse}
+use Rattle.hooktool_line.specs.Words.{IsTold, OrElse}
 use Rattle.hooktool_line.specs.declared.requests.FuelAsked.{FuelAsked}
 use Rattle.hooktool_line.specs.declared.requests.HooktoolRequest.{HooktoolRequest}
 use Rattle.hooktool_line.specs.declared.requests.HooktoolRequest.TheVariants as requests
@@ -31,26 +31,15 @@ command_of (requests.Test file) = codes "test"
 abbrev pub HasWord : List Row → Text → Text → Type 0
 HasWord rows name word = first_of name rows ≡ Some word
 
--- how many turns loops may take, where that is told
-abbrev pub IsTurns : Text → Option ℕ → Type 0
-IsTurns word (Some turns) = IsNumber 1 999999 word turns
-IsTurns word None = ⊥
+-- the number under this name, where it is told
+abbrev pub HasTold : List Row → (name : Text) → (least most : ℕ) → Option ℕ → Type 0
+HasTold rows name least most n =
+    OrElse (first_of name rows) (n ≡ None) (λ word. IsTold least most word n)
 
-abbrev pub HasTurns : List Row → Option ℕ → Type 0
-HasTurns rows turns =
-    OrElse (first_of (codes "fuel") rows) (turns ≡ None) (λ word. IsTurns word turns)
-
--- what is answered once they are used up, where that is told
-abbrev pub IsAnswer : Text → Option ℕ → Type 0
-IsAnswer word (Some answer) = IsNumber 0 2147483647 word answer
-IsAnswer word None = ⊥
-
-abbrev pub HasAnswer : List Row → Option ℕ → Type 0
-HasAnswer rows answer =
-    OrElse (first_of (codes "fuel-answer") rows) (answer ≡ None) (λ word. IsAnswer word answer)
-
+-- how many turns loops may take, and what is answered once they are used up, where that is told
 abbrev pub HasFuel : List Row → FuelAsked → Type 0
-HasFuel rows fuel = HasTurns rows fuel.turns × HasAnswer rows fuel.answer
+HasFuel rows fuel = HasTold rows (codes "fuel") 1 999999 fuel.turns
+    × HasTold rows (codes "fuel-answer") 0 2147483647 fuel.answer
 
 -- the hook that a word names
 abbrev pub IsHook : Text → Option Hook → Type 0
@@ -82,7 +71,7 @@ MadeBy name rows None = (request : HooktoolRequest) → command_of request ≡ n
 -- The same, where nothing may be made for want of memory too.
 abbrev pub IsMade : Text → List Row → Result HooktoolRequest NotRead → Type 0
 IsMade name rows (Ok request) = MadeBy name rows (Some request)
-IsMade name rows (Err not_read.Meaningless) = MadeBy name rows None
+IsMade name rows (Err (not_read.Meaningless why)) = MadeBy name rows None
 IsMade name rows (Err not_read.OutOfMemory) = Unit {0}
 
 -- A word of this command is wrong, so that it makes no request; or memory was refused.

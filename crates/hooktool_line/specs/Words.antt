@@ -2,6 +2,7 @@
 use Rattle.std.specs.Prelude.{◌≡◌, ◌≢◌, ◌<◌, ◌≤◌, ◌^◌, ℕ, List, [], ◌∷◌, ◌++◌, Option, Some, None}
 use Rattle.std.specs.Prelude.{Result, Ok, Err}
 use Rattle.std.specs.Prelude.{codes, decimal}
+use Rattle.std.specs.Borrow.{Bor}
 use Rattle.clap.specs.Walk.{Text}
 use Rattle.hex.specs.Hex.{decode_of}
 use Rattle.words.specs.Prefixes.{IsNetwork, Network}
@@ -22,10 +23,15 @@ abbrev pub Reads : {A : Type 0} → (A → Type 0) → Option A → Type 0
 Reads {A} Means (Some x) = Means x
 Reads {A} Means None = (x : A) → Means x → ⊥
 
+-- The same, where it is told why nothing is read.
+abbrev pub ReadsOrTells : {A : Type 0} → (A → Type 0) → Result A (Bor Text) → Type 0
+ReadsOrTells {A} Means (Ok x) = Means x
+ReadsOrTells {A} Means (Err why) = (x : A) → Means x → ⊥
+
 -- The same, where nothing may be read for want of memory too.
 abbrev pub ReadsOrLacks : {A : Type 0} → (A → Type 0) → Result A NotRead → Type 0
 ReadsOrLacks {A} Means (Ok x) = Means x
-ReadsOrLacks {A} Means (Err not_read.Meaningless) = (x : A) → Means x → ⊥
+ReadsOrLacks {A} Means (Err (not_read.Meaningless why)) = (x : A) → Means x → ⊥
 ReadsOrLacks {A} Means (Err not_read.OutOfMemory) = Unit {0}
 
 -- what a word means, or what is so where there is none
@@ -36,6 +42,11 @@ OrElse (Some word) Usual Means = Means word
 -- a number in decimal, within these
 abbrev pub IsNumber : (least most : ℕ) → Text → ℕ → Type 0
 IsNumber least most word n = (word ≡ decimal n) × (least ≤ n) × (n ≤ most)
+
+-- the same, of a number that is told
+abbrev pub IsTold : (least most : ℕ) → Text → Option ℕ → Type 0
+IsTold least most word (Some n) = IsNumber least most word n
+IsTold least most word None = ⊥
 
 -- a network: its address, a slash and its length
 abbrev pub IsPrefix : Text → Network → Type 0

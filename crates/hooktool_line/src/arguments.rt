@@ -580,32 +580,15 @@ pub(crate) fn asking<'a>(alloc: Global) -> Result<Command<'a>, AllocError>
     command_of(alloc, &ASK)
 }
 
-/// An error about the words of a command line.
-fn error(alloc: Global, kind: ErrorKind, text: &str) -> Result<Error, AllocError>
-    ensures { IfOk result (λ error. kind_of error ≡ kind) }
+/// An error of this kind about the words of a command line, or want of memory.
+pub(crate) fn error(alloc: Global, kind: ErrorKind, text: &str) -> Error
+    ensures { (kind_of result ≡ ErrorKind.OutOfMemory) ⊎ (kind_of result ≡ kind) }
 {
-    match whole(alloc) {
+    let told = match whole(alloc) {
         Ok(mut line) => line.error(kind, text),
         Err(error) => Err(error),
-    }
-}
-
-/// An error about a wrong word, or want of memory.
-pub(crate) fn wrong_value(alloc: Global, text: &str) -> Error
-    ensures { (kind_of result ≡ ErrorKind.OutOfMemory) ⊎ (kind_of result ≡ ErrorKind.InvalidValue) }
-{
-    match error(alloc, ErrorKind::InvalidValue, text) {
-        Ok(error) => error,
-        Err(error) => Error::from(error),
-    }
-}
-
-/// An error about words that name no command, or want of memory.
-pub(crate) fn no_command(alloc: Global) -> Error
-    ensures { (kind_of result ≡ ErrorKind.OutOfMemory)
-        ⊎ (kind_of result ≡ ErrorKind.MissingSubcommand) }
-{
-    match error(alloc, ErrorKind::MissingSubcommand, "no command is given") {
+    };
+    match told {
         Ok(error) => error,
         Err(error) => Error::from(error),
     }

@@ -1,21 +1,21 @@
 //! The packet of a question.
 
-ghost use Rattle.std.specs.Prelude.{◌≡◌, ◌≢◌, option_map};
+ghost use Rattle.std.specs.Prelude.{◌≡◌, option_map};
 ghost use Rattle.hex.specs.declared.error.FromHexError.TheVariants.{OutOfMemory};
 ghost use Rattle.hooktool_line.specs.Words.{IsNoPacket, IsPacket, OrElse, ReadsOrLacks};
 
 use crate::requests::PacketSource;
-use crate::values::NotRead;
+use crate::values::{NotRead, WRONG_PART};
 use hex::FromHexError;
 use std::alloc::Global;
 
 // Why no packet is read, for this error.
 fn without_packet(error: FromHexError) -> NotRead
-    ensures { result ≡ NotRead.Meaningless → error ≢ OutOfMemory }
+    ensures { error ≡ OutOfMemory → result ≡ NotRead.OutOfMemory }
 {
     match error {
         FromHexError::OutOfMemory => NotRead::OutOfMemory,
-        _ => NotRead::Meaningless,
+        _ => NotRead::Meaningless(WRONG_PART),
     }
 }
 

@@ -3,7 +3,7 @@
 ghost use Rattle.clap.specs.Matches.{found_of};
 ghost use Rattle.clap.specs.Walk.{rows_of};
 ghost use Rattle.hooktool_line.specs.Questions.{HasPlaces};
-ghost use Rattle.hooktool_line.specs.Words.{Reads};
+ghost use Rattle.hooktool_line.specs.Words.{ReadsOrTells};
 
 use crate::values::{kind_in, prefix_in, type_in};
 use clap::ArgMatches;
@@ -17,20 +17,20 @@ pub(crate) struct Places {
     pub kind: RouteKind,
 }
 
-/// What the options give of them.
-pub(crate) fn places_of(matches: &ArgMatches<'_>) -> Option<Places>
-    ensures { Reads (HasPlaces (rows_of (found_of matches.now))) result }
+/// What the options give of them, or which one has no meaning.
+pub(crate) fn places_of(matches: &ArgMatches<'_>) -> Result<Places, &'static str>
+    ensures { ReadsOrTells (HasPlaces (rows_of (found_of matches.now))) result }
 {
     let Some(prefix) = prefix_in(matches) else {
-        return None;
+        return Err("--prefix is no network A.B.C.D/L whose other bits are 0");
     };
     let Some(external) = type_in(matches) else {
-        return None;
+        return Err("--type is neither 1 nor 2");
     };
     let Some(kind) = kind_in(matches) else {
-        return None;
+        return Err("--kind is none of intra, inter, ext1 and ext2");
     };
-    Some(Places {
+    Ok(Places {
         prefix,
         external,
         kind,

@@ -21,7 +21,7 @@ pub fn unread(alloc: Global, error: &io::Error) -> Error
 {
     match error.kind() {
         IoKind::OutOfMemory => Error::from(AllocError),
-        _ => arguments::wrong_value(alloc, "a word isn't UTF-8"),
+        _ => arguments::error(alloc, ErrorKind::InvalidValue, "a word isn't UTF-8"),
     }
 }
 

@@ -8,20 +8,19 @@ ghost use Rattle.clap.specs.Walk.{rows_of};
 ghost use Rattle.clap.specs.declared.error.kind.ErrorKind.TheVariants as kinds;
 ghost use Rattle.hooktool_line.specs.Lists.{HasLists};
 ghost use Rattle.hooktool_line.specs.Questions.{HasAsked, HasQuestion, asked_of, hops_from};
-ghost use Rattle.hooktool_line.specs.Requests.{HasAnswer, HasFuel, HasHook, HasTurns, IsAnswer};
-ghost use Rattle.hooktool_line.specs.Requests.{IsHook, IsMade, IsTurns, IsWrong};
+ghost use Rattle.hooktool_line.specs.Requests.{HasFuel, HasHook, IsHook, IsMade, IsWrong};
 ghost use Rattle.hooktool_line.specs.Requests.{IsWrongWord, MadeBy, Makes};
-ghost use Rattle.hooktool_line.specs.Words.{Reads, ReadsOrLacks};
+ghost use Rattle.hooktool_line.specs.Words.{Reads, ReadsOrLacks, ReadsOrTells};
 
-use crate::arguments::{no_command, wrong_value};
+use crate::arguments::error;
 use crate::asked::Asked;
-use crate::numbers::{Numbers, numbers_of, wrong_number};
+use crate::numbers::{Numbers, numbers_of};
 use crate::packets::packet_in;
 use crate::places::{Places, places_of};
 use crate::rows::rows_in;
 use crate::settings::{Setting, settings_in};
-use crate::values::{NotRead, kind_in, number_of, prefix_in, type_in, word_of};
-use address_texts::read_within;
+use crate::values::{NotRead, number_of, told_number, word_of};
+use clap::error::ErrorKind;
 use clap::{ArgMatches, Error};
 use isa::Hook;
 use std::alloc::{AllocError, Global};
@@ -126,20 +125,22 @@ fn asked_of(places: Places, numbers: Numbers) -> Asked
     }
 }
 
-/// What the options ask but for the packet and the rows, and how many times. None where one of
+/// What the options ask but for the packet and the rows, and how many times. Or which of
 /// their words has no meaning.
-fn asked_in(matches: &ArgMatches<'_>) -> Option<(Asked, u32)>
-    ensures { Reads (λ p. HasAsked (rows_of (found_of matches.now)) p.0 p.1) result }
+fn asked_in(matches: &ArgMatches<'_>) -> Result<(Asked, u32), &'static str>
+    ensures { ReadsOrTells (λ p. HasAsked (rows_of (found_of matches.now)) p.0 p.1) result }
 {
-    let Some(places) = places_of(matches) else {
-        return None;
+    let places = match places_of(matches) {
+        Ok(places) => places,
+        Err(why) => return Err(why),
     };
-    let Some(numbers) = numbers_of(matches) else {
-        return None;
+    let numbers = match numbers_of(matches) {
+        Ok(numbers) => numbers,
+        Err(why) => return Err(why),
     };
     match number_of(matches, "times", 1, 1, 1000) {
-        Some(times) => Some((asked_of(places, numbers), times as u32)),
-        None => None,
+        Some(times) => Ok((asked_of(places, numbers), times as u32)),
+        None => Err("--times is no number from 1 to 1000"),
     }
 }
 
@@ -170,8 +171,9 @@ pub(crate) fn question_of<'a>(
 ) -> Result<Question<'a>, NotRead>
     ensures { ReadsOrLacks (HasQuestion (rows_of (found_of matches.now))) result }
 {
-    let Some((asked, times)) = asked_in(matches) else {
-        return Err(NotRead::Meaningless);
+    let (asked, times) = match asked_in(matches) {
+        Ok(both) => both,
+        Err(why) => return Err(NotRead::Meaningless(why)),
     };
     match packet_in(alloc, word_of(matches, "packet")) {
         Ok(packet) => match lists_in(alloc, matches) {
@@ -196,84 +198,47 @@ pub(crate) fn question_of<'a>(
     }
 }
 
-/// The number of turns that a word gives.
-fn turns_of(word: &str) -> Option<Option<u32>>
-    ensures { Reads (IsTurns word.now) result }
+/// What the options say of fuel, or which one is no such number.
+fn fuel_of(matches: &ArgMatches<'_>) -> Result<FuelAsked, &'static str>
+    ensures { ReadsOrTells (HasFuel (rows_of (found_of matches.now))) result }
 {
-    match read_within(word, 1, 999_999) {
-        Some(turns) => Some(Some(turns as u32)),
-        None => None,
-    }
-}
-
-/// How many turns loops may take, where that is told. None where the word is no such number.
-fn turns_in(matches: &ArgMatches<'_>) -> Option<Option<u32>>
-    ensures { Reads (HasTurns (rows_of (found_of matches.now))) result }
-{
-    match word_of(matches, "fuel") {
-        None => Some(None),
-        Some(word) => turns_of(word),
-    }
-}
-
-/// The answer that a word gives.
-fn answer_of(word: &str) -> Option<Option<u32>>
-    ensures { Reads (IsAnswer word.now) result }
-{
-    match read_within(word, 0, 0x7fff_ffff) {
-        Some(answer) => Some(Some(answer as u32)),
-        None => None,
-    }
-}
-
-/// What is answered once the turns are used up, where that is told. None where the word is no such
-/// number.
-fn answer_in(matches: &ArgMatches<'_>) -> Option<Option<u32>>
-    ensures { Reads (HasAnswer (rows_of (found_of matches.now))) result }
-{
-    match word_of(matches, "fuel-answer") {
-        None => Some(None),
-        Some(word) => answer_of(word),
-    }
-}
-
-/// What the options say of fuel. None where one of their words is no such number.
-fn fuel_of(matches: &ArgMatches<'_>) -> Option<FuelAsked>
-    ensures { Reads (HasFuel (rows_of (found_of matches.now))) result }
-{
-    let Some(turns) = turns_in(matches) else {
-        return None;
+    let Some(turns) = told_number(matches, "fuel", 1, 999_999) else {
+        return Err("--fuel is no number from 1 to 999999");
     };
-    match answer_in(matches) {
-        Some(answer) => Some(FuelAsked { turns, answer }),
-        None => None,
+    match told_number(matches, "fuel-answer", 0, 0x7fff_ffff) {
+        Some(answer) => Ok(FuelAsked { turns, answer }),
+        None => Err("--fuel-answer is no number from 0 to 2147483647"),
     }
 }
+
+// What is told of a word that isn't there; the command line takes no words without it.
+const MISSING: &str = "a word is missing";
 
 fn annotate_request<'a>(matches: &ArgMatches<'a>) -> Result<HooktoolRequest<'a>, NotRead>
     ensures { IsMade (codes "annotate") (rows_of (found_of matches.now)) result }
 {
+    let fuel = match fuel_of(matches) {
+        Ok(fuel) => fuel,
+        Err(why) => return Err(NotRead::Meaningless(why)),
+    };
     let Some(hook) = word_of(matches, "HOOK") else {
-        return Err(NotRead::Meaningless);
+        return Err(NotRead::Meaningless(MISSING));
     };
     let Some(hook) = Hook::from_name(hook) else {
-        return Err(NotRead::Meaningless);
+        return Err(NotRead::Meaningless("HOOK is none of count, tag, price and veto"));
     };
     let Some(code) = word_of(matches, "CODE") else {
-        return Err(NotRead::Meaningless);
+        return Err(NotRead::Meaningless(MISSING));
     };
     let Some(object) = word_of(matches, "OBJECT") else {
-        return Err(NotRead::Meaningless);
+        return Err(NotRead::Meaningless(MISSING));
     };
-    match fuel_of(matches) {
-        Some(fuel) => Ok(HooktoolRequest::Annotate {
-            hook,
-            code,
-            object,
-            fuel,
-        }),
-        None => Err(NotRead::Meaningless),
-    }
+    Ok(HooktoolRequest::Annotate {
+        hook,
+        code,
+        object,
+        fuel,
+    })
 }
 
 /// The hook that a word names.
@@ -299,24 +264,25 @@ fn hook_of(matches: &ArgMatches<'_>) -> Option<Option<Hook>>
 fn build_request<'a>(matches: &ArgMatches<'a>) -> Result<HooktoolRequest<'a>, NotRead>
     ensures { IsMade (codes "build") (rows_of (found_of matches.now)) result }
 {
+    let fuel = match fuel_of(matches) {
+        Ok(fuel) => fuel,
+        Err(why) => return Err(NotRead::Meaningless(why)),
+    };
     let Some(file) = word_of(matches, "FILE") else {
-        return Err(NotRead::Meaningless);
+        return Err(NotRead::Meaningless(MISSING));
     };
     let Some(folder) = word_of(matches, "FOLDER") else {
-        return Err(NotRead::Meaningless);
+        return Err(NotRead::Meaningless(MISSING));
     };
     let Some(hook) = hook_of(matches) else {
-        return Err(NotRead::Meaningless);
+        return Err(NotRead::Meaningless("--hook is none of count, tag, price and veto"));
     };
-    match fuel_of(matches) {
-        Some(fuel) => Ok(HooktoolRequest::Build {
-            file,
-            folder,
-            hook,
-            fuel,
-        }),
-        None => Err(NotRead::Meaningless),
-    }
+    Ok(HooktoolRequest::Build {
+        file,
+        folder,
+        hook,
+        fuel,
+    })
 }
 
 fn explain_request<'a>(matches: &ArgMatches<'a>) -> Result<HooktoolRequest<'a>, NotRead>
@@ -324,7 +290,7 @@ fn explain_request<'a>(matches: &ArgMatches<'a>) -> Result<HooktoolRequest<'a>, 
 {
     match word_of(matches, "OBJECT") {
         Some(object) => Ok(HooktoolRequest::Explain { object }),
-        None => Err(NotRead::Meaningless),
+        None => Err(NotRead::Meaningless(MISSING)),
     }
 }
 
@@ -332,7 +298,7 @@ fn try_request<'a>(alloc: Global, matches: &ArgMatches<'a>) -> Result<HooktoolRe
     ensures { IsMade (codes "try") (rows_of (found_of matches.now)) result }
 {
     let Some(object) = word_of(matches, "OBJECT") else {
-        return Err(NotRead::Meaningless);
+        return Err(NotRead::Meaningless(MISSING));
     };
     match question_of(alloc, matches) {
         Ok(question) => Ok(HooktoolRequest::Try { object, question }),
@@ -345,7 +311,7 @@ fn test_request<'a>(matches: &ArgMatches<'a>) -> Result<HooktoolRequest<'a>, Not
 {
     match word_of(matches, "FILE") {
         Some(file) => Ok(HooktoolRequest::Test { file }),
-        None => Err(NotRead::Meaningless),
+        None => Err(NotRead::Meaningless(MISSING)),
     }
 }
 
@@ -363,49 +329,7 @@ fn made_by<'a>(
         "explain" => explain_request(matches),
         "try" => try_request(alloc, matches),
         "test" => test_request(matches),
-        _ => Err(NotRead::Meaningless),
-    }
-}
-
-// Which word of `try` has no meaning, where it is one but the packet and the lists.
-pub(crate) fn wrong_option(matches: &ArgMatches<'_>) -> &'static str {
-    let Some(_) = prefix_in(matches) else {
-        return "--prefix is no network A.B.C.D/L whose other bits are 0";
-    };
-    let Some(_) = type_in(matches) else {
-        return "--type is neither 1 nor 2";
-    };
-    let Some(_) = kind_in(matches) else {
-        return "--kind is none of intra, inter, ext1 and ext2";
-    };
-    let Some(_) = numbers_of(matches) else {
-        return wrong_number(matches);
-    };
-    let Some(_) = number_of(matches, "times", 1, 1, 1000) else {
-        return "--times is no number from 1 to 1000";
-    };
-    "--packet is neither hex digits, two a byte, nor @FILE, or --row isn't A.B.C.D/L=COST, \
-        --counter isn't K=N with K up to 255 and N up to 16777215, or --cell isn't J=N with J up \
-        to 63"
-}
-
-// Which of the options about fuel has no meaning, where one has none, else the other word.
-fn wrong_fuel(matches: &ArgMatches<'_>, other: &'static str) -> &'static str {
-    let Some(_) = turns_in(matches) else {
-        return "--fuel is no number from 1 to 999999";
-    };
-    match answer_in(matches) {
-        Some(_) => other,
-        None => "--fuel-answer is no number from 0 to 2147483647",
-    }
-}
-
-// What is wrong with the words of a command that makes nothing of them.
-fn wrong_word(name: &str, matches: &ArgMatches<'_>) -> &'static str {
-    match name {
-        "annotate" => wrong_fuel(matches, "HOOK is none of count, tag, price and veto"),
-        "build" => wrong_fuel(matches, "--hook is none of count, tag, price and veto"),
-        _ => wrong_option(matches),
+        _ => Err(NotRead::Meaningless(MISSING)),
     }
 }
 
@@ -421,7 +345,7 @@ fn request_by<'a>(
 {
     match made_by(alloc, name, matches) {
         Ok(request) => Ok(request),
-        Err(NotRead::Meaningless) => Err(wrong_value(alloc, wrong_word(name, matches))),
+        Err(NotRead::Meaningless(why)) => Err(error(alloc, ErrorKind::InvalidValue, why)),
         Err(NotRead::OutOfMemory) => Err(Error::from(AllocError)),
     }
 }
@@ -437,6 +361,6 @@ pub(crate) fn request_of<'a>(
 {
     match matches.subcommand() {
         Some((name, matches)) => request_by(alloc, name, matches),
-        None => Err(no_command(alloc)),
+        None => Err(error(alloc, ErrorKind::MissingSubcommand, "no command is given")),
     }
 }

@@ -11,7 +11,7 @@ ghost use Rattle.hooktool_line.specs.Steps.{AddsLine, AreLines, BeginsWith, IsTa
 ghost use Rattle.hooktool_line.specs.Steps.{SaysAnswer, is_blank, is_mark, views, words_of};
 
 use crate::arguments::asking;
-use crate::requests::{Question, question_of, wrong_option};
+use crate::requests::{Question, question_of};
 use crate::values::NotRead;
 use address_texts::read_within;
 use clap::{ArgMatches, Error};
@@ -74,19 +74,13 @@ const KNOWN: &str = "a line is empty, a comment behind #, program OBJECT, ask OP
 fn answer_of(name: &str, number: &str) -> Option<ExpectedAnswer>
     ensures { IfSome result (SaysAnswer (name.now ∷ number.now ∷ [])) }
 {
+    let Some(number) = read_within(number, 0, u64::MAX) else {
+        return None;
+    };
     match name {
-        "metric" => match read_within(number, 0, 16_777_214) {
-            Some(number) => Some(ExpectedAnswer::Metric(number as u32)),
-            None => None,
-        },
-        "tag" => match read_within(number, 0, 4_294_967_295) {
-            Some(number) => Some(ExpectedAnswer::Tag(number as u32)),
-            None => None,
-        },
-        "answer" => match read_within(number, 0, u64::MAX) {
-            Some(number) => Some(ExpectedAnswer::Number(number)),
-            None => None,
-        },
+        "metric" if number <= 16_777_214 => Some(ExpectedAnswer::Metric(number as u32)),
+        "tag" if number <= 4_294_967_295 => Some(ExpectedAnswer::Tag(number as u32)),
+        "answer" => Some(ExpectedAnswer::Number(number)),
         _ => None,
     }
 }
@@ -123,24 +117,21 @@ fn of_two<'a>(name: &'a str, word: &'a str) -> Option<Step<'a>>
 fn of_three<'a>(name: &'a str, index: &'a str, number: &'a str) -> Option<Step<'a>>
     ensures { IfSome result (Says (name.entry.now ∷ index.entry.now ∷ number.entry.now ∷ [])) }
 {
+    let Some(index) = read_within(index, 0, 255) else {
+        return None;
+    };
     let Some(number) = read_within(number, 0, u64::MAX) else {
         return None;
     };
     match name {
-        "counter" => match read_within(index, 0, 255) {
-            Some(index) => Some(Step::Counter {
-                index: index as u8,
-                number,
-            }),
-            None => None,
-        },
-        "cell" => match read_within(index, 0, 63) {
-            Some(index) => Some(Step::Cell {
-                index: index as u8,
-                number,
-            }),
-            None => None,
-        },
+        "counter" => Some(Step::Counter {
+            index: index as u8,
+            number,
+        }),
+        "cell" if index <= 63 => Some(Step::Cell {
+            index: index as u8,
+            number,
+        }),
         _ => None,
     }
 }
@@ -197,7 +188,7 @@ fn question_in<'a>(alloc: Global, matches: &ArgMatches<'a>) -> Result<Question<'
 {
     match question_of(alloc, matches) {
         Ok(question) => Ok(question),
-        Err(NotRead::Meaningless) => Err(LineError::Words(wrong_option(matches))),
+        Err(NotRead::Meaningless(why)) => Err(LineError::Words(why)),
         Err(NotRead::OutOfMemory) => Err(LineError::Memory),
     }
 }
@@ -284,7 +275,10 @@ fn words_of_line<'a>(alloc: Global, line: &'a str) -> Result<Vec<&'a str>, Alloc
 pub fn words_of_lines<'a>(alloc: Global, text: &'a str) -> Result<Vec<Vec<&'a str>>, AllocError> {
     let mut lines = Vec::new(alloc);
     for line in text.split('\n') {
-        lines.push(words_of_line(alloc, line)?)?;
+        match words_of_line(alloc, line) {
+            Ok(words) => lines.push(words)?,
+            Err(error) => return Err(error),
+        }
     }
     Ok(lines)
 }
@@ -295,7 +289,7 @@ fn push_line<'a>(
     read: &mut Vec<TestLine<'a>>,
     number: u64,
     words: &'a [&'a str],
-) -> Result<(), WrongLine>
+) -> Result<(), LineError>
     ensures { OnOk result (AddsLine number (views words.entry.now) read.old.items read.new.items) }
 {
     if is_blank(words) {
@@ -303,7 +297,7 @@ fn push_line<'a>(
     }
     let step = match step_of(alloc, words) {
         Ok(step) => step,
-        Err(error) => return Err(WrongLine { number, error }),
+        Err(error) => return Err(error),
     };
     let line = TestLine {
         number,
@@ -312,10 +306,7 @@ fn push_line<'a>(
     };
     match read.push(line) {
         Ok(()) => Ok(()),
-        Err(_) => Err(WrongLine {
-            number,
-            error: LineError::Memory,
-        }),
+        Err(_) => Err(LineError::Memory),
     }
 }
 
@@ -332,7 +323,7 @@ pub fn read_lines<'w, 't>(
         let number = index as u64 + 1;
         match push_line(alloc, &mut read, number, words.as_slice()) {
             Ok(()) => (),
-            Err(wrong) => return Err(wrong),
+            Err(error) => return Err(WrongLine { number, error }),
         }
     }
     Ok(read)

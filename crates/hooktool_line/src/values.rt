@@ -1,25 +1,33 @@
 //! Words that stand for values.
 
-ghost use Rattle.std.specs.Prelude.{◌≡◌, ◌≤◌, option_map, codes, IfSome, Some};
+ghost use Rattle.std.specs.Prelude.{◌≡◌, ◌≤◌, ◌<◌, ◌^◌, option_map, codes, IfSome, Some};
 ghost use Rattle.clap.specs.Matches.{found_of};
 ghost use Rattle.clap.specs.Walk.{first_of, rows_of};
 ghost use Rattle.words.specs.Prefixes.{Network};
 ghost use Rattle.words.specs.declared.route.ExternalType.{ExternalType};
 ghost use Rattle.words.specs.declared.route.RouteKind.{RouteKind};
 ghost use Rattle.hooktool_line.specs.Questions.{HasNumber};
-ghost use Rattle.hooktool_line.specs.Words.{IsPrefix, OrElse, Reads, everything, kind_word};
-ghost use Rattle.hooktool_line.specs.Words.{type_word};
+ghost use Rattle.hooktool_line.specs.Requests.{HasTold};
+ghost use Rattle.hooktool_line.specs.Words.{IsPrefix, IsTold, OrElse, Reads, everything};
+ghost use Rattle.hooktool_line.specs.Words.{kind_word, type_word};
 
 use address_texts::{read_prefix, read_within};
 use clap::ArgMatches;
 use words::{Address, ExternalType, Prefix, RouteKind};
 
-/// Why nothing is read of words: they have no meaning, or memory was refused.
+/// Why nothing is read of words: they have no meaning, which is told by this text, or memory was
+/// refused.
 #[derive(Clone, Copy)]
 pub(crate) enum NotRead {
-    Meaningless,
+    Meaningless(&'static str),
     OutOfMemory,
 }
+
+/// What is told of a packet, a row or a setting that has no meaning.
+pub(crate) const WRONG_PART: &str =
+    "--packet is neither hex digits, two a byte, nor @FILE, or --row isn't A.B.C.D/L=COST, \
+        --counter isn't K=N with K up to 255 and N up to 16777215, or --cell isn't J=N with J up \
+        to 63";
 
 /// The word under a name.
 pub(crate) fn word_of<'a>(matches: &ArgMatches<'a>, name: &str) -> Option<&'a str>
@@ -45,6 +53,33 @@ pub(crate) fn number_of(
     match word_of(matches, name) {
         None => Some(usual),
         Some(word) => read_within(word, least, most),
+    }
+}
+
+/// The number that a word is, as one that is told.
+fn told(word: &str, least: u64, most: u64) -> Option<Option<u32>>
+    requires { most < 2 ^ 32 }
+    ensures { Reads (IsTold least most word.now) result }
+{
+    match read_within(word, least, most) {
+        Some(number) => Some(Some(number as u32)),
+        None => None,
+    }
+}
+
+/// The number under a name, where it is told. None where the word is no such number.
+pub(crate) fn told_number(
+    matches: &ArgMatches<'_>,
+    name: &str,
+    least: u64,
+    most: u64,
+) -> Option<Option<u32>>
+    requires { most < 2 ^ 32 }
+    ensures { Reads (HasTold (rows_of (found_of matches.now)) name.now least most) result }
+{
+    match word_of(matches, name) {
+        None => Some(None),
+        Some(word) => told(word, least, most),
     }
 }
 

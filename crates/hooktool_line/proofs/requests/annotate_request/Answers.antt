@@ -29,19 +29,19 @@ returns-in_default-word_of-2 c =
     no_annotate rows (λ hook code object fuel a b has d. has_none rows (codes "OBJECT")
     c.in_default-word_of-2.ensures object has)
 
-pub returns-in-None : goal.returns-in-None
-returns-in-None c =
+pub returns-in-Err : goal.returns-in-Err
+returns-in-Err c =
     let rows = rows_of (found_of c.args.matches.now) in
-    no_annotate rows (λ hook code object fuel a b d has. c.in-None.ensures fuel has)
+    no_annotate rows (λ hook code object fuel a b d has. c.in-Err.ensures fuel has)
 
-pub returns-in-Some-fuel_of : goal.returns-in-Some-fuel_of
-returns-in-Some-fuel_of c =
+pub returns : goal.returns
+returns c =
     let rows = rows_of (found_of c.args.matches.now) in (
       refl,
       (
         sym c.in-Some.ensures ∙ ap Some c.in-Some-from_name.ensures.found,
         has_word rows (codes "CODE") c.in-Some-word_of.code c.in-Some-word_of.ensures,
         has_word rows (codes "OBJECT") c.in-Some-word_of-2.object c.in-Some-word_of-2.ensures,
-        c.in-Some-fuel_of.ensures,
+        c.in-Ok.ensures,
       ),
     )

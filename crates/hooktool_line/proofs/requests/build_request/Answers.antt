@@ -21,19 +21,19 @@ returns-in_default-hook_of c =
     let rows = rows_of (found_of c.args.matches.now) in
     no_build rows (λ file folder hook fuel a b has d. c.in_default-hook_of.ensures hook has)
 
-pub returns-in-None : goal.returns-in-None
-returns-in-None c =
+pub returns-in-Err : goal.returns-in-Err
+returns-in-Err c =
     let rows = rows_of (found_of c.args.matches.now) in
-    no_build rows (λ file folder hook fuel a b d has. c.in-None.ensures fuel has)
+    no_build rows (λ file folder hook fuel a b d has. c.in-Err.ensures fuel has)
 
-pub returns-in-Some-fuel_of : goal.returns-in-Some-fuel_of
-returns-in-Some-fuel_of c =
+pub returns : goal.returns
+returns c =
     let rows = rows_of (found_of c.args.matches.now) in (
       refl,
       (
         has_word rows (codes "FILE") c.in-Some.file c.in-Some.ensures,
         has_word rows (codes "FOLDER") c.in-Some-word_of.folder c.in-Some-word_of.ensures,
         c.in-Some-hook_of.ensures,
-        c.in-Some-fuel_of.ensures,
+        c.in-Ok.ensures,
       ),
     )

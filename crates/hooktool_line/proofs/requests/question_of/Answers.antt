@@ -4,18 +4,18 @@ use Rattle.std.proofs.Common.{Option, codes, subst}
 use Rattle.hooktool_line.proofs.Questioned.{HasPacket, no_lists, no_packet}
 use Rattle.hooktool_line.proofs.requests.question_of.Goals as goal
 
-pub returns-in_default : goal.returns-in_default
-returns-in_default c = λ question q. c.in_default.ensures (question.asked, question.times) q.asked
+pub returns-in-Err : goal.returns-in-Err
+returns-in-Err c = λ question q. c.in-Err.ensures (question.asked, question.times) q.asked
 
-pub returns-in-Ok : goal.returns-in-Ok
-returns-in-Ok c = no_lists (rows_of (found_of c.args.matches.now)) c.in-Err-lists_in.lack
+pub returns-in-Ok-packet_in : goal.returns-in-Ok-packet_in
+returns-in-Ok-packet_in c = no_lists (rows_of (found_of c.args.matches.now)) c.in-Err-lists_in.lack
     c.in-Err-lists_in.ensures
 
 pub returns-in-Ok-lists_in : goal.returns-in-Ok-lists_in
 returns-in-Ok-lists_in c = record {
-  asked = c.in-Some.ensures;
-  packet = subst (λ (w : Option Text). HasPacket w c.in-Ok.packet) c.word_of.ensures
-      c.in-Ok.ensures;
+  asked = c.in-Ok.ensures;
+  packet = subst (λ (w : Option Text). HasPacket w c.in-Ok-packet_in.packet)
+      c.word_of.ensures c.in-Ok-packet_in.ensures;
   table = c.in-Ok-lists_in.ensures.table;
   counters = c.in-Ok-lists_in.ensures.counters;
   cells = c.in-Ok-lists_in.ensures.cells;

@@ -18,5 +18,5 @@ returns-in-Some-clause-err c =
     named c.request_by.ensures.err
 
 pub returns-in-None-clause-err : goal.returns-in-None-clause-err
-returns-in-None-clause-err c = all_unnamed _ c.no_command.result
-    (no_rows _ c.subcommand.result c.in-None.is c.subcommand.ensures.name) c.no_command.ensures
+returns-in-None-clause-err c = all_unnamed _ c.error.result
+    (no_rows _ c.subcommand.result c.in-None.is c.subcommand.ensures.name) c.error.ensures
