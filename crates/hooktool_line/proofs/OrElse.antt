@@ -1,12 +1,11 @@
 -- What is read of a word that may lack.
-use Rattle.std.proofs.Common.{◌≡◌, ◌≢◌, ◌∙◌, ◌<◌, ◌≤◌, ◌^◌, ap, sym, subst, refl, ℕ, List, Option}
-use Rattle.std.proofs.Common.{Some, None}
+use Rattle.std.proofs.Common.{◌≡◌, ◌≢◌, ◌≤◌, sym, subst, ℕ, Option, Some}
+use Rattle.std.proofs.Common.{None}
 use Rattle.std.specs.Borrow.{Bor}
-use Rattle.std.specs.Prelude.{IfSome, MatchOption, decimal, option_map}
+use Rattle.std.specs.Prelude.{MatchOption, decimal, option_map}
 use Rattle.clap.specs.Walk.{Text}
 use Rattle.words.specs.Prefixes.{IsNetwork, Network}
 use Rattle.words.specs.Text.{prefix_text}
-use Rattle.hooktool_line.proofs.Made.{some≢none}
 use Rattle.hooktool_line.specs.Words.{IsNumber, IsPrefix, OrElse, Reads}
 
 abbrev pub now_of : Option (Bor Text) → Option Text
@@ -39,12 +38,6 @@ pub read_given : {A : Type 0} (found : Option Text) (word : Option (Bor Text)) (
 read_given found word one U M (Some x) e some reads = given found word one (U x) (M x) e some reads
 read_given found word one U M None e some reads =
     λ x has. reads x (given_back found word one (U x) (M x) e some has)
-
--- of something that is found only where it has the meaning
-pub reads_only : {A : Type 0} (M : A → Type 0) (r : Option A) → IfSome r M
-    → ((x : A) → M x → r ≡ Some x) → Reads M r
-reads_only M (Some x) found only = found
-reads_only M None found only = λ x has. some≢none x (sym (only x has))
 
 pub reads_number : (word : Text) (least most : ℕ) (r : Option ℕ)
     → MatchOption r ((n : ℕ) → least ≤ n → n ≤ most → word ≢ decimal n)

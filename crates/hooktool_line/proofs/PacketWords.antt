@@ -1,13 +1,15 @@
 -- Packets that are read of words.
 use Rattle.std.proofs.Common.{◌≡◌, ◌≢◌, ◌∙◌, ◌+◌, ℕ, List, ◌∷◌, Option, Some, None, Ok, Err, sym}
-use Rattle.std.proofs.Common.{subst, lit<, length, drop, inl, inr}
+use Rattle.std.proofs.Common.{subst, lit<, length, drop, inl, inr, refl}
 use Rattle.std.specs.Prelude.{◌⊎◌, MatchOption, Result}
 use Rattle.std.specs.Str.Pattern.{FindsCharPrefix}
 use Rattle.std.proofs.lemmas.Str.Pattern.{strip_prefix_char}
 use Rattle.hex.specs.Hex.{decode_of}
 use Rattle.hex.specs.declared.error.FromHexError.{FromHexError}
 use Rattle.hex.specs.declared.error.FromHexError.TheVariants.{OutOfMemory}
-use Rattle.hooktool_line.specs.Words.{IsPacket, ReadsOrLacks}
+use Rattle.clap.specs.Walk.{Text}
+use Rattle.hooktool_line.proofs.OrElse.{given_back, now_of}
+use Rattle.hooktool_line.specs.Words.{IsNoPacket, IsPacket, OrElse, ReadsOrLacks}
 use Rattle.hooktool_line.specs.declared.requests.PacketSource.{PacketSource}
 use Rattle.hooktool_line.specs.declared.requests.PacketSource.TheVariants as packets
 use Rattle.hooktool_line.specs.declared.values.NotRead.{NotRead}
@@ -50,3 +52,12 @@ lacks w e (not_read.Meaningless why) plain bad other = elim bad [
   | inr refused ↦ no_packet w e plain refused
 ]
 lacks w e not_read.OutOfMemory plain bad other = tt
+
+-- the same of an option's word
+pub lacks_given : (word : Option (Bor Text)) (one : Bor Text) (lack : NotRead) → word ≡ Some one
+    → ReadsOrLacks (IsPacket one.now) (Err lack)
+    → ReadsOrLacks (λ packet. OrElse (now_of word) (IsNoPacket packet) (λ w. IsPacket w packet))
+    (Err lack)
+lacks_given word one (not_read.Meaningless why) is none = λ packet has.
+    none packet (given_back _ word one (IsNoPacket packet) (λ w. IsPacket w packet) refl is has)
+lacks_given word one not_read.OutOfMemory is none = tt

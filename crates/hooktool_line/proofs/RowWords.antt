@@ -1,6 +1,6 @@
 -- Rows of the routing table, read of words.
-use Rattle.std.proofs.Common.{◌≡◌, ◌∙◌, ◌+◌, ◌<◌, ◌≤◌, ℕ, List, [], ◌∷◌, ◌++◌, Option, Some, None}
-use Rattle.std.proofs.Common.{ap, sym, subst, length, get_or, lit<, arith}
+use Rattle.std.proofs.Common.{◌≡◌, ◌∙◌, ◌<◌, ℕ, List, ◌∷◌, ◌++◌, Option, Some, None}
+use Rattle.std.proofs.Common.{ap, subst, length, get_or, lit<}
 use Rattle.std.specs.Prelude.{MatchOption, decimal}
 use Rattle.std.proofs.lemmas.Str.Pattern.{IsSplitOnceResult, split_after, split_parts}
 use Rattle.address_texts.proofs.Addresses.{high_in_prefix}

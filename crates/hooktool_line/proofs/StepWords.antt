@@ -1,22 +1,20 @@
 -- The lines of a test, word by word.
 use Rattle.std.proofs.Common.{◌≡◌, ◌∙◌, ◌+◌, ◌<◌, ◌≤◌, ◌^◌, ℕ, List, [], ◌∷◌, ◌++◌, Option, Some}
-use Rattle.std.proofs.Common.{None, Ok, Err, ap, arith, get_or, inl, inr, length, refl, subst, sym}
-use Rattle.std.proofs.Common.{suc, take, true, false, zero}
+use Rattle.std.proofs.Common.{None, ap, arith, get_or, inl, inr, length, refl, subst, sym}
+use Rattle.std.proofs.Common.{take, true}
 use Rattle.std.proofs.lemmas.Fmt.{decimal_injective}
 use Rattle.std.proofs.lemmas.List.{length-map, length-take-le, take_all, take_more}
 use Rattle.std.specs.Borrow.{Bor}
 use Rattle.std.specs.Global.{Vec}
-use Rattle.std.specs.Prelude.{◌⊎◌, Result, IfOk, IfSome, decimal, map}
 use Rattle.clap.specs.Faults.{fault_of, is_simple_and_free}
 use Rattle.clap.specs.Simple.{App, HasMatchesOf}
 use Rattle.clap.specs.Walk.{Row, Text, first_of}
 use Rattle.clap.specs.declared.parser.matches.ArgMatches.{ArgMatches}
 use Rattle.hooktool_line.specs.CommandLine.{ask}
 use Rattle.hooktool_line.specs.Questions.{HasNumber}
-use Rattle.hooktool_line.specs.Steps.{AddsLine, AreLines, IsLine, IsTakenAs, Says, is_blank}
+use Rattle.hooktool_line.specs.Steps.{AddsLine, AreLines, IsLine, IsTakenAs, is_blank}
 use Rattle.hooktool_line.specs.Steps.{views, words_of}
 use Rattle.hooktool_line.specs.Words.{IsNumber, OrElse}
-use Rattle.hooktool_line.specs.declared.steps.Step.{Step}
 use Rattle.hooktool_line.specs.declared.steps.TestLine.{TestLine}
 
 -- ---- what the line ask takes
@@ -122,29 +120,3 @@ pub lines_all : (lines : List (Vec (Bor Text))) (i : ℕ) (read : List TestLine)
     → AreLines 1 (words_of (take i lines)) read → AreLines 1 (words_of lines) read
 lines_all lines i read le are = subst
     (λ (xs : List (Vec (Bor Text))). AreLines 1 (words_of xs) read) (take_all i lines le) are
-
--- ---- the words of a slice, one by one
-
-abbrev pub words_at : List (Bor Text) → Bor Text → (i k : ℕ) → List Text
-words_at words d i zero = []
-words_at words d i (suc k) = (get_or words i d).now ∷ words_at words d (suc i) k
-
-words_behind : (word d : Bor Text) (words : List (Bor Text)) (i k : ℕ)
-    → words_at (word ∷ words) d (suc i) k ≡ words_at words d i k
-words_behind word d words i zero = refl
-words_behind word d words i (suc k) =
-    ap (λ (rest : List Text). (get_or words i d).now ∷ rest) (words_behind word d words (suc i) k)
-
-pub seen : (words : List (Bor Text)) (d : Bor Text) (k : ℕ) → length words ≡ k
-    → views words ≡ words_at words d 0 k
-seen [] d zero e = refl
-seen [] d (suc k) e = absurd (omega arith)
-seen (word ∷ words) d zero e = absurd (omega arith)
-seen (word ∷ words) d (suc k) e =
-    let same : length words ≡ k = omega arith in
-    ap (λ (rest : List Text). word.now ∷ rest)
-    (seen words d k same ∙ sym (words_behind word d words 0 k))
-
-pub said : (r : Option Step) (words parts : List Text) → words ≡ parts → IfSome r (Says parts)
-    → IfSome r (Says words)
-said r words parts e is = subst (λ (these : List Text). IfSome r (Says these)) (sym e) is

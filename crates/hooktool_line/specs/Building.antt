@@ -8,7 +8,6 @@ use Rattle.clap.specs.declared.builder.arg.Arg.{Arg}
 use Rattle.clap.specs.declared.builder.command.Command.{Command}
 use Rattle.clap.specs.declared.builder.command.Command.TheViews.{out-Command}
 use Rattle.hooktool_line.specs.CommandLine.{option, repeated_option, required_word}
-use Rattle.hooktool_line.specs.Words.{Each}
 use Rattle.hooktool_line.specs.declared.arguments.Form.{Form}
 use Rattle.hooktool_line.specs.declared.arguments.Given.{Given}
 use Rattle.hooktool_line.specs.declared.arguments.Given.TheVariants as given

@@ -19,20 +19,7 @@ fn without_packet(error: FromHexError) -> NotRead
     }
 }
 
-/// The packet that a word is: a file's, or bytes in hex.
-fn packet_of<'a>(alloc: Global, word: &'a str) -> Result<PacketSource<'a>, NotRead>
-    ensures { ReadsOrLacks (IsPacket word.entry.now) result }
-{
-    if let Some(path) = word.strip_prefix('@') {
-        return Ok(PacketSource::File(path));
-    }
-    match hex::decode(alloc, word) {
-        Ok(bytes) => Ok(PacketSource::Bytes(bytes)),
-        Err(error) => Err(without_packet(error)),
-    }
-}
-
-/// The same of an option's word, if it is given.
+/// The packet that an option's word is: a file's, or bytes in hex; none where it isn't given.
 pub(crate) fn packet_in<'a>(
     alloc: Global,
     word: Option<&'a str>,
@@ -40,8 +27,14 @@ pub(crate) fn packet_in<'a>(
     ensures { ReadsOrLacks (λ packet. OrElse (option_map (λ w. w.now) word.entry)
         (IsNoPacket packet) (λ w. IsPacket w packet)) result }
 {
-    match word {
-        Some(word) => packet_of(alloc, word),
-        None => Ok(PacketSource::Bytes(Vec::new(alloc))),
+    let Some(word) = word else {
+        return Ok(PacketSource::Bytes(Vec::new(alloc)));
+    };
+    if let Some(path) = word.strip_prefix('@') {
+        return Ok(PacketSource::File(path));
+    }
+    match hex::decode(alloc, word) {
+        Ok(bytes) => Ok(PacketSource::Bytes(bytes)),
+        Err(error) => Err(without_packet(error)),
     }
 }

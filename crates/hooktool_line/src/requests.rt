@@ -241,23 +241,16 @@ fn annotate_request<'a>(matches: &ArgMatches<'a>) -> Result<HooktoolRequest<'a>,
     })
 }
 
-/// The hook that a word names.
-fn named_hook(word: &str) -> Option<Option<Hook>>
-    ensures { Reads (IsHook word.now) result }
-{
-    match Hook::from_name(word) {
-        Some(hook) => Some(Some(hook)),
-        None => None,
-    }
-}
-
 /// The hook of functions in no hook's section, where that is told. None where the word is no hook.
 fn hook_of(matches: &ArgMatches<'_>) -> Option<Option<Hook>>
     ensures { Reads (HasHook (rows_of (found_of matches.now))) result }
 {
     match word_of(matches, "hook") {
         None => Some(None),
-        Some(word) => named_hook(word),
+        Some(word) => match Hook::from_name(word) {
+            Some(hook) => Some(Some(hook)),
+            None => None,
+        },
     }
 }
 

@@ -85,34 +85,6 @@ fn answer_of(name: &str, number: &str) -> Option<ExpectedAnswer>
     }
 }
 
-/// What a single word says.
-fn of_one<'a>(name: &'a str) -> Option<Step<'a>>
-    ensures { IfSome result (Says (name.entry.now ∷ [])) }
-{
-    match name {
-        "withheld" => Some(Step::Answers(ExpectedAnswer::Withheld)),
-        "installed" => Some(Step::Answers(ExpectedAnswer::Installed)),
-        _ => None,
-    }
-}
-
-/// What two words say.
-fn of_two<'a>(name: &'a str, word: &'a str) -> Option<Step<'a>>
-    ensures { IfSome result (Says (name.entry.now ∷ word.entry.now ∷ [])) }
-{
-    match name {
-        "program" => Some(Step::Program(word)),
-        "not" => match word {
-            "installed" => Some(Step::Answers(ExpectedAnswer::NotInstalled)),
-            _ => None,
-        },
-        _ => match answer_of(name, word) {
-            Some(answer) => Some(Step::Answers(answer)),
-            None => None,
-        },
-    }
-}
-
 /// What a name and two numbers say.
 fn of_three<'a>(name: &'a str, index: &'a str, number: &'a str) -> Option<Step<'a>>
     ensures { IfSome result (Says (name.entry.now ∷ index.entry.now ∷ number.entry.now ∷ [])) }
@@ -136,23 +108,17 @@ fn of_three<'a>(name: &'a str, index: &'a str, number: &'a str) -> Option<Step<'
     }
 }
 
-/// What four words say.
-fn of_four<'a>(name: &'a str, path: &'a str, second: &'a str, number: &'a str) -> Option<Step<'a>>
-    ensures { IfSome result (Says (name.entry.now ∷ path.entry.now ∷ second.entry.now
+/// What a path and a number say of packets.
+fn packets_of<'a>(path: &'a str, number: &'a str) -> Option<Step<'a>>
+    ensures { IfSome result (Says (codes "packets" ∷ path.entry.now ∷ codes "interface"
         ∷ number.entry.now ∷ [])) }
 {
-    match name {
-        "packets" => match second {
-            "interface" => match read_within(number, 0, 63) {
-                Some(number) => Some(Step::Packets {
-                    path,
-                    interface: number as u16,
-                }),
-                None => None,
-            },
-            _ => None,
-        },
-        _ => None,
+    match read_within(number, 0, 63) {
+        Some(number) => Some(Step::Packets {
+            path,
+            interface: number as u16,
+        }),
+        None => None,
     }
 }
 
@@ -161,10 +127,16 @@ fn told_by<'a>(words: &[&'a str]) -> Option<Step<'a>>
     ensures { IfSome result (Says (views words.entry.now)) }
 {
     match *words {
-        [name] => of_one(name),
-        [name, word] => of_two(name, word),
-        [name, first, second] => of_three(name, first, second),
-        [name, first, second, third] => of_four(name, first, second, third),
+        ["withheld"] => Some(Step::Answers(ExpectedAnswer::Withheld)),
+        ["installed"] => Some(Step::Answers(ExpectedAnswer::Installed)),
+        ["program", path] => Some(Step::Program(path)),
+        ["not", "installed"] => Some(Step::Answers(ExpectedAnswer::NotInstalled)),
+        [name, number] => match answer_of(name, number) {
+            Some(answer) => Some(Step::Answers(answer)),
+            None => None,
+        },
+        [name, index, number] => of_three(name, index, number),
+        ["packets", path, "interface", number] => packets_of(path, number),
         _ => None,
     }
 }
@@ -204,28 +176,11 @@ fn asked_by<'a>(alloc: Global, words: &'a [&'a str]) -> Result<Question<'a>, Lin
     }
 }
 
-/// Tells whether the word is this text.
-fn is_text(word: &str, text: &str) -> bool
-    ensures { IsTrue result → word.now ≡ text.now }
-{
-    word == text
-}
-
-/// Tells whether the line asks.
-fn is_ask(words: &[&str]) -> bool
-    ensures { IsTrue result → BeginsWith (codes "ask") (views words.now) }
-{
-    match *words {
-        [] => false,
-        [first, ..] => is_text(first, "ask"),
-    }
-}
-
 /// The step that the words of a line say.
 fn step_of<'a>(alloc: Global, words: &'a [&'a str]) -> Result<Step<'a>, LineError>
     ensures { IfOk result (Says (views words.entry.now)) }
 {
-    if is_ask(words) {
+    if let ["ask", ..] = *words {
         return match asked_by(alloc, words) {
             Ok(question) => Ok(Step::Ask(question)),
             Err(error) => Err(error),
@@ -237,23 +192,16 @@ fn step_of<'a>(alloc: Global, words: &'a [&'a str]) -> Result<Step<'a>, LineErro
     }
 }
 
-/// Tells whether the words are none, or a comment.
+/// Tells whether the words are none, or a comment: the first one begins with `#`.
 fn is_blank(words: &[&str]) -> bool
     ensures { result ≡ is_blank (views words.now) }
 {
     match *words {
         [] => true,
-        [first, ..] => is_mark(first),
-    }
-}
-
-/// Tells whether the word begins with `#`.
-fn is_mark(word: &str) -> bool
-    ensures { result ≡ is_mark word.now }
-{
-    match word.as_bytes() {
-        [] => false,
-        [first, ..] => *first == b'#',
+        [first, ..] => match first.as_bytes() {
+            [b'#', ..] => true,
+            _ => false,
+        },
     }
 }
 

@@ -56,17 +56,6 @@ pub(crate) fn number_of(
     }
 }
 
-/// The number that a word is, as one that is told.
-fn told(word: &str, least: u64, most: u64) -> Option<Option<u32>>
-    requires { most < 2 ^ 32 }
-    ensures { Reads (IsTold least most word.now) result }
-{
-    match read_within(word, least, most) {
-        Some(number) => Some(Some(number as u32)),
-        None => None,
-    }
-}
-
 /// The number under a name, where it is told. None where the word is no such number.
 pub(crate) fn told_number(
     matches: &ArgMatches<'_>,
@@ -79,33 +68,10 @@ pub(crate) fn told_number(
 {
     match word_of(matches, name) {
         None => Some(None),
-        Some(word) => told(word, least, most),
-    }
-}
-
-/// The type of an external metric.
-fn type_of(word: &str) -> Option<ExternalType>
-    ensures found { IfSome result (λ kind. word.now ≡ type_word kind) }
-    ensures only { (kind : ExternalType) → word.now ≡ type_word kind → result ≡ Some kind }
-{
-    match word {
-        "1" => Some(ExternalType::Type1),
-        "2" => Some(ExternalType::Type2),
-        _ => None,
-    }
-}
-
-/// The kind of a route.
-fn kind_of(word: &str) -> Option<RouteKind>
-    ensures found { IfSome result (λ kind. word.now ≡ kind_word kind) }
-    ensures only { (kind : RouteKind) → word.now ≡ kind_word kind → result ≡ Some kind }
-{
-    match word {
-        "intra" => Some(RouteKind::Intra),
-        "inter" => Some(RouteKind::Inter),
-        "ext1" => Some(RouteKind::External1),
-        "ext2" => Some(RouteKind::External2),
-        _ => None,
+        Some(word) => match read_within(word, least, most) {
+            Some(number) => Some(Some(number as u32)),
+            None => None,
+        },
     }
 }
 
@@ -129,7 +95,9 @@ pub(crate) fn type_in(matches: &ArgMatches<'_>) -> Option<ExternalType>
 {
     match word_of(matches, "type") {
         None => Some(ExternalType::Type2),
-        Some(word) => type_of(word),
+        Some("1") => Some(ExternalType::Type1),
+        Some("2") => Some(ExternalType::Type2),
+        Some(_) => None,
     }
 }
 
@@ -141,6 +109,10 @@ pub(crate) fn kind_in(matches: &ArgMatches<'_>) -> Option<RouteKind>
 {
     match word_of(matches, "kind") {
         None => Some(RouteKind::Intra),
-        Some(word) => kind_of(word),
+        Some("intra") => Some(RouteKind::Intra),
+        Some("inter") => Some(RouteKind::Inter),
+        Some("ext1") => Some(RouteKind::External1),
+        Some("ext2") => Some(RouteKind::External2),
+        Some(_) => None,
     }
 }

@@ -1,7 +1,7 @@
 use Rattle.clap.specs.Matches.{found_of}
 use Rattle.clap.specs.Walk.{Text, rows_of}
-use Rattle.std.proofs.Common.{Option, codes, subst}
-use Rattle.hooktool_line.proofs.Questioned.{HasPacket, no_lists, no_packet}
+use Rattle.std.proofs.Common.{Option, subst}
+use Rattle.hooktool_line.proofs.Questioned.{HasPacket, no_lists}
 use Rattle.hooktool_line.proofs.requests.question_of.Goals as goal
 
 pub returns-in-Err : goal.returns-in-Err
