@@ -1,4 +1,5 @@
 pub mod Begun
 pub mod Answered
 pub mod Done
+pub mod Served
 mod Read

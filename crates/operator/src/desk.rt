@@ -4,7 +4,9 @@ ghost use mathlib.Core.List.{IsPrefix};
 ghost use Rattle.maps.specs.Words.{SeatView};
 ghost use Rattle.hooks.specs.Known.{history_of, known_to, operations_of};
 ghost use Rattle.hooks.specs.declared.operation.LoaderOperation.{LoaderOperation};
+ghost use Rattle.worker.specs.Lives.{senses_of, standing};
 ghost use Rattle.worker.specs.Turns.{IsListed};
+ghost use Rattle.worker.specs.Work.TheVariants as work;
 ghost use Rattle.operator.specs.Answers.{
   IsAnswerToAdd,
   IsAnswerToAttach,
@@ -18,8 +20,19 @@ ghost use Rattle.operator.specs.Answers.{
   IsObeyed,
   IsPublished,
   IsRefreshed,
+  IsServed,
   change,
   sources,
+};
+ghost use Rattle.operator.specs.Served.{
+  AreServed,
+  IsCommandServed,
+  IsLineServed,
+  IsServedThen,
+  IsTurnServed,
+  IsUnlessFault,
+  turn_after,
+  turn_due,
 };
 
 use crate::lists::{counters, lines, neighbors, table};
@@ -59,9 +72,16 @@ fn add<L: Site, B: Taker<L>, R: Wait, K: Transport + Drop, C: Seconds + Drop>(
     outlet: &mut Outlet<K, C>,
     external: External,
 ) -> Told
-    ensures { IsAnswerToAdd B.offers B.took B.refuses B.wanted
+    ensures told { IsAnswerToAdd B.offers B.took B.refuses B.wanted
         (known_to port.old.asker) (known_to port.new.asker) external
         port.old.share.amount port.new.share.amount result }
+    ensures served { IsUnlessFault K.faults (IsServed
+        (senses_of K.gives K.hears C.shows B.offers B.took B.refuses port.old.number)
+        (work.Add external))
+        (standing outlet.old.link outlet.old.clock (known_to port.old.asker)
+        port.old.share.amount)
+        (standing outlet.new.link outlet.new.clock (known_to port.new.asker)
+        port.new.share.amount) }
 {
     let prefix = external.prefix;
     match outlet.take(rt, hub, port, &Work::Add(external)) {
@@ -84,9 +104,16 @@ fn withdraw<L: Site, B: Taker<L>, R: Wait, K: Transport + Drop, C: Seconds + Dro
     outlet: &mut Outlet<K, C>,
     prefix: Prefix,
 ) -> Told
-    ensures { IsAnswerToWithdraw B.offers B.took B.refuses
+    ensures told { IsAnswerToWithdraw B.offers B.took B.refuses
         (known_to port.old.asker) (known_to port.new.asker) prefix
         port.old.share.amount port.new.share.amount result }
+    ensures served { IsUnlessFault K.faults (IsServed
+        (senses_of K.gives K.hears C.shows B.offers B.took B.refuses port.old.number)
+        (work.Withdraw prefix))
+        (standing outlet.old.link outlet.old.clock (known_to port.old.asker)
+        port.old.share.amount)
+        (standing outlet.new.link outlet.new.clock (known_to port.new.asker)
+        port.new.share.amount) }
 {
     match outlet.take(rt, hub, port, &Work::Withdraw(prefix)) {
         Ok(()) => Told::Withdrawn,
@@ -102,6 +129,14 @@ impl<L: Site, Q: Wait + Drop, K: Transport + Drop, C: Seconds + Drop> Desk<L, Q,
             (known_to port.old.asker) (known_to port.new.asker)
             self.new.unrefreshed port.old.share.amount port.new.share.amount }
         ensures known { IsPrefix (known_to port.old.asker) (known_to port.new.asker) }
+        ensures number { port.new.number ≡ port.old.number }
+        ensures served { IsUnlessFault K.faults (IsServed
+            (senses_of K.gives K.hears C.shows B.offers B.took B.refuses port.old.number)
+            work.Refresh)
+            (standing self.old.outlet.link self.old.outlet.clock (known_to port.old.asker)
+            port.old.share.amount)
+            (standing self.new.outlet.link self.new.outlet.clock (known_to port.new.asker)
+            port.new.share.amount) }
         ensures loader { self.new.loader ≡ self.old.loader }
         ensures interfaces { self.new.interfaces ≡ self.old.interfaces }
     {
@@ -115,6 +150,13 @@ impl<L: Site, Q: Wait + Drop, K: Transport + Drop, C: Seconds + Drop> Desk<L, Q,
         ensures followed { IsFollowed B.offers B.took B.refuses
             (operations_of self.old.loader) (known_to port.new.asker) self.new.unrefreshed
             port.old.share.amount port.new.share.amount }
+        ensures served { IsUnlessFault K.faults (IsServedThen
+            (senses_of K.gives K.hears C.shows B.offers B.took B.refuses port.old.number)
+            work.Refresh)
+            (standing self.old.outlet.link self.old.outlet.clock (known_to port.old.asker)
+            port.old.share.amount)
+            (standing self.new.outlet.link self.new.outlet.clock (known_to port.new.asker)
+            port.new.share.amount) }
         ensures loader { self.new.loader ≡ self.old.loader }
         ensures interfaces { self.new.interfaces ≡ self.old.interfaces }
     {
@@ -138,6 +180,13 @@ impl<L: Site, Q: Wait + Drop, K: Transport + Drop, C: Seconds + Drop> Desk<L, Q,
             self.old.unrefreshed self.new.unrefreshed
             port.old.share.amount port.new.share.amount port.old.seat port.new.seat)
             program result }
+        ensures served { IsUnlessFault K.faults (IsTurnServed
+            (senses_of K.gives K.hears C.shows B.offers B.took B.refuses port.old.number)
+            (turn_after result))
+            (standing self.old.outlet.link self.old.outlet.clock (known_to port.old.asker)
+            port.old.share.amount)
+            (standing self.new.outlet.link self.new.outlet.clock (known_to port.new.asker)
+            port.new.share.amount) }
         ensures interfaces { self.new.interfaces ≡ self.old.interfaces }
     {
         let hook = program.hook();
@@ -165,6 +214,13 @@ impl<L: Site, Q: Wait + Drop, K: Transport + Drop, C: Seconds + Drop> Desk<L, Q,
             self.old.unrefreshed self.new.unrefreshed
             port.old.share.amount port.new.share.amount port.old.seat port.new.seat)
             path.now result }
+        ensures served { IsUnlessFault K.faults (IsTurnServed
+            (senses_of K.gives K.hears C.shows B.offers B.took B.refuses port.old.number)
+            (turn_after result))
+            (standing self.old.outlet.link self.old.outlet.clock (known_to port.old.asker)
+            port.old.share.amount)
+            (standing self.new.outlet.link self.new.outlet.clock (known_to port.new.asker)
+            port.new.share.amount) }
         ensures interfaces { self.new.interfaces ≡ self.old.interfaces }
     {
         match read_program(self.alloc, files, path) {
@@ -186,6 +242,13 @@ impl<L: Site, Q: Wait + Drop, K: Transport + Drop, C: Seconds + Drop> Desk<L, Q,
             self.old.unrefreshed self.new.unrefreshed
             port.old.share.amount port.new.share.amount port.old.seat port.new.seat)
             hook result }
+        ensures served { IsUnlessFault K.faults (IsTurnServed
+            (senses_of K.gives K.hears C.shows B.offers B.took B.refuses port.old.number)
+            (turn_after result))
+            (standing self.old.outlet.link self.old.outlet.clock (known_to port.old.asker)
+            port.old.share.amount)
+            (standing self.new.outlet.link self.new.outlet.clock (known_to port.new.asker)
+            port.new.share.amount) }
         ensures interfaces { self.new.interfaces ≡ self.old.interfaces }
     {
         if self.loader.detach(hook).is_err() {
@@ -213,6 +276,13 @@ impl<L: Site, Q: Wait + Drop, K: Transport + Drop, C: Seconds + Drop> Desk<L, Q,
             self.old.unrefreshed self.new.unrefreshed
             port.old.share.amount port.new.share.amount port.old.seat port.new.seat)
             command.now result }
+        ensures served { IsUnlessFault K.faults (IsCommandServed
+            (senses_of K.gives K.hears C.shows B.offers B.took B.refuses port.old.number)
+            command.now result)
+            (standing self.old.outlet.link self.old.outlet.clock (known_to port.old.asker)
+            port.old.share.amount)
+            (standing self.new.outlet.link self.new.outlet.clock (known_to port.new.asker)
+            port.new.share.amount) }
         ensures interfaces { self.new.interfaces ≡ self.old.interfaces }
     {
         Some(match command {
@@ -232,6 +302,14 @@ impl<L: Site, Q: Wait + Drop, K: Transport + Drop, C: Seconds + Drop> Desk<L, Q,
         ensures made_up { IsMadeUp B.offers B.took B.refuses self.old.unrefreshed
             self.new.unrefreshed (known_to port.old.asker) (known_to port.new.asker)
             port.old.share.amount port.new.share.amount port.old.seat port.new.seat }
+        ensures number { port.new.number ≡ port.old.number }
+        ensures served { IsUnlessFault K.faults (IsTurnServed
+            (senses_of K.gives K.hears C.shows B.offers B.took B.refuses port.old.number)
+            (turn_due self.old.unrefreshed))
+            (standing self.old.outlet.link self.old.outlet.clock (known_to port.old.asker)
+            port.old.share.amount)
+            (standing self.new.outlet.link self.new.outlet.clock (known_to port.new.asker)
+            port.new.share.amount) }
         ensures loader { self.new.loader ≡ self.old.loader }
         ensures interfaces { self.new.interfaces ≡ self.old.interfaces }
     {
@@ -241,7 +319,7 @@ impl<L: Site, Q: Wait + Drop, K: Transport + Drop, C: Seconds + Drop> Desk<L, Q,
     }
 
     // What a line asks for, done.
-    #[tactic(auto, using(crate::proofs::Answered::obeyed))]
+    #[tactic(auto, using(crate::proofs::Answered::obeyed, crate::proofs::Served::line_served))]
     fn answer<B: Taker<L>, R: Wait, F: ReadsFiles>(
         &mut self,
         rt: &R,
@@ -259,6 +337,13 @@ impl<L: Site, Q: Wait + Drop, K: Transport + Drop, C: Seconds + Drop> Desk<L, Q,
             self.old.unrefreshed self.new.unrefreshed
             port.old.share.amount port.new.share.amount port.old.seat port.new.seat)
             line.now result }
+        ensures served { IsUnlessFault K.faults (IsLineServed
+            (senses_of K.gives K.hears C.shows B.offers B.took B.refuses port.old.number)
+            line.now result)
+            (standing self.old.outlet.link self.old.outlet.clock (known_to port.old.asker)
+            port.old.share.amount)
+            (standing self.new.outlet.link self.new.outlet.clock (known_to port.new.asker)
+            port.new.share.amount) }
         ensures interfaces { self.new.interfaces ≡ self.old.interfaces }
     {
         let read = read_command(self.alloc, line);
@@ -292,6 +377,13 @@ impl<L: Site, Q: Wait + Drop, K: Transport + Drop, C: Seconds + Drop> Desk<L, Q,
             knew (known_to port.new.asker) still self.new.unrefreshed
             counted port.new.share.amount seat port.new.seat)
             line.now result }
+        ensures served { IsUnlessFault K.faults (AreServed
+            (senses_of K.gives K.hears C.shows B.offers B.took B.refuses port.old.number)
+            self.old.unrefreshed line.now result)
+            (standing self.old.outlet.link self.old.outlet.clock (known_to port.old.asker)
+            port.old.share.amount)
+            (standing self.new.outlet.link self.new.outlet.clock (known_to port.new.asker)
+            port.new.share.amount) }
         ensures interfaces { self.new.interfaces ≡ self.old.interfaces }
     {
         self.make_up(rt, hub, port);
@@ -318,6 +410,13 @@ impl<L: Site, Q: Wait + Drop, K: Transport + Drop, C: Seconds + Drop> Desk<L, Q,
             knew (known_to port.new.asker) still self.new.unrefreshed
             counted port.new.share.amount seat port.new.seat)
             line.now result }
+        ensures served { IsUnlessFault K.faults (AreServed
+            (senses_of K.gives K.hears C.shows B.offers B.took B.refuses port.old.number)
+            self.old.unrefreshed line.now result)
+            (standing self.old.outlet.link self.old.outlet.clock (known_to port.old.asker)
+            port.old.share.amount)
+            (standing self.new.outlet.link self.new.outlet.clock (known_to port.new.asker)
+            port.new.share.amount) }
         ensures interfaces { self.new.interfaces ≡ self.old.interfaces }
     {
         self.obey_with(rt, &SystemFiles { rt }, hub, port, line)

@@ -1,5 +1,5 @@
 //! Where port 0 sends.
-ghost use Rattle.std.specs.Prelude.{◌≡◌, ◌<◌, ◌⊎◌, ◌↔◌, IfErr, OnErr, OnOk, IsTrue};
+ghost use Rattle.std.specs.Prelude.{◌≡◌, ◌<◌, ◌≤◌, ◌⊎◌, ◌↔◌, IfErr, OnErr, OnOk, IsTrue};
 ghost use mathlib.Core.List.{IsPrefix};
 ghost use Rattle.hooks.specs.Known.{known_to};
 ghost use Rattle.worker.specs.Lives.{IsSent, senses_of, standing};
@@ -19,10 +19,11 @@ pub struct Outlet<K: Transport + Drop, C: Seconds + Drop> {
 }
 
 // Sends what a turn sends. That the link failed isn't forgotten.
-#[tactic(auto, using(crate::proofs::Done::sent))]
+#[tactic(auto, using(crate::proofs::Done::sent, crate::proofs::Served::never_fewer))]
 fn send<K: Transport>(link: &mut K, failed: &mut bool, turned: &Turned)
     ensures sent { K.faults link.new ≡ K.faults link.old
         → IsSent K.gives link.old turned.now link.new }
+    ensures faults { K.faults link.old ≤ K.faults link.new }
     ensures failed { IsTrue failed.new
         ↔ (IsTrue failed.old ⊎ (K.faults link.old < K.faults link.new)) }
 {
@@ -50,6 +51,8 @@ impl<K: Transport + Drop, C: Seconds + Drop> Outlet<K, C> {
             port.old.share.amount work.now error) }
         ensures err { OnErr result (port.new.share.amount ≡ port.old.share.amount) }
         ensures known { IsPrefix (known_to port.old.asker) (known_to port.new.asker) }
+        ensures number { port.new.number ≡ port.old.number }
+        ensures faults { K.faults self.old.link ≤ K.faults self.new.link }
         ensures served { K.faults self.new.link ≡ K.faults self.old.link → IsServed
             (senses_of K.gives K.hears C.shows B.offers B.took B.refuses port.old.number) work.now
             (standing self.old.link self.old.clock (known_to port.old.asker)

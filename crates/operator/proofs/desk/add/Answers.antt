@@ -1,10 +1,13 @@
 use Rattle.std.proofs.Common.{true, false, subst}
 use Rattle.hooks.specs.Known.{known_to}
+use Rattle.worker.specs.Lives.{senses_of, standing}
+use Rattle.worker.specs.Work.TheVariants as work
 use Rattle.operator.proofs.Done.{announced}
+use Rattle.operator.proofs.Served.{served_still}
 use Rattle.operator.proofs.desk.add.Goals as goal
 
-pub returns-then-wants : goal.returns-then-wants
-returns-then-wants g c =
+pub returns-then-wants-clause-told : goal.returns-then-wants-clause-told
+returns-then-wants-clause-told g c =
     announced g.B.Taker.offers g.B.Taker.took g.B.Taker.refuses g.B.Taker.wanted
     (known_to c.args.port.now.asker) (known_to c.take.new.port.asker)
     (known_to c.wants.new.port.asker) c.args.external
@@ -13,8 +16,8 @@ returns-then-wants g c =
     (subst (λ is. g.B.Taker.wanted c.take.new.port.share.amount c.args.external.prefix is)
     c.if-wants.true c.wants.ensures.wanted)
 
-pub returns-in-Ok : goal.returns-in-Ok
-returns-in-Ok g c =
+pub returns-in-Ok-clause-told : goal.returns-in-Ok-clause-told
+returns-in-Ok-clause-told g c =
     announced g.B.Taker.offers g.B.Taker.took g.B.Taker.refuses g.B.Taker.wanted
     (known_to c.args.port.now.asker) (known_to c.take.new.port.asker)
     (known_to c.wants.new.port.asker) c.args.external
@@ -22,3 +25,27 @@ returns-in-Ok g c =
     c.wants.ensures.known c.wants.ensures.share c.in-Ok.ensures.taken
     (subst (λ is. g.B.Taker.wanted c.take.new.port.share.amount c.args.external.prefix is)
     c.if-wants.false c.wants.ensures.wanted)
+
+pub returns-then-wants-clause-served : goal.returns-then-wants-clause-served
+returns-then-wants-clause-served g c =
+    served_still g.K.Transport.faults
+    (senses_of g.K.Transport.gives g.K.Transport.hears g.C.Seconds.shows
+    g.B.Taker.offers g.B.Taker.took g.B.Taker.refuses c.args.port.now.number)
+    (work.Add c.args.external)
+    (standing c.args.outlet.now.link c.args.outlet.now.clock (known_to c.args.port.now.asker)
+    c.args.port.now.share.amount)
+    c.take.new.self.link c.take.new.self.clock (known_to c.take.new.port.asker)
+    (known_to c.wants.new.port.asker) c.take.new.port.share.amount c.wants.new.port.share.amount
+    c.wants.ensures.known c.wants.ensures.share c.take.ensures.faults c.take.ensures.served
+
+pub returns-in-Ok-clause-served : goal.returns-in-Ok-clause-served
+returns-in-Ok-clause-served g c =
+    served_still g.K.Transport.faults
+    (senses_of g.K.Transport.gives g.K.Transport.hears g.C.Seconds.shows
+    g.B.Taker.offers g.B.Taker.took g.B.Taker.refuses c.args.port.now.number)
+    (work.Add c.args.external)
+    (standing c.args.outlet.now.link c.args.outlet.now.clock (known_to c.args.port.now.asker)
+    c.args.port.now.share.amount)
+    c.take.new.self.link c.take.new.self.clock (known_to c.take.new.port.asker)
+    (known_to c.wants.new.port.asker) c.take.new.port.share.amount c.wants.new.port.share.amount
+    c.wants.ensures.known c.wants.ensures.share c.take.ensures.faults c.take.ensures.served

@@ -1,8 +1,10 @@
 use Rattle.std.proofs.Common.{refl}
 use Rattle.hooks.specs.Known.{known_to, operations_of}
+use Rattle.worker.specs.Lives.{senses_of, standing}
 use Rattle.worker.specs.Turns.{IsListed}
 use Rattle.operator.specs.Answers.{change, sources}
 use Rattle.operator.proofs.Answered.{told_why}
+use Rattle.operator.proofs.Served.{lines_served}
 use Rattle.operator.proofs.desk.Desk.attach.Goals as goal
 
 pub returns-in-Err-clause-told : goal.returns-in-Err-clause-told
@@ -23,3 +25,12 @@ returns-in-Err-clause-told g c =
       seat = refl;
     })
     c.in-Err.ensures.err c.reason.ensures c.lines.ensures
+
+pub returns-in-Err-clause-served : goal.returns-in-Err-clause-served
+returns-in-Err-clause-served g c =
+    let senses = senses_of g.K.Transport.gives g.K.Transport.hears g.C.Seconds.shows
+    g.B.Taker.offers g.B.Taker.took g.B.Taker.refuses c.args.port.now.number in
+    let own = c.args.self.now.outlet in
+    let now = standing own.link own.clock (known_to c.args.port.now.asker)
+    c.args.port.now.share.amount in
+    lines_served g.K.Transport.faults senses c.reason.result c.lines.result now c.lines.ensures

@@ -1,10 +1,13 @@
 use Rattle.std.proofs.Common.{refl}
 use Rattle.hooks.specs.Known.{known_to, operations_of}
 use Rattle.console.specs.declared.command.Command.TheVariants as commands
+use Rattle.worker.specs.Lives.{senses_of, standing}
 use Rattle.worker.specs.Turns.{IsListed}
+use Rattle.worker.specs.Work.TheVariants as work
 use Rattle.operator.specs.Answers.{change, sources}
 use Rattle.operator.specs.Shown.{ShowsNeighbors, ShowsTable}
 use Rattle.operator.proofs.Answered.{made, moved, read_out}
+use Rattle.operator.proofs.Served.{as_known, served_moved, unserved_still}
 use Rattle.operator.proofs.desk.Desk.carry_out.Goals.{in-Attach, in-Detach, in-Add, in-Withdraw}
 use Rattle.operator.proofs.desk.Desk.carry_out.Goals.{in-Table, in-Neighbors, in-Counters}
 use Rattle.operator.proofs.desk.Desk.carry_out.Goals as goal
@@ -44,13 +47,13 @@ returns-clause-told g c =
           (λ i. change before (operations_of (w.self-is i).loader) knew
           (known_to (w.port-is i).asker) still (w.self-is i).unrefreshed
           port.share.amount (w.port-is i).share.amount port.seat (w.port-is i).seat)
-          w.in-Add.is w.result-is ((refl, refl), w.add.ensures)
+          w.in-Add.is w.result-is ((refl, refl), w.add.ensures.told)
       | in-Withdraw w ↦
           moved s n now _ command (commands.Withdraw w.in-Withdraw.prefix) answer w.withdraw.result
           (λ i. change before (operations_of (w.self-is i).loader) knew
           (known_to (w.port-is i).asker) still (w.self-is i).unrefreshed
           port.share.amount (w.port-is i).share.amount port.seat (w.port-is i).seat)
-          w.in-Withdraw.is w.result-is ((refl, refl), w.withdraw.ensures)
+          w.in-Withdraw.is w.result-is ((refl, refl), w.withdraw.ensures.told)
       | in-Table w ↦
           moved s n now _ command (commands.Table) answer w.lines.result
           (λ i. change before (operations_of (w.self-is i).loader) knew
@@ -94,4 +97,86 @@ returns-clause-told g c =
             read_out shown w.counters.result w.lines-in-Counters.result w.counters.ensures.text
                 w.counters.ensures.some w.lines-in-Counters.ensures,
           )
+    ]
+
+pub returns-clause-served : goal.returns-clause-served
+returns-clause-served g c =
+    let faults = g.K.Transport.faults in
+    let senses = senses_of g.K.Transport.gives g.K.Transport.hears g.C.Seconds.shows
+    g.B.Taker.offers g.B.Taker.took g.B.Taker.refuses c.args.port.now.number in
+    let own = c.args.self.now.outlet in
+    let now = standing own.link own.clock (known_to c.args.port.now.asker)
+    c.args.port.now.share.amount in
+    let desk = c.match-command.self in
+    let port = c.match-command.port in
+    let after = standing desk.outlet.link desk.outlet.clock (known_to port.asker)
+    port.share.amount in
+    let command = c.args.command.now in
+    let answer = c.match-command.result in
+    elim c.match-command.branch [
+      | in-Attach w ↦
+          served_moved faults senses command (commands.Attach w.in-Attach.path) answer
+          w.attach.result now after
+          (standing w.attach.new.self.outlet.link w.attach.new.self.outlet.clock (known_to
+          w.attach.new.port.asker) w.attach.new.port.share.amount)
+          (λ i. standing (w.self-is i).outlet.link (w.self-is i).outlet.clock
+          (known_to (w.port-is i).asker) (w.port-is i).share.amount)
+          w.in-Attach.is w.result-is w.attach.ensures.served
+      | in-Detach w ↦
+          served_moved faults senses command (commands.Detach w.in-Detach.hook) answer
+          w.detach.result now after
+          (standing w.detach.new.self.outlet.link w.detach.new.self.outlet.clock (known_to
+          w.detach.new.port.asker) w.detach.new.port.share.amount)
+          (λ i. standing (w.self-is i).outlet.link (w.self-is i).outlet.clock
+          (known_to (w.port-is i).asker) (w.port-is i).share.amount)
+          w.in-Detach.is w.result-is w.detach.ensures.served
+      | in-Add w ↦
+          served_moved faults senses command (commands.Add w.in-Add.external) answer w.add.result
+          now after
+          (standing w.add.new.outlet.link w.add.new.outlet.clock (known_to w.add.new.port.asker)
+          w.add.new.port.share.amount)
+          (λ i. standing (w.self-is i).outlet.link (w.self-is i).outlet.clock
+          (known_to (w.port-is i).asker) (w.port-is i).share.amount)
+          w.in-Add.is w.result-is
+          (as_known faults senses (work.Add w.in-Add.external) now
+          (standing w.add.new.outlet.link w.add.new.outlet.clock (known_to w.add.new.port.asker)
+          w.add.new.port.share.amount)
+          w.add.ensures.served)
+      | in-Withdraw w ↦
+          served_moved faults senses command (commands.Withdraw w.in-Withdraw.prefix) answer
+          w.withdraw.result now after
+          (standing w.withdraw.new.outlet.link w.withdraw.new.outlet.clock (known_to
+          w.withdraw.new.port.asker) w.withdraw.new.port.share.amount)
+          (λ i. standing (w.self-is i).outlet.link (w.self-is i).outlet.clock
+          (known_to (w.port-is i).asker) (w.port-is i).share.amount)
+          w.in-Withdraw.is w.result-is
+          (as_known faults senses (work.Withdraw w.in-Withdraw.prefix) now
+          (standing w.withdraw.new.outlet.link w.withdraw.new.outlet.clock (known_to
+          w.withdraw.new.port.asker) w.withdraw.new.port.share.amount)
+          w.withdraw.ensures.served)
+      | in-Table w ↦
+          served_moved faults senses command (commands.Table) answer w.lines.result now after
+          now
+          (λ i. standing (w.self-is i).outlet.link (w.self-is i).outlet.clock
+          (known_to (w.port-is i).asker) (w.port-is i).share.amount)
+          w.in-Table.is w.result-is (unserved_still faults senses now now refl)
+      | in-Neighbors w ↦
+          served_moved faults senses command (commands.Neighbors) answer
+          w.lines-in-Neighbors.result now after
+          now
+          (λ i. standing (w.self-is i).outlet.link (w.self-is i).outlet.clock
+          (known_to (w.port-is i).asker) (w.port-is i).share.amount)
+          w.in-Neighbors.is w.result-is (unserved_still faults senses now now refl)
+      | in-Counters w ↦
+          served_moved faults senses command (commands.Counters) answer w.lines-in-Counters.result
+          now after
+          (standing own.link own.clock (known_to w.counters.new.port.asker)
+          w.counters.new.port.share.amount)
+          (λ i. standing (w.self-is i).outlet.link (w.self-is i).outlet.clock
+          (known_to (w.port-is i).asker) (w.port-is i).share.amount)
+          w.in-Counters.is w.result-is
+          (unserved_still faults senses now (standing own.link own.clock (known_to
+          w.counters.new.port.asker) w.counters.new.port.share.amount)
+          (λ i. standing own.link own.clock (w.counters.ensures.known i)
+          ((w.counters.ensures.share i).amount)))
     ]

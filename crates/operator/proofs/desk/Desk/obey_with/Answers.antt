@@ -1,7 +1,11 @@
+use Rattle.std.proofs.Common.{subst}
 use Rattle.hooks.specs.Known.{known_to, operations_of}
+use Rattle.worker.specs.Lives.{senses_of, standing}
 use Rattle.worker.specs.Turns.{IsListed}
 use Rattle.operator.specs.Answers.{change, sources}
+use Rattle.operator.specs.Served.{IsLineServed, IsUnlessFault}
 use Rattle.operator.proofs.Answered.{obeyed_from}
+use Rattle.operator.proofs.Served.{both_served}
 use Rattle.operator.proofs.desk.Desk.obey_with.Goals as goal
 
 pub returns-clause-told : goal.returns-clause-told
@@ -32,3 +36,25 @@ returns-clause-told g c =
           between.share.amount after.share.amount between.seat after.seat)
           c.answer.ensures.told,
     )
+
+pub returns-clause-served : goal.returns-clause-served
+returns-clause-served g c =
+    let faults = g.K.Transport.faults in
+    let own = c.args.self.now.outlet in
+    let now = standing own.link own.clock (known_to c.args.port.now.asker)
+    c.args.port.now.share.amount in
+    let first = c.make_up.new.self.outlet in
+    let between = standing first.link first.clock (known_to c.make_up.new.port.asker)
+    c.make_up.new.port.share.amount in
+    let last = c.answer.new.self.outlet in
+    let after = standing last.link last.clock (known_to c.answer.new.port.asker)
+    c.answer.new.port.share.amount in
+    let line = c.args.line.now in
+    both_served faults (senses_of g.K.Transport.gives g.K.Transport.hears g.C.Seconds.shows
+    g.B.Taker.offers g.B.Taker.took g.B.Taker.refuses c.args.port.now.number)
+    c.args.self.now.unrefreshed line
+    c.answer.result now between after c.make_up.ensures.served
+    (subst (λ n. IsUnlessFault faults (IsLineServed
+    (senses_of g.K.Transport.gives g.K.Transport.hears g.C.Seconds.shows
+    g.B.Taker.offers g.B.Taker.took g.B.Taker.refuses n) line c.answer.result) between after)
+    c.make_up.ensures.number c.answer.ensures.served)

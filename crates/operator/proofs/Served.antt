@@ -1,0 +1,183 @@
+-- The turns of a line, put together.
+use Rattle.std.proofs.Common.{◌≡◌, ℕ, ◌<◌, ◌≤◌, Bool, true, false, List, Option, None, Some}
+use Rattle.std.proofs.Common.{Result, Ok, Err, String, Global, refl, sym, subst, arith}
+use Rattle.std.specs.Prelude.{MatchResult, OnErr, OnOk}
+use mathlib.Core.List.{IsPrefix}
+use Rattle.hooks.specs.declared.operation.LoaderOperation.{LoaderOperation}
+use Rattle.hooks.proofs.Fronts.{prefix_self}
+use Rattle.worker.specs.Lives.{Senses, Standing, standing}
+use Rattle.worker.specs.Work.{Work}
+use Rattle.worker.specs.Work.TheVariants as work
+use Rattle.console.specs.Commands.{LineAsks}
+use Rattle.console.specs.declared.command.Command.{Command}
+use Rattle.console.specs.declared.command.Command.TheVariants as commands
+use Rattle.operator.specs.Answers.{IsAnswerTo, IsCarriedOut, IsServed, Change, Sources}
+use Rattle.operator.specs.Served.{AreServed, IsCommandServed, IsLineServed, IsServedThen}
+use Rattle.operator.specs.Served.{IsTurnServed, IsUnlessFault, turn_after, turn_due, turn_of}
+use Rattle.operator.specs.declared.told.Told.{Told}
+use Rattle.operator.specs.declared.told.Told.TheVariants as told
+
+-- whether it failed or not, a link counts no fewer faults
+pub never_fewer : {Link X E : Type 0} (faults : Link → ℕ) (before after : Link)
+    (outcome : Result X E) → OnOk outcome (faults after ≡ faults before)
+    → OnErr outcome (faults before < faults after) → faults before ≤ faults after
+never_fewer faults before after (Ok x) fine failed = omega (arith, fine)
+never_fewer faults before after (Err error) fine failed = omega (arith, failed)
+
+module _ {Link Clock : Type 0} (faults : Link → ℕ) (senses : Senses Link Clock) where
+  -- a turn that was served, by a port that since learnt nothing and gave no event
+  pub served_still : (w : Work) (before : Standing Link Clock) (link : Link) (clock : Clock)
+      (then known : List LoaderOperation) (between events : ℕ) → known ≡ then → events ≡ between
+      → faults before.link ≤ faults link
+      → (faults link ≡ faults before.link
+      → IsServed senses w before (standing link clock then between))
+      → IsUnlessFault faults (IsServed senses w) before (standing link clock known events)
+  served_still w before link clock then known between events kept same grown is = (
+    grown,
+    λ fine. subst (λ l. IsServed senses w before (standing link clock l events)) (sym kept)
+        (subst (λ n. IsServed senses w before (standing link clock then n)) (sym same)
+        (is fine)),
+  )
+
+  -- a port that learnt nothing before knows what it had known
+  pub as_known : (w : Work) (before after : Standing Link Clock)
+      → IsUnlessFault faults (IsServed senses w) before after
+      → IsUnlessFault faults (IsTurnServed senses (Some w)) before after
+  as_known w before after is = (is.0, λ fine. (before.known, prefix_self before.known, is.1 fine))
+
+  -- where there is no turn
+  pub unserved_still : (before after : Standing Link Clock) → after ≡ before
+      → IsUnlessFault faults (IsTurnServed senses None) before after
+  unserved_still before after same =
+      subst (λ a. IsUnlessFault faults (IsTurnServed senses None) before a) (sym same)
+      (omega arith, λ fine. refl)
+
+  -- nor where lines were made of an answer, or there was no memory for them
+  pub lines_served : {E : Type 0} (lines : Result (String Global) E) (answer : Told)
+      (now : Standing Link Clock)
+      → MatchResult lines (λ text. answer ≡ told.Lines text) (λ _. answer ≡ told.Memory)
+      → IsUnlessFault faults (IsTurnServed senses (turn_after answer)) now now
+  lines_served (Ok text) answer now is =
+      subst (λ t. IsUnlessFault faults (IsTurnServed senses (turn_after t)) now now) (sym is)
+      (unserved_still now now refl)
+  lines_served (Err error) answer now is =
+      subst (λ t. IsUnlessFault faults (IsTurnServed senses (turn_after t)) now now) (sym is)
+      (unserved_still now now refl)
+
+  -- the turn of a command by other names
+  pub served_moved : (command same : Command) (answer told : Told)
+      (before after other : Standing Link Clock) → after ≡ other → command ≡ same
+      → answer ≡ told
+      → IsUnlessFault faults (IsTurnServed senses (turn_of same told)) before other
+      → IsUnlessFault faults (IsTurnServed senses (turn_of command answer)) before after
+  served_moved command same answer told before after other is_after is_same is_told is =
+      subst (λ a. IsUnlessFault faults (IsTurnServed senses (turn_of command answer)) before a)
+      (sym is_after)
+      (subst (λ c. IsUnlessFault faults (IsTurnServed senses (turn_of c answer)) before other)
+      (sym is_same)
+      (subst (λ t. IsUnlessFault faults (IsTurnServed senses (turn_of same t)) before other)
+      (sym is_told) is))
+
+  -- a refresh that was due, or none
+  pub due_served : (due : Bool) (before after : Standing Link Clock) → due ≡ true
+      → IsUnlessFault faults (IsServed senses work.Refresh) before after
+      → IsUnlessFault faults (IsTurnServed senses (turn_due due)) before after
+  due_served due before after is served =
+      subst (λ d. IsUnlessFault faults (IsTurnServed senses (turn_due d)) before after) (sym is)
+      (as_known work.Refresh before after served)
+
+  pub none_due : (due : Bool) (now : Standing Link Clock) → due ≡ false
+      → IsUnlessFault faults (IsTurnServed senses (turn_due due)) now now
+  none_due due now is =
+      subst (λ d. IsUnlessFault faults (IsTurnServed senses (turn_due d)) now now) (sym is)
+      (unserved_still now now refl)
+
+  -- what is answered out of memory had no turn
+  no_turn : (s : Sources) (n : ℕ) (c : Change) (command : Command)
+      (before after : Standing Link Clock) → IsAnswerTo s n c command told.Memory
+      → IsTurnServed senses (turn_of command told.Memory) before after → after ≡ before
+  no_turn s n c (commands.Attach path) before after is served = served
+  no_turn s n c (commands.Detach hook) before after is served = served
+  no_turn s n c (commands.Add external) before after is served = absurd is.1
+  no_turn s n c (commands.Withdraw prefix) before after is served = absurd is.1
+  no_turn s n c commands.Table before after is served = served
+  no_turn s n c commands.Neighbors before after is served = served
+  no_turn s n c commands.Counters before after is served = served
+  no_turn s n c commands.Quit before after is served = absurd is
+
+  -- nor was any told to be unknown
+  none_unknown : (s : Sources) (n : ℕ) (c : Change) (command : Command)
+      → IsAnswerTo s n c command told.Unknown → ⊥
+  none_unknown s n c (commands.Attach path) is = is
+  none_unknown s n c (commands.Detach hook) is = is
+  none_unknown s n c (commands.Add external) is = is.1
+  none_unknown s n c (commands.Withdraw prefix) is = is.1
+  none_unknown s n c commands.Table is = is.1
+  none_unknown s n c commands.Neighbors is = is.1
+  none_unknown s n c commands.Counters is = is.1
+  none_unknown s n c commands.Quit is = is
+
+  -- the turn of a command that a line asks for is the line's
+  line_turn : (s : Sources) (n : ℕ) (c : Change) (line : List ℕ) (command : Command)
+      (answer : Option Told) (before after : Standing Link Clock) → LineAsks line command
+      → IsCarriedOut s n c command answer → IsCommandServed senses command answer before after
+      → IsLineServed senses line answer before after
+  line_turn s n c line command None before after asks is served = served
+  line_turn s n c line command (Some told.Unknown) before after asks is served =
+      absurd (none_unknown s n c command is)
+  line_turn s n c line command (Some told.Memory) before after asks is served =
+      no_turn s n c command before after is served
+  line_turn s n c line command (Some (told.Attached hook bound)) before after asks is served =
+      (command, asks, served)
+  line_turn s n c line command (Some (told.Detached hook)) before after asks is served =
+      (command, asks, served)
+  line_turn s n c line command (Some told.Originated) before after asks is served =
+      (command, asks, served)
+  line_turn s n c line command (Some told.Withheld) before after asks is served =
+      (command, asks, served)
+  line_turn s n c line command (Some told.Withdrawn) before after asks is served =
+      (command, asks, served)
+  line_turn s n c line command (Some (told.Refused number)) before after asks is served =
+      (command, asks, served)
+  line_turn s n c line command (Some (told.Lines lines)) before after asks is served =
+      (command, asks, served)
+
+  pub line_served : (s : Sources) (n : ℕ) (c : Change) (line : List ℕ) (command : Command)
+      (answer : Option Told) (before after : Standing Link Clock) → LineAsks line command
+      → IsCarriedOut s n c command answer
+      → IsUnlessFault faults (IsCommandServed senses command answer) before after
+      → IsUnlessFault faults (IsLineServed senses line answer) before after
+  line_served s n c line command answer before after asks is served = (
+    served.0,
+    λ fine. line_turn s n c line command answer before after asks is (served.1 fine),
+  )
+
+  -- first what was due, and then the line
+  pub both_served : (due : Bool) (line : List ℕ) (answer : Option Told)
+      (before between after : Standing Link Clock)
+      → IsUnlessFault faults (IsTurnServed senses (turn_due due)) before between
+      → IsUnlessFault faults (IsLineServed senses line answer) between after
+      → IsUnlessFault faults (AreServed senses due line answer) before after
+  both_served due line answer before between after first later = (
+    omega (arith, first.0, later.0),
+    λ fine. (
+      between,
+      first.1 (omega (arith, first.0, later.0, fine)),
+      later.1 (omega (arith, first.0, later.0, fine)),
+    ),
+  )
+
+  -- a port that learnt of a change before
+  pub served_then : (w : Work) (link : Link) (clock : Clock) (after : Standing Link Clock)
+      (knew learnt : List LoaderOperation) (between events : ℕ) → IsPrefix knew learnt
+      → between ≡ events
+      → IsUnlessFault faults (IsServed senses w) (standing link clock learnt between) after
+      → IsUnlessFault faults (IsServedThen senses w) (standing link clock knew events) after
+  served_then w link clock after knew learnt between events grown same is = (
+    is.0,
+    λ fine. (
+      learnt,
+      grown,
+      subst (λ n. IsServed senses w (standing link clock learnt n) after) same (is.1 fine),
+    ),
+  )

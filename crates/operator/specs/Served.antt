@@ -1,0 +1,89 @@
+-- Which turns a line of the console makes, each served as a worker serves one.
+use Rattle.std.specs.Prelude.{◌≡◌, ℕ, ◌≤◌, Bool, true, false, List, Option, Some, None, MatchOption}
+use mathlib.Core.List.{IsPrefix}
+use Rattle.hooks.specs.declared.operation.LoaderOperation.{LoaderOperation}
+use Rattle.worker.specs.Lives.{Senses, Standing}
+use Rattle.worker.specs.Work.{Work}
+use Rattle.worker.specs.Work.TheVariants as work
+use Rattle.console.specs.Commands.{LineAsks}
+use Rattle.console.specs.declared.command.Command.{Command}
+use Rattle.console.specs.declared.command.Command.TheVariants as commands
+use Rattle.operator.specs.Answers.{IsServed}
+use Rattle.operator.specs.declared.told.Told.{Told}
+use Rattle.operator.specs.declared.told.Told.TheVariants as told
+
+-- ---- of which work there is a turn
+
+-- once the programs were changed, of a refresh
+abbrev pub turn_after : Told → Option Work
+turn_after (told.Attached hook bound) = Some work.Refresh
+turn_after (told.Detached hook) = Some work.Refresh
+turn_after other = None
+
+-- an announcement and a withdrawal have a turn of their own; what is shown has none
+abbrev pub turn_of : Command → Told → Option Work
+turn_of (commands.Attach path) answer = turn_after answer
+turn_of (commands.Detach hook) answer = turn_after answer
+turn_of (commands.Add external) answer = Some (work.Add external)
+turn_of (commands.Withdraw prefix) answer = Some (work.Withdraw prefix)
+turn_of commands.Table answer = None
+turn_of commands.Neighbors answer = None
+turn_of commands.Counters answer = None
+turn_of commands.Quit answer = None
+
+-- before a line, of a refresh, where that is due
+abbrev pub turn_due : Bool → Option Work
+turn_due true = Some work.Refresh
+turn_due false = None
+
+-- ---- how it is served
+
+-- a turn for this work was served, by a port that knew all that it had known, and perhaps a change
+-- of the programs too
+abbrev pub IsServedThen : {Link Clock : Type 0} → Senses Link Clock → Work
+    → (before after : Standing Link Clock) → Type 0
+IsServedThen senses w before after =
+    (knew : List LoaderOperation) × IsPrefix before.known knew
+    × IsServed senses w (record before { known = knew }) after
+
+-- So was the turn that there is. Where there is none, the clock wasn't looked at, nothing was sent,
+-- the port learnt nothing, and the router got no event.
+abbrev pub IsTurnServed : {Link Clock : Type 0} → Senses Link Clock → Option Work
+    → (before after : Standing Link Clock) → Type 0
+IsTurnServed senses turn before after =
+    MatchOption turn (after ≡ before) (λ w. IsServedThen senses w before after)
+
+-- the turn of a command was; that which is answered by nothing has none
+abbrev pub IsCommandServed : {Link Clock : Type 0} → Senses Link Clock → Command → Option Told
+    → (before after : Standing Link Clock) → Type 0
+IsCommandServed senses command None before after = after ≡ before
+IsCommandServed senses command (Some answer) before after =
+    IsTurnServed senses (turn_of command answer) before after
+
+-- the turn of the command that a line asks for was; a line that is no command, that there was no
+-- memory for, or that ends the console, has none
+abbrev pub IsLineServed : {Link Clock : Type 0} → Senses Link Clock → (line : List ℕ) → Option Told
+    → (before after : Standing Link Clock) → Type 0
+IsLineServed senses line None before after = after ≡ before
+IsLineServed senses line (Some told.Unknown) before after = after ≡ before
+IsLineServed senses line (Some told.Memory) before after = after ≡ before
+IsLineServed senses line (Some answer) before after =
+    (command : Command) × LineAsks line command
+    × IsTurnServed senses (turn_of command answer) before after
+
+-- first the turn of a refresh that was due, and then that of the line
+abbrev pub AreServed : {Link Clock : Type 0} → Senses Link Clock → (due : Bool) → (line : List ℕ)
+    → Option Told → (before after : Standing Link Clock) → Type 0
+AreServed {Link = Link} {Clock = Clock} senses due line answer before after =
+    (between : Standing Link Clock) × IsTurnServed senses (turn_due due) before between
+    × IsLineServed senses line answer between after
+
+-- ---- by a link that counts its faults
+
+-- A link never counts fewer faults than before. Where it counts no more, this is so.
+abbrev pub IsUnlessFault : {Link Clock : Type 0} → (faults : Link → ℕ)
+    → (Is : (before after : Standing Link Clock) → Type 0) → (before after : Standing Link Clock)
+    → Type 0
+IsUnlessFault faults Is before after =
+    (faults before.link ≤ faults after.link)
+    × (faults after.link ≡ faults before.link → Is before after)
