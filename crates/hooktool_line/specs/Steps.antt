@@ -1,7 +1,7 @@
 -- What the lines of a test say.
 use Rattle.std.specs.Prelude.{◌≡◌, ◌⊎◌, ◌+◌, ◌==◌, ◌≤◌, ◌<◌, ◌^◌, ℕ, List, [], ◌∷◌}
 use Rattle.std.specs.Prelude.{◌++◌, Bool, true, false, codes, decimal}
-use Rattle.std.specs.Prelude.{map}
+use Rattle.std.specs.Prelude.{Some, map, slice_get}
 use Rattle.std.specs.Borrow.{Bor}
 use Rattle.std.specs.Global.{Vec}
 use Rattle.clap.specs.Faults.{fault_of}
@@ -15,6 +15,7 @@ use Rattle.hooktool_line.specs.declared.requests.Question.{Question}
 use Rattle.hooktool_line.specs.declared.steps.ExpectedAnswer.{ExpectedAnswer}
 use Rattle.hooktool_line.specs.declared.steps.ExpectedAnswer.TheVariants as answers
 use Rattle.hooktool_line.specs.declared.steps.TestLine.{TestLine}
+use Rattle.hooktool_line.specs.declared.steps.WrongLine.{WrongLine}
 use Rattle.hooktool_line.specs.declared.steps.Step.{Step}
 use Rattle.hooktool_line.specs.declared.steps.Step.TheVariants as steps
 
@@ -94,3 +95,12 @@ AreLines number (words ∷ others) lines =
     ((is_blank words ≡ true) × AreLines (number + 1) others lines)
     ⊎ ((first : TestLine) × (rest : List TestLine) × (lines ≡ first ∷ rest)
     × IsLine number words first × AreLines (number + 1) others rest)
+
+-- A line that is wrong is told by its number. It isn't blank.
+abbrev pub IsWrongLine : (number : ℕ) → List Text → WrongLine → Type 0
+IsWrongLine number words wrong = (wrong.number ≡ number) × (is_blank words ≡ false)
+
+-- One of the lines is wrong, by its number from 1 on.
+abbrev pub IsWrong : List (List Text) → WrongLine → Type 0
+IsWrong lines wrong = (at : ℕ) × (line : List Text) × (slice_get lines at ≡ Some line)
+    × IsWrongLine (at + 1) line wrong

@@ -1,6 +1,6 @@
 //! The lines of a test.
 
-ghost use Rattle.std.specs.Prelude.{◌≡◌, [], ◌∷◌, codes, IfOk, IfSome, IsTrue, OnOk};
+ghost use Rattle.std.specs.Prelude.{◌≡◌, [], ◌∷◌, codes, false, IfErr, IfOk, IfSome, IsTrue, OnOk};
 ghost use Rattle.clap.specs.Faults.{fault_of};
 ghost use Rattle.clap.specs.Matches.{found_of};
 ghost use Rattle.clap.specs.Simple.{matches_of};
@@ -8,7 +8,8 @@ ghost use Rattle.clap.specs.Walk.{rows_of};
 ghost use Rattle.hooktool_line.specs.CommandLine.{ask};
 ghost use Rattle.hooktool_line.specs.Questions.{HasQuestion};
 ghost use Rattle.hooktool_line.specs.Steps.{AddsLine, AreLines, BeginsWith, IsTakenAs, Says};
-ghost use Rattle.hooktool_line.specs.Steps.{SaysAnswer, is_blank, is_mark, views, words_of};
+ghost use Rattle.hooktool_line.specs.Steps.{IsWrong, SaysAnswer, is_blank, is_mark};
+ghost use Rattle.hooktool_line.specs.Steps.{views, words_of};
 
 use crate::arguments::asking;
 use crate::requests::{Question, question_of};
@@ -238,7 +239,9 @@ fn push_line<'a>(
     number: u64,
     words: &'a [&'a str],
 ) -> Result<(), LineError>
-    ensures { OnOk result (AddsLine number (views words.entry.now) read.old.items read.new.items) }
+    ensures added { OnOk result (AddsLine number (views words.entry.now) read.old.items
+        read.new.items) }
+    ensures wrong { IfErr result (λ _. is_blank (views words.entry.now) ≡ false) }
 {
     if is_blank(words) {
         return Ok(());
@@ -264,7 +267,8 @@ pub fn read_lines<'w, 't>(
     alloc: Global,
     lines: &'w [Vec<&'t str>],
 ) -> Result<Vec<TestLine<'w>>, WrongLine>
-    ensures { IfOk result (λ read. AreLines 1 (words_of lines.entry.now) read.items) }
+    ensures lines { IfOk result (λ read. AreLines 1 (words_of lines.entry.now) read.items) }
+    ensures wrong { IfErr result (IsWrong (words_of lines.entry.now)) }
 {
     let mut read = Vec::new(alloc);
     for (index, words) in lines.iter().enumerate() {

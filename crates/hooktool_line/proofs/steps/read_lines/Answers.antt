@@ -15,8 +15,8 @@ loop-index-preserved c =
     lines_more c.args.lines.now index words c.loop-index.read.items c.push_line.new.read.items
     (omega (arith, c.loop-index-test.true)) c.loop-index.invariant
     (subst (λ (them : List Text). AddsLine (index + 1) them c.loop-index.read.items
-    c.push_line.new.read.items) same c.in-Ok.ensures)
+    c.push_line.new.read.items) same c.in-Ok.ensures.added)
 
-pub returns : goal.returns
-returns c = lines_all c.args.lines.now c.loop-index.index c.loop-index.read.items
+pub returns-clause-lines : goal.returns-clause-lines
+returns-clause-lines c = lines_all c.args.lines.now c.loop-index.index c.loop-index.read.items
     (omega (arith, c.loop-index-test.false, c.loop-index.auto)) c.loop-index.invariant
