@@ -6,3 +6,4 @@ pub mod Frames
 pub mod Plays
 pub mod Runs
 pub mod Settings
+pub mod Stops

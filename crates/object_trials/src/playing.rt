@@ -1,24 +1,29 @@
 //! The lines of a test, played in a row.
-ghost use Rattle.std.specs.Prelude.{◌≡◌, ◌%◌, ◌++◌, OnOk};
+ghost use Rattle.std.specs.Prelude.{◌≡◌, ◌%◌, ◌++◌, ◌⊎◌, IfErr, IfOk, OnOk};
 ghost use Rattle.maps.specs.Access.{last_stored};
 ghost use Rattle.maps.specs.Words.{IsOf, seat_after};
 ghost use Rattle.maps.specs.declared.access.Access.TheVariants.{Cell};
 ghost use Rattle.object_trials.specs.Plays.{compared, judged, points_of};
+ghost use Rattle.object_trials.specs.Stops.{IsNoCapture, IsNoProgram, IsPacketUnread, IsStopped};
+ghost use Rattle.object_trials.specs.Stops.{IsUnasked, IsUnaskedOf, IsUnaskedOfOne, IsUnread, Stops};
+ghost use Rattle.object_trials.specs.Stops.{error_of};
 
 use crate::answers::{is_any_stuck, last_among, meets};
 use crate::asking::{ask, hook_of};
 use crate::captures::{self, Capture, CaptureError, FrameContent, LinkType, Record, content_of};
 use crate::error::TrialError;
+use crate::files::WholeFiles;
 use crate::stage::{Found, Last, Point, PointResult, Stage};
 use crate::stopped::{PlayError, Stopped};
 use hooktool_line::{ExpectedAnswer, PacketSource, Question, Step, TestLine, packet_question};
 use maps::{Seat, Shared};
 use std::alloc::{AllocError, Global};
-use std::rt::Files;
 use whole_files::ReadFault;
 use words::Second;
 
 impl From<TrialError> for PlayError {
+    ghost from_gives = { λ trial error. error ≡ error_of trial };
+
     fn from(error: TrialError) -> PlayError {
         match error {
             TrialError::Memory => PlayError::Memory,
@@ -27,12 +32,15 @@ impl From<TrialError> for PlayError {
     }
 }
 
-impl From<ReadFault> for PlayError {
-    fn from(fault: ReadFault) -> PlayError {
-        match fault {
-            ReadFault::Unreadable => PlayError::Unreadable,
-            ReadFault::Memory => PlayError::Memory,
-        }
+/// The bytes of the file at the path.
+fn read<R: WholeFiles>(rt: &R, path: &str) -> Result<Vec<u8>, PlayError>
+    ensures bytes { IfOk result (λ bytes. R.known.holds path.now bytes.items) }
+    ensures fault { IfErr result (IsUnread R.known path.now) }
+{
+    match rt.read_whole(path) {
+        Ok(bytes) => Ok(bytes),
+        Err(ReadFault::Unreadable) => Err(PlayError::Unreadable),
+        Err(ReadFault::Memory) => Err(PlayError::Memory),
     }
 }
 
@@ -46,7 +54,8 @@ fn ask_once(
     seat: &mut Seat,
 ) -> Result<PointResult, PlayError>
     requires { IsOf shared.now seat.old }
-    ensures { IsOf shared.now seat.new }
+    ensures table { IsOf shared.now seat.new }
+    ensures fault { IfErr result IsUnasked }
 {
     if stage.bytes.is_empty() {
         return Err(PlayError::NoProgram);
@@ -62,7 +71,7 @@ fn ask_once(
 }
 
 /// Asks the question of a line, of its packet or of that in the file that it names.
-fn ask_question<R: Files + AllocGlobal>(
+fn ask_question<R: WholeFiles + AllocGlobal>(
     rt: &R,
     stage: &mut Stage,
     question: &Question<'_>,
@@ -70,12 +79,14 @@ fn ask_question<R: Files + AllocGlobal>(
     seat: &mut Seat,
 ) -> Result<PointResult, PlayError>
     requires { IsOf shared.now seat.old }
-    ensures { IsOf shared.now seat.new }
+    ensures table { IsOf shared.now seat.new }
+    ensures fault { IfErr result (λ error. IsUnasked error
+        ⊎ IsPacketUnread R.known question.now.packet error) }
 {
     match &question.packet {
         PacketSource::Bytes(packet) => ask_once(rt.alloc(), stage, packet, question, shared, seat),
         PacketSource::File(path) => {
-            let packet = whole_files::read(rt, path)?;
+            let packet = read(rt, path)?;
             ask_once(rt.alloc(), stage, &packet, question, shared, seat)
         }
     }
@@ -93,7 +104,8 @@ fn ask_frame(
     seat: &mut Seat,
 ) -> Result<Option<PointResult>, PlayError>
     requires { IsOf shared.now seat.old }
-    ensures { IsOf shared.now seat.new }
+    ensures table { IsOf shared.now seat.new }
+    ensures fault { IfErr result IsUnaskedOfOne }
 {
     match content_of(link, record.frame) {
         FrameContent::Other => Ok(None),
@@ -117,7 +129,8 @@ fn ask_packets(
     seat: &mut Seat,
 ) -> Result<PointResult, PlayError>
     requires { IsOf shared.now seat.old }
-    ensures { IsOf shared.now seat.new }
+    ensures table { IsOf shared.now seat.new }
+    ensures fault { IfErr result IsUnaskedOfOne }
 {
     let mut asked: u64 = 0;
     for record in &capture.records {
@@ -145,7 +158,8 @@ fn ask_bytes(
     seat: &mut Seat,
 ) -> Result<PointResult, PlayError>
     requires { IsOf shared.now seat.old }
-    ensures { IsOf shared.now seat.new }
+    ensures table { IsOf shared.now seat.new }
+    ensures fault { IfErr result (IsUnaskedOf bytes.now) }
 {
     match captures::read(alloc, bytes) {
         Ok(capture) => ask_packets(alloc, stage, &capture, interface, shared, seat),
@@ -155,7 +169,7 @@ fn ask_bytes(
 }
 
 /// The same of the capture in a file.
-fn ask_capture<R: Files + AllocGlobal>(
+fn ask_capture<R: WholeFiles + AllocGlobal>(
     rt: &R,
     stage: &mut Stage,
     path: &str,
@@ -164,19 +178,24 @@ fn ask_capture<R: Files + AllocGlobal>(
     seat: &mut Seat,
 ) -> Result<PointResult, PlayError>
     requires { IsOf shared.now seat.old }
-    ensures { IsOf shared.now seat.new }
+    ensures table { IsOf shared.now seat.new }
+    ensures fault { IfErr result (λ error. IsUnread R.known path.now error
+        ⊎ IsNoCapture R.known path.now error) }
 {
-    let bytes = whole_files::read(rt, path)?;
+    let bytes = read(rt, path)?;
     ask_bytes(rt.alloc(), stage, &bytes, interface, shared, seat)
 }
 
 /// From here on the program of the object file at this path is asked.
-fn take_program<R: Files + AllocGlobal>(
+fn take_program<R: WholeFiles + AllocGlobal>(
     rt: &R,
     stage: &mut Stage,
     path: &str,
-) -> Result<(), PlayError> {
-    let bytes = whole_files::read(rt, path)?;
+) -> Result<(), PlayError>
+    ensures { IfErr result (λ error. IsUnread R.known path.now error
+        ⊎ IsNoProgram R.known path.now error) }
+{
+    let bytes = read(rt, path)?;
     let _ = hook_of(rt.alloc(), &bytes)?;
     stage.bytes = bytes;
     stage.last = Last::Nothing;
@@ -213,16 +232,8 @@ fn compare_answer(last: Last, expected: ExpectedAnswer) -> PointResult
     }
 }
 
-/// What a step came to that asks.
-fn with_verdict(asked: Result<PointResult, PlayError>) -> Result<Option<PointResult>, PlayError> {
-    match asked {
-        Ok(verdict) => Ok(Some(verdict)),
-        Err(error) => Err(error),
-    }
-}
-
 /// Plays a step: whether it is ok, where it asks or expects something.
-fn play_step<R: Files + AllocGlobal>(
+fn play_step<R: WholeFiles + AllocGlobal>(
     rt: &R,
     stage: &mut Stage,
     step: &Step<'_>,
@@ -230,16 +241,23 @@ fn play_step<R: Files + AllocGlobal>(
     seat: &mut Seat,
 ) -> Result<Option<PointResult>, PlayError>
     requires { IsOf shared.now seat.old }
-    ensures { IsOf shared.now seat.new }
+    ensures table { IsOf shared.now seat.new }
+    ensures fault { IfErr result (Stops R.known step.now) }
 {
     match step {
         Step::Program(path) => match take_program(rt, stage, path) {
             Ok(()) => Ok(None),
             Err(error) => Err(error),
         },
-        Step::Ask(question) => with_verdict(ask_question(rt, stage, question, shared, seat)),
+        Step::Ask(question) => match ask_question(rt, stage, question, shared, seat) {
+            Ok(verdict) => Ok(Some(verdict)),
+            Err(error) => Err(error),
+        },
         Step::Packets { path, interface } => {
-            with_verdict(ask_capture(rt, stage, path, *interface, shared, seat))
+            match ask_capture(rt, stage, path, *interface, shared, seat) {
+                Ok(verdict) => Ok(Some(verdict)),
+                Err(error) => Err(error),
+            }
         }
         Step::Answers(expected) => Ok(Some(compare_answer(stage.last, *expected))),
         Step::Counter { index, number } => {
@@ -270,7 +288,7 @@ fn push_point<'a>(
 }
 
 /// Plays a line, and adds its point, if it has a verdict.
-fn play_line<'a, R: Files + AllocGlobal>(
+fn play_line<'a, R: WholeFiles + AllocGlobal>(
     rt: &R,
     line: &TestLine<'a>,
     stage: &mut Stage,
@@ -279,7 +297,9 @@ fn play_line<'a, R: Files + AllocGlobal>(
     points: &mut Vec<Point<'a>>,
 ) -> Result<(), PlayError>
     requires { IsOf shared.now seat.old }
-    ensures { IsOf shared.now seat.new }
+    ensures table { IsOf shared.now seat.new }
+    ensures fault { IfErr result (λ error. (error ≡ PlayError.Memory)
+        ⊎ Stops R.known line.now.step error) }
 {
     match play_step(rt, stage, &line.step, shared, seat) {
         Ok(verdict) => match push_point(points, line, verdict) {
@@ -291,7 +311,7 @@ fn play_line<'a, R: Files + AllocGlobal>(
 }
 
 /// What is found at the lines, on these counters and cells.
-fn play_lines<'a, R: Files + AllocGlobal>(
+fn play_lines<'a, R: WholeFiles + AllocGlobal>(
     rt: &R,
     lines: &[TestLine<'a>],
     stage: &mut Stage,
@@ -299,6 +319,7 @@ fn play_lines<'a, R: Files + AllocGlobal>(
     seat: &mut Seat,
 ) -> Result<Vec<Point<'a>>, Stopped>
     requires { IsOf shared.now seat.old }
+    ensures { IfErr result (IsStopped R.known lines.now) }
 {
     let mut points = Vec::new(rt.alloc());
     for line in lines {
@@ -317,10 +338,12 @@ fn play_lines<'a, R: Files + AllocGlobal>(
 
 /// Plays the lines of a test in their order, on a new table whose counters and cells are 0: what is
 /// found at each that asks or expects something. Or the first one that can't be played, and why.
-pub fn play<'a, R: Files + AllocGlobal>(
+pub fn play<'a, R: WholeFiles + AllocGlobal>(
     rt: &R,
     lines: &[TestLine<'a>],
-) -> Result<Vec<Point<'a>>, Stopped> {
+) -> Result<Vec<Point<'a>>, Stopped>
+    ensures { IfErr result (IsStopped R.known lines.now) }
+{
     let Ok((shared, mut seats)) = Shared::new(rt.alloc(), 1) else {
         return Err(Stopped {
             number: 0,

@@ -1,0 +1,45 @@
+//! Files, read and written whole, as those who only know of them what a call showed.
+
+ghost use Rattle.std.specs.Prelude.{◌≡◌, Err, IfOk, OnOk};
+ghost use Rattle.object_trials.specs.Stops.{KnownFiles};
+
+use std::alloc::Global;
+use std::rt::Files;
+use whole_files::{ReadFault, WriteFault, read, write};
+
+/// Reads and writes whole files.
+///
+/// What stands at a path, what was written there, and which path can't be read or written, is left
+/// open: a function that is proved for any of these can say so only of a path that a call of its
+/// own tried.
+pub trait WholeFiles {
+    ghost known: { KnownFiles };
+
+    /// The bytes of the file at the path.
+    fn read_whole(&self, path: &str) -> Result<Vec<u8>, ReadFault>
+        ensures bytes { IfOk result (λ bytes. known.holds path.now bytes.items) }
+        ensures fault { result ≡ Err ReadFault.Unreadable → known.unreadable path.now };
+
+    /// Makes these bytes the contents of the file at the path.
+    fn write_whole(&self, path: &str, bytes: &[u8]) -> Result<(), WriteFault>
+        ensures done { OnOk result (known.written path.now bytes.now) }
+        ensures fault { result ≡ Err WriteFault.Unwritable → known.unwritable path.now };
+}
+
+/// The files of the system, of which nothing is known.
+impl<R: Files + AllocGlobal> WholeFiles for R {
+    ghost known = { record {
+      holds = λ path bytes. Unit {0};
+      written = λ path bytes. Unit {0};
+      unreadable = λ path. Unit {0};
+      unwritable = λ path. Unit {0};
+    } };
+
+    fn read_whole(&self, path: &str) -> Result<Vec<u8>, ReadFault> {
+        read(self, path)
+    }
+
+    fn write_whole(&self, path: &str, bytes: &[u8]) -> Result<(), WriteFault> {
+        write(self, path, bytes)
+    }
+}
