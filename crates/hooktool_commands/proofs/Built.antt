@@ -13,6 +13,7 @@ use Rattle.elf.specs.declared.lists.LinkedSymbol.{LinkedSymbol}
 use Rattle.explanations.specs.Told.{TellsVerdict}
 use Rattle.isa.specs.Hooks.{hook_name}
 use Rattle.object.specs.Objects.{ObjectParts}
+use Rattle.object_trials.specs.Stops.{KnownFiles}
 use Rattle.object_verdicts.specs.Verdicts.{Accepts}
 use Rattle.object_verdicts.specs.declared.error.VerifyError.{VerifyError}
 use Rattle.verifier.specs.Programs.{Program}
@@ -21,7 +22,8 @@ use Rattle.hooktool_commands.specs.Annotations.{fuel_for}
 use Rattle.hooktool_commands.specs.Builds.{AreBuiltFunctions, AreBuiltSections, HasProgram}
 use Rattle.hooktool_commands.specs.Builds.{IsBuilt, IsBuiltAt}
 use Rattle.hooktool_commands.specs.Builds.{IsBuiltFunction, IsBuiltSection, IsHookOf, TellsFunction}
-use Rattle.hooktool_commands.specs.Builds.{Wanted, built_text, is_file_name, is_program_section}
+use Rattle.hooktool_commands.specs.Builds.{IsPlaced, Wanted, built_text, is_file_name}
+use Rattle.hooktool_commands.specs.Builds.{is_program_section, object_path}
 use Rattle.hooktool_commands.specs.Explanations.{IsExplained}
 use Rattle.hooktool_commands.specs.Orders.{IsBuiltCode, IsHandedOut, folder_of}
 use Rattle.hooktool_commands.specs.declared.building.Purpose.{Purpose}
@@ -47,10 +49,11 @@ refused_or {E} A (Ok report) is = inl is
 refused_or {E} A (Err e) is = tt
 
 -- want of memory, whatever is made
-pub memory_built : {T : Type 0} (purpose : Purpose) (r : Result T HooktoolFault)
-    → IfErr r (λ fault. fault ≡ faults.Memory) → IfErr r (IsBuildFault purpose)
-memory_built {T} purpose (Ok value) is = tt
-memory_built {T} purpose (Err fault) is = inl is
+pub memory_built : {T : Type 0} (known : KnownFiles) (purpose : Purpose)
+    (r : Result T HooktoolFault) → IfErr r (λ fault. fault ≡ faults.Memory)
+    → IfErr r (IsBuildFault known purpose)
+memory_built {T} known purpose (Ok value) is = tt
+memory_built {T} known purpose (Err fault) is = inl is
 
 -- ---- functions
 
@@ -73,6 +76,7 @@ function_built file wanted hook function name code report named name_is has code
         accepted = found.accepted;
         found = found.found;
         untold = found.untold;
+        written = subst (λ (n : List ℕ). IsPlaced wanted n found.bytes) name_is found.written;
         annotation = subst (λ (c : List ℕ). IsAnnotation hook
             (with_found (fuel_for hook wanted.fuel) found.found) c found.object found.bytes
             found.accepted) code_is found.annotation;
@@ -199,19 +203,6 @@ file_built file bytes wanted report is object built = elim built [
   )
 ]
 
--- of some bytes
-pub some_built : {E : Type 0} (bytes : List ℕ) (wanted : Wanted) (r : Result CommandReport E)
-    → IfOk r (IsBuilt bytes wanted)
-    → IfOk r (λ report. (b : List ℕ) × IsBuilt b wanted report)
-some_built {E} bytes wanted (Ok report) is = (bytes, is)
-some_built {E} bytes wanted (Err e) is = tt
-
-pub some_fault : {T : Type 0} (purpose : Purpose) (unread : HooktoolFault)
-    (r : Result T HooktoolFault) → IfErr r (IsBuildFault purpose)
-    → IfErr r (λ fault. (fault ≡ unread) ⊎ IsBuildFault purpose fault)
-some_fault {T} purpose unread (Ok value) is = tt
-some_fault {T} purpose unread (Err fault) is = inr is
-
 -- a section with instructions, and nothing of another one
 pub built_at : {E : Type 0} (file : List ℕ) (wanted : Wanted) (i : ℕ) (r : Result CommandReport E)
     → is_program_section file i ≡ true
@@ -268,17 +259,21 @@ pub code_built : (wanted : Wanted) (hook : Hook) (folder shown name code : List 
     (object : ObjectParts) (bytes : List ℕ) (accepted : Program) (fuel : Fuel) (turns : Option ℕ)
     (report : CommandReport) → wanted.folder ≡ Some folder → fuel ≡ fuel_for hook wanted.fuel
     → IsAnnotation hook (with_found fuel turns) code object bytes accepted → shown ≡ name
+    → wanted.written (object_path folder shown) bytes
     → string_bytes report.text ≡ built_text folder shown (hook_name hook) accepted turns
     → is_file_name name ≡ true → (IsSome fuel.turns → turns ≡ None)
     → IsBuiltCode wanted hook name code report
 code_built wanted hook folder shown name code object bytes accepted fuel turns report folder_is
-    fuel_is annotation is told plain untold = inr (record {
+    fuel_is annotation is written told plain untold = inr (record {
       plain = plain;
       object = object;
       bytes = bytes;
       accepted = accepted;
       found = turns;
       untold = subst (λ (f : Fuel). IsSome f.turns → turns ≡ None) fuel_is untold;
+      written = subst (λ (f : Option (List ℕ)). IfSome f (λ folder. wanted.written
+          (object_path folder name) bytes)) (sym folder_is)
+          (subst (λ (n : List ℕ). wanted.written (object_path folder n) bytes) is written);
       annotation = subst (λ (f : Fuel). IsAnnotation hook (with_found f turns) code object bytes
           accepted) fuel_is annotation;
       told = subst (λ (f : Option (List ℕ)). TellsFunction f name (hook_name hook) accepted turns
@@ -318,6 +313,8 @@ verdict_told wanted hook name code object bytes accepted turns report (Ok progra
       accepted = program;
       found = turns;
       untold = untold;
+      written = subst (λ (f : Option (List ℕ)). IfSome f (λ folder. wanted.written
+          (object_path folder name) bytes)) (sym none) tt;
       annotation = accepted_too hook (with_found (fuel_for hook wanted.fuel) turns) code object
           bytes
           accepted program annotation accepts;
@@ -348,13 +345,13 @@ pub code_handed_out : (wanted : Wanted) (purpose : Purpose) (hook : Hook)
     (fuel : Fuel) (turns : Option ℕ) (report : CommandReport) → wanted.folder ≡ folder_of purpose
     → fuel ≡ fuel_for hook wanted.fuel
     → IsAnnotation hook (with_found fuel turns) code object bytes accepted → shown ≡ name
-    → IsHandedOut purpose shown (hook_name hook) bytes accepted turns report
+    → IsHandedOut wanted.written purpose shown (hook_name hook) bytes accepted turns report
     → is_file_name name ≡ true → (IsSome fuel.turns → turns ≡ None)
     → IsBuiltCode wanted hook name code report
 code_handed_out wanted (purposes.Object folder) hook shown name code object bytes accepted fuel
     turns report folder_is fuel_is annotation is made plain untold =
     code_built wanted hook folder.now shown name code object bytes accepted fuel turns report
-    folder_is fuel_is annotation is made plain untold
+    folder_is fuel_is annotation is made.0 made.1 plain untold
 code_handed_out wanted purposes.Explanation hook shown name code object bytes accepted fuel turns
     report folder_is fuel_is annotation is made plain untold =
     code_explained wanted hook name code object bytes accepted fuel turns report folder_is fuel_is

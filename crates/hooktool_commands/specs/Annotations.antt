@@ -31,16 +31,17 @@ accepted_text program found = codes "accepted bound "
     ++ (decimal program.bound ++ (counted_words found ++ cells_note program))
 
 -- An object was found of the file's code (with --fuel, or where that is told, of that code with its
--- turns counted) that the verifier accepts, and its bound is told. Turns that --fuel asked for
--- aren't told as found.
-pub record IsFound (hook : Hook) (fuel : FuelAsked) (file : List ℕ) (report : CommandReport)
-    : Type 0 where
+-- turns counted) that the verifier accepts; its bytes were written, and its bound is told. Turns
+-- that --fuel asked for aren't told as found.
+pub record IsFound (are_written : (bytes : List ℕ) → Type 0) (hook : Hook) (fuel : FuelAsked)
+    (file : List ℕ) (report : CommandReport) : Type 0 where
   pub object : ObjectParts
   pub bytes : List ℕ
   pub accepted : Program
   pub found : Option ℕ
   pub annotation : IsAnnotation hook (with_found (fuel_for hook fuel) found) file object bytes
       accepted
+  pub written : are_written bytes
   pub told : string_bytes report.text ≡ accepted_text accepted found
   pub untold : IsSome fuel.turns → found ≡ None
   pub done : report.is_refused ≡ false
@@ -57,6 +58,7 @@ abbrev pub elf_magic : List ℕ
 elf_magic = 127 ∷ codes "ELF"
 
 -- Or none was, since the verifier refuses it, or the file is an ELF file; and that is told.
-abbrev pub IsAnnotated : Hook → FuelAsked → List ℕ → CommandReport → Type 0
-IsAnnotated hook fuel file report = IsFound hook fuel file report
+abbrev pub IsAnnotated : (are_written : (bytes : List ℕ) → Type 0) → Hook → FuelAsked → List ℕ
+    → CommandReport → Type 0
+IsAnnotated are_written hook fuel file report = IsFound are_written hook fuel file report
     ⊎ ((report.is_refused ≡ true) × (IsRefusedFile hook fuel file ⊎ (take 4 file ≡ elf_magic)))

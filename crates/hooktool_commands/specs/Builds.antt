@@ -2,7 +2,7 @@
 -- file.
 use Rattle.std.specs.Prelude.{◌≡◌, ◌⊎◌, ◌==◌, ◌&&◌, ◌||◌, ◌<◌, ℕ, zero, suc, List, [], ◌++◌, Option}
 use Rattle.std.specs.Prelude.{Some, None, Bool, true, false, not, codes}
-use Rattle.std.specs.Prelude.{IsSome, length, slice_get, string_bytes}
+use Rattle.std.specs.Prelude.{IfSome, IsSome, length, slice_get, string_bytes}
 use Rattle.std.specs.Char.{is_ascii_alphanumeric}
 use Rattle.std.specs.List.{list_all}
 use Rattle.explanations.specs.Told as explained
@@ -19,14 +19,25 @@ use Rattle.elf.specs.Lists.{symbol_name}
 use Rattle.hooktool_commands.specs.Annotations.{accepted_text, fuel_for}
 use Rattle.hooktool_commands.specs.Explanations.{IsExplained}
 use Rattle.hooktool_line.specs.declared.requests.FuelAsked.{FuelAsked}
+use Rattle.object_trials.specs.Stops.{KnownFiles}
 use Rattle.hooktool_commands.specs.declared.report.CommandReport.{CommandReport}
 
 -- what was asked for: the folder for objects (without one each is explained), the hook of functions
--- in .text, the turns of loops
-pub record Wanted : Type 0 where
+-- in .text, the turns of loops; and which bytes a file was made
+pub record Wanted : Type 1 where
   pub folder : Option (List ℕ)
   pub hook : Option Hook
   pub fuel : FuelAsked
+  pub written : (path bytes : List ℕ) → Type 0
+
+-- the file of a function's object in a folder
+abbrev pub object_path : (folder function : List ℕ) → List ℕ
+object_path folder function = folder ++ (codes "/" ++ (function ++ codes ".o"))
+
+-- The object's bytes were written there, where objects are asked for.
+abbrev pub IsPlaced : Wanted → (function bytes : List ℕ) → Type 0
+IsPlaced wanted function bytes = IfSome wanted.folder
+    (λ folder. wanted.written (object_path folder function) bytes)
 
 -- a function's name that is its object's file name, too: letters, digits, '_' and '.', so that no
 -- name leads into another folder
@@ -41,7 +52,8 @@ abbrev pub built_text : (folder function hook : List ℕ) → Program → (found
 built_text folder function hook program found = folder ++ (codes "/" ++ (function ++ (codes ".o: "
     ++ (hook ++ (codes ", " ++ accepted_text program found)))))
 
--- The object was written, and its bound is told; or it is explained, with its verdict at the end.
+-- The bound of the object that was written is told; or it is explained, with its verdict at the
+-- end.
 abbrev pub TellsFunction : Option (List ℕ) → (function hook : List ℕ) → Program
     → (found : Option ℕ) → List ℕ → Type 0
 TellsFunction (Some folder) function hook program found text =
@@ -55,7 +67,8 @@ IsHookOf asked section hook = (section ≡ hook_name hook)
     ⊎ ((section ≡ codes ".text") × (asked ≡ Some hook))
 
 -- An object was found of the function's code (with --fuel, or where that is told, of that code with
--- its turns counted) that the verifier accepts, and the text tells its bound.
+-- its turns counted) that the verifier accepts; its bytes were written, where objects are asked
+-- for, and the text tells its bound.
 pub record IsBuiltFunction (file : List ℕ) (wanted : Wanted) (hook : Hook) (function : LinkedSymbol)
     (line : List ℕ) : Type 0 where
   pub named : HasSymbol file function.table function.index
@@ -68,6 +81,7 @@ pub record IsBuiltFunction (file : List ℕ) (wanted : Wanted) (hook : Hook) (fu
   pub annotation : IsAnnotation hook (with_found (fuel_for hook wanted.fuel) found)
       (symbol_bytes file function.symbol) object bytes accepted
   pub untold : IsSome wanted.fuel.turns → found ≡ None
+  pub written : IsPlaced wanted (symbol_name file function.table function.index) bytes
   pub told : TellsFunction wanted.folder (symbol_name file function.table function.index)
       (hook_name hook) accepted found line
 
@@ -120,13 +134,15 @@ IsBuilt file wanted report = (report.is_refused ≡ true)
     (string_bytes report.text))
 
 -- Each function is explained, none of .text.
-abbrev pub explanations_wanted : Wanted
-explanations_wanted = record {
+abbrev pub explanations_wanted : KnownFiles → Wanted
+explanations_wanted known = record {
   folder = None;
   hook = None;
   fuel = record { turns = None; answer = None };
+  written = known.written;
 }
 
 -- An object file is explained, or each function of an ELF file.
-abbrev pub IsExplainedFile : List ℕ → CommandReport → Type 0
-IsExplainedFile bytes report = IsExplained bytes report ⊎ IsBuilt bytes explanations_wanted report
+abbrev pub IsExplainedFile : KnownFiles → List ℕ → CommandReport → Type 0
+IsExplainedFile known bytes report = IsExplained bytes report
+    ⊎ IsBuilt bytes (explanations_wanted known) report

@@ -12,52 +12,58 @@ use Rattle.hooktool_line.specs.declared.requests.HooktoolRequest.{HooktoolReques
 use Rattle.hooktool_line.specs.declared.requests.HooktoolRequest.TheVariants as requests
 use Rattle.hooktool_commands.specs.Annotations.{IsAnnotated}
 use Rattle.hooktool_commands.specs.Builds.{IsBuilt, IsExplainedFile}
-use Rattle.hooktool_commands.specs.Faults.{IsAnnotationFault, IsObjectFault}
+use Rattle.hooktool_commands.specs.Faults.{IsAnnotationFault, IsObjectFault, IsPacketFault}
+use Rattle.hooktool_commands.specs.Faults.{IsTestFault, IsUnplaced, IsUnread, IsUnwritten}
 use Rattle.hooktool_commands.specs.Statuses.{status_of, status_of_words}
 use Rattle.hooktool_commands.specs.Tests.{IsTested}
-use Rattle.hooktool_commands.specs.Trials.{IsTried}
+use Rattle.hooktool_commands.specs.Trials.{IsPacketOf, IsTried}
 use Rattle.hooktool_commands.specs.declared.testing.Tested.{Tested}
 use Rattle.hooktool_commands.specs.declared.testing.Tested.TheVariants as tests
-use Rattle.object_trials.specs.Plays.{PacketIs}
-use Rattle.hooktool_line.specs.declared.requests.PacketSource.{PacketSource}
-use Rattle.hooktool_line.specs.declared.requests.PacketSource.TheVariants as packets
+use Rattle.object_trials.specs.Stops.{KnownFiles}
 use Rattle.hooktool_commands.specs.declared.fault.HooktoolFault.{HooktoolFault}
 use Rattle.hooktool_commands.specs.declared.fault.HooktoolFault.TheVariants as faults
 use Rattle.hooktool_commands.specs.declared.report.CommandReport.{CommandReport}
 
--- The request was carried out, and this is told: of some file, since no contract says what a file
--- gives. Of a test more is told than a report.
-abbrev pub IsMadeOf : HooktoolRequest → CommandReport → Type 0
-IsMadeOf (requests.Annotate hook code object fuel) report =
-    (file : List ℕ) × IsAnnotated hook fuel file report
-IsMadeOf (requests.Build file folder hook fuel) report = (bytes : List ℕ)
-    × IsBuilt bytes (record { folder = Some folder.now; hook = hook; fuel = fuel }) report
-IsMadeOf (requests.Explain object) report = (bytes : List ℕ) × IsExplainedFile bytes report
-IsMadeOf (requests.Try object question) report =
-    (bytes packet : List ℕ) × PacketIs question.packet packet × IsTried bytes packet question report
-IsMadeOf (requests.Test file) report = ⊥
-
--- The file of a packet can't be read.
-abbrev pub IsPacketFault : PacketSource → HooktoolFault → Type 0
-IsPacketFault (packets.File path) fault = fault ≡ faults.Read path
-IsPacketFault other fault = ⊥
+-- The request was carried out, and this is told of the files that it names. Of a test more is told
+-- than a report.
+abbrev pub IsMadeOf : KnownFiles → HooktoolRequest → CommandReport → Type 0
+IsMadeOf known (requests.Annotate hook code object fuel) report =
+    (file : List ℕ) × known.holds code.now file
+    × IsAnnotated (known.written object.now) hook fuel file report
+IsMadeOf known (requests.Build file folder hook fuel) report =
+    (bytes : List ℕ) × known.holds file.now bytes
+    × IsBuilt bytes (record {
+      folder = Some folder.now;
+      hook = hook;
+      fuel = fuel;
+      written = known.written;
+    }) report
+IsMadeOf known (requests.Explain object) report =
+    (bytes : List ℕ) × known.holds object.now bytes × IsExplainedFile known bytes report
+IsMadeOf known (requests.Try object question) report =
+    (bytes : List ℕ) × known.holds object.now bytes
+    × (packet : List ℕ) × IsPacketOf known question.packet packet
+    × IsTried bytes packet question report
+IsMadeOf known (requests.Test file) report = ⊥
 
 -- The request can't be carried out, for this fault.
-abbrev pub IsFaultOf : HooktoolRequest → HooktoolFault → Type 0
-IsFaultOf (requests.Annotate hook code object fuel) fault =
-    (fault ≡ faults.Read code) ⊎ (fault ≡ faults.Write object)
-    ⊎ ((file : List ℕ) × IsAnnotationFault hook fuel file fault)
-IsFaultOf (requests.Build file folder hook fuel) fault =
-    (fault ≡ faults.Read file) ⊎ (fault ≡ faults.Write folder) ⊎ (fault ≡ faults.Memory)
-IsFaultOf (requests.Explain object) fault =
-    (fault ≡ faults.Read object) ⊎ ((bytes : List ℕ) × IsObjectFault bytes fault)
-IsFaultOf (requests.Try object question) fault =
-    (fault ≡ faults.Read object) ⊎ IsPacketFault question.packet fault
-    ⊎ ((bytes : List ℕ) × IsObjectFault bytes fault)
-IsFaultOf (requests.Test file) fault = ⊥
+abbrev pub IsFaultOf : KnownFiles → HooktoolRequest → HooktoolFault → Type 0
+IsFaultOf known (requests.Annotate hook code object fuel) fault =
+    IsUnread known code fault ⊎ IsUnwritten known object fault
+    ⊎ ((file : List ℕ) × known.holds code.now file × IsAnnotationFault hook fuel file fault)
+IsFaultOf known (requests.Build file folder hook fuel) fault =
+    IsUnread known file fault ⊎ IsUnplaced known folder fault
+IsFaultOf known (requests.Explain object) fault =
+    IsUnread known object fault
+    ⊎ ((bytes : List ℕ) × known.holds object.now bytes × IsObjectFault bytes fault)
+IsFaultOf known (requests.Try object question) fault =
+    IsUnread known object fault ⊎ IsPacketFault known question.packet fault
+    ⊎ ((bytes : List ℕ) × known.holds object.now bytes × IsObjectFault bytes fault)
+IsFaultOf known (requests.Test file) fault = ⊥
 
-abbrev pub IsOutcomeOf : HooktoolRequest → Result CommandReport HooktoolFault → Type 0
-IsOutcomeOf request outcome = IfOk outcome (IsMadeOf request) × IfErr outcome (IsFaultOf request)
+abbrev pub IsOutcomeOf : KnownFiles → HooktoolRequest → Result CommandReport HooktoolFault → Type 0
+IsOutcomeOf known request outcome =
+    IfOk outcome (IsMadeOf known request) × IfErr outcome (IsFaultOf known request)
 
 -- a program that is refused and a run that gave no answer have status 1
 abbrev pub status_of_refused : Bool → ℕ
@@ -94,19 +100,21 @@ EndsPlayed (Ok (tests.Unread text)) output output_after status =
 EndsPlayed (Err fault) output output_after status = IsTold fault output_after status
 
 -- A test was asked for, and played; or its file can't be read, or memory was refused.
-abbrev pub EndsTest : HooktoolRequest → (output output_after : StreamState) → ℕ → Type 0
-EndsTest (requests.Test file) output output_after status =
-    (outcome : Result Tested HooktoolFault) × IfOk outcome IsTested
-    × IfErr outcome (λ fault. (fault ≡ faults.Read file) ⊎ (fault ≡ faults.Memory))
+abbrev pub EndsTest : KnownFiles → HooktoolRequest → (output output_after : StreamState) → ℕ
+    → Type 0
+EndsTest known (requests.Test file) output output_after status =
+    (outcome : Result Tested HooktoolFault) × IfOk outcome (IsTested known file.now)
+    × IfErr outcome (IsTestFault known file)
     × EndsPlayed outcome output output_after status
-EndsTest other output output_after status = ⊥
+EndsTest known other output output_after status = ⊥
 
 -- What the request made is printed, or why it can't be carried out.
-abbrev pub EndsRequest : HooktoolRequest → (output output_after : StreamState) → ℕ → Type 0
-EndsRequest request output output_after status =
-    ((outcome : Result CommandReport HooktoolFault) × IsOutcomeOf request outcome
+abbrev pub EndsRequest : KnownFiles → HooktoolRequest → (output output_after : StreamState) → ℕ
+    → Type 0
+EndsRequest known request output output_after status =
+    ((outcome : Result CommandReport HooktoolFault) × IsOutcomeOf known request outcome
     × Ends outcome output output_after status)
-    ⊎ EndsTest request output output_after status
+    ⊎ EndsTest known request output output_after status
 
 -- Help and want of memory leave the second stream as it was, a text about a mistake the first.
 abbrev pub LeavesOne : ErrorKind → (output output_after errors errors_after : StreamState) → Type 0
@@ -124,11 +132,11 @@ pub record TellsWords (error : Error) (output output_after errors errors_after :
 
 -- What the words ask for is carried out, and the second stream is as it was. Else it is told what
 -- is wrong with them, or that memory was refused.
-abbrev pub EndsWords : List (List ℕ) → (output output_after errors errors_after : StreamState) → ℕ
-    → Type 0
-EndsWords words output output_after errors errors_after status =
+abbrev pub EndsWords : KnownFiles → List (List ℕ)
+    → (output output_after errors errors_after : StreamState) → ℕ → Type 0
+EndsWords known words output output_after errors errors_after status =
     ((request : HooktoolRequest) × Asks words request
-    × EndsRequest request output output_after status
+    × EndsRequest known request output output_after status
     × (errors_after ≡ errors))
     ⊎ ((error : Error) × IsRefusal words error
     × TellsWords error output output_after errors errors_after status)

@@ -1,5 +1,7 @@
 -- Which fault a request may end with, of the files that it names.
 use Rattle.std.specs.Prelude.{◌≡◌, ℕ, ◌⊎◌, ◌++◌, List, [], codes}
+use Rattle.std.specs.Borrow.{Bor}
+use Rattle.std.specs.Str.{IsUtf8}
 use Rattle.isa.specs.declared.decoding.DecodeError.{DecodeError}
 use Rattle.isa.specs.declared.hook.Hook.{Hook}
 use Rattle.isa.specs.Hooks.{hook_name}
@@ -14,12 +16,37 @@ use Rattle.annotations.specs.declared.count_error.CountError.TheVariants as coun
 use Rattle.annotations.specs.declared.shortfall.Shortfall.{Shortfall}
 use Rattle.annotations.specs.declared.shortfall.Shortfall.TheVariants as shortfalls
 use Rattle.hooktool_line.specs.declared.requests.FuelAsked.{FuelAsked}
+use Rattle.hooktool_line.specs.declared.requests.PacketSource.{PacketSource}
+use Rattle.hooktool_line.specs.declared.requests.PacketSource.TheVariants as packets
+use Rattle.object_trials.specs.Stops.{KnownFiles}
 use Rattle.hooktool_commands.specs.Annotations.{fuel_for}
+use Rattle.hooktool_commands.specs.Builds.{object_path}
 use Rattle.hooktool_commands.specs.Statuses.{fault_of_object, fault_of_refusal}
 use Rattle.hooktool_commands.specs.declared.building.Purpose.{Purpose}
 use Rattle.hooktool_commands.specs.declared.building.Purpose.TheVariants as purposes
 use Rattle.hooktool_commands.specs.declared.fault.HooktoolFault.{HooktoolFault}
 use Rattle.hooktool_commands.specs.declared.fault.HooktoolFault.TheVariants as faults
+
+-- The file at this path can't be read, or memory was refused.
+abbrev pub IsUnread : KnownFiles → Bor (List ℕ) → HooktoolFault → Type 0
+IsUnread known path fault = (fault ≡ faults.Memory)
+    ⊎ ((fault ≡ faults.Read path) × known.unreadable path.now)
+
+-- It can't be written, or memory was refused.
+abbrev pub IsUnwritten : KnownFiles → Bor (List ℕ) → HooktoolFault → Type 0
+IsUnwritten known path fault = (fault ≡ faults.Memory)
+    ⊎ ((fault ≡ faults.Write path) × known.unwritable path.now)
+
+-- the file of a packet
+abbrev pub IsPacketFault : KnownFiles → PacketSource → HooktoolFault → Type 0
+IsPacketFault known (packets.File path) fault = IsUnread known path fault
+IsPacketFault known other fault = ⊥
+
+-- The file of a test can't be read, or isn't UTF-8.
+abbrev pub IsTestFault : KnownFiles → Bor (List ℕ) → HooktoolFault → Type 0
+IsTestFault known path fault = IsUnread known path fault
+    ⊎ ((fault ≡ faults.Read path)
+    × (file : List ℕ) × known.holds path.now file × (IsUtf8 file → ⊥))
 
 -- the refusal of bytes that are no object file
 pub record IsObjectRefused (bytes : List ℕ) (fault : HooktoolFault) : Type 0 where
@@ -87,10 +114,18 @@ pub record IsUnfound (hook : Hook) (fuel : FuelAsked) (file : List ℕ) (fault :
 abbrev pub IsAnnotationFault : Hook → FuelAsked → List ℕ → HooktoolFault → Type 0
 IsAnnotationFault hook fuel file fault = (fault ≡ faults.Memory) ⊎ IsUnfound hook fuel file fault
 
--- the folder can't be written to, where objects are asked for
-abbrev pub IsUnwritable : Purpose → HooktoolFault → Type 0
-IsUnwritable (purposes.Object folder) fault = fault ≡ faults.Write folder
-IsUnwritable purposes.Explanation fault = ⊥
+-- An object in the folder can't be written.
+abbrev pub IsFolderFault : KnownFiles → Bor (List ℕ) → HooktoolFault → Type 0
+IsFolderFault known folder fault = (fault ≡ faults.Write folder)
+    × (function : List ℕ) × known.unwritable (object_path folder.now function)
 
-abbrev pub IsBuildFault : Purpose → HooktoolFault → Type 0
-IsBuildFault purpose fault = (fault ≡ faults.Memory) ⊎ IsUnwritable purpose fault
+abbrev pub IsUnplaced : KnownFiles → Bor (List ℕ) → HooktoolFault → Type 0
+IsUnplaced known folder fault = (fault ≡ faults.Memory) ⊎ IsFolderFault known folder fault
+
+-- The same, where objects are asked for.
+abbrev pub IsUnwritable : KnownFiles → Purpose → HooktoolFault → Type 0
+IsUnwritable known (purposes.Object folder) fault = IsFolderFault known folder fault
+IsUnwritable known purposes.Explanation fault = ⊥
+
+abbrev pub IsBuildFault : KnownFiles → Purpose → HooktoolFault → Type 0
+IsBuildFault known purpose fault = (fault ≡ faults.Memory) ⊎ IsUnwritable known purpose fault

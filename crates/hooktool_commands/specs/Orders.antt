@@ -6,22 +6,38 @@ use Rattle.isa.specs.Hooks.{hook_name}
 use Rattle.object.specs.Objects.{ObjectParts}
 use Rattle.verifier.specs.Programs.{Program}
 use Rattle.annotations.specs.Annotated.{IsAnnotation, with_found}
+use Rattle.object_trials.specs.Stops.{KnownFiles}
 use Rattle.hooktool_commands.specs.declared.building.Order.{Order}
 use Rattle.hooktool_commands.specs.declared.building.Purpose.{Purpose}
 use Rattle.hooktool_commands.specs.declared.building.Purpose.TheVariants as purposes
 use Rattle.hooktool_commands.specs.declared.report.CommandReport.{CommandReport}
 use Rattle.hooktool_commands.specs.Annotations.{fuel_for}
-use Rattle.hooktool_commands.specs.Builds.{TellsFunction, Wanted, built_text, is_file_name}
+use Rattle.hooktool_commands.specs.Builds.{IsPlaced, TellsFunction, Wanted, built_text}
+use Rattle.hooktool_commands.specs.Builds.{is_file_name, object_path}
 use Rattle.hooktool_commands.specs.Explanations.{IsExplained}
 
 abbrev pub folder_of : Purpose → Option (List ℕ)
 folder_of (purposes.Object folder) = Some folder.now
 folder_of purposes.Explanation = None
 
-abbrev pub wanted_of : Order → Wanted
-wanted_of order = record { folder = folder_of order.purpose; hook = order.hook; fuel = order.fuel }
+abbrev pub wanted_of : KnownFiles → Order → Wanted
+wanted_of known order = record {
+  folder = folder_of order.purpose;
+  hook = order.hook;
+  fuel = order.fuel;
+  written = known.written;
+}
 
--- An object was found of this code that the verifier accepts, and its bound is told.
+-- what is ordered where an ELF file is explained
+abbrev pub explanation_order : Order
+explanation_order = record {
+  purpose = purposes.Explanation;
+  hook = None;
+  fuel = record { turns = None; answer = None };
+}
+
+-- An object was found of this code that the verifier accepts; its bytes were written, where
+-- objects are asked for, and its bound is told.
 pub record IsFoundCode (wanted : Wanted) (hook : Hook) (function code : List ℕ)
     (report : CommandReport) : Type 0 where
   pub plain : is_file_name function ≡ true
@@ -32,6 +48,7 @@ pub record IsFoundCode (wanted : Wanted) (hook : Hook) (function code : List ℕ
   pub annotation : IsAnnotation hook (with_found (fuel_for hook wanted.fuel) found) code object
       bytes accepted
   pub untold : IsSome wanted.fuel.turns → found ≡ None
+  pub written : IsPlaced wanted function bytes
   pub told : TellsFunction wanted.folder function (hook_name hook) accepted found
       (string_bytes report.text)
 
@@ -41,8 +58,10 @@ IsBuiltCode wanted hook function code report = (report.is_refused ≡ true)
     ⊎ IsFoundCode wanted hook function code report
 
 -- The object that was found for a function is written, and its bound told; or it is explained.
-abbrev pub IsHandedOut : Purpose → (function hook bytes : List ℕ) → Program → (found : Option ℕ)
-    → CommandReport → Type 0
-IsHandedOut (purposes.Object folder) function hook bytes program found report =
-    string_bytes report.text ≡ built_text folder.now function hook program found
-IsHandedOut purposes.Explanation function hook bytes program found report = IsExplained bytes report
+abbrev pub IsHandedOut : (written : (path bytes : List ℕ) → Type 0) → Purpose
+    → (function hook bytes : List ℕ) → Program → (found : Option ℕ) → CommandReport → Type 0
+IsHandedOut written (purposes.Object folder) function hook bytes program found report =
+    written (object_path folder.now function) bytes
+    × (string_bytes report.text ≡ built_text folder.now function hook program found)
+IsHandedOut written purposes.Explanation function hook bytes program found report =
+    IsExplained bytes report

@@ -6,7 +6,8 @@ ghost use Rattle.object_verdicts.specs.Verdicts.{Accepts};
 ghost use Rattle.hooktool_commands.specs.Annotations.{IsAnnotated, accepted_text, counted_words};
 ghost use Rattle.hooktool_commands.specs.Annotations.{elf_magic, fuel_for};
 ghost use Rattle.hooktool_commands.specs.Faults.{IsAnnotationFault, IsByVerifier};
-ghost use Rattle.hooktool_commands.specs.Faults.{IsFaultOfCount, IsFaultOfShortfall};
+ghost use Rattle.hooktool_commands.specs.Faults.{IsFaultOfCount, IsFaultOfShortfall, IsUnread};
+ghost use Rattle.hooktool_commands.specs.Faults.{IsUnwritten};
 
 use crate::cells::cells_note;
 use crate::explaining::lacks_memory;
@@ -20,8 +21,8 @@ use annotations::{
 use explanations::{Explanation, Text, explain};
 use hooktool_line::FuelAsked;
 use isa::Hook;
+use object_trials::WholeFiles;
 use std::alloc::{AllocError, Global};
-use std::rt::Files;
 use verifier::BUDGET;
 
 /// How a refusal is told.
@@ -264,17 +265,18 @@ fn accepted<'a>(alloc: Global, found: &AnnotatedObject) -> Result<CommandReport,
 }
 
 /// Writes the object, which the verifier accepted, and tells its bound.
-fn written<'a, R: Files + AllocGlobal>(
+fn written<'a, R: WholeFiles + AllocGlobal>(
     rt: &R,
     path: &'a str,
     found: &AnnotatedObject,
 ) -> Result<CommandReport, HooktoolFault<'a>>
     requires { Accepts found.now.annotated.bytes.items found.now.annotated.accepted }
+    ensures stored { IfOk result (λ report. R.known.written path.now
+        found.now.annotated.bytes.items) }
     ensures told { IfOk result (λ report. string_bytes report.text
         ≡ accepted_text found.now.annotated.accepted found.now.turns) }
     ensures done { IfOk result (λ report. report.is_refused ≡ false) }
-    ensures fault { IfErr result (λ fault. (fault ≡ HooktoolFault.Write path.entry)
-        ⊎ (fault ≡ HooktoolFault.Memory)) }
+    ensures fault { IfErr result (IsUnwritten R.known path.entry) }
 {
     match accepted(rt.alloc(), found) {
         Ok(report) => match files::write_accepted(rt, path, &found.annotated.bytes) {
@@ -323,15 +325,15 @@ fn elf_refusal<'a>(alloc: Global) -> Result<CommandReport, HooktoolFault<'a>>
 
 /// Finds statements for the code in these bytes of a file, and writes the object file `object`, if
 /// the verifier accepts it.
-fn annotate_code<'a, R: Files + AllocGlobal>(
+fn annotate_code<'a, R: WholeFiles + AllocGlobal>(
     rt: &R,
     hook: Hook,
     file: &[u8],
     object: &'a str,
     fuel: FuelAsked,
 ) -> Result<CommandReport, HooktoolFault<'a>>
-    ensures made { IfOk result (IsAnnotated hook fuel file.now) }
-    ensures fault { IfErr result (λ fault. (fault ≡ HooktoolFault.Write object.entry)
+    ensures made { IfOk result (IsAnnotated (R.known.written object.now) hook fuel file.now) }
+    ensures fault { IfErr result (λ fault. IsUnwritten R.known object.entry fault
         ⊎ IsAnnotationFault hook fuel file.now fault) }
 {
     match annotate_file(rt.alloc(), hook, file, fuel_for(hook, fuel)) {
@@ -348,15 +350,15 @@ fn annotate_code<'a, R: Files + AllocGlobal>(
 }
 
 /// The same of bytes that may be an ELF file, which has no code of its own.
-fn annotate_bytes<'a, R: Files + AllocGlobal>(
+fn annotate_bytes<'a, R: WholeFiles + AllocGlobal>(
     rt: &R,
     hook: Hook,
     file: &[u8],
     object: &'a str,
     fuel: FuelAsked,
 ) -> Result<CommandReport, HooktoolFault<'a>>
-    ensures made { IfOk result (IsAnnotated hook fuel file.now) }
-    ensures fault { IfErr result (λ fault. (fault ≡ HooktoolFault.Write object.entry)
+    ensures made { IfOk result (IsAnnotated (R.known.written object.now) hook fuel file.now) }
+    ensures fault { IfErr result (λ fault. IsUnwritten R.known object.entry fault
         ⊎ IsAnnotationFault hook fuel file.now fault) }
 {
     if is_elf(file) {
@@ -371,17 +373,19 @@ fn annotate_bytes<'a, R: Files + AllocGlobal>(
 ///
 /// A fault where a file can't be read or written, the first one is no code and no object for the
 /// hook, or memory is refused.
-pub(crate) fn annotate<'a, R: Files + AllocGlobal>(
+pub(crate) fn annotate<'a, R: WholeFiles + AllocGlobal>(
     rt: &R,
     hook: Hook,
     code: &'a str,
     object: &'a str,
     fuel: FuelAsked,
 ) -> Result<CommandReport, HooktoolFault<'a>>
-    ensures made { IfOk result (λ report. (file : List ℕ) × IsAnnotated hook fuel file report) }
-    ensures fault { IfErr result (λ fault. (fault ≡ HooktoolFault.Read code.entry)
-        ⊎ (fault ≡ HooktoolFault.Write object.entry)
-        ⊎ ((file : List ℕ) × IsAnnotationFault hook fuel file fault)) }
+    ensures made { IfOk result (λ report. (file : List ℕ) × R.known.holds code.now file
+        × IsAnnotated (R.known.written object.now) hook fuel file report) }
+    ensures fault { IfErr result (λ fault. IsUnread R.known code.entry fault
+        ⊎ IsUnwritten R.known object.entry fault
+        ⊎ ((file : List ℕ) × R.known.holds code.now file
+        × IsAnnotationFault hook fuel file fault)) }
 {
     match files::read(rt, code) {
         Ok(file) => annotate_bytes(rt, hook, file.as_slice(), object, fuel),

@@ -12,9 +12,9 @@ ghost use Rattle.elf.specs.Lists.{functions_of, relocations_of, symbol_bytes, sy
 ghost use Rattle.hooktool_commands.specs.Builds.{AreBuiltFunctions, AreBuiltSections, IsBuilt};
 ghost use Rattle.hooktool_commands.specs.Builds.{IsBuiltAt, IsBuiltFunction, IsBuiltSection};
 ghost use Rattle.hooktool_commands.specs.Builds.{HasNoProgram, HasProgram, IsHookOf, built_text};
-ghost use Rattle.hooktool_commands.specs.Builds.{is_file_name, is_program_section};
+ghost use Rattle.hooktool_commands.specs.Builds.{is_file_name, is_program_section, object_path};
 ghost use Rattle.hooktool_commands.specs.Explanations.{IsExplained};
-ghost use Rattle.hooktool_commands.specs.Faults.{IsBuildFault};
+ghost use Rattle.hooktool_commands.specs.Faults.{IsBuildFault, IsUnplaced, IsUnread};
 ghost use Rattle.hooktool_commands.specs.Linked.{is_changed};
 ghost use Rattle.hooktool_commands.specs.Orders.{IsBuiltCode, IsHandedOut, wanted_of};
 
@@ -30,8 +30,8 @@ use elf::{LinkedRelocation, LinkedSymbol, ObjectFile};
 use explanations::Text;
 use hooktool_line::FuelAsked;
 use isa::Hook;
+use object_trials::WholeFiles;
 use std::alloc::{AllocError, Global};
-use std::rt::Files;
 
 /// What is made of each function.
 #[derive(Clone, Copy)]
@@ -190,7 +190,7 @@ fn line_of(
 }
 
 /// Writes these bytes as the object of a function.
-fn write_object<'a, R: Files + AllocGlobal>(
+fn write_object<'a, R: WholeFiles + AllocGlobal>(
     rt: &R,
     folder: &'a str,
     function: &str,
@@ -199,19 +199,19 @@ fn write_object<'a, R: Files + AllocGlobal>(
     requires accepted { (program : Program) × Accepts bytes.now program }
     // The object is in the folder itself.
     requires plain { is_file_name function.now ≡ true }
-    ensures { IfErr result (λ fault. (fault ≡ HooktoolFault.Write folder.entry)
-        ⊎ (fault ≡ HooktoolFault.Memory)) }
+    ensures stored { OnOk result (R.known.written (object_path folder.now function.now) bytes.now) }
+    ensures fault { IfErr result (IsUnplaced R.known folder.entry) }
 {
     let path = format!(in rt.alloc(); "{folder}/{function}.o")?;
     match files::write_accepted(rt, path.as_str(), bytes) {
         Ok(()) => Ok(()),
-        Err(HooktoolFault::Memory) => Err(HooktoolFault::Memory),
-        Err(_) => Err(HooktoolFault::Write { path: folder }),
+        Err(HooktoolFault::Write { .. }) => Err(HooktoolFault::Write { path: folder }),
+        Err(_) => Err(HooktoolFault::Memory),
     }
 }
 
 /// Writes the object of a function, which the verifier accepted, and tells its bound.
-fn write_function<'a, R: Files + AllocGlobal>(
+fn write_function<'a, R: WholeFiles + AllocGlobal>(
     rt: &R,
     folder: &'a str,
     hook: Hook,
@@ -220,11 +220,12 @@ fn write_function<'a, R: Files + AllocGlobal>(
 ) -> Result<CommandReport, HooktoolFault<'a>>
     requires accepted { Accepts found.now.annotated.bytes.items found.now.annotated.accepted }
     requires plain { is_file_name function.now ≡ true }
+    ensures stored { IfOk result (λ report. R.known.written
+        (object_path folder.now function.now) found.now.annotated.bytes.items) }
     ensures told { IfOk result (λ report. string_bytes report.text
         ≡ built_text folder.now function.now (hook_name hook)
         found.now.annotated.accepted found.now.turns) }
-    ensures fault { IfErr result (λ fault. (fault ≡ HooktoolFault.Write folder.entry)
-        ⊎ (fault ≡ HooktoolFault.Memory)) }
+    ensures fault { IfErr result (IsUnplaced R.known folder.entry) }
 {
     let text = line_of(rt.alloc(), folder, function, hook.name(), found)?;
     match write_object(rt, folder, function, &found.annotated.bytes) {
@@ -282,7 +283,7 @@ fn shortfall_refusal<'a>(
 }
 
 /// Writes the object that was found for a function, or explains it.
-fn hand_out<'a, R: Files + AllocGlobal>(
+fn hand_out<'a, R: WholeFiles + AllocGlobal>(
     rt: &R,
     purpose: Purpose<'a>,
     hook: Hook,
@@ -292,9 +293,9 @@ fn hand_out<'a, R: Files + AllocGlobal>(
 ) -> Result<CommandReport, HooktoolFault<'a>>
     requires accepted { Accepts found.now.annotated.bytes.items found.now.annotated.accepted }
     requires plain { is_file_name name.now ≡ true }
-    ensures made { IfOk result (IsHandedOut purpose.entry name.now (hook_name hook)
+    ensures made { IfOk result (IsHandedOut R.known.written purpose.entry name.now (hook_name hook)
         found.now.annotated.bytes.items found.now.annotated.accepted found.now.turns) }
-    ensures fault { IfErr result (IsBuildFault purpose.entry) }
+    ensures fault { IfErr result (IsBuildFault R.known purpose.entry) }
 {
     match purpose {
         Purpose::Object { folder } => Ok(write_function(rt, folder, hook, name, found)?),
@@ -303,16 +304,16 @@ fn hand_out<'a, R: Files + AllocGlobal>(
 }
 
 /// Makes the object of a function with this code, or tells why there is none.
-fn build_code<'a, R: Files + AllocGlobal>(
+fn build_code<'a, R: WholeFiles + AllocGlobal>(
     rt: &R,
     order: &Order<'a>,
     hook: Hook,
     names: Names<'_>,
     code: &[u8],
 ) -> Result<CommandReport, HooktoolFault<'a>>
-    ensures built { IfOk result (IsBuiltCode (wanted_of order.now) hook names.entry.function.now
-        code.now) }
-    ensures fault { IfErr result (IsBuildFault order.now.purpose) }
+    ensures built { IfOk result (IsBuiltCode (wanted_of R.known order.now) hook
+        names.entry.function.now code.now) }
+    ensures fault { IfErr result (IsBuildFault R.known order.now.purpose) }
 {
     let Some(name) = as_file_name(names.function) else {
         let why = ": its name can't be a file's\n";
@@ -325,7 +326,7 @@ fn build_code<'a, R: Files + AllocGlobal>(
 }
 
 /// Makes the object of a function of the file, or tells why there is none.
-fn build_function<'a, R: Files + AllocGlobal>(
+fn build_function<'a, R: WholeFiles + AllocGlobal>(
     rt: &R,
     order: &Order<'a>,
     hook: Hook,
@@ -337,9 +338,9 @@ fn build_function<'a, R: Files + AllocGlobal>(
     // Beside a refusal, too, no object is made of a function that a linker would change.
     requires unchanged { is_changed (relocations_of file.now index) function.now ≡ false }
     ensures built { IfOk result (λ report. (report.is_refused ≡ true)
-        ⊎ IsBuiltFunction file.now (wanted_of order.now) hook function.now
+        ⊎ IsBuiltFunction file.now (wanted_of R.known order.now) hook function.now
         (string_bytes report.text)) }
-    ensures fault { IfErr result (IsBuildFault order.now.purpose) }
+    ensures fault { IfErr result (IsBuildFault R.known order.now.purpose) }
 {
     let section = file.section_name(index);
     let Some(name) = file.symbol_name(function.table, function.index) else {
@@ -392,7 +393,7 @@ fn nothing_refusal<'a>(alloc: Global, section: &[u8]) -> Result<CommandReport, H
 }
 
 /// Makes the objects of these functions of a section.
-fn build_functions<'a, R: Files + AllocGlobal>(
+fn build_functions<'a, R: WholeFiles + AllocGlobal>(
     rt: &R,
     order: &Order<'a>,
     hook: Hook,
@@ -404,9 +405,9 @@ fn build_functions<'a, R: Files + AllocGlobal>(
     requires unchanged { All (λ function. is_changed (relocations_of file.now index) function
         ≡ false) functions.now }
     ensures built { IfOk result (λ report. (report.is_refused ≡ true)
-        ⊎ AreBuiltFunctions file.now (wanted_of order.now) hook functions.now (length functions.now)
-        (string_bytes report.text)) }
-    ensures fault { IfErr result (IsBuildFault order.now.purpose) }
+        ⊎ AreBuiltFunctions file.now (wanted_of R.known order.now) hook functions.now
+        (length functions.now) (string_bytes report.text)) }
+    ensures fault { IfErr result (IsBuildFault R.known order.now.purpose) }
 {
     let mut report = CommandReport {
         text: String::new(rt.alloc()),
@@ -420,7 +421,7 @@ fn build_functions<'a, R: Files + AllocGlobal>(
 }
 
 /// Makes the objects of those functions of a section that no linker would change.
-fn build_unchanged<'a, R: Files + AllocGlobal>(
+fn build_unchanged<'a, R: WholeFiles + AllocGlobal>(
     rt: &R,
     order: &Order<'a>,
     hook: Hook,
@@ -431,7 +432,7 @@ fn build_unchanged<'a, R: Files + AllocGlobal>(
 ) -> Result<CommandReport, HooktoolFault<'a>>
     requires section { index < section_count file.now }
     requires relocations { relocations.now ≡ relocations_of file.now index }
-    ensures { IfErr result (IsBuildFault order.now.purpose) }
+    ensures { IfErr result (IsBuildFault R.known order.now.purpose) }
 {
     let others = unchanged(rt.alloc(), functions, relocations)?;
     build_functions(rt, order, hook, file, index, &others)
@@ -439,7 +440,7 @@ fn build_unchanged<'a, R: Files + AllocGlobal>(
 
 /// Tells of the functions of a section that a linker would change, and makes the objects of the
 /// others.
-fn build_others<'a, R: Files + AllocGlobal>(
+fn build_others<'a, R: WholeFiles + AllocGlobal>(
     rt: &R,
     order: &Order<'a>,
     hook: Hook,
@@ -451,7 +452,7 @@ fn build_others<'a, R: Files + AllocGlobal>(
     requires section { index < section_count file.now }
     requires relocations { relocations.now ≡ relocations_of file.now index }
     ensures refused { IfOk result (λ report. report.is_refused ≡ true) }
-    ensures fault { IfErr result (IsBuildFault order.now.purpose) }
+    ensures fault { IfErr result (IsBuildFault R.known order.now.purpose) }
 {
     let section = Section {
         name: file.section_name(index),
@@ -464,7 +465,7 @@ fn build_others<'a, R: Files + AllocGlobal>(
 }
 
 /// Makes the objects of a section for this hook with these functions.
-fn build_for<'a, R: Files + AllocGlobal>(
+fn build_for<'a, R: WholeFiles + AllocGlobal>(
     rt: &R,
     order: &Order<'a>,
     hook: Hook,
@@ -476,8 +477,8 @@ fn build_for<'a, R: Files + AllocGlobal>(
     requires hook { IsHookOf order.now.hook (section_name file.now index) hook }
     requires functions { functions.now ≡ functions_of file.now index }
     ensures built { IfOk result (λ report. (report.is_refused ≡ true)
-        ⊎ IsBuiltSection file.now (wanted_of order.now) index (string_bytes report.text)) }
-    ensures fault { IfErr result (IsBuildFault order.now.purpose) }
+        ⊎ IsBuiltSection file.now (wanted_of R.known order.now) index (string_bytes report.text)) }
+    ensures fault { IfErr result (IsBuildFault R.known order.now.purpose) }
 {
     let relocations = file.relocations(rt.alloc(), index)?;
     if !relocations.is_empty() {
@@ -487,7 +488,7 @@ fn build_for<'a, R: Files + AllocGlobal>(
 }
 
 /// Makes the objects of the functions of a section with instructions, or tells why there are none.
-fn build_section<'a, R: Files + AllocGlobal>(
+fn build_section<'a, R: WholeFiles + AllocGlobal>(
     rt: &R,
     order: &Order<'a>,
     file: &ObjectFile<'_>,
@@ -495,8 +496,8 @@ fn build_section<'a, R: Files + AllocGlobal>(
 ) -> Result<CommandReport, HooktoolFault<'a>>
     requires { index < section_count file.now }
     ensures built { IfOk result (λ report. (report.is_refused ≡ true)
-        ⊎ IsBuiltSection file.now (wanted_of order.now) index (string_bytes report.text)) }
-    ensures fault { IfErr result (IsBuildFault order.now.purpose) }
+        ⊎ IsBuiltSection file.now (wanted_of R.known order.now) index (string_bytes report.text)) }
+    ensures fault { IfErr result (IsBuildFault R.known order.now.purpose) }
 {
     let name = file.section_name(index);
     let Some(hook) = hook_in(order.hook, name) else {
@@ -518,7 +519,7 @@ fn is_program_section(file: &ObjectFile<'_>, index: usize) -> bool
 }
 
 /// Makes the objects of a section, if it has instructions.
-fn build_at<'a, R: Files + AllocGlobal>(
+fn build_at<'a, R: WholeFiles + AllocGlobal>(
     rt: &R,
     order: &Order<'a>,
     file: &ObjectFile<'_>,
@@ -526,8 +527,8 @@ fn build_at<'a, R: Files + AllocGlobal>(
 ) -> Result<CommandReport, HooktoolFault<'a>>
     requires { index < section_count file.now }
     ensures built { IfOk result (λ report. (report.is_refused ≡ true)
-        ⊎ IsBuiltAt file.now (wanted_of order.now) index (string_bytes report.text)) }
-    ensures fault { IfErr result (IsBuildFault order.now.purpose) }
+        ⊎ IsBuiltAt file.now (wanted_of R.known order.now) index (string_bytes report.text)) }
+    ensures fault { IfErr result (IsBuildFault R.known order.now.purpose) }
 {
     if is_program_section(file, index) {
         return build_section(rt, order, file, index);
@@ -539,15 +540,15 @@ fn build_at<'a, R: Files + AllocGlobal>(
 }
 
 /// Makes the objects of all sections with instructions.
-fn build_sections<'a, R: Files + AllocGlobal>(
+fn build_sections<'a, R: WholeFiles + AllocGlobal>(
     rt: &R,
     order: &Order<'a>,
     file: &ObjectFile<'_>,
 ) -> Result<CommandReport, HooktoolFault<'a>>
     ensures built { IfOk result (λ report. (report.is_refused ≡ true)
-        ⊎ AreBuiltSections file.now (wanted_of order.now) (section_count file.now)
+        ⊎ AreBuiltSections file.now (wanted_of R.known order.now) (section_count file.now)
         (string_bytes report.text)) }
-    ensures fault { IfErr result (IsBuildFault order.now.purpose) }
+    ensures fault { IfErr result (IsBuildFault R.known order.now.purpose) }
 {
     let mut report = CommandReport {
         text: String::new(rt.alloc()),
@@ -605,16 +606,16 @@ fn no_program<'a>(
 }
 
 /// Makes an object of each function of the file that is in the section of a hook.
-fn build_file<'a, R: Files + AllocGlobal>(
+fn build_file<'a, R: WholeFiles + AllocGlobal>(
     rt: &R,
     order: &Order<'a>,
     path: &str,
     file: &ObjectFile<'_>,
 ) -> Result<CommandReport, HooktoolFault<'a>>
     ensures built { IfOk result (λ report. (report.is_refused ≡ true)
-        ⊎ (HasProgram file.now × AreBuiltSections file.now (wanted_of order.now)
+        ⊎ (HasProgram file.now × AreBuiltSections file.now (wanted_of R.known order.now)
         (section_count file.now) (string_bytes report.text))) }
-    ensures fault { IfErr result (IsBuildFault order.now.purpose) }
+    ensures fault { IfErr result (IsBuildFault R.known order.now.purpose) }
 {
     if has_program(file) {
         return build_sections(rt, order, file);
@@ -623,14 +624,14 @@ fn build_file<'a, R: Files + AllocGlobal>(
 }
 
 /// Makes an object of each function in these bytes of a file that is in the section of a hook.
-pub(crate) fn build_bytes<'a, R: Files + AllocGlobal>(
+pub(crate) fn build_bytes<'a, R: WholeFiles + AllocGlobal>(
     rt: &R,
     order: &Order<'a>,
     path: &str,
     bytes: &[u8],
 ) -> Result<CommandReport, HooktoolFault<'a>>
-    ensures built { IfOk result (IsBuilt bytes.now (wanted_of order.now)) }
-    ensures fault { IfErr result (IsBuildFault order.now.purpose) }
+    ensures built { IfOk result (IsBuilt bytes.now (wanted_of R.known order.now)) }
+    ensures fault { IfErr result (IsBuildFault R.known order.now.purpose) }
 {
     match elf::read(bytes) {
         Ok(file) => build_file(rt, order, path, &file),
@@ -642,15 +643,15 @@ pub(crate) fn build_bytes<'a, R: Files + AllocGlobal>(
 /// the folder, if the verifier accepts it. What is told of each is in the order of the file.
 ///
 /// A fault where a file can't be read or written, or memory is refused.
-pub(crate) fn build<'a, R: Files + AllocGlobal>(
+pub(crate) fn build<'a, R: WholeFiles + AllocGlobal>(
     rt: &R,
     path: &'a str,
     order: Order<'a>,
 ) -> Result<CommandReport, HooktoolFault<'a>>
-    ensures built { IfOk result (λ report. (bytes : List ℕ)
-        × IsBuilt bytes (wanted_of order.entry) report) }
-    ensures fault { IfErr result (λ fault. (fault ≡ HooktoolFault.Read path.entry)
-        ⊎ IsBuildFault order.entry.purpose fault) }
+    ensures built { IfOk result (λ report. (bytes : List ℕ) × R.known.holds path.now bytes
+        × IsBuilt bytes (wanted_of R.known order.entry) report) }
+    ensures fault { IfErr result (λ fault. IsUnread R.known path.entry fault
+        ⊎ IsBuildFault R.known order.entry.purpose fault) }
 {
     match files::read(rt, path) {
         Ok(bytes) => build_bytes(rt, &order, path, bytes.as_slice()),

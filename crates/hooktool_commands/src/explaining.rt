@@ -2,9 +2,9 @@
 
 ghost use Rattle.std.specs.Prelude.{◌≡◌, ◌⊎◌, ◌++◌, List, ℕ, IfErr, IfOk, is_err, string_bytes};
 ghost use Rattle.hooktool_commands.specs.Explanations.{IsExplained};
-ghost use Rattle.hooktool_commands.specs.Builds.{IsExplainedFile, explanations_wanted};
-ghost use Rattle.hooktool_commands.specs.Faults.{IsObjectFault};
-ghost use Rattle.hooktool_commands.specs.Orders.{wanted_of};
+ghost use Rattle.hooktool_commands.specs.Builds.{IsExplainedFile};
+ghost use Rattle.hooktool_commands.specs.Faults.{IsObjectFault, IsUnread};
+ghost use Rattle.hooktool_commands.specs.Orders.{explanation_order};
 
 use crate::annotating::is_elf;
 use crate::building::{Order, Purpose, build_bytes};
@@ -14,9 +14,9 @@ use crate::report::CommandReport;
 use explanations::{Explanation, explain as explained};
 use hooktool_line::FuelAsked;
 use isa::decode;
+use object_trials::WholeFiles;
 use object_verdicts::VerifyError;
 use std::alloc::Global;
-use std::rt::Files;
 use verifier::{Accepted, Rule};
 
 /// Why these bytes hold no program. Where they hold one, memory was refused.
@@ -98,8 +98,7 @@ pub(crate) fn explanation_of<'a>(
 
 /// What is asked for of an ELF file.
 fn explaining<'a>() -> Order<'a>
-    ensures wanted { wanted_of result ≡ explanations_wanted }
-    ensures purpose { result.purpose ≡ Purpose.Explanation }
+    ensures { result ≡ explanation_order }
 {
     Order {
         purpose: Purpose::Explanation,
@@ -113,12 +112,12 @@ fn explaining<'a>() -> Order<'a>
 
 /// What is told of these bytes of the file at `path`: of an object file, or of each function of an
 /// ELF file.
-fn explain_bytes<'a, R: Files + AllocGlobal>(
+fn explain_bytes<'a, R: WholeFiles + AllocGlobal>(
     rt: &R,
     path: &str,
     bytes: &[u8],
 ) -> Result<CommandReport, HooktoolFault<'a>>
-    ensures explained { IfOk result (IsExplainedFile bytes.now) }
+    ensures explained { IfOk result (IsExplainedFile R.known bytes.now) }
     ensures fault { IfErr result (IsObjectFault bytes.now) }
 {
     if is_elf(bytes) {
@@ -133,13 +132,14 @@ fn explain_bytes<'a, R: Files + AllocGlobal>(
 /// the section of a hook, with the statements that are found for it.
 ///
 /// A fault where the file can't be read, is neither, holds no code, or memory is refused.
-pub(crate) fn explain<'a, R: Files + AllocGlobal>(
+pub(crate) fn explain<'a, R: WholeFiles + AllocGlobal>(
     rt: &R,
     path: &'a str,
 ) -> Result<CommandReport, HooktoolFault<'a>>
-    ensures explained { IfOk result (λ report. (bytes : List ℕ) × IsExplainedFile bytes report) }
-    ensures fault { IfErr result (λ fault. (fault ≡ HooktoolFault.Read path.entry)
-        ⊎ ((bytes : List ℕ) × IsObjectFault bytes fault)) }
+    ensures explained { IfOk result (λ report. (bytes : List ℕ) × R.known.holds path.now bytes
+        × IsExplainedFile R.known bytes report) }
+    ensures fault { IfErr result (λ fault. IsUnread R.known path.entry fault
+        ⊎ ((bytes : List ℕ) × R.known.holds path.now bytes × IsObjectFault bytes fault)) }
 {
     match files::read(rt, path) {
         Ok(bytes) => explain_bytes(rt, path, bytes.as_slice()),

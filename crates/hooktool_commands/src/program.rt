@@ -17,9 +17,9 @@ use clap::Error;
 use clap::error::ErrorKind;
 use hooktool_line::{FuelAsked, HooktoolRequest};
 use isa::Hook;
+use object_trials::WholeFiles;
 use std::alloc::Global;
 use std::io::{self, ErrorKind as IoKind};
-use std::rt::Files;
 
 // Prints what a command made, and answers the status.
 fn print<O: Stream>(report: &CommandReport, output: &mut O) -> u8
@@ -114,7 +114,7 @@ pub fn end_without_words<O: Stream, E: Stream>(
 }
 
 // What is made of a file of clang's.
-fn built<'a, R: Files + AllocGlobal>(
+fn built<'a, R: WholeFiles + AllocGlobal>(
     rt: &R,
     file: &'a str,
     folder: &'a str,
@@ -122,9 +122,9 @@ fn built<'a, R: Files + AllocGlobal>(
     fuel: FuelAsked,
 ) -> Result<CommandReport, HooktoolFault<'a>>
     ensures made { IfOk result
-        (IsMadeOf (HooktoolRequest.Build file.entry folder.entry hook fuel)) }
+        (IsMadeOf R.known (HooktoolRequest.Build file.entry folder.entry hook fuel)) }
     ensures fault { IfErr result
-        (IsFaultOf (HooktoolRequest.Build file.entry folder.entry hook fuel)) }
+        (IsFaultOf R.known (HooktoolRequest.Build file.entry folder.entry hook fuel)) }
 {
     let purpose = Purpose::Object { folder };
     let order = Order {
@@ -136,12 +136,12 @@ fn built<'a, R: Files + AllocGlobal>(
 }
 
 // Carries out a request, and answers the status.
-fn carry_out<R: Files + AllocGlobal, O: Stream>(
+fn carry_out<R: WholeFiles + AllocGlobal, O: Stream>(
     rt: &R,
     request: HooktoolRequest<'_>,
     output: &mut O,
 ) -> u8
-    ensures { EndsRequest request.entry (O.state output.old) (O.state output.new) result }
+    ensures { EndsRequest R.known request.entry (O.state output.old) (O.state output.new) result }
 {
     match request {
         HooktoolRequest::Annotate {
@@ -168,13 +168,13 @@ fn carry_out<R: Files + AllocGlobal, O: Stream>(
 /// done, 1 refused or stuck, 2 usage, 3 a file or a stream failed, 4 memory was refused.
 ///
 /// Lines and help are written to `output`; the texts about wrong words go to `errors`.
-pub fn program<R: Files + AllocGlobal, O: Stream, E: Stream>(
+pub fn program<R: WholeFiles + AllocGlobal, O: Stream, E: Stream>(
     rt: &R,
     words: &[&str],
     output: &mut O,
     errors: &mut E,
 ) -> u8
-    ensures ended { EndsWords (map (λ word. word.now) words.now)
+    ensures ended { EndsWords R.known (map (λ word. word.now) words.now)
         (O.state output.old) (O.state output.new)
         (E.state errors.old) (E.state errors.new) result }
 {

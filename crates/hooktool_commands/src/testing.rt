@@ -1,17 +1,19 @@
 //! `test`: the questions of a file, and the answers that are expected.
 
-ghost use Rattle.std.specs.Prelude.{◌≡◌, ◌⊎◌, IfErr, IfOk, not};
+ghost use Rattle.std.specs.Prelude.{◌≡◌, ◌≢◌, IfErr, IfOk, not};
 ghost use Rattle.std.specs.List.{list_any};
-ghost use Rattle.hooktool_commands.specs.Tests.{IsTested};
+ghost use Rattle.hooktool_line.specs.Steps.{words_of};
+ghost use Rattle.hooktool_commands.specs.Faults.{IsTestFault};
+ghost use Rattle.hooktool_commands.specs.Tests.{HasWrongLine, IsTested, IsTestedOr, IsUnplayed};
+ghost use Rattle.hooktool_commands.specs.Tests.{IsWrongTest};
 
 use crate::fault::HooktoolFault;
 use crate::files;
 use crate::report::{CommandReport, told};
 use crate::tap::protocol;
 use hooktool_line::{LineError, TestLine, WrongLine, read_lines, words_of_lines};
-use object_trials::{PlayError, Point, Stopped, play};
+use object_trials::{PlayError, Point, Stopped, WholeFiles, play};
 use std::alloc::{AllocError, Global};
-use std::rt::Files;
 
 const UNPLAYED: &str = "the tests aren't played to their end\n";
 
@@ -23,7 +25,9 @@ pub(crate) enum Tested {
 }
 
 /// Why a line says nothing that is done in a test, behind its place.
-fn wrong_text(alloc: Global, path: &str, wrong: &WrongLine) -> Result<String, AllocError> {
+fn wrong_text(alloc: Global, path: &str, wrong: &WrongLine) -> Result<String, AllocError>
+    ensures { IfOk result (λ text. wrong.now.error ≢ LineError.Memory) }
+{
     let number = wrong.number;
     match &wrong.error {
         LineError::Options(error) => format!(in alloc; "{path}, line {number}: {error}{UNPLAYED}"),
@@ -32,19 +36,10 @@ fn wrong_text(alloc: Global, path: &str, wrong: &WrongLine) -> Result<String, Al
     }
 }
 
-/// A line that can't be read or played, by what is told of it.
-fn unread<'a>(text: Result<String, AllocError>) -> Result<Tested, HooktoolFault<'a>>
-    ensures played { IfOk result IsTested }
-    ensures fault { IfErr result (λ fault. fault ≡ HooktoolFault.Memory) }
-{
-    match text {
-        Ok(text) => Ok(Tested::Unread(text)),
-        Err(error) => Err(HooktoolFault::from(error)),
-    }
-}
-
 /// Why a line can't be played, behind its place.
-fn stopped_text(alloc: Global, path: &str, stopped: Stopped) -> Result<String, AllocError> {
+fn stopped_text(alloc: Global, path: &str, stopped: Stopped) -> Result<String, AllocError>
+    ensures { IfOk result (λ text. stopped.error ≢ PlayError.Memory) }
+{
     let number = stopped.number;
     let error = stopped.error;
     match error {
@@ -70,12 +65,12 @@ fn report_of<'a>(alloc: Global, points: &[Point<'_>]) -> Result<CommandReport, H
 }
 
 /// Plays these lines, and says what is to be told.
-fn played<'a, R: Files + AllocGlobal>(
+fn played<'a, R: WholeFiles + AllocGlobal>(
     rt: &R,
     path: &'a str,
     lines: &[TestLine<'_>],
 ) -> Result<Tested, HooktoolFault<'a>>
-    ensures played { IfOk result IsTested }
+    ensures played { IfOk result (IsTestedOr (IsUnplayed R.known lines.now)) }
     ensures fault { IfErr result (λ fault. fault ≡ HooktoolFault.Memory) }
 {
     match play(rt, lines) {
@@ -83,32 +78,38 @@ fn played<'a, R: Files + AllocGlobal>(
             Ok(report) => Ok(Tested::Played(report)),
             Err(fault) => Err(fault),
         },
-        Err(stopped) => unread(stopped_text(rt.alloc(), path, stopped)),
+        Err(stopped) => match stopped_text(rt.alloc(), path, stopped) {
+            Ok(text) => Ok(Tested::Unread(text)),
+            Err(error) => Err(HooktoolFault::from(error)),
+        },
     }
 }
 
 /// Plays the lines of these words.
-fn test_words<'a, R: Files + AllocGlobal>(
+fn test_words<'a, R: WholeFiles + AllocGlobal>(
     rt: &R,
     path: &'a str,
     words: &[Vec<&str>],
 ) -> Result<Tested, HooktoolFault<'a>>
-    ensures played { IfOk result IsTested }
+    ensures played { IfOk result (IsTestedOr (IsWrongTest R.known (words_of words.now))) }
     ensures fault { IfErr result (λ fault. fault ≡ HooktoolFault.Memory) }
 {
     match read_lines(rt.alloc(), words) {
         Ok(lines) => played(rt, path, &lines),
-        Err(line) => unread(wrong_text(rt.alloc(), path, &line)),
+        Err(line) => match wrong_text(rt.alloc(), path, &line) {
+            Ok(text) => Ok(Tested::Unread(text)),
+            Err(error) => Err(HooktoolFault::from(error)),
+        },
     }
 }
 
 /// Plays the lines of a text.
-fn test_text<'a, R: Files + AllocGlobal>(
+fn test_text<'a, R: WholeFiles + AllocGlobal>(
     rt: &R,
     path: &'a str,
     text: &str,
 ) -> Result<Tested, HooktoolFault<'a>>
-    ensures played { IfOk result IsTested }
+    ensures played { IfOk result (IsTestedOr (HasWrongLine R.known)) }
     ensures fault { IfErr result (λ fault. fault ≡ HooktoolFault.Memory) }
 {
     match words_of_lines(rt.alloc(), text) {
@@ -121,13 +122,12 @@ fn test_text<'a, R: Files + AllocGlobal>(
 /// read or played.
 ///
 /// A fault where the file can't be read, isn't UTF-8, or memory is refused.
-pub(crate) fn test<'a, R: Files + AllocGlobal>(
+pub(crate) fn test<'a, R: WholeFiles + AllocGlobal>(
     rt: &R,
     path: &'a str,
 ) -> Result<Tested, HooktoolFault<'a>>
-    ensures played { IfOk result IsTested }
-    ensures fault { IfErr result (λ fault. (fault ≡ HooktoolFault.Read path.entry)
-        ⊎ (fault ≡ HooktoolFault.Memory)) }
+    ensures played { IfOk result (IsTested R.known path.now) }
+    ensures fault { IfErr result (IsTestFault R.known path.entry) }
 {
     match files::read(rt, path) {
         Ok(bytes) => match str::from_utf8(&bytes) {

@@ -2,10 +2,8 @@
 
 ghost use Rattle.std.specs.Prelude.{◌≡◌, ◌⊎◌, List, ℕ, IfErr, IfOk, is_err};
 ghost use Rattle.std.specs.List.{list_any};
-ghost use Rattle.hooktool_commands.specs.Endings.{IsPacketFault};
-ghost use Rattle.hooktool_commands.specs.Faults.{IsObjectFault};
-ghost use Rattle.hooktool_commands.specs.Trials.{IsTried};
-ghost use Rattle.object_trials.specs.Plays.{PacketIs};
+ghost use Rattle.hooktool_commands.specs.Faults.{IsObjectFault, IsPacketFault, IsUnread};
+ghost use Rattle.hooktool_commands.specs.Trials.{IsPacketOf, IsTried};
 
 use crate::answers::push_answer;
 use crate::explaining::fault_in;
@@ -17,9 +15,8 @@ use explanations::{Text, instruction_lines};
 use hooktool_line::{PacketSource, Question};
 use isa::{Code, Hook, decode};
 use object::Object;
-use object_trials::{ObjectTrial, RunEnding, is_any_stuck, try_object};
+use object_trials::{ObjectTrial, RunEnding, WholeFiles, is_any_stuck, try_object};
 use std::alloc::{AllocError, Global};
-use std::rt::Files;
 use verifier::BUDGET;
 
 /// The program that was run, and as many instructions as it may take.
@@ -157,15 +154,16 @@ fn trial_of<'a>(
 }
 
 /// The same, with the packet of the question.
-fn try_bytes<'a, R: Files + AllocGlobal>(
+fn try_bytes<'a, R: WholeFiles + AllocGlobal>(
     rt: &R,
     bytes: &[u8],
     question: &Question<'a>,
 ) -> Result<CommandReport, HooktoolFault<'a>>
-    ensures tried { IfOk result (λ report. (bytes packet : List ℕ)
-        × PacketIs question.now.packet packet × IsTried bytes packet question.now report) }
-    ensures fault { IfErr result (λ fault. IsPacketFault question.now.packet fault
-        ⊎ ((bytes : List ℕ) × IsObjectFault bytes fault)) }
+    ensures tried { IfOk result (λ report. (packet : List ℕ)
+        × IsPacketOf R.known question.now.packet packet
+        × IsTried bytes.now packet question.now report) }
+    ensures fault { IfErr result (λ fault. IsPacketFault R.known question.now.packet fault
+        ⊎ IsObjectFault bytes.now fault) }
 {
     match &question.packet {
         PacketSource::Bytes(packet) => trial_of(rt.alloc(), bytes, packet.as_slice(), question),
@@ -180,16 +178,17 @@ fn try_bytes<'a, R: Files + AllocGlobal>(
 /// was left in counters and cells.
 ///
 /// A fault where a file can't be read, is no object file, holds no code, or memory is refused.
-pub(crate) fn try_question<'a, R: Files + AllocGlobal>(
+pub(crate) fn try_question<'a, R: WholeFiles + AllocGlobal>(
     rt: &R,
     path: &'a str,
     question: &Question<'a>,
 ) -> Result<CommandReport, HooktoolFault<'a>>
-    ensures tried { IfOk result (λ report. (bytes packet : List ℕ)
-        × PacketIs question.now.packet packet × IsTried bytes packet question.now report) }
-    ensures fault { IfErr result (λ fault. (fault ≡ HooktoolFault.Read path.entry)
-        ⊎ IsPacketFault question.now.packet fault
-        ⊎ ((bytes : List ℕ) × IsObjectFault bytes fault)) }
+    ensures tried { IfOk result (λ report. (bytes : List ℕ) × R.known.holds path.now bytes
+        × (packet : List ℕ) × IsPacketOf R.known question.now.packet packet
+        × IsTried bytes packet question.now report) }
+    ensures fault { IfErr result (λ fault. IsUnread R.known path.entry fault
+        ⊎ IsPacketFault R.known question.now.packet fault
+        ⊎ ((bytes : List ℕ) × R.known.holds path.now bytes × IsObjectFault bytes fault)) }
 {
     match files::read(rt, path) {
         Ok(bytes) => try_bytes(rt, bytes.as_slice(), question),

@@ -9,13 +9,14 @@ loop-function-preserved g c =
     let functions = c.args.functions.now in
     let n = c.loop-function.function-index in
     let within : n < length functions = c.loop-function-test.true in
-    functions_more c.args.file.now (wanted_of c.args.order.now) c.args.hook functions _ n
-    c.loop-function.report c.in_ok-built.built c.join.new.report c.loop-function.invariant
+    functions_more c.args.file.now (wanted_of g.R.WholeFiles.known c.args.order.now) c.args.hook
+    functions _ n c.loop-function.report c.in_ok-built.built c.join.new.report
+    c.loop-function.invariant
     c.in_ok-built.ensures.built (slice_get-get_or functions n _ within) c.in_ok-join.ensures.text
     c.in_ok-join.ensures.refused
 
 pub returns-clause-built : goal.returns-clause-built
 returns-clause-built g c =
-    functions_all c.args.file.now (wanted_of c.args.order.now) c.args.hook c.args.functions.now
-    c.loop-function.function-index c.loop-function.report (omega arith)
+    functions_all c.args.file.now (wanted_of g.R.WholeFiles.known c.args.order.now) c.args.hook
+    c.args.functions.now c.loop-function.function-index c.loop-function.report (omega arith)
     c.loop-function.invariant

@@ -6,5 +6,5 @@ use Rattle.hooktool_commands.proofs.building.build_functions.Given as goal
 
 abbrev pub invariant-loop-function : goal.invariant-loop-function
 invariant-loop-function g l = (l.report.is_refused ≡ true)
-    ⊎ AreBuiltFunctions l.file (wanted_of l.order) l.hook l.functions l.function-index
-    (string_bytes l.report.text)
+    ⊎ AreBuiltFunctions l.file (wanted_of g.R.WholeFiles.known l.order) l.hook l.functions
+    l.function-index (string_bytes l.report.text)

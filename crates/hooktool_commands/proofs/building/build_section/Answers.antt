@@ -6,5 +6,5 @@ returns-in_default-clause-built g c = refused_or _ c.section_refusal.result
     c.section_refusal.ensures.refused
 
 pub returns-in_default-clause-fault : goal.returns-in_default-clause-fault
-returns-in_default-clause-fault g c = memory_built _ c.section_refusal.result
+returns-in_default-clause-fault g c = memory_built g.R.WholeFiles.known _ c.section_refusal.result
     c.section_refusal.ensures.fault

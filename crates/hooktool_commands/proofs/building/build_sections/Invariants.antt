@@ -6,4 +6,5 @@ use Rattle.hooktool_commands.proofs.building.build_sections.Given as goal
 
 abbrev pub invariant-loop-index : goal.invariant-loop-index
 invariant-loop-index g l = (l.report.is_refused ≡ true)
-    ⊎ AreBuiltSections l.file (wanted_of l.order) l.index (string_bytes l.report.text)
+    ⊎ AreBuiltSections l.file (wanted_of g.R.WholeFiles.known l.order) l.index
+    (string_bytes l.report.text)
