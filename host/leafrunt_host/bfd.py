@@ -363,6 +363,8 @@ class Sessions:
             log.error("BFD: its process can't be started: %s", why)
             return
         self.error = None
+        # (how one that stood by before has ended says nothing of one beside this)
+        self._stands_by_again = 0.0
         self._bridge.follow(self._helper.own, self._read)
         for number in self._held:
             self._add(number)

@@ -407,6 +407,18 @@ class AsAProcess(unittest.TestCase):
         assert said
         self.assertEqual((said["state"], said["error"], self.lost), ("Up", None, []))
 
+    def test_the_one_that_stands_by_is_killed_first(self) -> None:
+        """Once the other one is killed too, and a third goes on, another stands by at once."""
+        self.come_up()
+        first, standby = self.sessions._helper, self.standing_by()
+        assert first
+        os.kill(standby._ran.pid, signal.SIGKILL)
+        self.until(lambda: self.sessions._standby is None)
+        os.kill(first._ran.pid, signal.SIGKILL)
+        self.until(lambda: self.sessions._helper not in (first, None))
+        self.assertIsNot(self.standing_by(), standby)
+        self.assertEqual((self.state(), self.lost), ("Up", []))
+
     @unittest.skipIf(os.geteuid(), "this needs root")
     def test_each_process_is_a_user_of_its_own(self) -> None:
         helper, standby = self.sessions._helper, self.standing_by()
