@@ -2,7 +2,7 @@
 -- file.
 use Rattle.std.specs.Prelude.{◌≡◌, ◌⊎◌, ◌==◌, ◌&&◌, ◌||◌, ◌<◌, ℕ, zero, suc, List, [], ◌++◌, Option}
 use Rattle.std.specs.Prelude.{Some, None, Bool, true, false, not, codes}
-use Rattle.std.specs.Prelude.{IfSome, IsSome, length, slice_get, string_bytes}
+use Rattle.std.specs.Prelude.{IfSome, IsSome, length, slice_get, string_bytes, take}
 use Rattle.std.specs.Char.{is_ascii_alphanumeric}
 use Rattle.std.specs.List.{list_all}
 use Rattle.explanations.specs.Told as explained
@@ -16,7 +16,7 @@ use Rattle.elf.specs.Entries.{is_code}
 use Rattle.elf.specs.Files.{IsObjectFile, contents_of, section_at, section_count, section_name}
 use Rattle.elf.specs.Lists.{HasBytes, HasSymbol, functions_of, relocations_of, symbol_bytes}
 use Rattle.elf.specs.Lists.{symbol_name}
-use Rattle.hooktool_commands.specs.Annotations.{accepted_text, fuel_for}
+use Rattle.hooktool_commands.specs.Annotations.{accepted_text, elf_magic, fuel_for}
 use Rattle.hooktool_commands.specs.Explanations.{IsExplained}
 use Rattle.hooktool_line.specs.declared.requests.FuelAsked.{FuelAsked}
 use Rattle.object_trials.specs.Stops.{KnownFiles}
@@ -65,6 +65,10 @@ TellsFunction None function hook program found text = (before : List ℕ)
 abbrev pub IsHookOf : Option Hook → List ℕ → Hook → Type 0
 IsHookOf asked section hook = (section ≡ hook_name hook)
     ⊎ ((section ≡ codes ".text") × (asked ≡ Some hook))
+
+-- it is for none
+abbrev pub IsForNoHook : (asked : Option Hook) → (section : List ℕ) → Type 0
+IsForNoHook asked section = (hook : Hook) → IsHookOf asked section hook → ⊥
 
 -- An object was found of the function's code (with --fuel, or where that is told, of that code with
 -- its turns counted) that the verifier accepts; its bytes were written, where objects are asked
@@ -142,7 +146,7 @@ explanations_wanted known = record {
   written = known.written;
 }
 
--- An object file is explained, or each function of an ELF file.
+-- An object file is explained; or the bytes begin as an ELF file, and each of its functions is.
 abbrev pub IsExplainedFile : KnownFiles → List ℕ → CommandReport → Type 0
 IsExplainedFile known bytes report = IsExplained bytes report
-    ⊎ IsBuilt bytes (explanations_wanted known) report
+    ⊎ ((take 4 bytes ≡ elf_magic) × IsBuilt bytes (explanations_wanted known) report)

@@ -2,7 +2,7 @@
 //! verifier knows of each.
 
 ghost use Rattle.std.specs.Prelude.{◌≡◌, ◌⊎◌, ◌++◌, ◌||◌, ◌<◌, ℕ, List, false, true, Some, IfErr};
-ghost use Rattle.std.specs.Prelude.{IfOk, IfSome, OnOk, length, string_bytes};
+ghost use Rattle.std.specs.Prelude.{IfNone, IfOk, IfSome, OnOk, length, string_bytes};
 ghost use Rattle.std.specs.List.{All};
 ghost use Rattle.isa.specs.Hooks.{hook_name};
 ghost use Rattle.object_verdicts.specs.Verdicts.{Accepts};
@@ -11,8 +11,9 @@ ghost use Rattle.elf.specs.Files.{section_count, section_name};
 ghost use Rattle.elf.specs.Lists.{functions_of, relocations_of, symbol_bytes, symbol_name};
 ghost use Rattle.hooktool_commands.specs.Builds.{AreBuiltFunctions, AreBuiltSections, IsBuilt};
 ghost use Rattle.hooktool_commands.specs.Builds.{IsBuiltAt, IsBuiltFunction, IsBuiltSection};
-ghost use Rattle.hooktool_commands.specs.Builds.{HasNoProgram, HasProgram, IsHookOf, built_text};
-ghost use Rattle.hooktool_commands.specs.Builds.{is_file_name, is_program_section, object_path};
+ghost use Rattle.hooktool_commands.specs.Builds.{HasNoProgram, HasProgram, IsForNoHook, IsHookOf};
+ghost use Rattle.hooktool_commands.specs.Builds.{built_text, is_file_name, is_program_section};
+ghost use Rattle.hooktool_commands.specs.Builds.{object_path};
 ghost use Rattle.hooktool_commands.specs.Explanations.{IsExplained};
 ghost use Rattle.hooktool_commands.specs.Faults.{IsBuildFault, IsUnplaced, IsUnread};
 ghost use Rattle.hooktool_commands.specs.Linked.{is_changed};
@@ -86,8 +87,10 @@ fn about(alloc: Global, section: &[u8], function: &[u8]) -> Text {
 
 /// The hook of the functions of a section: the one that it is named by, or for `.text` the given
 /// one.
+#[tactic(auto, using(crate::proofs::Hooked::unasked, crate::proofs::Hooked::unnamed))]
 fn hook_of(given: Option<Hook>, section: &str) -> Option<Hook>
-    ensures { IfSome result (IsHookOf given section.now) }
+    ensures some { IfSome result (IsHookOf given section.now) }
+    ensures none { IfNone result (IsForNoHook given section.now) }
 {
     if section == ".text" {
         return given;
@@ -97,7 +100,8 @@ fn hook_of(given: Option<Hook>, section: &str) -> Option<Hook>
 
 /// The hook of the functions of a section with this name, which may be any bytes.
 fn hook_in(given: Option<Hook>, section: &[u8]) -> Option<Hook>
-    ensures { IfSome result (IsHookOf given section.now) }
+    ensures some { IfSome result (IsHookOf given section.now) }
+    ensures none { IfNone result (IsForNoHook given section.now) }
 {
     match str::from_utf8(section) {
         Ok(name) => hook_of(given, name),
@@ -361,8 +365,10 @@ fn build_function<'a, R: WholeFiles + AllocGlobal>(
 fn section_refusal<'a>(
     alloc: Global,
     purpose: Purpose<'_>,
+    _given: Option<Hook>,
     section: &[u8],
 ) -> Result<CommandReport, HooktoolFault<'a>>
+    requires { IsForNoHook _given section.now }
     ensures refused { IfOk result (λ report. report.is_refused ≡ true) }
     ensures fault { IfErr result (λ fault. fault ≡ HooktoolFault.Memory) }
 {
@@ -381,7 +387,12 @@ fn section_refusal<'a>(
 }
 
 /// What is told of a section whose instructions are no function's.
-fn nothing_refusal<'a>(alloc: Global, section: &[u8]) -> Result<CommandReport, HooktoolFault<'a>>
+fn nothing_refusal<'a>(
+    alloc: Global,
+    section: &[u8],
+    _functions: &[LinkedSymbol],
+) -> Result<CommandReport, HooktoolFault<'a>>
+    requires { length _functions.now ≡ 0 }
     ensures refused { IfOk result (λ report. report.is_refused ≡ true) }
     ensures fault { IfErr result (λ fault. fault ≡ HooktoolFault.Memory) }
 {
@@ -501,11 +512,11 @@ fn build_section<'a, R: WholeFiles + AllocGlobal>(
 {
     let name = file.section_name(index);
     let Some(hook) = hook_in(order.hook, name) else {
-        return section_refusal(rt.alloc(), order.purpose, name);
+        return section_refusal(rt.alloc(), order.purpose, order.hook, name);
     };
     let functions = file.functions(rt.alloc(), index)?;
     if functions.is_empty() {
-        return nothing_refusal(rt.alloc(), name);
+        return nothing_refusal(rt.alloc(), name, &functions);
     }
     build_for(rt, order, hook, file, index, &functions)
 }

@@ -1,4 +1,4 @@
-use Rattle.std.proofs.Common.{ap, inr, subst}
+use Rattle.std.proofs.Common.{ap, inr, refl, subst}
 use Rattle.hooktool_commands.proofs.Built.{told_more}
 use Rattle.hooktool_commands.proofs.Faulted.{explaining_fault}
 use Rattle.hooktool_commands.specs.Builds.{IsBuilt}
@@ -8,9 +8,12 @@ use Rattle.hooktool_commands.proofs.explaining.explain_bytes.Goals as goal
 
 pub returns-then-is_elf-clause-explained : goal.returns-then-is_elf-clause-explained
 returns-then-is_elf-clause-explained g c = told_more _ _ c.build_bytes.result
-    (λ report built. inr (subst (λ (order : Order). IsBuilt c.args.bytes.now
-    (wanted_of g.R.WholeFiles.known order) report) c.explaining.ensures built))
-    c.build_bytes.ensures.built
+    (λ report built. inr (
+      c.if-is_elf.ensures.0 refl,
+      subst (λ (order : Order).
+          IsBuilt c.args.bytes.now (wanted_of g.R.WholeFiles.known order) report) c.explaining.ensures
+          built,
+    )) c.build_bytes.ensures.built
 
 pub returns-then-is_elf-clause-fault : goal.returns-then-is_elf-clause-fault
 returns-then-is_elf-clause-fault g c =
