@@ -7,4 +7,4 @@ pub mod Steps
 pub use Rattle.adjacency.specs as adjacency
 pub use Rattle.adjacency.specs.lsdb as lsdb
 pub use Rattle.received.specs as received
-pub use Rattle.neighbor_places.specs.neighbors as neighbors
+pub use Rattle.neighbors.specs as neighbors

@@ -4,10 +4,12 @@ use Rattle.std.specs.List.{enumerate_from, flat_map, fold}
 use Rattle.words.specs.Numbers.{InterfaceNumber, Moment}
 use Rattle.words.specs.declared.key.Key.{Key}
 use Rattle.adjacency.specs.lsdb.Copies.{Database, mark_sent}
-use Rattle.adjacency.specs.Contents.{Content}
+use Rattle.adjacency.specs.Contents.{Content, sent_on, step_on}
+use Rattle.adjacency.specs.Retransmissions.{send_again}
 use Rattle.adjacency.specs.declared.draft.Update.{Update}
 use Rattle.received.specs.Links.{Link, change_link, link_at}
 use Rattle.received.specs.Outcomes.{Outcome, Send, sends_at, on_links, sending}
+use Rattle.flooding.specs.Links.{with_neighbor}
 
 abbrev pub sends_of : (Link → List Content) → List Link → List Send
 sends_of f links = flat_map (λ (e : ℕ × Link). sends_at e.0 (f e.1)) (enumerate_from 1 links)
@@ -25,6 +27,17 @@ one_link moment number after sends o =
     let db : Database = o.area.database in
     sending moment (sends_at number (sent_by (sends db) (link_at number o.area.links)))
     (on_links (change_link number (after db)) o)
+
+-- ---- what a link retransmits
+
+abbrev pub after_again : Moment → Database → Link → Link
+after_again moment db link =
+    with_neighbor (step_on (send_again moment link.interface.retransmit_interval db) link.neighbor)
+    link
+
+abbrev pub sent_again : Moment → Database → Link → List Content
+sent_again moment db link =
+    sent_on (send_again moment link.interface.retransmit_interval db) link.neighbor
 
 -- ---- marks of what was sent
 

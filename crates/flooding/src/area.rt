@@ -4,7 +4,7 @@ ghost use Rattle.std.specs.FinMap as finite;
 ghost use Rattle.received.specs.Updates.{after_case, case_at};
 ghost use Rattle.flooding.specs.Cases.{case_of};
 ghost use Rattle.flooding.specs.Drafted.{drafts_with};
-ghost use Rattle.flooding.specs.Links.{area_of, come_of_age, flooded_key, flush_outcome};
+ghost use Rattle.flooding.specs.Links.{area_of, come_of_age, flush_outcome};
 ghost use Rattle.flooding.specs.Links.{originate_outcome};
 ghost use Rattle.flooding.specs.Links.{present, settled_link, start};
 
@@ -12,7 +12,7 @@ mod copying;
 mod steps;
 
 use crate::cases::Case;
-use crate::flood::{come_of_age, flood, flush, originate, roll_back_links, settle_links};
+use crate::flood::{come_of_age, flush, originate, roll_back_links, settle_links};
 use crate::link::Link;
 use crate::receiving::receive;
 use adjacency::{Draft, Lsdb};
@@ -89,40 +89,6 @@ impl Area {
         } }
     {
         &self.database
-    }
-
-    /// Floods the copy of this key over all links (RFC 2328, section 13.3), adding each Link State
-    /// Update to the draft of its interface. `sender` is the interface where it was received, if it
-    /// was. The copy is marked as sent if it is sent. Without a copy nothing changes.
-    ///
-    /// Errors with `AllocError` if an allocation is refused; the caller then rolls the area back
-    /// and drops the drafts.
-    pub fn flood(
-        &mut self,
-        alloc: Global,
-        moment: Second,
-        sender: Option<usize>,
-        key: &Key,
-        drafts: &mut [Draft],
-    ) -> Result<(), AllocError>
-        requires { length drafts.old ≡ length self.old.present.links }
-        ensures ok { OnOk result (self.new.present
-            ≡ (flooded_key moment sender key.now self.old.present).area) }
-        ensures drafts { OnOk result (drafts.new
-            ≡ drafts_with (flooded_key moment sender key.now self.old.present).sends
-            self.old.present.links drafts.old) }
-        ensures settled { self.new.settled ≡ self.old.settled }
-        ensures router { self.new.router ≡ self.old.router }
-    {
-        flood(
-            alloc,
-            moment,
-            sender,
-            key,
-            &mut self.links,
-            &mut self.database,
-            drafts,
-        )
     }
 
     /// Processes an LSA of a Link State Update that was received at the interface with this number,

@@ -66,7 +66,7 @@ fn flood_links(
 }
 
 // Floods the copy of this key over all links, if there is one, and marks it as sent if it was.
-pub fn flood(
+fn flood(
     alloc: Global,
     moment: Second,
     sender: Option<usize>,

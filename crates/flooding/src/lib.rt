@@ -9,6 +9,7 @@ mod area;
 mod cases;
 mod flood;
 mod link;
+mod place;
 mod receiving;
 mod rows;
 mod steps;
@@ -16,6 +17,8 @@ mod steps;
 pub use area::Area;
 pub use cases::Case;
 pub use link::Link;
+pub use link::packets::{Acknowledging, Answering, Describing};
+pub use link::timers::{EndLoading, NextRequest, RunOut, SendingAgain};
 pub use steps::{LinkChange, LinkStep};
 // Names from the crates below that crates above use.
 pub use adjacency::{DatabaseCopy, Draft, Interface, Lsdb, NeighborState, Saved, Update};

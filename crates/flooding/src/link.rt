@@ -6,27 +6,24 @@ ghost use Rattle.adjacency.specs.Adjacencies.{mismatch_step};
 ghost use Rattle.adjacency.specs.Contents.{no_sends, sent_on, step_on};
 ghost use Rattle.adjacency.specs.Drafts.{drafting};
 ghost use Rattle.adjacency.specs.Floods.{flood_step, is_any};
-ghost use Rattle.adjacency.specs.Asked.{any_exchange_or_loading, has_instance, was_requested};
-ghost use Rattle.adjacency.specs.Requests.{request_next};
 ghost use Rattle.adjacency.specs.Retransmissions.{remove_retransmission};
-ghost use Rattle.adjacency.specs.Steps.{named_neighbor};
 ghost use Rattle.received.specs.Links.{acknowledge_later};
 ghost use Rattle.flooding.specs.Links.{unused_link, with_neighbor};
-ghost use Rattle.neighbor_places.specs.neighbors.Owed.{owed_on};
 
 mod acknowledgments;
+mod asked;
 mod copying;
 mod hellos;
-mod packets;
-mod timers;
+pub mod packets;
+pub mod timers;
 
-use adjacency::{DatabaseCopy, Draft, Interface, NeighborState, Saved};
+use crate::place::Place;
+use adjacency::{DatabaseCopy, Draft, Interface, Saved};
 use keyed_map::KeyedMap;
 use lsa::Header;
-use neighbor_places::Place;
 use std::alloc::{AllocError, Global};
 use std::marker::Model;
-use words::{Key, RouterId, Second};
+use words::Second;
 
 /// An interface with its neighbor, the delayed acknowledgments, and the moment of the last Hello
 /// that was sent; and their state when they were last settled.
@@ -89,13 +86,6 @@ impl Link {
         self.interface
     }
 
-    /// The neighbor's Router ID and its state, unless it is Down.
-    pub fn neighbor(&self) -> Option<(RouterId, NeighborState)>
-        ensures { result ≡ named_neighbor self.now.present.neighbor }
-    {
-        self.place.neighbor()
-    }
-
     /// Floods the copy to the neighbor, from which it came or not. Returns whether it is sent in a
     /// Link State Update, its age incremented by InfTransDelay (RFC 2328, section 13.3).
     ///
@@ -122,35 +112,10 @@ impl Link {
         ensures settled { self.new.settled ≡ self.old.settled }
     {
         let delay = self.interface.delay;
-        self.place.flood(alloc, moment, from, copy, delay, draft)
-    }
-
-    /// Whether there is a neighbor in Exchange or Loading.
-    pub fn is_exchange_or_loading(&self) -> bool
-        ensures { result ≡ any_exchange_or_loading self.now.present.neighbor }
-    {
-        self.place.is_exchange_or_loading()
-    }
-
-    /// Whether the key is on the neighbor's request list.
-    pub fn was_requested(&self, key: &Key) -> bool
-        ensures { result ≡ was_requested key.now self.now.present.neighbor }
-    {
-        self.place.was_requested(key)
-    }
-
-    /// How many entries the neighbor's retransmission list and request list have; 0 if it is Down.
-    pub fn owes(&self) -> usize
-        ensures { result ≡ owed_on self.now.present.neighbor }
-    {
-        self.place.owes()
-    }
-
-    /// Whether exactly this instance is on the neighbor's retransmission list.
-    pub fn has_instance(&self, moment: Second, header: &Header) -> bool
-        ensures { result ≡ has_instance moment header.now self.now.present.neighbor }
-    {
-        self.place.has_instance(moment, header)
+        let Some(neighbor) = &mut self.place.neighbor else {
+            return Ok(false);
+        };
+        neighbor.flood(alloc, moment, from, copy, delay, draft)
     }
 
     /// BadLSReq (RFC 2328, section 10.3): from Exchange on, the neighbor goes back to ExStart, and
@@ -184,26 +149,10 @@ impl Link {
             self.old.present) }
         ensures settled { self.new.settled ≡ self.old.settled }
     {
-        self.place.take_off(header)
-    }
-
-    /// The next Link State Request, if one is to be sent to the neighbor (RFC 2328, section 10.9).
-    ///
-    /// Errors with `AllocError` if an allocation is refused; the caller then rolls the link back.
-    pub fn request(
-        &mut self,
-        alloc: Global,
-        moment: Second,
-        draft: &mut Draft,
-    ) -> Result<(), AllocError>
-        ensures ok { OnOk result (self.new.present
-            ≡ with_neighbor (step_on (request_next moment) self.old.present.neighbor)
-            self.old.present) }
-        ensures draft { OnOk result ((delay : ℕ) → draft.new
-            ≡ drafting delay (sent_on (request_next moment) self.old.present.neighbor) draft.old) }
-        ensures settled { self.new.settled ≡ self.old.settled }
-    {
-        self.place.request(alloc, moment, draft)
+        match &mut self.place.neighbor {
+            None => Ok(()),
+            Some(neighbor) => neighbor.take_off(header),
+        }
     }
 
     /// Adds a delayed acknowledgment of the instance, which replaces an earlier one of its key (RFC

@@ -9,9 +9,8 @@ ghost use Rattle.procedures.specs.Received.{is_from_named, is_in_exchange_named}
 
 use crate::updates::receive_lsas;
 use adjacency::{Draft, NeighborState};
-use neighbor_packets::is_foreign;
 use packet::{Packet, PacketBody};
-use router_state::Router;
+use router_state::{Router, is_foreign};
 use std::alloc::{AllocError, Global};
 use words::{RouterId, Second};
 

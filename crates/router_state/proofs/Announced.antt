@@ -11,10 +11,10 @@ use Rattle.std.specs.declared.cmp.Ordering.TheVariants.{Less, Equal, Greater}
 use Rattle.words.specs.Numbers.{RouterNumber}
 use Rattle.words.specs.declared.key.Key.{Key}
 use Rattle.words.specs.declared.route.External.{External}
-use Rattle.timers.specs.lsdb.Keys.{ByKey, key_cmp}
-use Rattle.timers.proofs.lsdb.Keys.{keys_exact, keys_total}
-use Rattle.timers.specs.adjacency.Views.{keys_of}
-use Rattle.timers.proofs.adjacency.Neighbors.{contains_key_of}
+use Rattle.flooding.specs.lsdb.Keys.{ByKey, key_cmp}
+use Rattle.flooding.proofs.lsdb.Keys.{keys_exact, keys_total}
+use Rattle.flooding.specs.adjacency.Views.{keys_of}
+use Rattle.flooding.proofs.adjacency.Neighbors.{contains_key_of}
 use Rattle.router_state.specs.Owned.{AreOwn, IsOwn}
 
 equal : (r : Ordering) → is_eq r ≡ true → r ≡ Equal

@@ -3,14 +3,14 @@
 use Rattle.std.proofs.Common.{◌≡◌, ℕ, suc, ◌+◌, List, [], ◌∷◌, length, Result, Ok, Err, OnOk, IfOk}
 use Rattle.std.proofs.Common.{refl, sym, ap, ◌∙◌, arith}
 use Rattle.std.proofs.lemmas.List.{length-map}
-use Rattle.timers.specs.adjacency.Drafts.{Drafted}
-use Rattle.timers.specs.received.Links.{Area, Link}
-use Rattle.timers.specs.received.Outcomes.{Outcome, Send}
-use Rattle.timers.specs.events.EventState.{on_area}
-use Rattle.timers.specs.events.Routers.{Router}
-use Rattle.timers.specs.flooding.Drafted.{drafts_with, drafted_from}
-use Rattle.timers.specs.flooding.Links.{start}
-use Rattle.timers.proofs.flooding.Sends.{drafted_none}
+use Rattle.flooding.specs.adjacency.Drafts.{Drafted}
+use Rattle.flooding.specs.received.Links.{Area, Link}
+use Rattle.flooding.specs.received.Outcomes.{Outcome, Send}
+use Rattle.events.specs.EventState.{on_area}
+use Rattle.events.specs.Routers.{Router}
+use Rattle.flooding.specs.Drafted.{drafts_with, drafted_from}
+use Rattle.flooding.specs.Links.{start}
+use Rattle.flooding.proofs.Sends.{drafted_none}
 use Rattle.router_state.specs.Making.{Makes, interfaces_of}
 use Rattle.router_state.proofs.Making.{Appends, KeepsInterfaces, makes_from, makes_on_area}
 

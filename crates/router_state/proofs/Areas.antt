@@ -2,13 +2,13 @@
 use Rattle.std.proofs.Common.{◌≡◌, ℕ, ◌+◌, ◌==◌, Bool, true, false, cond, List, [], ◌∷◌, map}
 use Rattle.std.proofs.Common.{Option, None, Some, refl, sym, ap, ◌∙◌, append_assoc}
 use Rattle.std.specs.List.{enumerate_from}
-use Rattle.timers.specs.lsdb.Copies.{Database}
-use Rattle.timers.specs.received.Links.{Area, Link, change_link}
-use Rattle.timers.specs.received.Outcomes.{Outcome, Send, Stepping, each_neighbor, on_database}
-use Rattle.timers.specs.received.Outcomes.{on_links, sending, step_on}
-use Rattle.timers.specs.flooding.Links.{start}
-use Rattle.timers.proofs.flooding.Sends.{append_none}
-use Rattle.timers.specs.Aging.{outcomes_in_turn}
+use Rattle.flooding.specs.lsdb.Copies.{Database}
+use Rattle.flooding.specs.received.Links.{Area, Link, change_link}
+use Rattle.flooding.specs.received.Outcomes.{Outcome, Send, Stepping, each_neighbor, on_database}
+use Rattle.flooding.specs.received.Outcomes.{on_links, sending, step_on}
+use Rattle.flooding.specs.Links.{start}
+use Rattle.flooding.proofs.Sends.{append_none}
+use Rattle.router_state.specs.Aging.{outcomes_in_turn}
 use Rattle.router_state.specs.Making.{interfaces_of}
 use Rattle.router_state.proofs.Making.{Appends, KeepsInterfaces}
 

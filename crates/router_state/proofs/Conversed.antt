@@ -4,22 +4,22 @@ use Rattle.std.proofs.Common.{◌≡◌, ℕ, Bool, true, false, cond, List, map
 use Rattle.std.specs.Prelude.{Option, None, Some}
 use Rattle.std.specs.List.{list_all}
 use Rattle.words.specs.declared.key.Key.{Key}
-use Rattle.timers.specs.lsdb.Copies.{Database}
-use Rattle.timers.specs.lsdb.Headers.{Header}
+use Rattle.flooding.specs.lsdb.Copies.{Database}
+use Rattle.flooding.specs.lsdb.Headers.{Header}
 use Rattle.packet.specs.declared.model.Description.{Description}
 use Rattle.packet.specs.declared.model.Hello.{Hello}
-use Rattle.timers.specs.adjacency.Adjacencies as adjacencies
-use Rattle.timers.specs.adjacency.Adjacencies.{mismatch_step}
-use Rattle.timers.specs.adjacency.Contents.{Step, Updates, no_sends}
-use Rattle.timers.specs.adjacency.Descriptions.{after_description}
-use Rattle.timers.specs.adjacency.Retransmissions.{after_acknowledgment}
-use Rattle.timers.specs.received.Links.{Area, Link, link_at}
-use Rattle.timers.specs.received.Outcomes.{Outcome, sends_at, one_neighbor, only_at, sending}
-use Rattle.timers.specs.events.Hellos.{accepts, names}
-use Rattle.timers.specs.events.Packets.{acknowledged_by, after_hello, describe_to, hear, heard_on}
-use Rattle.timers.specs.events.Packets.{is_there, requested_from, requested_lsas, with_neighbor}
-use Rattle.timers.specs.flooding.Links.{start}
-use Rattle.timers.specs.Aging.{outcomes_in_turn}
+use Rattle.flooding.specs.adjacency.Adjacencies as adjacencies
+use Rattle.flooding.specs.adjacency.Adjacencies.{mismatch_step}
+use Rattle.flooding.specs.adjacency.Contents.{Step, Updates, no_sends}
+use Rattle.flooding.specs.adjacency.Descriptions.{after_description}
+use Rattle.flooding.specs.adjacency.Retransmissions.{after_acknowledgment}
+use Rattle.flooding.specs.received.Links.{Area, Link, link_at}
+use Rattle.flooding.specs.received.Outcomes.{Outcome, sends_at, one_neighbor, only_at, sending}
+use Rattle.events.specs.Hellos.{accepts, names}
+use Rattle.events.specs.Packets.{acknowledged_by, after_hello, describe_to, hear, heard_on}
+use Rattle.events.specs.Packets.{is_there, requested_from, requested_lsas, with_neighbor}
+use Rattle.flooding.specs.Links.{start}
+use Rattle.router_state.specs.Aging.{outcomes_in_turn}
 use Rattle.router_state.specs.Making.{interfaces_of}
 use Rattle.router_state.proofs.Making.{Appends, KeepsInterfaces}
 use Rattle.router_state.proofs.Areas.{appends_nothing, change_interfaces, keeps_neighbors}

@@ -2,12 +2,12 @@
 use Rattle.std.proofs.Common.{◌≡◌, ℕ, ◌+◌, ◌==◌, Bool, true, false, cond, List, [], ◌∷◌, ◌++◌, None}
 use Rattle.std.proofs.Common.{Some, refl, sym, ap, ◌∙◌}
 use Rattle.std.specs.List.{cons_option, filter_map}
-use Rattle.timers.specs.adjacency.Contents.{Content}
-use Rattle.timers.specs.adjacency.Drafts.{Drafted, adds, drafting}
-use Rattle.timers.specs.adjacency.declared.interface.Interface.{Interface}
-use Rattle.timers.specs.received.Links.{Link}
-use Rattle.timers.specs.received.Outcomes.{Send}
-use Rattle.timers.specs.flooding.Drafted.{at_interface, drafts_with, drafted_from}
+use Rattle.flooding.specs.adjacency.Contents.{Content}
+use Rattle.flooding.specs.adjacency.Drafts.{Drafted, adds, drafting}
+use Rattle.flooding.specs.adjacency.declared.interface.Interface.{Interface}
+use Rattle.flooding.specs.received.Links.{Link}
+use Rattle.flooding.specs.received.Outcomes.{Send}
+use Rattle.flooding.specs.Drafted.{at_interface, drafts_with, drafted_from}
 use Rattle.router_state.specs.Making.{interfaces_of}
 
 by_number : (k : ℕ) (x : Send) (b : Bool) (whole front back : List Content) → whole ≡ front ++ back

@@ -4,10 +4,10 @@ use Rattle.std.specs.FinMap as finite
 use Rattle.std.specs.FinSet as set
 use Rattle.words.specs.declared.key.Key.{Key}
 use Rattle.words.specs.declared.route.External.{External}
-use Rattle.timers.specs.lsdb.Keys.{ByKey, KeySet}
-use Rattle.timers.specs.events.Commands.{unannounce}
-use Rattle.timers.specs.events.Originations.{as_originated, forget_originations, is_recent, wait}
-use Rattle.timers.specs.events.Routers.{Router}
+use Rattle.flooding.specs.lsdb.Keys.{ByKey, KeySet}
+use Rattle.events.specs.Commands.{unannounce}
+use Rattle.events.specs.Originations.{as_originated, forget_originations, is_recent, wait}
+use Rattle.events.specs.Routers.{Router}
 
 module _ (shown old : Router) (key : Key) where
   pub waits : (w : KeySet) → shown ≡ old → w ≡ set.insert shown.waiting key

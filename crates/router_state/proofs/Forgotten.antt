@@ -10,9 +10,9 @@ use Rattle.std.specs.declared.cmp.Ordering.{Ordering}
 use Rattle.std.specs.declared.cmp.Ordering.TheVariants.{Less, Equal, Greater}
 use Rattle.words.specs.declared.key.Key.{Key}
 use Rattle.keyed_map.specs.Slots.{keys_where}
-use Rattle.timers.specs.lsdb.Keys.{ByKey, key_cmp}
-use Rattle.timers.proofs.lsdb.Keys.{keys_exact, keys_total}
-use Rattle.timers.specs.events.Originations.{interval_is_over, is_recent}
+use Rattle.flooding.specs.lsdb.Keys.{ByKey, key_cmp}
+use Rattle.flooding.proofs.lsdb.Keys.{keys_exact, keys_total}
+use Rattle.events.specs.Originations.{interval_is_over, is_recent}
 
 first : (a b : Bool) → T (a && b) → T a
 first true b p = tt

@@ -6,27 +6,27 @@ use Rattle.std.specs.List.{fold}
 use Rattle.std.specs.FinMap as finite
 use Rattle.words.specs.Constants.{max_age}
 use Rattle.words.specs.declared.key.Key.{Key}
-use Rattle.timers.specs.lsdb.Headers.{Lsa, lsa_aged, lsa_key}
-use Rattle.timers.specs.lsdb.Copies.{DatabaseCopy, age_out, has_just_aged_out, is_aged_out, lsa_now}
-use Rattle.timers.specs.adjacency.Adjacencies.{mismatch_step}
-use Rattle.timers.specs.adjacency.Contents.{no_sends}
-use Rattle.timers.specs.adjacency.Requests.{request_next}
-use Rattle.timers.specs.adjacency.Retransmissions.{remove_retransmission}
-use Rattle.timers.specs.received.Cases.{Case}
-use Rattle.timers.specs.received.Flooding.{flood_to}
-use Rattle.timers.specs.received.Links.{Area, acknowledge_later, any_exchange_or_loading}
-use Rattle.timers.specs.received.Links.{change_link}
-use Rattle.timers.specs.received.Outcomes.{Outcome, on_database, on_links, only_at, stepped_links}
-use Rattle.timers.specs.received.Updates.{after_case, copy_of, send_copy}
-use Rattle.timers.specs.events.Commands.{taken_down}
-use Rattle.timers.specs.events.Endings.{link_loading_done, remove_aged, request_all, stays}
-use Rattle.timers.specs.events.Endings.{with_age, with_ages}
-use Rattle.timers.specs.events.EventState.{flood_from_nobody}
-use Rattle.timers.specs.events.Originations.{flush_copy, install_and_flood}
-use Rattle.timers.specs.events.Ticks.{acknowledge_all, again, run_out, send_all_again, send_hellos}
-use Rattle.timers.specs.events.Ticks.{with_hello_sent, without_acknowledgments}
-use Rattle.timers.specs.flooding.Links.{flushed_copy, start}
-use Rattle.timers.specs.Aging.{outcomes_in_turn}
+use Rattle.flooding.specs.lsdb.Headers.{Lsa, lsa_aged, lsa_key}
+use Rattle.flooding.specs.lsdb.Copies.{DatabaseCopy, age_out, has_just_aged_out, is_aged_out, lsa_now}
+use Rattle.flooding.specs.adjacency.Adjacencies.{mismatch_step}
+use Rattle.flooding.specs.adjacency.Contents.{no_sends}
+use Rattle.flooding.specs.adjacency.Requests.{request_next}
+use Rattle.flooding.specs.adjacency.Retransmissions.{remove_retransmission}
+use Rattle.flooding.specs.received.Cases.{Case}
+use Rattle.flooding.specs.received.Flooding.{flood_to}
+use Rattle.flooding.specs.received.Links.{Area, acknowledge_later, any_exchange_or_loading}
+use Rattle.flooding.specs.received.Links.{change_link}
+use Rattle.flooding.specs.received.Outcomes.{Outcome, on_database, on_links, only_at, stepped_links}
+use Rattle.flooding.specs.received.Updates.{after_case, copy_of, send_copy}
+use Rattle.events.specs.Commands.{taken_down}
+use Rattle.events.specs.Endings.{link_loading_done, remove_aged, request_all, stays}
+use Rattle.events.specs.Endings.{with_age, with_ages}
+use Rattle.events.specs.EventState.{flood_from_nobody}
+use Rattle.events.specs.Originations.{flush_copy, install_and_flood}
+use Rattle.events.specs.Ticks.{acknowledge_all, again, run_out, send_all_again, send_hellos}
+use Rattle.events.specs.Ticks.{with_hello_sent, without_acknowledgments}
+use Rattle.flooding.specs.Links.{flushed_copy, start}
+use Rattle.router_state.specs.Aging.{outcomes_in_turn}
 use Rattle.router_state.specs.Making.{interfaces_of}
 use Rattle.router_state.proofs.Making.{Appends, KeepsInterfaces}
 use Rattle.router_state.proofs.Areas.{appends_links, appends_nothing, appends_then}

@@ -7,3 +7,16 @@ pub mod Announced
 pub mod Answered
 pub mod Edited
 pub mod Conversed
+pub mod OneLink
+pub mod Heard
+pub mod Replies
+pub mod Stepped
+pub mod AnyLink
+pub mod RunOut
+pub mod Requested
+pub mod Greeted
+pub mod Aged
+pub mod Again
+pub mod OfAge
+mod Within
+pub mod Onwards

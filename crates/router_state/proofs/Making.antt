@@ -2,15 +2,15 @@
 use Rattle.std.proofs.Common.{◌≡◌, Bool, true, false, cond, List, [], ◌∷◌, ◌++◌, refl, sym, ap}
 use Rattle.std.proofs.Common.{subst, ◌∙◌}
 use Rattle.std.specs.List.{fold}
-use Rattle.timers.specs.adjacency.Drafts.{Drafted}
-use Rattle.timers.specs.received.Links.{Area}
-use Rattle.timers.specs.received.Outcomes.{Outcome}
-use Rattle.timers.specs.events.EventState.{EventState, on_area, on_router}
-use Rattle.timers.specs.events.Routers.{Router}
-use Rattle.timers.specs.flooding.Drafted.{drafts_with}
-use Rattle.timers.specs.flooding.Links.{start}
-use Rattle.timers.proofs.flooding.Sends.{drafted_none}
-use Rattle.timers.specs.Aging.{outcomes_in_turn}
+use Rattle.flooding.specs.adjacency.Drafts.{Drafted}
+use Rattle.flooding.specs.received.Links.{Area}
+use Rattle.flooding.specs.received.Outcomes.{Outcome}
+use Rattle.events.specs.EventState.{EventState, on_area, on_router}
+use Rattle.events.specs.Routers.{Router}
+use Rattle.flooding.specs.Drafted.{drafts_with}
+use Rattle.flooding.specs.Links.{start}
+use Rattle.flooding.proofs.Sends.{drafted_none}
+use Rattle.router_state.specs.Aging.{outcomes_in_turn}
 use Rattle.router_state.specs.Making.{IsMaking, Makes, interfaces_of}
 use Rattle.router_state.proofs.Drafts.{drafted_append, drafted_same}
 

@@ -1,2 +1,6 @@
 pub mod Making
 pub mod Owned
+pub mod Heard
+pub mod Aging
+pub mod Greetings
+pub mod Marks

@@ -1,11 +1,11 @@
 -- An event in progress, as a router and one draft for each of its interfaces.
 use Rattle.std.specs.Prelude.{◌≡◌, List, map}
-use Rattle.timers.specs.adjacency.Drafts.{Drafted}
-use Rattle.timers.specs.adjacency.declared.interface.Interface.{Interface}
-use Rattle.timers.specs.received.Links.{Link}
-use Rattle.timers.specs.flooding.Drafted.{drafts_with}
-use Rattle.timers.specs.events.EventState.{EventState}
-use Rattle.timers.specs.events.Routers.{Router}
+use Rattle.flooding.specs.adjacency.Drafts.{Drafted}
+use Rattle.flooding.specs.adjacency.declared.interface.Interface.{Interface}
+use Rattle.flooding.specs.received.Links.{Link}
+use Rattle.flooding.specs.Drafted.{drafts_with}
+use Rattle.events.specs.EventState.{EventState}
+use Rattle.events.specs.Routers.{Router}
 
 -- the router is that of the event so far, and the drafts, which began as `first`, have what was
 -- sent

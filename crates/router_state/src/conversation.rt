@@ -1,19 +1,19 @@
 //! What packets from a neighbor do to the conversation with it (RFC 2328, sections 10.5 to 10.7 and
 //! 13.7).
 ghost use Rattle.std.specs.Prelude.{◌≡◌, ◌≤◌, OnOk, length, true};
-ghost use Rattle.timers.specs.received.Links.{neighbor_at};
-ghost use Rattle.timers.specs.events.EventState.{on_area};
-ghost use Rattle.timers.specs.events.Packets.{acknowledged_by, after_hello, describe_to};
-ghost use Rattle.timers.specs.events.Packets.{is_in_exchange};
-ghost use Rattle.timers.specs.events.Packets.{requested_from};
+ghost use Rattle.flooding.specs.received.Links.{neighbor_at};
+ghost use Rattle.events.specs.EventState.{on_area};
+ghost use Rattle.events.specs.Packets.{acknowledged_by, after_hello, describe_to};
+ghost use Rattle.events.specs.Packets.{is_in_exchange};
+ghost use Rattle.events.specs.Packets.{requested_from};
 ghost use Rattle.router_state.specs.Making.{Makes};
 
+use crate::hearing::Hearing;
 use crate::router::Router;
+use flooding::{Acknowledging, Answering, Describing, Draft};
 use lsa::Header;
-use neighbor_packets::{acknowledged, answer, describe, hear};
 use packet::{Description, Hello};
 use std::alloc::{AllocError, Global};
-use timers::Draft;
 use words::{Key, RouterId, Second};
 
 impl Router {
@@ -42,16 +42,13 @@ impl Router {
         ensures drafts { OnOk result (length drafts.new ≡ length self.new.present.area.links) }
         ensures settled { self.new.settled ≡ self.old.settled }
     {
-        hear(
-            &mut self.area,
-            alloc,
-            self.id,
+        let hearing = Hearing {
+            own: self.id,
             moment,
-            number,
             from,
             hello,
-            drafts,
-        )
+        };
+        self.area.step_link(alloc, moment, number, &hearing, drafts)
     }
 
     /// A Database Description from the neighbor at the interface with this number (RFC 2328,
@@ -77,15 +74,13 @@ impl Router {
         ensures drafts { OnOk result (length drafts.new ≡ length self.new.present.area.links) }
         ensures settled { self.new.settled ≡ self.old.settled }
     {
-        describe(
-            &mut self.area,
-            alloc,
-            self.id,
+        let describing = Describing {
+            own: self.id,
             moment,
-            number,
             description,
-            drafts,
-        )
+        };
+        self.area
+            .step_link(alloc, moment, number, &describing, drafts)
     }
 
     /// A Link State Request for these keys from the neighbor at the interface with this number,
@@ -113,7 +108,9 @@ impl Router {
         ensures drafts { OnOk result (length drafts.new ≡ length self.new.present.area.links) }
         ensures settled { self.new.settled ≡ self.old.settled }
     {
-        answer(&mut self.area, alloc, moment, number, keys, drafts)
+        let answering = Answering { moment, keys };
+        self.area
+            .step_link(alloc, moment, number, &answering, drafts)
     }
 
     /// A Link State Acknowledgment of these instances from the neighbor at the interface with this
@@ -138,6 +135,8 @@ impl Router {
         ensures drafts { OnOk result (length drafts.new ≡ length self.new.present.area.links) }
         ensures settled { self.new.settled ≡ self.old.settled }
     {
-        acknowledged(&mut self.area, alloc, moment, number, headers, drafts)
+        let acknowledging = Acknowledging { moment, headers };
+        self.area
+            .step_link(alloc, moment, number, &acknowledging, drafts)
     }
 }

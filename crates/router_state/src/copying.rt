@@ -2,8 +2,8 @@
 ghost use Rattle.std.specs.Prelude.{◌≡◌, IfOk};
 
 use crate::router::Router;
+use flooding::Saved;
 use std::alloc::{AllocError, Global};
-use timers::Saved;
 use words::{Route, Second, Sequence};
 
 fn copy_answers(

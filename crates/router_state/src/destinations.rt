@@ -3,9 +3,9 @@
 ghost use Rattle.std.specs.Prelude.{◌≡◌, ◌<◌, ◌^◌, OnOk};
 ghost use Rattle.std.specs.List.{fold};
 ghost use Rattle.std.specs.FinMap as finite;
-ghost use Rattle.timers.specs.events.Commands.{announce, unannounce};
-ghost use Rattle.timers.specs.events.Originations.{as_originated, external_key};
-ghost use Rattle.timers.specs.events.Originations.{forget_originations, wait};
+ghost use Rattle.events.specs.Commands.{announce, unannounce};
+ghost use Rattle.events.specs.Originations.{as_originated, external_key};
+ghost use Rattle.events.specs.Originations.{forget_originations, wait};
 
 use crate::router::Router;
 use keyed_map::{KeyTest, KeyedMap};
@@ -20,7 +20,7 @@ struct IsOver {
 
 impl KeyTest<Second> for IsOver {
     ghost use Rattle.std.specs.Prelude.{Some};
-    ghost use Rattle.timers.specs.events.Originations.{interval_is_over};
+    ghost use Rattle.events.specs.Originations.{interval_is_over};
 
     ghost accepts = { λ a key at. interval_is_over a.moment (Some at) };
 

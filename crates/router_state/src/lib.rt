@@ -9,12 +9,18 @@
 //! back what it changes, and drops the drafts that it adds to.
 #![tactic(auto)]
 
+mod aging;
+mod asked;
 mod conversation;
 mod copying;
 mod destinations;
+mod greeting;
+mod hearing;
 mod own_lsas;
 mod receiving;
+mod retransmissions;
 mod router;
 mod times;
 
+pub use hearing::is_foreign;
 pub use router::Router;

@@ -1,13 +1,13 @@
 //! Self-originated LSAs in links and database (RFC 2328, sections 12.4 and 14.1).
 ghost use Rattle.std.specs.Prelude.{◌≡◌, ◌≤◌, OnOk, length};
-ghost use Rattle.timers.specs.events.EventState.{on_area};
-ghost use Rattle.timers.specs.events.Originations.{flush, install_and_flood};
+ghost use Rattle.events.specs.EventState.{on_area};
+ghost use Rattle.events.specs.Originations.{flush, install_and_flood};
 ghost use Rattle.router_state.specs.Making.{Makes};
 
 use crate::router::Router;
+use flooding::Draft;
 use lsa::Lsa;
 use std::alloc::{AllocError, Global};
-use timers::Draft;
 use words::{Key, Second};
 
 impl Router {

@@ -1,14 +1,14 @@
 //! Processing an LSA of a received Link State Update (RFC 2328, section 13).
 ghost use Rattle.std.specs.Prelude.{◌≡◌, ◌≤◌, IfOk, OnOk, length};
-ghost use Rattle.timers.specs.received.Updates.{after_case, case_at};
-ghost use Rattle.timers.specs.events.EventState.{on_area};
-ghost use Rattle.timers.specs.flooding.Cases.{case_of};
+ghost use Rattle.flooding.specs.received.Updates.{after_case, case_at};
+ghost use Rattle.events.specs.EventState.{on_area};
+ghost use Rattle.flooding.specs.Cases.{case_of};
 ghost use Rattle.router_state.specs.Making.{Makes};
 
 use crate::router::Router;
+use flooding::{Case, Draft};
 use lsa::Lsa;
 use std::alloc::{AllocError, Global};
-use timers::{Case, Draft};
 use words::Second;
 
 impl Router {

@@ -2,14 +2,14 @@
 ghost use Rattle.std.specs.Prelude.{◌≡◌, ◌≤◌, [], length, map, IfOk};
 ghost use Rattle.std.specs.FinMap as finite;
 ghost use Rattle.std.specs.FinSet as set;
-ghost use Rattle.timers.specs.events.Routers.{with_links};
-ghost use Rattle.timers.specs.flooding.Links.{present, settled_link};
+ghost use Rattle.events.specs.Routers.{with_links};
+ghost use Rattle.flooding.specs.Links.{present, settled_link};
 ghost use Rattle.router_state.specs.Owned.{AreOwn};
 
+use flooding::{Area, Link, Saved};
 use keyed_map::KeyedMap;
 use std::alloc::{AllocError, Global};
 use std::marker::Model;
-use timers::{Area, Link, Saved};
 use words::{External, Key, Route, RouterId, Second, Sequence};
 
 /// A router between and within events, and its state when it was last settled.
@@ -33,13 +33,13 @@ impl Model for Router {
     ghost use Rattle.std.specs.Coded.{codes};
     ghost use Rattle.std.specs.FinMap as finite;
     ghost use Rattle.words.specs.declared.route.External.{External as Destination};
-    ghost use Rattle.timers.specs.lsdb.Copies.{DatabaseCopy};
-    ghost use Rattle.timers.specs.lsdb.Keys.{coded_key, key_cmp};
-    ghost use Rattle.timers.specs.adjacency.Codes.{coded_headers, coded_kept, coded_keys};
-    ghost use Rattle.timers.specs.adjacency.Codes.{coded_lists};
-    ghost use Rattle.timers.specs.adjacency.Kept.{Kept};
-    ghost use Rattle.timers.specs.adjacency.Views.{keys_of};
-    ghost use Rattle.timers.specs.events.Routers.{Router as Shown};
+    ghost use Rattle.flooding.specs.lsdb.Copies.{DatabaseCopy};
+    ghost use Rattle.flooding.specs.lsdb.Keys.{coded_key, key_cmp};
+    ghost use Rattle.flooding.specs.adjacency.Codes.{coded_headers, coded_kept, coded_keys};
+    ghost use Rattle.flooding.specs.adjacency.Codes.{coded_lists};
+    ghost use Rattle.flooding.specs.adjacency.Kept.{Kept};
+    ghost use Rattle.flooding.specs.adjacency.Views.{keys_of};
+    ghost use Rattle.events.specs.Routers.{Router as Shown};
     ghost use Rattle.router_state.specs.Owned.{AreOwn};
 
     ghost Value = { Kept Shown };

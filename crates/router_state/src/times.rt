@@ -1,18 +1,43 @@
 //! Expired timers, Link State Requests, and retransmission (RFC 2328, sections 9.5, 10.3, 10.8,
 //! 10.9, 13.5, 13.6 and 14).
 ghost use Rattle.std.specs.Prelude.{◌≡◌, List, OnOk, length, map};
-ghost use Rattle.timers.specs.adjacency.Drafts.{Drafted};
-ghost use Rattle.timers.specs.received.Outcomes.{on_links};
-ghost use Rattle.timers.specs.events.Commands.{after_link_down};
-ghost use Rattle.timers.specs.events.EventState.{on_area};
-ghost use Rattle.timers.specs.events.Endings.{loading_done, remove_aged, request_all, with_ages};
-ghost use Rattle.timers.specs.events.Ticks.{acknowledge_all, run_out, send_all_again, send_hellos};
+ghost use Rattle.flooding.specs.adjacency.Drafts.{Drafted};
+ghost use Rattle.flooding.specs.received.Outcomes.{on_links};
+ghost use Rattle.events.specs.Commands.{after_link_down};
+ghost use Rattle.events.specs.EventState.{on_area};
+ghost use Rattle.events.specs.Endings.{loading_done, remove_aged, request_all, with_ages};
+ghost use Rattle.events.specs.Ticks.{acknowledge_all, run_out, send_all_again, send_hellos};
 ghost use Rattle.router_state.specs.Making.{Makes};
 
+use crate::aging::{remove_aged, with_ages};
+use crate::greeting::Greeting;
+use crate::retransmissions::send_all_again;
 use crate::router::Router;
+use flooding::{Draft, EndLoading, Link, LinkStep, Lsdb, NextRequest, RunOut};
 use std::alloc::{AllocError, Global};
-use timers::Draft;
 use words::Second;
+
+// Each link's delayed acknowledgments, in the order of their keys.
+#[derive(Drop)]
+struct Acknowledgments;
+
+impl LinkStep for Acknowledgments {
+    ghost use Rattle.events.specs.Ticks.{acknowledgments_on, without_acknowledgments};
+
+    ghost after = { λ a database link. without_acknowledgments link };
+
+    ghost sends = { λ a database link. acknowledgments_on link };
+
+    fn take(
+        &self,
+        alloc: Global,
+        _database: &Lsdb,
+        link: &mut Link,
+        draft: &mut Draft,
+    ) -> Result<(), AllocError> {
+        link.acknowledge(alloc, draft)
+    }
+}
 
 impl Router {
     /// Floods each copy that has reached MaxAge since the moment `before` to every neighbor (RFC
@@ -34,7 +59,7 @@ impl Router {
         ensures drafts { OnOk result (length drafts.new ≡ length self.new.present.area.links) }
         ensures settled { self.new.settled ≡ self.old.settled }
     {
-        timers::with_ages(&mut self.area, alloc, before, moment, drafts)
+        with_ages(&mut self.area, alloc, before, moment, drafts)
     }
 
     /// Requests the next LSAs from each neighbor for which nothing is outstanding (RFC 2328,
@@ -55,7 +80,7 @@ impl Router {
         ensures drafts { OnOk result (length drafts.new ≡ length self.new.present.area.links) }
         ensures settled { self.new.settled ≡ self.old.settled }
     {
-        timers::request_all(&mut self.area, alloc, moment, drafts)
+        self.area.step_links(alloc, &NextRequest { moment }, drafts)
     }
 
     /// What a Tick retransmits if RxmtInterval has passed (RFC 2328, sections 10.8, 10.9 and 13.6).
@@ -75,7 +100,7 @@ impl Router {
         ensures drafts { OnOk result (length drafts.new ≡ length self.new.present.area.links) }
         ensures settled { self.new.settled ≡ self.old.settled }
     {
-        timers::send_all_again(&mut self.area, alloc, moment, drafts)
+        send_all_again(&mut self.area, alloc, moment, drafts)
     }
 
     /// Sends each link's delayed acknowledgments (RFC 2328, section 13.5).
@@ -95,7 +120,9 @@ impl Router {
         ensures drafts { OnOk result (length drafts.new ≡ length self.new.present.area.links) }
         ensures settled { self.new.settled ≡ self.old.settled }
     {
-        timers::acknowledge_all(&mut self.area, alloc, moment, drafts)
+        // The moment is for the contract alone.
+        let _tick = moment;
+        self.area.step_links(alloc, &Acknowledgments, drafts)
     }
 
     /// Sends a Hello at each interface at which none was sent for HelloInterval (RFC 2328, section
@@ -116,7 +143,7 @@ impl Router {
         ensures drafts { OnOk result (length drafts.new ≡ length self.new.present.area.links) }
         ensures settled { self.new.settled ≡ self.old.settled }
     {
-        timers::send_hellos(&mut self.area, alloc, moment, drafts)
+        self.area.step_links(alloc, &Greeting { moment }, drafts)
     }
 
     /// Removes copies at MaxAge that are on no retransmission list from the database, unless some
@@ -139,7 +166,7 @@ impl Router {
     {
         // Nothing is sent. The contract has the drafts, as that of each part of an event has.
         let _drafts = drafts;
-        timers::remove_aged(&mut self.area, alloc, moment)
+        remove_aged(&mut self.area, alloc, moment)
     }
 
     /// The timers that a Tick finds expired: a neighbor from which no Hello was received for
@@ -153,7 +180,7 @@ impl Router {
             ≡ length self.old.present.area.links }
         ensures settled { self.new.settled ≡ self.old.settled }
     {
-        timers::run_out(&mut self.area, moment);
+        self.area.change_links(&RunOut { moment });
     }
 
     /// LoadingDone (RFC 2328, section 10.3): each neighbor goes from Loading to Full if its request
@@ -165,7 +192,7 @@ impl Router {
             ≡ length self.old.present.area.links }
         ensures settled { self.new.settled ≡ self.old.settled }
     {
-        timers::end_loading(&mut self.area);
+        self.area.change_links(&EndLoading);
     }
 
     /// The neighbor at the interface with this number goes Down. It doesn't allocate.

@@ -2,14 +2,11 @@
 //! and 13.7).
 ghost use Rattle.std.specs.Prelude.{◌≡◌, ℕ, OnOk, Some};
 ghost use Rattle.adjacency.specs.Adjacencies.{after_hello};
-ghost use Rattle.adjacency.specs.Contents.{no_sends, sent_on, step_on};
-ghost use Rattle.adjacency.specs.Descriptions.{after_description};
 ghost use Rattle.adjacency.specs.Drafts.{drafting};
-ghost use Rattle.adjacency.specs.Retransmissions.{after_acknowledgment};
-ghost use Rattle.adjacency.specs.Steps.{after_request};
 ghost use Rattle.flooding.specs.Links.{with_neighbor};
 
 use super::Link;
+use crate::steps::LinkStep;
 use adjacency::{Draft, Lsdb};
 use lsa::Header;
 use packet::Description;
@@ -41,72 +38,112 @@ impl Link {
     {
         self.place.hello(alloc, moment, from, names, draft)
     }
+}
 
-    /// A Database Description from the neighbor to the router with the Router ID `own` (RFC 2328,
-    /// section 10.6), as in `Place::description`.
-    ///
-    /// Errors with `AllocError` if an allocation is refused; the caller then rolls the link back.
-    pub fn description(
-        &mut self,
+/// A Database Description from the neighbor to the router with the Router ID `own` (RFC 2328,
+/// section 10.6), as in `Place::description`.
+#[derive(Drop)]
+pub struct Describing<'a> {
+    pub own: RouterId,
+    pub moment: Second,
+    pub description: &'a Description,
+}
+
+impl<'a> LinkStep for Describing<'a> {
+    ghost use Rattle.adjacency.specs.Contents.{sent_on, step_on};
+    ghost use Rattle.adjacency.specs.Descriptions.{after_description};
+    ghost use Rattle.flooding.specs.Links.{with_neighbor};
+
+    ghost after = { λ a database link. with_neighbor
+        (step_on
+        (after_description a.own a.moment database a.description.now)
+        link.neighbor)
+        link };
+
+    ghost sends = { λ a database link. sent_on
+        (after_description a.own a.moment database a.description.now)
+        link.neighbor };
+
+    fn take(
+        &self,
         alloc: Global,
-        own: RouterId,
-        moment: Second,
         database: &Lsdb,
-        description: &Description,
+        link: &mut Link,
         draft: &mut Draft,
-    ) -> Result<(), AllocError>
-        ensures ok { OnOk result (self.new.present ≡ with_neighbor
-            (step_on
-            (after_description own moment database.now.present description.now)
-            self.old.present.neighbor)
-            self.old.present) }
-        ensures draft { OnOk result ((delay : ℕ) → draft.new ≡ drafting delay
-            (sent_on
-            (after_description own moment database.now.present description.now)
-            self.old.present.neighbor)
-            draft.old) }
-        ensures settled { self.new.settled ≡ self.old.settled }
-    {
-        self.place
-            .description(alloc, own, moment, database, description, draft)
+    ) -> Result<(), AllocError> {
+        link.place.description(
+            alloc,
+            self.own,
+            self.moment,
+            database,
+            self.description,
+            draft,
+        )
     }
+}
 
-    /// A Link State Request for these keys from the neighbor (RFC 2328, section 10.7), as in
-    /// `Place::answer`, with the interface's InfTransDelay.
-    ///
-    /// Errors with `AllocError` if an allocation is refused; the caller then rolls the link back.
-    pub fn answer(
-        &mut self,
+/// A Link State Request for these keys from the neighbor (RFC 2328, section 10.7), as in
+/// `Place::answer`.
+#[derive(Drop)]
+pub struct Answering<'a> {
+    pub moment: Second,
+    pub keys: &'a [Key],
+}
+
+impl<'a> LinkStep for Answering<'a> {
+    ghost use Rattle.adjacency.specs.Contents.{sent_on, step_on};
+    ghost use Rattle.adjacency.specs.Steps.{after_request};
+    ghost use Rattle.flooding.specs.Links.{with_neighbor};
+
+    ghost after = { λ a database link. with_neighbor
+        (step_on (after_request a.moment database a.keys.now) link.neighbor) link };
+
+    ghost sends = { λ a database link.
+        sent_on (after_request a.moment database a.keys.now) link.neighbor };
+
+    fn take(
+        &self,
         alloc: Global,
-        moment: Second,
         database: &Lsdb,
-        keys: &[Key],
+        link: &mut Link,
         draft: &mut Draft,
-    ) -> Result<(), AllocError>
-        ensures ok { OnOk result (self.new.present ≡ with_neighbor
-            (step_on (after_request moment database.now.present keys.now) self.old.present.neighbor)
-            self.old.present) }
-        ensures draft { OnOk result (draft.new ≡ drafting self.old.present.interface.delay
-            (sent_on (after_request moment database.now.present keys.now) self.old.present.neighbor)
-            draft.old) }
-        ensures settled { self.new.settled ≡ self.old.settled }
-    {
-        let delay = self.interface.delay;
-        self.place
-            .answer(alloc, moment, delay, database, keys, draft)
+    ) -> Result<(), AllocError> {
+        let delay = link.interface.delay;
+        link.place
+            .answer(alloc, self.moment, delay, database, self.keys, draft)
     }
+}
 
-    /// A Link State Acknowledgment of these instances from the neighbor (RFC 2328, section 13.7),
-    /// as in `Place::ack`.
-    ///
-    /// Errors with `AllocError` if an allocation is refused; the caller then rolls the link back.
-    pub fn acknowledged(&mut self, moment: Second, headers: &[Header]) -> Result<(), AllocError>
-        ensures ok { OnOk result (self.new.present ≡ with_neighbor
-            (step_on (λ n. no_sends (after_acknowledgment moment headers.now n))
-            self.old.present.neighbor)
-            self.old.present) }
-        ensures settled { self.new.settled ≡ self.old.settled }
-    {
-        self.place.ack(moment, headers)
+/// A Link State Acknowledgment of these instances from the neighbor (RFC 2328, section 13.7):
+/// exactly these are removed from its retransmission list.
+#[derive(Drop)]
+pub struct Acknowledging<'a> {
+    pub moment: Second,
+    pub headers: &'a [Header],
+}
+
+impl<'a> LinkStep for Acknowledging<'a> {
+    ghost use Rattle.adjacency.specs.Contents.{no_sends, sent_on, step_on};
+    ghost use Rattle.adjacency.specs.Retransmissions.{after_acknowledgment};
+    ghost use Rattle.flooding.specs.Links.{with_neighbor};
+
+    ghost after = { λ a database link. with_neighbor
+        (step_on (λ n. no_sends (after_acknowledgment a.moment a.headers.now n)) link.neighbor)
+        link };
+
+    ghost sends = { λ a database link.
+        sent_on (λ n. no_sends (after_acknowledgment a.moment a.headers.now n)) link.neighbor };
+
+    fn take(
+        &self,
+        _alloc: Global,
+        _database: &Lsdb,
+        link: &mut Link,
+        _draft: &mut Draft,
+    ) -> Result<(), AllocError> {
+        let Some(neighbor) = &mut link.place.neighbor else {
+            return Ok(());
+        };
+        neighbor.ack(self.moment, self.headers)
     }
 }

@@ -1,50 +1,14 @@
 //! Timers that have expired on a link, and what is requested and retransmitted there (RFC 2328,
 //! sections 10.3, 10.8, 10.9 and 13.6).
-ghost use Rattle.std.specs.Prelude.{◌≡◌, OnOk, None};
-ghost use Rattle.adjacency.specs.Adjacencies.{loading_done};
-ghost use Rattle.adjacency.specs.Asked.{has_retransmission};
-ghost use Rattle.adjacency.specs.Contents.{no_sends, sent_on, step_on};
-ghost use Rattle.adjacency.specs.Drafts.{drafting};
-ghost use Rattle.adjacency.specs.Retransmissions.{send_again};
-ghost use Rattle.adjacency.specs.Timers.{run_out};
-ghost use Rattle.flooding.specs.Links.{with_neighbor};
+ghost use Rattle.std.specs.Prelude.{◌≡◌, None};
 
 use super::Link;
+use crate::steps::{LinkChange, LinkStep};
 use adjacency::{Draft, Lsdb};
 use std::alloc::{AllocError, Global};
-use words::{Key, Second};
+use words::Second;
 
 impl Link {
-    /// Whether the key is on the neighbor's retransmission list.
-    pub fn has_retransmission(&self, key: &Key) -> bool
-        ensures { result ≡ has_retransmission key.now self.now.present.neighbor }
-    {
-        self.place.has_retransmission(key)
-    }
-
-    /// The timers that a Tick finds expired, as in `Place::run_out`, with the interface's
-    /// RouterDeadInterval. It doesn't allocate.
-    pub fn run_out(&mut self, moment: Second)
-        ensures { self.new ≡ record self.old {
-          present = with_neighbor
-              (run_out moment self.old.present.interface.dead_interval self.old.present.neighbor)
-              self.old.present;
-        } }
-    {
-        self.place.run_out(moment, self.interface.dead_interval);
-    }
-
-    /// LoadingDone (RFC 2328, section 10.3), as in `Place::end_loading`. It doesn't allocate.
-    pub fn end_loading(&mut self)
-        ensures { self.new ≡ record self.old {
-          present = with_neighbor
-              (step_on (λ n. no_sends (loading_done n)) self.old.present.neighbor)
-              self.old.present;
-        } }
-    {
-        self.place.end_loading();
-    }
-
     /// The neighbor goes Down. It doesn't allocate.
     pub fn take_down(&mut self)
         ensures { self.new ≡ record self.old {
@@ -53,33 +17,103 @@ impl Link {
     {
         self.place.go_down();
     }
+}
 
-    /// What a Tick retransmits to the neighbor, as in `Place::send_again`, with the interface's
-    /// RxmtInterval and InfTransDelay.
-    ///
-    /// Errors with `AllocError` if an allocation is refused; the caller then rolls the link back.
-    pub fn send_again(
-        &mut self,
+/// The timers that a Tick finds expired, as in `Place::run_out`, with the interface's
+/// RouterDeadInterval.
+#[derive(Drop)]
+pub struct RunOut {
+    pub moment: Second,
+}
+
+impl LinkChange for RunOut {
+    ghost use Rattle.adjacency.specs.Timers.{run_out};
+    ghost use Rattle.flooding.specs.Links.{with_neighbor};
+
+    ghost after = { λ a link. with_neighbor
+        (run_out a.moment link.interface.dead_interval link.neighbor) link };
+
+    fn change(&self, link: &mut Link) {
+        link.place
+            .run_out(self.moment, link.interface.dead_interval);
+    }
+}
+
+/// LoadingDone (RFC 2328, section 10.3): from Loading to Full if the request list is empty.
+#[derive(Drop)]
+pub struct EndLoading;
+
+impl LinkChange for EndLoading {
+    ghost use Rattle.adjacency.specs.Adjacencies.{loading_done};
+    ghost use Rattle.adjacency.specs.Contents.{no_sends, step_on};
+    ghost use Rattle.flooding.specs.Links.{with_neighbor};
+
+    ghost after = { λ a link. with_neighbor
+        (step_on (λ n. no_sends (loading_done n)) link.neighbor) link };
+
+    fn change(&self, link: &mut Link) {
+        if let Some(neighbor) = &mut link.place.neighbor {
+            neighbor.end_loading();
+        }
+    }
+}
+
+/// The next Link State Request, if one is to be sent to the neighbor (RFC 2328, section 10.9).
+#[derive(Drop)]
+pub struct NextRequest {
+    pub moment: Second,
+}
+
+impl LinkStep for NextRequest {
+    ghost use Rattle.adjacency.specs.Contents.{sent_on, step_on};
+    ghost use Rattle.adjacency.specs.Requests.{request_next};
+    ghost use Rattle.flooding.specs.Links.{with_neighbor};
+
+    ghost after = { λ a database link. with_neighbor (step_on (request_next a.moment) link.neighbor)
+        link };
+
+    ghost sends = { λ a database link. sent_on (request_next a.moment) link.neighbor };
+
+    fn take(
+        &self,
         alloc: Global,
-        moment: Second,
-        database: &Lsdb,
+        _database: &Lsdb,
+        link: &mut Link,
         draft: &mut Draft,
-    ) -> Result<(), AllocError>
-        ensures ok { OnOk result (self.new.present ≡ with_neighbor
-            (step_on
-            (send_again moment self.old.present.interface.retransmit_interval database.now.present)
-            self.old.present.neighbor)
-            self.old.present) }
-        ensures draft { OnOk result (draft.new ≡ drafting self.old.present.interface.delay
-            (sent_on
-            (send_again moment self.old.present.interface.retransmit_interval database.now.present)
-            self.old.present.neighbor)
-            draft.old) }
-        ensures settled { self.new.settled ≡ self.old.settled }
-    {
-        let interval = self.interface.retransmit_interval;
-        let delay = self.interface.delay;
-        self.place
-            .send_again(alloc, moment, interval, database, delay, draft)
+    ) -> Result<(), AllocError> {
+        let Some(neighbor) = &mut link.place.neighbor else {
+            return Ok(());
+        };
+        neighbor.request(alloc, self.moment, draft)
+    }
+}
+
+/// What a Tick retransmits to the neighbor, as in `Neighbor::send_again`, with the interface's
+/// RxmtInterval and InfTransDelay.
+#[derive(Drop)]
+pub struct SendingAgain {
+    pub moment: Second,
+}
+
+impl LinkStep for SendingAgain {
+    ghost use Rattle.flooding.specs.Steps.{after_again, sent_again};
+
+    ghost after = { λ a database link. after_again a.moment database link };
+
+    ghost sends = { λ a database link. sent_again a.moment database link };
+
+    fn take(
+        &self,
+        alloc: Global,
+        database: &Lsdb,
+        link: &mut Link,
+        draft: &mut Draft,
+    ) -> Result<(), AllocError> {
+        let interval = link.interface.retransmit_interval;
+        let delay = link.interface.delay;
+        let Some(neighbor) = &mut link.place.neighbor else {
+            return Ok(());
+        };
+        neighbor.send_again(alloc, self.moment, interval, database, delay, draft)
     }
 }

@@ -1,8 +1,8 @@
 use Rattle.std.proofs.Common.{◌+◌, sym, ap, ◌∙◌, arith}
 use Rattle.std.specs.List.{fold}
 use Rattle.std.specs.FinMap as finite
-use Rattle.timers.proofs.Onwards.{from_end, from_next}
-use Rattle.timers.proofs.flooding.Acknowledged.{from}
+use Rattle.router_state.proofs.Onwards.{from_end, from_next}
+use Rattle.flooding.proofs.Acknowledged.{from}
 use Rattle.router_state.proofs.destinations.remove_each.Goals as goal
 
 pub loop-i-preserved : goal.loop-i-preserved

@@ -1,5 +1,5 @@
 use Rattle.std.proofs.Common.{ap}
-use Rattle.timers.specs.events.Endings.{with_ages}
+use Rattle.events.specs.Endings.{with_ages}
 use Rattle.router_state.proofs.Answered.{both, drafts_are, makes_are}
 use Rattle.router_state.proofs.Leaves.{appends_ages, keeps_ages}
 use Rattle.router_state.proofs.router.Router.age.Goals as goal

@@ -1,7 +1,7 @@
 use Rattle.std.proofs.Common.{sym, ap, subst, ◌∙◌}
 use Rattle.std.specs.FinMap as finite
 use Rattle.keyed_map.proofs.Helds.{after}
-use Rattle.timers.specs.events.Originations.{external_key}
+use Rattle.events.specs.Originations.{external_key}
 use Rattle.router_state.specs.Owned.{AreOwn}
 use Rattle.router_state.proofs.Announced.{insert_own}
 use Rattle.router_state.proofs.router.Router.announce.Goals as goal

@@ -1,6 +1,6 @@
 use Rattle.std.proofs.Common.{◌≡◌, length, sym, ap, subst, ◌∙◌, arith}
 use Rattle.std.proofs.lemmas.List.{length-map}
-use Rattle.timers.specs.flooding.Links.{present, settled_link}
+use Rattle.flooding.specs.Links.{present, settled_link}
 use Rattle.router_state.specs.Owned.{AreOwn}
 use Rattle.router_state.proofs.router.Router.copy.Goals as goal
 

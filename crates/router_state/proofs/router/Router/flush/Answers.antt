@@ -1,14 +1,14 @@
 use Rattle.std.proofs.Common.{sym, ap, ◌∙◌}
 use Rattle.std.specs.Prelude.{Option}
 use Rattle.std.specs.FinMap as finite
-use Rattle.timers.specs.lsdb.Copies.{DatabaseCopy}
-use Rattle.timers.specs.received.Links.{Area}
-use Rattle.timers.specs.received.Outcomes.{Outcome}
-use Rattle.timers.specs.flooding.Drafted.{drafts_with}
-use Rattle.timers.specs.flooding.Links.{start}
-use Rattle.timers.specs.events.EventState.{on_area}
-use Rattle.timers.specs.events.Originations.{flush_copy}
-use Rattle.timers.specs.events.Routers.{Router}
+use Rattle.flooding.specs.lsdb.Copies.{DatabaseCopy}
+use Rattle.flooding.specs.received.Links.{Area}
+use Rattle.flooding.specs.received.Outcomes.{Outcome}
+use Rattle.flooding.specs.Drafted.{drafts_with}
+use Rattle.flooding.specs.Links.{start}
+use Rattle.events.specs.EventState.{on_area}
+use Rattle.events.specs.Originations.{flush_copy}
+use Rattle.events.specs.Routers.{Router}
 use Rattle.router_state.proofs.Answered.{both, drafts_are, makes_are}
 use Rattle.router_state.proofs.Leaves.{appends_flush, flushed_is, keeps_flush}
 use Rattle.router_state.proofs.Making.{makes_same}

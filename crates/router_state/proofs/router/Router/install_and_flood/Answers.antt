@@ -1,5 +1,5 @@
 use Rattle.std.proofs.Common.{ap}
-use Rattle.timers.specs.events.Originations.{install_and_flood}
+use Rattle.events.specs.Originations.{install_and_flood}
 use Rattle.router_state.proofs.Answered.{both, drafts_are, makes_are}
 use Rattle.router_state.proofs.Leaves.{appends_install, keeps_install}
 use Rattle.router_state.proofs.router.Router.install_and_flood.Goals as goal

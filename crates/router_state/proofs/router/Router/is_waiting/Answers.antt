@@ -1,6 +1,6 @@
 use Rattle.std.proofs.Common.{sym, ap, ◌∙◌}
 use Rattle.std.specs.FinSet as set
-use Rattle.timers.proofs.adjacency.Neighbors.{contains_key_of}
+use Rattle.flooding.proofs.adjacency.Neighbors.{contains_key_of}
 use Rattle.router_state.proofs.router.Router.is_waiting.Goals as goal
 
 pub returns : goal.returns

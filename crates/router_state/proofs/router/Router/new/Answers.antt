@@ -1,8 +1,8 @@
 use Rattle.std.proofs.Common.{◌≡◌, length, sym, ap, subst, ◌∙◌, arith}
 use Rattle.std.proofs.lemmas.List.{length-map}
-use Rattle.timers.specs.adjacency.Views.{keys_of}
-use Rattle.timers.proofs.adjacency.Neighbors.{no_keys}
-use Rattle.timers.specs.flooding.Links.{settled_link}
+use Rattle.flooding.specs.adjacency.Views.{keys_of}
+use Rattle.flooding.proofs.adjacency.Neighbors.{no_keys}
+use Rattle.flooding.specs.Links.{settled_link}
 use Rattle.router_state.specs.Owned.{AreOwn}
 use Rattle.router_state.proofs.Announced.{none_own}
 use Rattle.router_state.proofs.router.Router.new.Goals as goal

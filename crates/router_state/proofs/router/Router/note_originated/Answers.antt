@@ -1,6 +1,6 @@
 use Rattle.std.proofs.Common.{ap, ◌∙◌}
 use Rattle.keyed_map.proofs.Helds.{on_ok}
-use Rattle.timers.specs.adjacency.Views.{keys_of}
+use Rattle.flooding.specs.adjacency.Views.{keys_of}
 use Rattle.router_state.proofs.Announced.{keys_remove}
 use Rattle.router_state.proofs.Edited.{notes}
 use Rattle.router_state.proofs.router.Router.note_originated.Goals as goal

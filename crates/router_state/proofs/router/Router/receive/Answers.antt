@@ -1,6 +1,6 @@
 use Rattle.std.proofs.Common.{ap}
-use Rattle.timers.specs.received.Updates.{after_case}
-use Rattle.timers.specs.flooding.Cases.{case_of}
+use Rattle.flooding.specs.received.Updates.{after_case}
+use Rattle.flooding.specs.Cases.{case_of}
 use Rattle.router_state.proofs.Answered.{both_if, drafts_are, if_on, makes_are}
 use Rattle.router_state.proofs.Leaves.{appends_case, keeps_case}
 use Rattle.router_state.proofs.router.Router.receive.Goals as goal

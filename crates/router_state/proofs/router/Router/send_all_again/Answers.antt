@@ -1,5 +1,5 @@
 use Rattle.std.proofs.Common.{ap}
-use Rattle.timers.specs.events.Ticks.{send_all_again}
+use Rattle.events.specs.Ticks.{send_all_again}
 use Rattle.router_state.proofs.Answered.{both, drafts_are, makes_are}
 use Rattle.router_state.proofs.Leaves.{appends_again, keeps_again}
 use Rattle.router_state.proofs.router.Router.send_all_again.Goals as goal

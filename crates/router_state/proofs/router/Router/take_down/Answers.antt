@@ -1,7 +1,7 @@
 use Rattle.std.proofs.Common.{length, refl, ap, ◌∙◌}
-use Rattle.timers.specs.received.Links.{Area, change_link}
-use Rattle.timers.specs.received.Outcomes.{on_links}
-use Rattle.timers.specs.events.Commands.{taken_down}
+use Rattle.flooding.specs.received.Links.{Area, change_link}
+use Rattle.flooding.specs.received.Outcomes.{on_links}
+use Rattle.events.specs.Commands.{taken_down}
 use Rattle.router_state.proofs.Answered.{makes_alone, same_number}
 use Rattle.router_state.proofs.Leaves.{appends_down, keeps_down}
 use Rattle.router_state.proofs.router.Router.take_down.Goals as goal

@@ -1,6 +1,6 @@
 use Rattle.std.proofs.Common.{sym, ap, subst, ◌∙◌}
 use Rattle.keyed_map.proofs.Helds.{on_ok}
-use Rattle.timers.specs.adjacency.Views.{keys_of}
+use Rattle.flooding.specs.adjacency.Views.{keys_of}
 use Rattle.router_state.specs.Owned.{AreOwn}
 use Rattle.router_state.proofs.Announced.{keys_remove, remove_own}
 use Rattle.router_state.proofs.Edited.{withdraws}

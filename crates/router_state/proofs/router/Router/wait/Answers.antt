@@ -1,7 +1,7 @@
 use Rattle.std.proofs.Common.{ap, ◌∙◌}
 use Rattle.keyed_map.proofs.Helds.{on_ok}
-use Rattle.timers.specs.adjacency.Views.{keys_of}
-use Rattle.timers.proofs.adjacency.Sets.{keys_insert}
+use Rattle.flooding.specs.adjacency.Views.{keys_of}
+use Rattle.flooding.proofs.adjacency.Sets.{keys_insert}
 use Rattle.router_state.proofs.Edited.{waits}
 use Rattle.router_state.proofs.router.Router.wait.Goals as goal
 

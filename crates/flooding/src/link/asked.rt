@@ -1,0 +1,74 @@
+//! What is asked of the neighbor on a link, which may be Down.
+ghost use Rattle.std.specs.Prelude.{◌≡◌};
+ghost use Rattle.adjacency.specs.Asked.{any_exchange_or_loading, has_instance, has_retransmission};
+ghost use Rattle.adjacency.specs.Asked.{was_requested};
+ghost use Rattle.adjacency.specs.Steps.{named_neighbor};
+ghost use Rattle.neighbors.specs.Owed.{owed_on};
+
+use super::Link;
+use adjacency::NeighborState;
+use lsa::Header;
+use words::{Key, RouterId, Second};
+
+impl Link {
+    /// The neighbor's Router ID and its state, unless it is Down.
+    pub fn neighbor(&self) -> Option<(RouterId, NeighborState)>
+        ensures { result ≡ named_neighbor self.now.present.neighbor }
+    {
+        let Some(neighbor) = &self.place.neighbor else {
+            return None;
+        };
+        let standing = neighbor.standing();
+        Some((standing.router, standing.state))
+    }
+
+    /// Whether there is a neighbor in Exchange or Loading.
+    pub fn is_exchange_or_loading(&self) -> bool
+        ensures { result ≡ any_exchange_or_loading self.now.present.neighbor }
+    {
+        match &self.place.neighbor {
+            None => false,
+            Some(neighbor) => neighbor.is_exchange_or_loading(),
+        }
+    }
+
+    /// Whether the key is on the neighbor's request list.
+    pub fn was_requested(&self, key: &Key) -> bool
+        ensures { result ≡ was_requested key.now self.now.present.neighbor }
+    {
+        match &self.place.neighbor {
+            None => false,
+            Some(neighbor) => neighbor.requests_key(key),
+        }
+    }
+
+    /// Whether the key is on the neighbor's retransmission list.
+    pub fn has_retransmission(&self, key: &Key) -> bool
+        ensures { result ≡ has_retransmission key.now self.now.present.neighbor }
+    {
+        match &self.place.neighbor {
+            None => false,
+            Some(neighbor) => neighbor.has_retransmission(key),
+        }
+    }
+
+    /// Whether exactly this instance is on the neighbor's retransmission list.
+    pub fn has_instance(&self, moment: Second, header: &Header) -> bool
+        ensures { result ≡ has_instance moment header.now self.now.present.neighbor }
+    {
+        match &self.place.neighbor {
+            None => false,
+            Some(neighbor) => neighbor.has_instance(moment, header),
+        }
+    }
+
+    /// How many entries the neighbor's retransmission list and request list have; 0 if it is Down.
+    pub fn owes(&self) -> usize
+        ensures { result ≡ owed_on self.now.present.neighbor }
+    {
+        match &self.place.neighbor {
+            None => 0,
+            Some(neighbor) => neighbor.owes(),
+        }
+    }
+}

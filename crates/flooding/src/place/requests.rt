@@ -1,0 +1,127 @@
+//! Received Link State Requests (RFC 2328, section 10.7), and BadLSReq.
+ghost use Rattle.std.specs.Prelude.{◌≡◌, ℕ, [], ◌∷◌, map, OnOk};
+ghost use Rattle.std.specs.List.{list_all};
+ghost use Rattle.adjacency.specs.Adjacencies.{mismatch_step};
+ghost use Rattle.adjacency.specs.Contents.{Updates, sent_on, step_on};
+ghost use Rattle.adjacency.specs.Drafts.{drafting};
+ghost use Rattle.adjacency.specs.Steps.{after_request, is_there, lsas_of};
+
+use super::Place;
+use adjacency::{Draft, Lsdb};
+use std::alloc::{AllocError, Global};
+use words::{Key, Second};
+
+fn is_there(database: &Lsdb, key: &Key) -> bool
+    ensures { result ≡ is_there database.now.present key.now }
+{
+    match database.get(key) {
+        None => false,
+        Some(_copy) => true,
+    }
+}
+
+// Whether the database has all of them.
+fn are_there(database: &Lsdb, keys: &[Key]) -> bool
+    ensures { result ≡ list_all (is_there database.now.present) keys.now }
+{
+    for key in keys {
+        let there = is_there(database, key);
+        if !there {
+            return false;
+        }
+    }
+    true
+}
+
+// Sends the copy of this key, if there is one.
+fn send_copy(
+    alloc: Global,
+    moment: Second,
+    delay: u16,
+    database: &Lsdb,
+    key: &Key,
+    draft: &mut Draft,
+) -> Result<(), AllocError>
+    ensures { OnOk result (draft.new ≡ drafting delay
+        (map Updates (lsas_of moment database.now.present (key.now ∷ []))) draft.old) }
+{
+    match database.get(key) {
+        None => Ok(()),
+        Some(copy) => draft.update(alloc, delay, moment, &copy),
+    }
+}
+
+fn send_copies(
+    alloc: Global,
+    moment: Second,
+    delay: u16,
+    database: &Lsdb,
+    keys: &[Key],
+    draft: &mut Draft,
+) -> Result<(), AllocError>
+    ensures { OnOk result (draft.new ≡ drafting delay
+        (map Updates (lsas_of moment database.now.present keys.now)) draft.old) }
+{
+    for key in keys {
+        send_copy(alloc, moment, delay, database, key, draft)?;
+    }
+    Ok(())
+}
+
+impl Place {
+    /// A Link State Request for these keys from the neighbor (RFC 2328, section 10.7), which is
+    /// ignored before Exchange. The copies are sent in Link State Updates, their ages incremented
+    /// by InfTransDelay (`delay`) seconds, without being put on the retransmission list. If the
+    /// database lacks one, none is sent, and the neighbor goes back to ExStart (BadLSReq).
+    ///
+    /// Errors with `AllocError` if an allocation is refused; the caller then rolls back.
+    pub fn answer(
+        &mut self,
+        alloc: Global,
+        moment: Second,
+        delay: u16,
+        database: &Lsdb,
+        keys: &[Key],
+        draft: &mut Draft,
+    ) -> Result<(), AllocError>
+        ensures ok { OnOk result (self.new.present
+            ≡ step_on (after_request moment database.now.present keys.now) self.old.present) }
+        ensures draft { OnOk result (draft.new
+            ≡ drafting delay (sent_on (after_request moment database.now.present keys.now)
+            self.old.present) draft.old) }
+        ensures settled { self.new.settled ≡ self.old.settled }
+    {
+        let exchanging = self.is_exchange_or_later();
+        if exchanging {
+            let there = are_there(database, keys);
+            if there {
+                return send_copies(alloc, moment, delay, database, keys, draft);
+            }
+            return self.attempt(alloc, moment, draft);
+        }
+        Ok(())
+    }
+
+    /// BadLSReq (RFC 2328, section 13, step 6): a neighbor in Exchange or later goes back to
+    /// ExStart with a new attempt.
+    ///
+    /// Errors with `AllocError` if an allocation is refused; the caller then rolls back.
+    pub fn bad_request(
+        &mut self,
+        alloc: Global,
+        moment: Second,
+        draft: &mut Draft,
+    ) -> Result<(), AllocError>
+        ensures ok { OnOk result (self.new.present ≡ step_on (mismatch_step moment)
+            self.old.present) }
+        ensures draft { OnOk result ((delay : ℕ) → draft.new
+            ≡ drafting delay (sent_on (mismatch_step moment) self.old.present) draft.old) }
+        ensures settled { self.new.settled ≡ self.old.settled }
+    {
+        let exchanging = self.is_exchange_or_later();
+        if exchanging {
+            return self.attempt(alloc, moment, draft);
+        }
+        Ok(())
+    }
+}

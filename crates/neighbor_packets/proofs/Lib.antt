@@ -1,4 +1,0 @@
-pub mod OneLink
-pub mod Heard
-pub mod Answered
-pub mod Silent

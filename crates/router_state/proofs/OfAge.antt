@@ -1,0 +1,212 @@
+-- Flooding the copies with the keys at MaxAge, in turn, is flooding for all entries of the
+-- database.
+use Rattle.std.proofs.Common.{◌≡◌, ℕ, suc, ◌+◌, ◌==◌, Bool, true, false, cond, not, ◌&&◌, List, []}
+use Rattle.std.proofs.Common.{◌∷◌, ◌++◌, length, map, Option, None, Some, refl, sym, ap, ◌∙◌, arith}
+use Rattle.std.proofs.Common.{append_assoc}
+use Rattle.std.specs.List.{AllByRecursion, cons_option, enumerate_from, filter, filter_map, fold}
+use Rattle.std.specs.FinMap as finite
+use Rattle.words.specs.declared.key.Key.{Key}
+use Rattle.flooding.specs.lsdb.Headers.{Lsa}
+use Rattle.flooding.specs.lsdb.Copies.{Database, DatabaseCopy, aged_keys, has_just_aged_out}
+use Rattle.flooding.specs.lsdb.Copies.{is_aged_out, lsa_now}
+use Rattle.flooding.specs.adjacency.Contents.{Content}
+use Rattle.flooding.specs.adjacency.Drafts.{Drafted, adds, drafting}
+use Rattle.flooding.specs.adjacency.Neighbors.{Neighbor}
+use Rattle.flooding.proofs.adjacency.Maps.{IfThere, OfEntry, entries_in}
+use Rattle.flooding.specs.received.Flooding.{flood, flood_to}
+use Rattle.flooding.specs.received.Links.{Area, Link}
+use Rattle.flooding.specs.received.Outcomes.{Outcome, Send, step_on, stepping_sends}
+use Rattle.flooding.proofs.received.Marks.{IsStill, mark_all}
+use Rattle.events.specs.Endings.{with_age, with_ages}
+use Rattle.flooding.specs.Drafted.{at_interface, drafts_with, drafted_from}
+use Rattle.flooding.specs.Links.{come_of_age, come_of_age_copy, start}
+use Rattle.flooding.proofs.Sends.{append_none, drafted_none}
+use Rattle.router_state.specs.Aging.{each_come_of_age, outcomes_in_turn}
+use Rattle.router_state.proofs.Stepped.{marks}
+
+-- ---- the copies stay the same, except for when they were sent
+
+abbrev StillThere : Database → (Key × DatabaseCopy) → Type 0
+StillThere db e = IsStill db e.0 e.1
+
+abbrev There : Database → Key → DatabaseCopy → Type 0
+There db key c = finite.get db key ≡ Some c
+
+still_marked : (moment : ℕ) (more : List Send) (db : Database) (es : List (Key × DatabaseCopy))
+    → AllByRecursion (StillThere db) es → AllByRecursion (StillThere (marks moment db more)) es
+still_marked moment more db [] h = tt
+still_marked moment more db (e ∷ es) h = (
+  mark_all moment more e.0 (record e.1 { sent = h.0.0 }) db h.0.1,
+  still_marked moment more db es h.1,
+)
+
+still_each : (db : Database) (es : List (Key × DatabaseCopy))
+    → AllByRecursion (OfEntry (There db)) es → AllByRecursion (StillThere db) es
+still_each db [] h = tt
+still_each db (e ∷ es) h = ((e.1.sent, h.0), still_each db es h.1)
+
+still_all : (db : Database) → AllByRecursion (StillThere db) (finite.entries db)
+still_all db = still_each db (finite.entries db)
+    (entries_in (There db) db (λ key. found key (finite.get db key) refl))
+  where
+    found : (key : Key) (o : Option DatabaseCopy) → finite.get db key ≡ o → IfThere (There db) key o
+    found key None is = tt
+    found key (Some c) is = is
+
+-- ---- one entry, and the key of one copy
+
+nothing_followed : (o : Outcome) → o ≡ outcomes_in_turn o (start o.area)
+nothing_followed o = λ i. record { area = o.area; sends = sym (append_none o.sends) i }
+
+module _ (before moment : ℕ) where
+  by_age : (e : Key × DatabaseCopy) (o : Outcome) (b : Bool)
+      → cond b (flood moment None (lsa_now moment e.1) o) o
+      ≡ outcomes_in_turn o (cond b (flood moment None (lsa_now moment e.1) (start o.area))
+      (start o.area))
+  by_age e o true = refl
+  by_age e o false = nothing_followed o
+
+  aged_by_key : (e : Key × DatabaseCopy) (o : Outcome) → IsStill o.area.database e.0 e.1
+      → with_age before moment o e ≡ outcomes_in_turn o (come_of_age before moment e.0 o.area)
+  aged_by_key e o still =
+      by_age e o (has_just_aged_out before moment e.1)
+      ∙ ap (λ (c : Option DatabaseCopy). outcomes_in_turn o
+      (come_of_age_copy before moment c (start o.area))) (sym still.1)
+
+  still_aged : (e : Key × DatabaseCopy) (es : List (Key × DatabaseCopy)) (o : Outcome) (b : Bool)
+      → AllByRecursion (StillThere o.area.database) es
+      → AllByRecursion (StillThere (cond b (flood moment None (lsa_now moment e.1) o)
+      o).area.database) es
+  still_aged e es o true h = still_marked moment
+      (stepping_sends (flood_to moment None (lsa_now moment e.1)) o.area.links) o.area.database es h
+  still_aged e es o false h = h
+
+  abbrev keys_of : List (Key × DatabaseCopy) → List Key
+  keys_of es = map (λ e. e.0) (filter (λ e. is_aged_out moment e.1) es)
+
+  abbrev going_on : List Key → Outcome → Outcome
+  going_on keys o = outcomes_in_turn o (each_come_of_age before moment keys o.area)
+
+  by_test : (e : Key × DatabaseCopy) (es : List (Key × DatabaseCopy)) (o : Outcome)
+      → IsStill o.area.database e.0 e.1 → (b : Bool) → is_aged_out moment e.1 ≡ b
+      → going_on (keys_of es) (with_age before moment o e)
+      ≡ going_on (map (λ e. e.0) (cond b (e ∷ filter (λ e. is_aged_out moment e.1) es)
+      (filter (λ e. is_aged_out moment e.1) es))) o
+  by_test e es o still true is =
+      let p : Outcome = come_of_age before moment e.0 o.area in
+      let q : Outcome = each_come_of_age before moment (keys_of es) p.area in
+      ap (going_on (keys_of es)) (aged_by_key e o still) ∙ (λ i. record {
+        area = q.area;
+        sends = append_assoc o.sends p.sends q.sends i;
+      })
+  by_test e es o still false is =
+      ap (λ b. going_on (keys_of es) (cond (b && not (is_aged_out before e.1))
+      (flood moment None (lsa_now moment e.1) o) o)) is
+
+  ages_by_keys : (es : List (Key × DatabaseCopy)) (o : Outcome)
+      → AllByRecursion (StillThere o.area.database) es
+      → fold (with_age before moment) o es ≡ going_on (keys_of es) o
+  ages_by_keys [] o h = nothing_followed o
+  ages_by_keys (e ∷ es) o h =
+      ages_by_keys es (with_age before moment o e)
+      (still_aged e es o (has_just_aged_out before moment e.1) h.1)
+      ∙ by_test e es o h.0 (is_aged_out moment e.1) refl
+
+  pub ages_are : (a : Area) → each_come_of_age before moment (aged_keys moment a.database) a
+      ≡ with_ages before moment (start a)
+  ages_are a = sym (ages_by_keys (finite.entries a.database) (start a) (still_all a.database))
+
+-- ---- what is sent after something else is drafted after it
+
+by_number : (k : ℕ) (x : Send) (b : Bool) (whole front back : List Content) → whole ≡ front ++ back
+    → cons_option (cond b (Some x.content) None) whole
+    ≡ cons_option (cond b (Some x.content) None) front ++ back
+by_number k x true whole front back is = ap (λ zs. x.content ∷ zs) is
+by_number k x false whole front back is = is
+
+picked_append : (k : ℕ) (xs ys : List Send)
+    → filter_map (at_interface k) (xs ++ ys) ≡ filter_map (at_interface k) xs
+    ++ filter_map (at_interface k) ys
+picked_append k [] ys = refl
+picked_append k (x ∷ xs) ys = by_number k x (x.number == k) (filter_map (at_interface k) (xs ++ ys))
+    (filter_map (at_interface k) xs) (filter_map (at_interface k) ys) (picked_append k xs ys)
+
+drafting_append : (delay : ℕ) (xs ys : List Content) (d : Drafted)
+    → drafting delay ys (drafting delay xs d) ≡ drafting delay (xs ++ ys) d
+unfolding drafting
+drafting_append delay [] ys d = refl
+drafting_append delay (x ∷ xs) ys d = drafting_append delay xs ys (adds delay d x)
+
+-- N is the neighbor of a link so far
+module _ (N : ℕ → Link → Option Neighbor) where
+  abbrev by_then : ℕ → List Link → List Link
+  by_then n ls = map (λ (e : ℕ × Link). record e.1 { neighbor = N e.0 e.1 }) (enumerate_from n ls)
+
+  drafted_then : (n : ℕ) (xs ys : List Send) (ls : List Link) (ds : List Drafted)
+      → drafted_from n ys (by_then n ls) (drafted_from n xs ls ds) ≡ drafted_from n (xs ++ ys) ls ds
+  drafted_then n xs ys [] ds = refl
+  drafted_then n xs ys (l ∷ ls) [] = refl
+  drafted_then n xs ys (l ∷ ls) (d ∷ ds) =
+      let delay = l.interface.delay in
+      let here = drafting_append delay (filter_map (at_interface n) xs)
+      (filter_map (at_interface n) ys) d
+      ∙ ap (λ cs. drafting delay cs d) (sym (picked_append n xs ys)) in
+      λ i. here i ∷ drafted_then (n + 1) xs ys ls ds i
+
+  length_then : (n : ℕ) (xs : List Send) (ls : List Link) (ds : List Drafted)
+      → length ds ≡ length ls → length (drafted_from n xs ls ds) ≡ length (by_then n ls)
+  length_then n xs [] ds same = same
+  length_then n xs (l ∷ ls) [] same = absurd (omega (arith, same))
+  length_then n xs (l ∷ ls) (d ∷ ds) same =
+      ap suc (length_then (n + 1) xs ls ds (omega (arith, same)))
+
+module _ (before moment : ℕ) (a : Area) (ds : List Drafted) where
+  abbrev flooded_now : Lsa → Outcome
+  flooded_now lsa = flood moment None lsa (start a)
+
+  abbrev DraftedAfter : List Send → Outcome → Type 0
+  DraftedAfter more p = drafts_with more p.area.links (drafts_with p.sends a.links ds)
+      ≡ drafts_with (p.sends ++ more) a.links ds
+
+  abbrev CountedAfter : Outcome → Type 0
+  CountedAfter p = length (drafts_with p.sends a.links ds) ≡ length p.area.links
+
+  unchanged : (more : List Send) → DraftedAfter more (start a)
+  unchanged more = ap (drafts_with more a.links) (sym (drafted_none 1 a.links ds))
+
+  uncounted : length ds ≡ length a.links → CountedAfter (start a)
+  uncounted same = ap length (sym (drafted_none 1 a.links ds)) ∙ same
+
+  drafted_by_test : (more : List Send) (lsa : Lsa) (b : Bool)
+      → DraftedAfter more (cond b (flooded_now lsa) (start a))
+  drafted_by_test more lsa true = drafted_then
+      (λ n l. step_on (flood_to moment None lsa n l) l.neighbor) 1 (flooded_now lsa).sends more
+      a.links ds
+  drafted_by_test more lsa false = unchanged more
+
+  counted_by_test : length ds ≡ length a.links → (lsa : Lsa) (b : Bool)
+      → CountedAfter (cond b (flooded_now lsa) (start a))
+  counted_by_test same lsa true = length_then
+      (λ n l. step_on (flood_to moment None lsa n l) l.neighbor) 1 (flooded_now lsa).sends a.links
+      ds same
+  counted_by_test same lsa false = uncounted same
+
+  by_copy : (more : List Send) (c : Option DatabaseCopy)
+      → DraftedAfter more (come_of_age_copy before moment c (start a))
+  by_copy more None = unchanged more
+  by_copy more (Some c) = drafted_by_test more (lsa_now moment c)
+      (has_just_aged_out before moment c)
+
+  counted_by_copy : length ds ≡ length a.links → (c : Option DatabaseCopy)
+      → CountedAfter (come_of_age_copy before moment c (start a))
+  counted_by_copy same None = uncounted same
+  counted_by_copy same (Some c) = counted_by_test same (lsa_now moment c)
+      (has_just_aged_out before moment c)
+
+  pub drafted_after : (more : List Send) (key : Key)
+      → DraftedAfter more (come_of_age before moment key a)
+  drafted_after more key = by_copy more (finite.get a.database key)
+
+  pub counted_after : length ds ≡ length a.links → (key : Key)
+      → CountedAfter (come_of_age before moment key a)
+  counted_after same key = counted_by_copy same (finite.get a.database key)

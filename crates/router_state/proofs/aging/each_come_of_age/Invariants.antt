@@ -1,0 +1,18 @@
+use Rattle.std.proofs.Common.{◌≡◌, length}
+use Rattle.flooding.specs.Drafted.{drafts_with}
+use Rattle.flooding.proofs.Acknowledged.{from}
+use Rattle.router_state.specs.Aging.{each_come_of_age}
+use Rattle.router_state.proofs.aging.each_come_of_age.Given as goal
+
+abbrev pub invariant-loop-i : goal.invariant-loop-i
+invariant-loop-i l = record {
+  area : (each_come_of_age l.before l.moment (from l.i l.keys) l.area.present).area
+      ≡ (each_come_of_age l.before l.moment l.keys l.fn.area.present).area;
+  drafts : drafts_with (each_come_of_age l.before l.moment (from l.i l.keys) l.area.present).sends
+      l.area.present.links l.drafts
+      ≡ drafts_with (each_come_of_age l.before l.moment l.keys l.fn.area.present).sends
+      l.fn.area.present.links l.fn.drafts;
+  counted : length l.drafts ≡ length l.area.present.links;
+  settled : l.area.settled ≡ l.fn.area.settled;
+  router : l.area.router ≡ l.fn.area.router;
+}
