@@ -1,80 +1,84 @@
-"""tools/count-walks: which functions forward, and that a walk that isn't in the code is told."""
+"""tools/count-walks: which functions only hand on their arguments, and walks that no longer hold."""
 import contextlib
-import importlib.machinery
-import importlib.util
 import io
 import pathlib
+import runpy
 import subprocess
-import sys
 import tempfile
-import types
 import unittest
 
 TOP = pathlib.Path(__file__).resolve().parent.parent.parent
-TOOL = TOP / "tools/count-walks"
-
-
-def loaded() -> types.ModuleType:
-    loader = importlib.machinery.SourceFileLoader("count_walks", str(TOOL))
-    module = importlib.util.module_from_spec(importlib.util.spec_from_loader("count_walks", loader))
-    loader.exec_module(module)
-    return module
-
-
+TOOL = runpy.run_path(str(TOP / "tools/count-walks"), run_name="count_walks")
 CODE = """
-//! fn in_a_comment(a: u8) -> u8 { other(a) }
-pub fn hands_on(&mut self, at: usize, name: &Name) -> Result<(), AllocError>
-    ensures ok { IfOk result (λ _. self.new ≡ f self.old) }
-{
-    self.inner.put(at, name)
+impl Link {
+    pub fn ack(&mut self, headers: &[Header]) -> Result<(), AllocError>
+        ensures ok { OnOk result (self.new ≡ record self.old {
+          lists = after headers.now self.old.lists;
+        }) }
+    {
+        self.lists
+            .ack(headers)
+    }
+
+    fn asks(&self, key: &Key) -> bool
+        ensures { result ≡ asks key.now self.now }
+    {
+        match &self.neighbor {
+            None => false,
+            Some(neighbor) => neighbor.asks(key),
+        }
+    }
+
+    pub fn take(&mut self, step: &Step) -> Result<(), AllocError> {
+        let count = self.lists.len() + 1; // not `step`
+        self.ack(step.headers(count))
+    }
 }
-fn after_one<T: Fn(u8) -> u8>(a: T) -> Option<u8> { Some(one::two(a)) }
-fn with_a_question(a: u8) -> Result<(), AllocError> { list.push(a)?; Ok(()) }
-fn makes(a: u8) -> Option<u8> { Some(a) }
-fn adds(a: u8) -> u8 { one(a + 1) }
-fn two_calls(a: u8) -> u8 { one(two(a)) }
-fn chooses(a: u8) -> u8 { if a == 1 { one(a) } else { 0 } }
-fn only_a_law() ensures { Law } {}
-impl Part for Whole {
-    fn of_a_trait(&self, a: u8) -> u8 { self.part(a) }
+
+impl Takes for Link {
+    fn take(&mut self) {
+        self.lists.settle();
+    }
+}
+
+trait Takes {
+    fn take(&mut self)
+        ensures { self.new ≡ self.old };
 }
 """
 
 
-class TestForwarding(unittest.TestCase):
-    def test_which_functions_forward(self) -> None:
-        tool = loaded()
-        with tempfile.TemporaryDirectory() as room:
-            source = pathlib.Path(room, "crates/one/src")
-            source.mkdir(parents=True)
-            (source / "lib.rt").write_text(CODE)
-            tool.TOP = pathlib.Path(room)
-            functions = tool.functions_of("one")
-        names = [it.name for it in functions]
-        self.assertEqual(names, ["hands_on", "after_one", "with_a_question", "makes", "adds", "two_calls", "chooses", "only_a_law", "of_a_trait"])
-        self.assertEqual([it.name for it in functions if it.forwards()], ["hands_on", "after_one", "with_a_question", "of_a_trait"])
-        self.assertEqual([it.name for it in functions if it.of_trait], ["of_a_trait"])
+def read(text: str) -> list:
+    with tempfile.TemporaryDirectory() as room:
+        path = pathlib.Path(room) / "link.rt"
+        path.write_text(text, encoding="utf-8")
+        return TOOL["functions_in"]("links", str(path))
 
 
-class TestWalks(unittest.TestCase):
-    def test_the_walks_are_in_the_code(self) -> None:
-        ran = subprocess.run([sys.executable, TOOL], capture_output=True, text=True)
-        self.assertEqual((ran.returncode, ran.stderr), (0, ""))
+class TestCountWalks(unittest.TestCase):
+    def told(self, walk: str) -> tuple[bool, str]:
+        with contextlib.redirect_stdout(io.StringIO()) as said, contextlib.redirect_stderr(said):
+            return TOOL["told_walk"]("a walk", walk, read(CODE)), said.getvalue()
 
-    def test_a_step_that_is_gone_and_one_that_calls_another_are_told(self) -> None:
-        tool = loaded()
-        code = {"lsdb": tool.functions_of("lsdb")}
-        told, said = io.StringIO(), io.StringIO()
-        with contextlib.redirect_stderr(told), contextlib.redirect_stdout(said):
-            well = tool.is_walk("a walk", [("lsdb", "install_flooded", "put_in"), ("lsdb", "put_inside", "")], code)
-        self.assertFalse(well)
-        self.assertEqual(told.getvalue(), "count-walks: lsdb's install_flooded calls no put_in\ncount-walks: lsdb has no function put_inside\n")
-        self.assertEqual(said.getvalue(), "a walk: 2 functions in 1 crates (lsdb)\n")
+    def test_functions_and_what_they_hand_on(self) -> None:
+        found = [(it.owner, it.name, it.is_of_trait, TOOL["only_hands_on"](it)) for it in read(CODE)]
+        self.assertEqual(found, [("Link", "ack", False, True), ("Link", "asks", False, True), ("Link", "take", False, False),
+                                 ("Link", "take", True, True)])
 
-    def test_no_such_crate(self) -> None:
-        ran = subprocess.run([sys.executable, TOOL, "--crate", "elves"], capture_output=True, text=True)
-        self.assertEqual(ran.returncode, 2)
-        self.assertIn("there is no crate elves", ran.stderr)
+    def test_a_walk_that_holds(self) -> None:
+        self.assertEqual(self.told("links Link asks\nlinks Link asks"), (True, "a walk: 2 functions in 1 crate\n    links: Link::asks, Link::asks\n"))
+
+    def test_walks_that_do_not(self) -> None:
+        for walk, said in [("links Link ack\nlinks Link asks", "don't follow each other"), ("links Link gone", "0 functions links Link gone"),
+                           ("links Link take", "2 functions links Link take")]:
+            with self.subTest(walk):
+                holds, told = self.told(walk)
+                self.assertFalse(holds)
+                self.assertIn(said, told)
+
+    def test_the_walks_of_the_repository(self) -> None:
+        said = subprocess.run([TOP / "tools/count-walks", "--walks"], cwd=TOP, capture_output=True, text=True)
+        self.assertEqual((said.returncode, said.stderr), (0, ""))
 
 
 if __name__ == "__main__":
