@@ -1,11 +1,15 @@
 -- What a link hears, by what its socket gave or refused.
-use Rattle.std.proofs.Common.{◌≡◌, inl, inr, ℕ, Bool, true, false, List, Option, Some, None, Result}
+use Rattle.std.proofs.Common.{◌≡◌, inl, inr, ℕ, zero, suc, ◌<◌, ◌≤◌, Bool, true, false, List, []}
+use Rattle.std.proofs.Common.{◌∷◌, Option, Some, None, Result, length, slice_get}
 use Rattle.std.proofs.Common.{Ok, Err, IfErr, IfNone, IfOk, IfSome, IsErr, IsFalse, IsTrue}
-use Rattle.std.proofs.Common.{MatchOption, refl, sym, subst}
+use Rattle.std.proofs.Common.{MatchOption, refl, sym, subst, arith}
 use Rattle.std.specs.declared.io.Error.{Error}
 use Rattle.links.specs.declared.link.LinkFault.{LinkFault}
 use Rattle.sockets.specs.Refusals.{is_passing}
-use Rattle.sockets.specs.Wires.{IsHeardAt, IsListening, IsNoneThere, IsSilent, wire_at}
+use Rattle.sockets.specs.Wires.{IsHeardAt, IsListening, IsNoneThere, IsSilent, IsWhyNoneWaits}
+use Rattle.sockets.specs.Wires.{IsWhyNoneWaitsAt, wire_at}
+use Rattle.sockets.specs.declared.error.SocketError.{SocketError}
+use Rattle.sockets.specs.declared.error.SocketError.TheVariants as errors
 use Rattle.sockets.specs.declared.wire.Wire.{Wire}
 
 decided : (b : Bool) → (IsFalse b → false ≡ true) → IsTrue b
@@ -68,3 +72,34 @@ module _ {Ear Socket : Type 0} (listens : Ear → Socket → Type 0) (wires : Li
   pub listening_at : (wire : Wire Socket) (ear : Ear) → Some wire ≡ wire_at wires interface
       → listens ear wire.socket → IsListening listens wires interface (Some ear)
   listening_at wire ear is h = subst (λ w. MatchOption w ⊥ (λ wire. listens ear wire.socket)) is h
+
+-- ---- why nobody waits
+
+module _ {Socket : Type 0} (fails : Socket → Type 0) (wires : List (Wire Socket))
+    (interface : ℕ) where
+  pub unwaited_at : (wire : Wire Socket) → Some wire ≡ wire_at wires interface → fails wire.socket
+      → IsWhyNoneWaitsAt fails wires interface errors.Wait
+  unwaited_at wire is h = subst (λ w. MatchOption w (Unit {0}) (λ wire. fails wire.socket)) is h
+
+  pub no_socket : None ≡ wire_at wires interface
+      → IsWhyNoneWaitsAt fails wires interface errors.Wait
+  no_socket is = subst (λ w. MatchOption w (Unit {0}) (λ wire. fails wire.socket)) is tt
+
+-- there is a socket
+unwaited_there : {Socket : Type 0} (fails : Socket → Type 0) (wires : List (Wire Socket))
+    (before : ℕ) → before < length wires
+    → MatchOption (slice_get wires before) (Unit {0}) (λ wire. fails wire.socket)
+    → MatchOption (slice_get wires before) ⊥ (λ wire. fails wire.socket)
+unwaited_there fails [] before there h = absurd (omega (arith, there))
+unwaited_there fails (wire ∷ wires) zero there h = h
+unwaited_there fails (wire ∷ wires) (suc before) there h =
+    unwaited_there fails wires before (omega (arith, there)) h
+
+pub unwaited : {Socket : Type 0} (fails : Socket → Type 0) (wires : List (Wire Socket))
+    (interface : ℕ) (error : SocketError) → IsWhyNoneWaitsAt fails wires interface error
+    → 0 < interface → interface ≤ length wires → IsWhyNoneWaits fails wires error
+unwaited fails wires zero errors.Wait h some within = absurd (omega (arith, some))
+unwaited fails wires (suc before) errors.Wait h some within =
+    inr (suc before, unwaited_there fails wires before (omega (arith, within)) h)
+unwaited fails wires interface (errors.Bind port) h some within = absurd h
+unwaited fails wires interface errors.Memory h some within = tt

@@ -1,5 +1,6 @@
 -- Which socket belongs to which interface.
-use Rattle.std.specs.Prelude.{◌≡◌, ◌⊎◌, ℕ, zero, suc, List, [], ◌∷◌, Option, Some, None, map}
+use Rattle.std.specs.Prelude.{◌≡◌, ◌⊎◌, ℕ, zero, suc, ◌<◌, List, [], ◌∷◌, Option, Some, None}
+use Rattle.std.specs.Prelude.{length, map}
 use Rattle.std.specs.Prelude.{slice_get, slice_index_or, IsTrue, MatchOption, SomeIndex}
 use Rattle.std.specs.declared.io.Error.{Error}
 use Rattle.console.specs.declared.configuration.ConfiguredInterface.{ConfiguredInterface}
@@ -89,3 +90,24 @@ abbrev pub IsListening : {Ear Socket : Type 0} → (listens : Ear → Socket →
 IsListening listens wires interface None = ⊥
 IsListening listens wires interface (Some ear) =
     MatchOption (wire_at wires interface) ⊥ (λ wire. listens ear wire.socket)
+
+-- ---- why nobody waits
+
+-- the socket of the interface of this number can't be waited at, or there is none; or memory was
+-- refused
+abbrev pub IsWhyNoneWaitsAt : {Socket : Type 0} → (fails : Socket → Type 0) → List (Wire Socket)
+    → (interface : ℕ) → SocketError → Type 0
+IsWhyNoneWaitsAt fails wires interface errors.Wait =
+    MatchOption (wire_at wires interface) (Unit {0}) (λ wire. fails wire.socket)
+IsWhyNoneWaitsAt fails wires interface (errors.Bind port) = ⊥
+IsWhyNoneWaitsAt fails wires interface errors.Memory = Unit {0}
+
+-- one of these sockets can't be waited at, or there are more than the numbers of interfaces; or
+-- memory was refused
+abbrev pub IsWhyNoneWaits : {Socket : Type 0} → (fails : Socket → Type 0) → List (Wire Socket)
+    → SocketError → Type 0
+IsWhyNoneWaits fails wires errors.Wait =
+    (65535 < length wires)
+    ⊎ ((interface : ℕ) × MatchOption (wire_at wires interface) ⊥ (λ wire. fails wire.socket))
+IsWhyNoneWaits fails wires (errors.Bind port) = ⊥
+IsWhyNoneWaits fails wires errors.Memory = Unit {0}

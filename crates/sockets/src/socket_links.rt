@@ -1,11 +1,12 @@
 //! A worker's link over the sockets of all interfaces: any worker sends at each of them, its own
 //! worker alone receives.
-ghost use Rattle.std.specs.Prelude.{◌≡◌, ◌<◌, ◌≤◌, All, IfNone, IfOk, IfSome, OnOk};
+ghost use Rattle.std.specs.Prelude.{◌≡◌, ◌<◌, ◌≤◌, All, IfErr, IfNone, IfOk, IfSome, OnOk};
 ghost use Rattle.std.specs.Prelude.{length, map, take};
-ghost use Rattle.std.specs.Prelude.{nat_lt, vec_len};
+ghost use Rattle.std.specs.Prelude.{nat_lt, vec_len, ⊤};
 ghost use Rattle.links.specs.Descending.{CountDownTo};
 ghost use Rattle.sockets.specs.Ends.{has_failed};
 ghost use Rattle.sockets.specs.Wires.{HasWaited, IsHeardAt, IsListening, IsNoneThere};
+ghost use Rattle.sockets.specs.Wires.{IsWhyNoneWaits, IsWhyNoneWaitsAt};
 
 use crate::error::SocketError;
 use crate::refusals::{came, sent};
@@ -50,7 +51,7 @@ impl<'a, S, E> Sockets<'a, S, E> {
     /// The link of the worker at the interface of this number, which waits at that interface's
     /// socket. `Wait` if the socket can't be waited at, or there is none of this number; `Memory`
     /// if memory was refused.
-    #[tactic(auto, using(crate::proofs::Silent::listening_at))]
+    #[tactic(auto, using(crate::proofs::Silent::listening_at, crate::proofs::Silent::unwaited_at, crate::proofs::Silent::no_socket))]
     pub fn of_interface_with<P: ListensAt<S, E>>(
         poller: &P,
         alloc: Global,
@@ -60,6 +61,7 @@ impl<'a, S, E> Sockets<'a, S, E> {
         ensures own { IfOk result (λ link. link.own ≡ interface) }
         ensures wires { IfOk result (λ link. (link.wires.now ≡ wires.now) × (link.faults ≡ 0)) }
         ensures ear { IfOk result (λ link. IsListening P.listens wires.now interface link.ear) }
+        ensures refused { IfErr result (IsWhyNoneWaitsAt P.fails wires.now interface) }
     {
         let Some(wire) = wire_at(wires, interface) else {
             return Err(SocketError::Wait);
@@ -118,6 +120,7 @@ impl<'a, S> Sockets<'a, S> {
 ///
 /// `Wait` if a socket can't be waited at, or there are more than 65,535; `Memory` if memory was
 /// refused.
+#[tactic(auto, using(crate::proofs::Silent::unwaited))]
 pub fn listening_with<'x, S, E: Drop, P: ListensAt<S, E>>(
     poller: &P,
     alloc: Global,
@@ -129,6 +132,7 @@ pub fn listening_with<'x, S, E: Drop, P: ListensAt<S, E>>(
         All (λ l. (l.wires.now ≡ wires.now) × (l.faults ≡ 0)) links.items) }
     ensures ears { IfOk result (λ links.
         All (λ l. IsListening P.listens wires.now l.own l.ear) links.items) }
+    ensures refused { IfErr result (IsWhyNoneWaits P.fails wires.now) }
 {
     let mut links = Vec::with_capacity(alloc, wires.len())?;
     for before in 0..wires.len() {
@@ -155,6 +159,7 @@ pub fn listening<'x, R: Net>(
     ensures interfaces { IfOk result (λ links. CountDownTo 1 (map (λ l. l.own) links.items)) }
     ensures wires { IfOk result (λ links.
         All (λ l. (l.wires.now ≡ wires.now) × (l.faults ≡ 0)) links.items) }
+    ensures refused { IfErr result (IsWhyNoneWaits (λ _. ⊤) wires.now) }
 {
     listening_with(&SystemPoller { rt }, alloc, wires)
 }

@@ -1,5 +1,5 @@
 //! Waiting at a socket until a datagram may be there.
-ghost use Rattle.std.specs.Prelude.{◌≡◌, ℕ, IfOk, OnOk, ⊤};
+ghost use Rattle.std.specs.Prelude.{◌≡◌, ℕ, IfOk, OnErr, OnOk, ⊤};
 
 use mio::net::UdpSocket;
 use mio::unix::SourceFd;
@@ -25,14 +25,17 @@ pub trait Waits {
 
 /// Makes waiters, each for one socket.
 ///
-/// At which socket a waiter listens (`listens`) is left open: code that is proved for any of these
-/// knows it from the call alone.
+/// At which socket a waiter listens (`listens`), and which can't be waited at (`fails`), is left
+/// open: code that is proved for any of these knows it from the call alone.
 pub trait ListensAt<S, E> {
     ghost listens: { E → S → Type 0 };
 
+    ghost fails: { S → Type 0 };
+
     /// What waits at this socket.
     fn listen(&self, alloc: Global, socket: &S) -> io::Result<E>
-        ensures { IfOk result (λ ear. listens ear socket.now) };
+        ensures listening { IfOk result (λ ear. listens ear socket.now) }
+        ensures failed { OnErr result (fails socket.now) };
 }
 
 /// A poll of the system with one socket: it waits until a datagram may be there.
@@ -68,6 +71,8 @@ pub struct SystemPoller<'a, R> {
 
 impl<'a, R: Net> ListensAt<UdpSocket, Ear> for SystemPoller<'a, R> {
     ghost listens = { λ _ _. ⊤ };
+
+    ghost fails = { λ _. ⊤ };
 
     fn listen(&self, alloc: Global, socket: &UdpSocket) -> io::Result<Ear> {
         let poll = Poll::new(self.rt)?;
